@@ -1,0 +1,10 @@
+pub mod Walks
+pub mod Distinct
+pub mod FirstPart
+pub mod Paths
+pub mod Growth
+pub mod Overlaps
+pub mod Stays
+pub mod Kept
+pub mod Moves
+pub mod HeldStays

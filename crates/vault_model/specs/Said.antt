@@ -1,0 +1,18 @@
+-- Commands, replies and effects over plain lists, which is all that the definitions see of their memory.
+use Rattle.std.specs.Prelude.{List}
+use Rattle.vault_model.specs.declared.claims.PathItem.{PathItem}
+use Rattle.vault_model.specs.declared.commands.Command.{Command as CommandOver}
+use Rattle.vault_model.specs.declared.replies.Reply.{Reply as ReplyOver}
+use Rattle.vault_model.specs.declared.effects.Effect.{Effect as EffectOver}
+
+-- a command, with the list of what it asks for
+abbrev pub Command : Type 0
+Command = CommandOver (List PathItem)
+
+-- a reply
+abbrev pub Reply : Type 0
+Reply = ReplyOver
+
+-- an effect
+abbrev pub Effect : Type 0
+Effect = EffectOver

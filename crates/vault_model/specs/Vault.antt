@@ -1,0 +1,81 @@
+-- The vault as commands see it. This project's own.
+use Rattle.std.specs.Prelude.{◌<◌, ◌≤◌, length, All, nat_eq, ℕ, ◌+◌, ◌==◌, if◌then◌else◌, List, [], map, Option, find}
+use Rattle.vault_model.specs.declared.place.Place.{Place}
+use Rattle.vault_model.specs.declared.claims.Claim.{Claim}
+use Rattle.vault_model.specs.declared.claims.Item.{Item}
+use Rattle.vault_model.specs.declared.ids.ClaimId.{ClaimId}
+use Rattle.vault_model.specs.declared.ids.ClaimId.TheVariants.{Long, Short}
+use Rattle.vault_model.specs.declared.session.Session.{Session}
+use Rattle.std.specs.List.{IsDistinct}
+use Rattle.vault_model.specs.Tree.{IsTree}
+use Rattle.vault_model.specs.Claims.{same_id}
+use Rattle.vault_model.specs.Limits.{most_items, most_claims, most_sessions}
+use Rattle.vault_model.specs.declared.claims.Owner.{Owner}
+use Rattle.vault_model.specs.declared.claims.Owner.TheVariants as owners
+
+-- the tree, the line, the sessions that stand by rising number, the last number given to a session and to a
+-- long claim, and how many commands were given at the door, which is session 0
+pub record Vault : Type 0 where
+  pub tree : List Place
+  pub line : List Claim
+  pub sessions : List Session
+  pub last_session : ℕ
+  pub last_long : ℕ
+  pub door_count : ℕ
+
+-- the library alone
+abbrev pub new_vault : Vault
+new_vault = record { tree = []; line = []; sessions = []; last_session = 0; last_long = 0; door_count = 0 }
+
+-- the standing session of this number
+abbrev pub session_of : List Session → ℕ → Option Session
+session_of sessions number = find (λ s. s.number == number) sessions
+
+abbrev pub one_more : ℕ → Session → Session
+one_more number s = if s.number == number then record s { count = s.count + 1 } else s
+
+-- the sessions, and the vault, with one more command of a session, or of the door, counted
+abbrev pub counted_in : ℕ → List Session → List Session
+counted_in number sessions = map (one_more number) sessions
+
+abbrev pub counted : ℕ → Vault → Vault
+counted number v = if number == 0 then record v { door_count = v.door_count + 1 } else record v { sessions = counted_in number v.sessions }
+
+-- each command count is below a bound
+pub record CountsBelow (bound : ℕ) (v : Vault) : Type 0 where
+  pub door : v.door_count < bound
+  pub each : All (λ (s : Session). s.count < bound) v.sessions
+
+-- items name places that are there
+abbrev pub AreThere : List Place → List Item → Type 0
+AreThere tree items = All (λ (item : Item). item.place ≤ length tree) items
+
+-- the number of a long claim is 1 to the last one; there are no short claims yet
+abbrev pub IsGiven : ℕ → ClaimId → Type 0
+IsGiven last (Long n) = (0 < n) × (n ≤ last)
+IsGiven last (Short n) = ⊥
+
+-- a long claim is a designer's, a short one a session's
+abbrev pub Owns : Owner → ClaimId → Type 0
+Owns (owners.Designer name) (Long n) = Unit {0}
+Owns (owners.Session number) (Short n) = Unit {0}
+Owns (owners.Designer name) (Short n) = ⊥
+Owns (owners.Session number) (Long n) = ⊥
+
+-- what every claim of a line keeps
+pub record IsClaim (tree : List Place) (last_long : ℕ) (c : Claim) : Type 0 where
+  pub given : IsGiven last_long c.id
+  pub owned : Owns c.owner c.id
+  pub some : 0 < length c.items
+  pub few : length c.items ≤ most_items
+  pub there : AreThere tree c.items
+
+-- What every vault keeps.
+pub record IsVault (v : Vault) : Type 0 where
+  pub tree : IsTree v.tree
+  pub few_claims : length v.line ≤ most_claims
+  pub claims : All (IsClaim v.tree v.last_long) v.line
+  pub apart : IsDistinct same_id (map (λ (c : Claim). c.id) v.line)
+  pub few_sessions : length v.sessions ≤ most_sessions
+  pub numbers : All (λ (s : Session). (0 < s.number) × (s.number ≤ v.last_session)) v.sessions
+  pub distinct : IsDistinct nat_eq (map (λ (s : Session). s.number) v.sessions)

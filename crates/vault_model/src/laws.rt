@@ -1,0 +1,1 @@
+//! Laws of the definitions, on which the program's theorems rest.

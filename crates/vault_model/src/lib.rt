@@ -1,0 +1,39 @@
+//! The vault's types, as its commands and replies name them, and its definitions.
+#![tactic(auto)]
+
+mod claims;
+mod commands;
+mod effects;
+mod ids;
+mod items;
+pub mod laws;
+mod limits;
+mod listing;
+mod name;
+mod path;
+mod place;
+mod replies;
+mod session;
+pub mod split;
+
+pub use claims::{Claim, Item, Owner, PathItem, Standing};
+pub use commands::{Command, CommandIn};
+pub use effects::Effect;
+pub use ids::{ClaimId, Intent, PlaceId};
+pub use items::Items;
+pub use limits::{
+    DEEPEST, LAST_NUMBER, LONGEST_NAME, MOST_CHILDREN, MOST_CLAIMS, MOST_ITEMS, MOST_PLACES,
+    MOST_SESSIONS,
+};
+pub use listing::Listing;
+pub use name::Name;
+pub use path::Path;
+pub use place::{Kind, Place};
+pub use replies::{Outside, Refusal, Reply};
+pub use session::Session;
+use thiserror::Error;
+
+/// Memory was wanted and refused.
+#[derive(Clone, Copy, Debug, PartialEq, Eq, Error)]
+#[error("want of memory")]
+pub struct NoMemory;

@@ -1,0 +1,25 @@
+//! The vault's limits. `specs/Limits.antt` has the same numbers, for the definitions.
+
+/// How deep the tree is, and so how many names a path has at most.
+pub const DEEPEST: usize = 3;
+
+/// The most bytes of a name.
+pub const LONGEST_NAME: usize = 32;
+
+/// The most places of a tree, with the library.
+pub const MOST_PLACES: usize = 4096;
+
+/// The most children of a place.
+pub const MOST_CHILDREN: usize = 64;
+
+/// The most items of a claim.
+pub const MOST_ITEMS: usize = 8;
+
+/// The most claims that stand, of both kinds.
+pub const MOST_CLAIMS: usize = 256;
+
+/// The most sessions at once, the door not counted.
+pub const MOST_SESSIONS: usize = 64;
+
+/// The last number that a session or a claim may get.
+pub const LAST_NUMBER: u32 = u32::MAX;
