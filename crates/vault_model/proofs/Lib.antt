@@ -8,3 +8,8 @@ pub mod Stays
 pub mod Kept
 pub mod Moves
 pub mod HeldStays
+pub mod WellFormed
+pub mod Meetings
+pub mod Rows
+pub mod Joined
+pub mod PathTexts

@@ -32,12 +32,12 @@ unfolding chained
 by_bind P (Ok x) f done refused = done x
 by_bind P (Err e) f done refused = refused e
 
-by_bind_is : {A B : Type 0} (P : Result B Refusal → Type 0) (r : Result A Refusal) (f : A → Result B Refusal) → ((x : A) → r ≡ Ok x → P (f x)) → ((e : Refusal) → P (Err e)) → P (r >>= f)
+pub by_bind_is : {A B : Type 0} (P : Result B Refusal → Type 0) (r : Result A Refusal) (f : A → Result B Refusal) → ((x : A) → r ≡ Ok x → P (f x)) → ((e : Refusal) → P (Err e)) → P (r >>= f)
 unfolding chained
 by_bind_is P (Ok x) f done refused = done x refl
 by_bind_is P (Err e) f done refused = refused e
 
-found_at : (n : ℕ) (o : Option ℕ) (p : ℕ) → IfSome o (λ q. q ≤ n) → ok_or o NoPlace ≡ Ok p → p ≤ n
+pub found_at : (n : ℕ) (o : Option ℕ) (p : ℕ) → IfSome o (λ q. q ≤ n) → ok_or o NoPlace ≡ Ok p → p ≤ n
 found_at n None p h e = cc
 found_at n (Some q) p h e = let same : q ≡ p = cc in rw (← same) h
 

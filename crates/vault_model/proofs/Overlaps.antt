@@ -13,36 +13,36 @@ use Rattle.vault_model.specs.Vault.{AreThere}
 use Rattle.vault_model.proofs.Walks.{Rises, is_under-step, is_under-top, is_under-same}
 use Rattle.vault_model.specs.Pairs.{pair_meets, pairs_meet}
 
-or_cases : (a b : Bool) → (a || b) ≡ true → (a ≡ true) ⊎ (b ≡ true)
+pub or_cases : (a b : Bool) → (a || b) ≡ true → (a ≡ true) ⊎ (b ≡ true)
 or_cases true b e = inl refl
 or_cases false b e = inr e
 
-or_left : (a b : Bool) → a ≡ true → (a || b) ≡ true
+pub or_left : (a b : Bool) → a ≡ true → (a || b) ≡ true
 or_left true b e = refl
 or_left false b e = cc
 
-or_right : (a b : Bool) → b ≡ true → (a || b) ≡ true
+pub or_right : (a b : Bool) → b ≡ true → (a || b) ≡ true
 or_right true b e = refl
 or_right false b e = e
 
-and_both : (a b : Bool) → (a && b) ≡ true → (a ≡ true) × (b ≡ true)
+pub and_both : (a b : Bool) → (a && b) ≡ true → (a ≡ true) × (b ≡ true)
 and_both true b e = (refl, e)
 and_both false b e = cc
 
-and_intro : (a b : Bool) → a ≡ true → b ≡ true → (a && b) ≡ true
+pub and_intro : (a b : Bool) → a ≡ true → b ≡ true → (a && b) ≡ true
 and_intro true b e f = f
 and_intro false b e f = cc
 
 -- two tests that hold together are the same
-same_test : (a b : Bool) → (a ≡ true → b ≡ true) → (b ≡ true → a ≡ true) → a ≡ b
+pub same_test : (a b : Bool) → (a ≡ true → b ≡ true) → (b ≡ true → a ≡ true) → a ≡ b
 same_test true b f g = sym (f refl)
 same_test false true f g = g refl
 same_test false false f g = refl
 
-eq_from : (m n : ℕ) → (m == n) ≡ true → m ≡ n
+pub eq_from : (m n : ℕ) → (m == n) ≡ true → m ≡ n
 eq_from m n e = grind (arith, nat_tests, e)
 
-eq_itself : (n : ℕ) → (n == n) ≡ true
+pub eq_itself : (n : ℕ) → (n == n) ≡ true
 eq_itself n = grind (arith, nat_tests)
 
 abbrev Comparable : List Place → ℕ → ℕ → Type 0
@@ -83,7 +83,7 @@ some_item (x ∷ xs) n test there e = by_first (some_item xs n test (All-tail (�
     by_first rest (inl h) = record { item = x; passes = h; listed = λ t k. or_left _ _ k; there = All-head (λ (item : Item). item.place ≤ n) x xs there }
     by_first rest (inr h) = let found = rest h in record { item = found.item; passes = found.passes; listed = λ t k. or_right _ _ (found.listed t k); there = found.there }
 
-meet_from : (n : ℕ) (a b : ℕ → Bool) → meet_below n a b ≡ true → (p : ℕ) × (p < n) × (a p ≡ true) × (b p ≡ true)
+pub meet_from : (n : ℕ) (a b : ℕ → Bool) → meet_below n a b ≡ true → (p : ℕ) × (p < n) × (a p ≡ true) × (b p ≡ true)
 meet_from zero a b e = cc
 meet_from (suc n) a b e = by_last (meet_from n a b) (or_cases _ _ e)
   where
@@ -91,7 +91,7 @@ meet_from (suc n) a b e = by_last (meet_from n a b) (or_cases _ _ e)
     by_last rest (inl h) = let both = and_both _ _ h in (n, omega arith, both.0, both.1)
     by_last rest (inr h) = let found = rest h in let lower = found.1 in (found.0, omega arith, found.2, found.3)
 
-meet_to : (n : ℕ) (a b : ℕ → Bool) (p : ℕ) → p < n → a p ≡ true → b p ≡ true → meet_below n a b ≡ true
+pub meet_to : (n : ℕ) (a b : ℕ → Bool) (p : ℕ) → p < n → a p ≡ true → b p ≡ true → meet_below n a b ≡ true
 meet_to zero a b p h ha hb = absurd (omega arith)
 meet_to (suc n) a b p h ha hb = by_last (meet_to n a b p) (cases_lt p n)
   where

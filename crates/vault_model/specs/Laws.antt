@@ -1,11 +1,38 @@
--- Laws of the vault.
-use Rattle.std.specs.Prelude.{◌≡◌, ℕ, true, Some, is_some}
-use Rattle.vault_model.specs.Said.{Command}
+-- Laws of the definitions: what they say in the subject's own words.
+use Rattle.std.specs.Prelude.{◌≡◌, ℕ, ◌≤◌, ◌↔◌, ◌⊎◌, true, List, Some, is_some, length}
+use Rattle.vault_model.specs.declared.place.Place.{Place}
+use Rattle.vault_model.specs.declared.claims.Item.{Item}
 use Rattle.vault_model.specs.declared.claims.Standing.TheVariants.{Held}
 use Rattle.vault_model.specs.declared.ids.ClaimId.{ClaimId}
-use Rattle.vault_model.specs.Claims.{claim_of, standing_of}
-use Rattle.vault_model.specs.Vault.{Vault, IsVault}
+use Rattle.vault_model.specs.Path.{IsPath, path_text, path_in}
+use Rattle.vault_model.specs.Tree.{IsTree, parent_of, is_under}
+use Rattle.vault_model.specs.Claims.{look_set, change_set, overlap, claim_of, standing_of}
+use Rattle.vault_model.specs.Vault.{Vault, IsVault, new_vault}
+use Rattle.vault_model.specs.Said.{Command}
 use Rattle.vault_model.specs.Step.{step}
+
+-- a text is read as a path exactly where it is the path's spelling
+abbrev pub PathIsItsText : Type 0
+PathIsItsText = (text : List ℕ) (names : List (List ℕ)) → (path_in text ≡ Some names) ↔ (IsPath names × (path_text names ≡ text))
+
+-- p is under q exactly where p is q, or p's parent is under q
+abbrev pub UnderIsByParents : Type 0
+UnderIsByParents = (tree : List Place) (p q : ℕ) → IsTree tree
+    → (is_under tree p q ≡ true) ↔ ((p ≡ q) ⊎ ((r : ℕ) × (parent_of tree p ≡ Some r) × (is_under tree r q ≡ true)))
+
+-- two claims overlap exactly where some place of the tree is in the change set of one and the look set of the other
+abbrev pub OverlapIsAMeeting : Type 0
+OverlapIsAMeeting = (tree : List Place) (c d : List Item)
+    → (overlap tree c d ≡ true)
+    ↔ ((p : ℕ) × (p ≤ length tree) × (((change_set tree c p ≡ true) × (look_set tree d p ≡ true)) ⊎ ((change_set tree d p ≡ true) × (look_set tree c p ≡ true))))
+
+-- overlap goes both ways
+abbrev pub OverlapIsSymmetric : Type 0
+OverlapIsSymmetric = (tree : List Place) (c d : List Item) → overlap tree c d ≡ overlap tree d c
+
+-- the new vault is well formed, and a well-formed vault stays so under each step
+abbrev pub WellFormedStays : Type 0
+WellFormedStays = IsVault new_vault × ((v : Vault) (n : ℕ) (command : Command) → IsVault v → IsVault (step v n command).vault)
 
 -- a claim that is held, and still stands after a step, is held there
 abbrev pub HeldStays : Type 0

@@ -10,3 +10,4 @@ pub mod Said
 pub mod Step
 pub mod Pairs
 pub mod Laws
+pub mod Rows

@@ -1,1 +1,38 @@
 //! Laws of the definitions, on which the program's theorems rest.
+ghost use Rattle.vault_model.specs.Laws.{PathIsItsText, UnderIsByParents, OverlapIsAMeeting, OverlapIsSymmetric, WellFormedStays, HeldStays};
+ghost use Rattle.vault_model.specs.Rows.{Rows};
+
+/// A text is read as a path exactly where it is the path's spelling.
+pub fn path_is_its_text()
+    ensures { PathIsItsText }
+{}
+
+/// A place is under another exactly where it is that place, or its parent is under it.
+pub fn under_is_by_parents()
+    ensures { UnderIsByParents }
+{}
+
+/// Two claims overlap exactly where some place is in the change set of one and the look set of the other.
+pub fn overlap_is_a_meeting()
+    ensures { OverlapIsAMeeting }
+{}
+
+/// Overlap goes both ways.
+pub fn overlap_is_symmetric()
+    ensures { OverlapIsSymmetric }
+{}
+
+/// A well-formed vault stays well formed under each step.
+pub fn well_formed_stays()
+    ensures { WellFormedStays }
+{}
+
+/// A claim that is held, and still stands after a step, is held there.
+pub fn held_stays()
+    ensures { HeldStays }
+{}
+
+/// The definitions give the conversations that were worked out by hand.
+pub fn rows_are_given()
+    ensures { Rows }
+{}

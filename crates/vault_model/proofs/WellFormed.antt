@@ -1,0 +1,164 @@
+-- A well-formed vault stays well formed under each step.
+use Rattle.std.specs.Prelude.{◌≡◌, ℕ, ◌+◌, ◌<◌, ◌≤◌, ◌==◌, ◌||◌, nat_le, nat_lt, Bool, true, false, List, [], ◌∷◌, length, Option, None, Some, is_some, Result, Ok, Err, refl}
+use Rattle.std.proofs.Common.{cond, ap, arith}
+use Rattle.std.specs.Option.{ok_or, IfSome, option_map, option_and_then}
+use Rattle.std.proofs.lemmas.Bool.Decides.{nat_tests}
+use Rattle.std.proofs.lemmas.List.Elements.{All-nil, All-cons}
+use Rattle.vault_model.specs.Limits.{deepest, most_items, most_claims, most_sessions, last_number}
+use Rattle.vault_model.specs.Path.{front}
+use Rattle.vault_model.specs.Tree.{find_place, is_part, depth}
+use Rattle.vault_model.specs.Said.{Command}
+use Rattle.vault_model.specs.declared.commands.Command.TheVariants as commands
+use Rattle.vault_model.specs.declared.place.Place.{Place}
+use Rattle.vault_model.specs.declared.claims.Item.{Item}
+use Rattle.vault_model.specs.declared.claims.PathItem.{PathItem}
+use Rattle.vault_model.specs.declared.ids.ClaimId.{ClaimId}
+use Rattle.vault_model.specs.declared.ids.ClaimId.TheVariants.{Long}
+use Rattle.vault_model.specs.declared.session.Session.{Session}
+use Rattle.vault_model.specs.declared.replies.Refusal.{Refusal}
+use Rattle.vault_model.specs.declared.replies.Refusal.TheVariants.{NoSession, Joined}
+use Rattle.vault_model.specs.Vault.{Vault, AreThere, IsVault, session_of, counted, counted_in}
+use Rattle.vault_model.specs.Step.{Outcome, ◌>>=◌, refuse_if, placed, join, make, check_out, abandon, state, at_door, in_session, decide, told, step}
+use Rattle.vault_model.proofs.Growth.{IsTree-push, find_place_there}
+use Rattle.vault_model.proofs.Kept.{kept_made, kept_without, kept_asked, kept_joined, kept_counted, length-placed}
+use Rattle.vault_model.proofs.Moves.{by_bind, by_bind_is, found_at}
+
+-- a test that did not refuse
+pub passed : (b : Bool) (e : Refusal) (u : Unit {0}) → refuse_if b e ≡ Ok u → b ≡ false
+passed true e u h = cc
+passed false e u h = refl
+
+pub got : {X : Type 0} (o : Option X) (e : Refusal) (x : X) → ok_or o e ≡ Ok x → o ≡ Some x
+got None e x h = cc
+got (Some y) e x h = let same : y ≡ x = cc in ap Some same
+
+neither : (a b : Bool) → (a || b) ≡ false → (a ≡ false) × (b ≡ false)
+neither true b e = cc
+neither false b e = (refl, e)
+
+absent : (o : Option ℕ) → is_some o ≡ false → o ≡ None
+absent None e = refl
+absent (Some x) e = cc
+
+-- items that are placed are there
+pub placed_there : (tree : List Place) (wanted : List PathItem) (items : List Item) → placed tree wanted ≡ Some items → AreThere tree items
+placed_there tree [] items e = let same : [] ≡ items = cc in rw (← same) (All-nil (λ (item : Item). item.place ≤ length tree))
+placed_there tree (w ∷ wanted) items e = by_place (find_place tree w.path) (find_place_there tree w.path) e (placed tree wanted) refl (placed_there tree wanted)
+  where
+    by_place : (o : Option ℕ) → IfSome o (λ p. p ≤ length tree) → option_and_then (λ place. option_map (λ others. record { intent = w.intent; place = place } ∷ others) (placed tree wanted)) o ≡ Some items
+        → (p : Option (List Item)) → placed tree wanted ≡ p → ((others : List Item) → placed tree wanted ≡ Some others → AreThere tree others) → AreThere tree items
+    by_place None there h p k ih = cc
+    by_place (Some place) there h None k ih = let h2 = rw k at h in cc
+    by_place (Some place) there h (Some others) k ih =
+        let h2 = rw k at h in
+        let same : record { intent = w.intent; place = place } ∷ others ≡ items = cc in
+        rw (← same) (All-cons (λ (item : Item). item.place ≤ length tree) (record { intent = w.intent; place = place }) others there (ih others k))
+
+kept_door : (v : Vault) → IsVault v → IsVault (record v { door_count = v.door_count + 1 })
+kept_door v kept = record {
+  tree = kept.tree;
+  few_claims = kept.few_claims;
+  claims = kept.claims;
+  apart = kept.apart;
+  few_sessions = kept.few_sessions;
+  numbers = kept.numbers;
+  distinct = kept.distinct;
+}
+
+kept_told : (n : ℕ) (v : Vault) → IsVault v → IsVault (counted n v)
+kept_told n v kept = by_door (n == 0)
+  where
+    by_door : (b : Bool) → IsVault (cond b (record v { door_count = v.door_count + 1 }) (record v { sessions = counted_in n v.sessions }))
+    by_door true = kept_door v kept
+    by_door false = kept_counted v n kept
+
+module _ (v : Vault) (n : ℕ) (kept : IsVault v) where
+  abbrev Keeps : Result Outcome Refusal → Type 0
+  Keeps decision = IsVault (told n v decision).vault
+
+  refused : (e : Refusal) → Keeps (Err e)
+  refused e = kept_told n v kept
+
+  join_keeps : (name : List ℕ) → Keeps (join v name)
+  unfolding join
+  join_keeps name =
+      by_bind_is Keeps _ _
+      (λ u room.
+      let free = neither (nat_le most_sessions (length v.sessions)) (v.last_session == last_number) (passed _ _ u room) in
+      let few : length v.sessions < most_sessions = grind (arith, nat_tests, free.0) in
+      kept_told n _ (kept_joined v kept _ refl few))
+      refused
+
+  make_keeps : (path : List (List ℕ)) → Keeps (make v path)
+  unfolding make
+  make_keeps path =
+      by_bind Keeps _ _
+      (λ name. by_bind_is Keeps _ _
+      (λ parent found. by_bind_is Keeps _ _
+      (λ u kind. by_bind_is Keeps _ _
+      (λ w fresh. by_bind Keeps _ _
+      (λ _. by_bind_is Keeps _ _
+      (λ x room.
+      let there : parent ≤ length v.tree = found_at (length v.tree) (find_place v.tree (front path)) parent (find_place_there v.tree (front path)) found in
+      let above = passed (is_part v.tree parent) _ u kind in
+      let low : depth v.tree parent < deepest = grind (arith, nat_tests, above) in
+      kept_told n _ (kept_made v kept _ (IsTree-push v.tree _ kept.tree there low (absent _ (passed _ _ w fresh)) (passed _ _ x room))))
+      refused)
+      refused)
+      refused)
+      refused)
+      refused)
+      refused
+
+  check_out_keeps : (name : List ℕ) (wanted : List PathItem) → Keeps (check_out v name wanted)
+  unfolding check_out
+  check_out_keeps name wanted =
+      by_bind_is Keeps _ _
+      (λ u number. by_bind_is Keeps _ _
+      (λ items found. by_bind_is Keeps _ _
+      (λ w room.
+      let counts = neither (length wanted == 0) (nat_lt most_items (length wanted)) (passed _ _ u number) in
+      let free = neither (nat_le most_claims (length v.line)) (v.last_long == last_number) (passed _ _ w room) in
+      let is = got (placed v.tree wanted) _ items found in
+      let same = length-placed v.tree wanted items is in
+      let some : 0 < length items = grind (arith, nat_tests, counts.0, same) in
+      let few : length items ≤ most_items = grind (arith, nat_tests, counts.1, same) in
+      let line : length v.line < most_claims = grind (arith, nat_tests, free.0) in
+      kept_told n _ (kept_asked v kept _ refl tt line some few (placed_there v.tree wanted items is)))
+      refused)
+      refused)
+      refused
+
+  abandon_keeps : (name : List ℕ) (number : ℕ) → Keeps (abandon v name number)
+  unfolding abandon
+  abandon_keeps name number = by_bind Keeps _ _ (λ _. by_bind Keeps _ _ (λ _. kept_told n _ (kept_without v kept (Long number))) refused) refused
+
+  state_keeps : (id : ClaimId) → Keeps (state v id)
+  unfolding state
+  state_keeps id = by_bind Keeps _ _ (λ _. kept_told n v kept) refused
+
+  session_keeps : (session : Session) (command : Command) → Keeps (in_session v session command)
+  session_keeps session (commands.Join name) = refused Joined
+  session_keeps session (commands.Make path) = make_keeps path
+  session_keeps session (commands.CheckOut items) = check_out_keeps session.name items
+  session_keeps session (commands.Abandon number) = abandon_keeps session.name number
+  session_keeps session (commands.State id) = state_keeps id
+
+  door_keeps : (command : Command) → Keeps (at_door v command)
+  door_keeps (commands.Join name) = join_keeps name
+  door_keeps (commands.Make path) = refused NoSession
+  door_keeps (commands.CheckOut items) = refused NoSession
+  door_keeps (commands.Abandon number) = refused NoSession
+  door_keeps (commands.State id) = refused NoSession
+
+  decide_keeps : (command : Command) → Keeps (decide v n command)
+  unfolding decide
+  decide_keeps command = by_door (n == 0)
+    where
+      by_door : (b : Bool) → Keeps (cond b (at_door v command) (ok_or (session_of v.sessions n) NoSession >>= λ session. in_session v session command))
+      by_door true = door_keeps command
+      by_door false = by_bind Keeps _ _ (λ session. session_keeps session command) refused
+
+pub step_keeps : (v : Vault) (n : ℕ) (command : Command) → IsVault v → IsVault (step v n command).vault
+unfolding step
+step_keeps v n command kept = decide_keeps v n kept command

@@ -1,0 +1,78 @@
+use super::*;
+use crate::split::cut;
+use std::test::Fail;
+
+#[test]
+fn names_are_read(rt: HostRuntime) -> Result<(), Fail> {
+    let words: [(&[u8], bool); 9] = [
+        (b"a-_9", true),
+        (b"z", true),
+        (b"abcdefghijklmnopqrstuvwxyz012345", true),
+        (b"", false),
+        (b"abcdefghijklmnopqrstuvwxyz0123456", false),
+        (b"A", false),
+        (b"a b", false),
+        (b"a/b", false),
+        (b"\xc3\xa4", false),
+    ];
+    for (word, is_name) in words {
+        match Name::read(word) {
+            Some(name) => assert!(rt; is_name && name.as_bytes() == word),
+            None => assert!(rt; !is_name),
+        }
+    }
+    Ok(())
+}
+
+#[test]
+fn paths_are_read(rt: HostRuntime) -> Result<(), Fail> {
+    let words: [(&[u8], Option<usize>); 12] = [
+        (b"/", Some(0)),
+        (b"/e", Some(1)),
+        (b"/e/b", Some(2)),
+        (b"/e/b/p1", Some(3)),
+        (b"", None),
+        (b"e", None),
+        (b"//", None),
+        (b"/e/", None),
+        (b"/e//b", None),
+        (b"/e/B", None),
+        (b"/e/b/p1/x", None),
+        (b"/abcdefghijklmnopqrstuvwxyz0123456", None),
+    ];
+    for (word, count) in words {
+        match (Path::read(word), count) {
+            (Some(path), Some(count)) => assert_eq!(rt; path.names().len(), count),
+            (None, None) => {}
+            _ => assert!(rt; false),
+        }
+    }
+    Ok(())
+}
+
+#[test]
+fn a_path_has_its_names(rt: HostRuntime) -> Result<(), Fail> {
+    let (Some(e), Some(b)) = (Name::read(b"e"), Name::read(b"b")) else {
+        assert!(rt; false);
+        return Ok(());
+    };
+    let path = Path::root().joined(e).joined(b);
+    assert!(rt; Path::read(b"/e/b") == Some(path));
+    let Some((last, front)) = path.split_last() else {
+        assert!(rt; false);
+        return Ok(());
+    };
+    assert!(rt; last == b && front == [e].as_slice());
+    assert!(rt; Path::root().split_last().is_none());
+    assert_eq!(rt; path.len(), 2);
+    Ok(())
+}
+
+#[test]
+fn texts_are_cut(rt: HostRuntime) -> Result<(), Fail> {
+    let (word, rest) = cut(b"ab cd ", b' ');
+    assert!(rt; word == b"ab".as_slice() && rest == Some(b"cd ".as_slice()));
+    let (word, rest) = cut(b"ab", b' ');
+    assert!(rt; word == b"ab".as_slice() && rest.is_none());
+    Ok(())
+}
