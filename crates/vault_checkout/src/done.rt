@@ -1,0 +1,36 @@
+//! What one command did, before it is counted.
+ghost use Rattle.std.specs.Prelude.{◌≡◌};
+ghost use Rattle.vault_checkout.specs.declared.done.Stop.TheVariants.{OutOfMemory};
+
+use std::alloc::AllocFailed;
+use vault_model::{Effect, NoMemory, Refusal, Reply};
+
+/// A command that was done.
+#[derive(Drop)]
+pub(crate) struct Done {
+    pub reply: Reply,
+    pub effect: Option<Effect>,
+}
+
+/// Why a command was not done.
+#[derive(Clone, Copy, Debug, PartialEq, Eq)]
+pub(crate) enum Stop {
+    Refused(Refusal),
+    OutOfMemory,
+}
+
+impl<T: Drop> From<AllocFailed<T>> for Stop {
+    ghost from_gives = { λ _ e. e ≡ OutOfMemory };
+
+    fn from(_failed: AllocFailed<T>) -> Stop {
+        Stop::OutOfMemory
+    }
+}
+
+impl From<NoMemory> for Stop {
+    ghost from_gives = { λ _ e. e ≡ OutOfMemory };
+
+    fn from(_error: NoMemory) -> Stop {
+        Stop::OutOfMemory
+    }
+}
