@@ -14,7 +14,7 @@ use design_tree::Tree;
 use std::alloc::{Allocator, Global};
 use std::marker::Model;
 use vault_model::{
-    Claim, ClaimId, Command, CommandIn, Effect, LAST_NUMBER, MOST_CLAIMS, MOST_ITEMS,
+    Claim, ClaimId, Command, CommandIn, Effect, EffectIn, LAST_NUMBER, MOST_CLAIMS, MOST_ITEMS,
     MOST_SESSIONS, Name, NoMemory, Owner, Path, PathItem, Refusal, Reply, Session, Standing,
 };
 
@@ -107,7 +107,7 @@ impl<A: Allocator + Copy> Book<A> {
     }
 
     #[tactic(auto, unfolding(vault_model::specs::Step::join, vault_model::specs::Step::chained))]
-    fn join(&mut self, name: Name) -> Result<Done, Stop>
+    fn join(&mut self, name: Name) -> Result<Done<A>, Stop>
         ensures told { Follows self.old result self.new (join self.old name) }
         ensures counts { (bound : ℕ) → CountsBelow bound self.old → CountsBelow bound self.new }
     {
@@ -128,7 +128,7 @@ impl<A: Allocator + Copy> Book<A> {
     }
 
     #[tactic(auto, unfolding(vault_model::specs::Step::make, vault_model::specs::Step::chained))]
-    fn make(&mut self, path: &Path) -> Result<Done, Stop>
+    fn make(&mut self, path: &Path) -> Result<Done<A>, Stop>
         ensures told { Follows self.old result self.new (make self.old path.now) }
         ensures counts { (bound : ℕ) → CountsBelow bound self.old → CountsBelow bound self.new }
     {
@@ -158,7 +158,7 @@ impl<A: Allocator + Copy> Book<A> {
     }
 
     #[tactic(auto, unfolding(vault_model::specs::Step::abandon, vault_model::specs::Step::chained))]
-    fn abandon(&mut self, designer: Name, number: u32) -> Result<Done, Stop>
+    fn abandon(&mut self, designer: Name, number: u32) -> Result<Done<A>, Stop>
         ensures told { Follows self.old result self.new (abandon self.old designer number) }
         ensures counts { (bound : ℕ) → CountsBelow bound self.old → CountsBelow bound self.new }
     {
@@ -177,7 +177,7 @@ impl<A: Allocator + Copy> Book<A> {
     }
 
     #[tactic(auto, unfolding(vault_model::specs::Step::state, vault_model::specs::Step::chained))]
-    fn state(&self, id: ClaimId) -> Result<Done, Stop>
+    fn state(&self, id: ClaimId) -> Result<Done<A>, Stop>
         ensures { Follows self.now result self.now (state self.now id) }
     {
         match standing_of(&self.tree, &self.line, id) {
@@ -190,7 +190,7 @@ impl<A: Allocator + Copy> Book<A> {
     }
 
     #[tactic(auto, unfolding(vault_model::specs::Step::check_out, vault_model::specs::Step::chained))]
-    fn check_out(&mut self, designer: Name, wanted: &[PathItem]) -> Result<Done, Stop>
+    fn check_out(&mut self, designer: Name, wanted: &[PathItem]) -> Result<Done<A>, Stop>
         ensures told { Follows self.old result self.new (check_out self.old designer wanted.now) }
         ensures counts { (bound : ℕ) → CountsBelow bound self.old → CountsBelow bound self.new }
     {
@@ -219,7 +219,7 @@ impl<A: Allocator + Copy> Book<A> {
     }
 
     #[tactic(auto, unfolding(vault_model::specs::Step::decide, vault_model::specs::Step::chained))]
-    fn decide<B: Allocator>(&mut self, number: u32, command: &CommandIn<B>) -> Result<Done, Stop>
+    fn decide<B: Allocator>(&mut self, number: u32, command: &CommandIn<B>) -> Result<Done<A>, Stop>
         ensures told { Follows self.old result self.new (decide self.old number command.now) }
         ensures counts { (bound : ℕ) → CountsBelow bound self.old → CountsBelow bound self.new }
     {
@@ -260,7 +260,7 @@ impl<A: Allocator + Copy> Book<A> {
         &mut self,
         session: u32,
         command: &CommandIn<B>,
-    ) -> Result<(Reply, Option<Effect>), NoMemory>
+    ) -> Result<(Reply, Option<EffectIn<A>>), NoMemory>
         requires { CountsBelow (2 ^ 64 - 1) self.old }
         ensures told { IfOk result (λ told. told.0 ≡ (step self.old session command.now).reply) }
         ensures effect { IfOk result (λ told. told.1 ≡ (step self.old session command.now).effect) }

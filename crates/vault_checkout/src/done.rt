@@ -2,14 +2,14 @@
 ghost use Rattle.std.specs.Prelude.{◌≡◌};
 ghost use Rattle.vault_checkout.specs.declared.done.Stop.TheVariants.{OutOfMemory};
 
-use std::alloc::AllocFailed;
-use vault_model::{Effect, NoMemory, Refusal, Reply};
+use std::alloc::{AllocFailed, Allocator};
+use vault_model::{EffectIn, NoMemory, Refusal, Reply};
 
 /// A command that was done.
 #[derive(Drop)]
-pub(crate) struct Done {
+pub(crate) struct Done<A: Allocator> {
     pub reply: Reply,
-    pub effect: Option<Effect>,
+    pub effect: Option<EffectIn<A>>,
 }
 
 /// Why a command was not done.

@@ -7,7 +7,7 @@ use std::slice;
 use std::test::Fail;
 use test_memory::Refusing;
 use vault_model::{
-    ClaimId, Command, Effect, Intent, Item, Items, Listing, Name, NoMemory, Path, PathItem,
+    ClaimId, Command, Effect, EffectIn, Intent, Item, Items, Listing, Name, NoMemory, Path, PathItem,
     PlaceId, Refusal, Reply,
 };
 
@@ -29,7 +29,7 @@ impl<A: Allocator + Copy> Talk<A> {
         &mut self,
         session: u32,
         command: &Command,
-    ) -> Result<(Reply, Option<Effect>), NoMemory> {
+    ) -> Result<(Reply, Option<EffectIn<A>>), NoMemory> {
         if self.said == u32::MAX {
             return Err(NoMemory);
         }

@@ -1,5 +1,5 @@
 -- Commands, replies and effects over plain lists, which is all that the definitions see of their memory.
-use Rattle.std.specs.Prelude.{List}
+use Rattle.std.specs.Prelude.{ℕ, List}
 use Rattle.vault_model.specs.declared.claims.PathItem.{PathItem}
 use Rattle.vault_model.specs.declared.commands.Command.{Command as CommandOver}
 use Rattle.vault_model.specs.declared.replies.Reply.{Reply as ReplyOver}
@@ -15,4 +15,4 @@ Reply = ReplyOver
 
 -- an effect
 abbrev pub Effect : Type 0
-Effect = EffectOver
+Effect = EffectOver (List ℕ)

@@ -20,7 +20,7 @@ mod tests;
 
 pub use claims::{Claim, Item, Owner, PathItem, Standing};
 pub use commands::{Command, CommandIn};
-pub use effects::Effect;
+pub use effects::{Effect, EffectIn};
 pub use ids::{ClaimId, Intent, PlaceId};
 pub use items::Items;
 pub use limits::{
