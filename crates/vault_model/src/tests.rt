@@ -1,6 +1,8 @@
 use super::*;
 use crate::split::cut;
+use std::alloc::AllocError;
 use std::test::Fail;
+use test_memory::Refusing;
 
 #[test]
 fn names_are_read(rt: HostRuntime) -> Result<(), Fail> {
@@ -74,5 +76,18 @@ fn texts_are_cut(rt: HostRuntime) -> Result<(), Fail> {
     assert!(rt; word == b"ab".as_slice() && rest == Some(b"cd ".as_slice()));
     let (word, rest) = cut(b"ab", b' ');
     assert!(rt; word == b"ab".as_slice() && rest.is_none());
+    Ok(())
+}
+
+#[test]
+fn a_copy_is_refused_its_memory(rt: HostRuntime) -> Result<(), Fail> {
+    let list = Listing::from_vec(Vec::from_slice(rt.alloc(), b"abc")?);
+    let memory = Refusing::new(rt.alloc());
+    memory.refuse(1);
+    assert!(rt; matches!(&list.copy(&memory), Err(AllocError)));
+    assert!(rt; !memory.is_waiting());
+    let copy = list.copy(&memory)?;
+    assert!(rt; copy.as_slice() == b"abc".as_slice());
+    assert!(rt; list.into_vec().as_slice() == b"abc".as_slice());
     Ok(())
 }
