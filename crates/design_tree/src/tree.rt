@@ -138,6 +138,15 @@ impl<A: Allocator> Tree<A> {
         self.places.len() + 1
     }
 
+    /// The parent of a place. The library has none.
+    pub fn parent(&self, place: PlaceId) -> Option<PlaceId>
+        requires { place ≤ length self.now }
+        ensures parent { result ≡ parent_of self.now place }
+        ensures tree { IsTree self.now }
+    {
+        parent_in(&self.places, place)
+    }
+
     /// The place at the end of a path.
     pub fn find(&self, path: &Path) -> Option<PlaceId>
         ensures found { result ≡ find_place self.now path.now }

@@ -1,0 +1,2 @@
+pub mod ClaimModes
+pub mod Locks
