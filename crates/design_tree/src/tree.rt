@@ -1,136 +1,61 @@
-//! Places, each under its parent.
-ghost use Rattle.std.specs.Prelude.{◌≡◌, ℕ, ◌+◌, ◌-◌, ◌<◌, ◌≤◌, ◌↔◌, ◌==◌, false, None, List, [], ◌∷◌, ◌++◌, length, take, drop, IsTrue, slice_get, IfOk, IfSome, OnOk, OnErr, is_some, nat_le, count_by, position};
-ghost use Rattle.std.specs.Option.{option_map};
-ghost use Rattle.vault_model.specs.Tree.{parent_of, is_under, depth, kind_of, kind_of_depth, child, is_child, find_below, find_place, children_count, is_full, is_part, IsTree};
-ghost use Rattle.vault_model.specs.Limits.{deepest};
+//! The tree.
+ghost use Rattle.std.specs.Prelude.{◌≡◌, ℕ, ◌+◌, ◌-◌, ◌<◌, ◌≤◌, false, None, List, [], ◌∷◌, ◌++◌, length, IfOk, IfErr, IfSome, OnOk, OnErr, All};
+ghost use Rattle.vault_model.specs.Tree.{parent_of, name_of, path_of, is_under, is_part, kind_of, child, find_below, find_place, children_of, is_full, IsTree};
+ghost use Rattle.design_tree.specs.Added.{refusal, refusal_told};
 
+use crate::index::enter;
+use crate::walk::{
+    depth_in, first_named, is_part_in, is_under_in, kind_of_depth, name_in, parent_in, path_in,
+};
 use std::alloc::{Allocator, Global};
 use std::marker::Model;
-use vault_model::{Kind, Name, NoMemory, Path, Place, PlaceId};
+use thiserror::Error;
+use vault_model::{Kind, MOST_CHILDREN, MOST_PLACES, Name, NoMemory, Path, Place, PlaceId};
 
 /// The places of a vault, which contracts see as the list of them but for the library.
 #[derive(Drop)]
 pub struct Tree<A: Allocator = Global> {
     places: Vec<Place, A>,
+    children: Vec<Vec<PlaceId, A>, A>,
 }
 
 impl<A: Allocator> Model for Tree<A> {
-    ghost use Rattle.std.specs.Prelude.{List};
+    ghost use Rattle.std.specs.Prelude.{List, map};
     ghost use Rattle.vault_model.specs.declared.place.Place.{Place};
-    ghost use Rattle.vault_model.specs.Tree.{IsTree};
+    ghost use Rattle.design_tree.specs.Index.{IsKept};
 
     ghost Value = { List Place };
 
     ghost view = { λ t. t.places.items };
 
-    ghost invariant = { λ t. IsTree t.places.items };
+    ghost invariant = { λ t. IsKept t.places.items (map (λ v. v.items) t.children.items) };
 }
 
 /// Why a place was not made.
-#[derive(Clone, Copy, Debug, PartialEq, Eq)]
+#[derive(Clone, Copy, Debug, PartialEq, Eq, Error)]
 pub enum AddError {
+    #[error("nothing stands under a part")]
     WrongKind,
+    #[error("a sibling has the name")]
     Exists,
+    #[error("no room for one more place")]
     Limit,
+    #[error("want of memory")]
     NoMemory,
 }
 
-fn parent_in(places: &[Place], place: PlaceId) -> Option<PlaceId>
-    requires { place ≤ length places.now }
-    ensures { result ≡ parent_of places.now place }
-{
-    if place.number() == 0 {
-        return None;
-    }
-    Some(places[place.number() as usize - 1].parent)
-}
+impl From<NoMemory> for AddError {
+    ghost use Rattle.std.specs.Prelude.{◌≡◌};
+    ghost use Rattle.design_tree.specs.declared.tree.AddError.TheVariants as errors;
 
-fn is_under_in(places: &[Place], place: PlaceId, top: PlaceId) -> bool
-    requires tree { IsTree places.now }
-    requires there { place ≤ length places.now }
-    ensures { result ≡ is_under places.now place top }
-{
-    let mut at = place;
-    while let Some(parent) = parent_in(places, at) {
-        if at == top {
-            return true;
-        }
-        at = parent;
-    }
-    at == top
-}
+    ghost from_gives = { λ _ e. e ≡ errors.NoMemory };
 
-fn depth_in(places: &[Place], place: PlaceId) -> u32
-    requires tree { IsTree places.now }
-    requires there { place ≤ length places.now }
-    ensures { result ≡ depth places.now place }
-{
-    let mut at = place;
-    let mut steps = 0;
-    while let Some(parent) = parent_in(places, at) {
-        steps += 1;
-        at = parent;
-    }
-    steps
-}
-
-fn child_index(places: &[Place], parent: PlaceId, name: &Name) -> Option<usize>
-    ensures { result ≡ position (is_child parent name.now) places.now }
-{
-    places
-        .iter()
-        .position(|place| place.parent == parent && place.name == *name)
-}
-
-fn child_in(places: &[Place], parent: PlaceId, name: &Name) -> Option<PlaceId>
-    requires { length places.now < 4096 }
-    ensures { result ≡ child places.now parent name.now }
-{
-    match child_index(places, parent, name) {
-        Some(index) => Some(PlaceId(index as u32 + 1)),
-        None => None,
-    }
-}
-
-fn find_in(places: &[Place], names: &[Name]) -> Option<PlaceId>
-    requires { length places.now < 4096 }
-    ensures { result ≡ find_place places.now names.now }
-{
-    let mut at = PlaceId(0);
-    for name in names {
-        at = child_in(places, at, name)?;
-    }
-    Some(at)
-}
-
-fn children_in(places: &[Place], parent: PlaceId) -> usize
-    ensures { result ≡ children_count places.now parent }
-{
-    places.iter().filter(|place| place.parent == parent).count()
-}
-
-fn kind_of_depth_in(depth: u32) -> Kind
-    requires { depth ≤ deepest }
-    ensures { result ≡ kind_of_depth depth }
-{
-    match depth {
-        0 => Kind::Library,
-        1 => Kind::Project,
-        2 => Kind::Assembly,
-        _ => Kind::Part,
+    fn from(_: NoMemory) -> AddError {
+        AddError::NoMemory
     }
 }
 
 impl<A: Allocator> Tree<A> {
-    /// A tree of the library alone.
-    pub fn new(alloc: A) -> Result<Tree<A>, NoMemory>
-        ensures { IfOk result (λ tree. tree ≡ []) }
-    {
-        Ok(Tree {
-            places: Vec::new(alloc),
-        })
-    }
-
     /// How many places there are, with the library.
     pub fn len(&self) -> usize
         ensures { result ≡ length self.now + 1 }
@@ -138,16 +63,8 @@ impl<A: Allocator> Tree<A> {
         self.places.len() + 1
     }
 
-    /// The parent of a place. The library has none.
-    pub fn parent(&self, place: PlaceId) -> Option<PlaceId>
-        requires { place ≤ length self.now }
-        ensures parent { result ≡ parent_of self.now place }
-        ensures tree { IsTree self.now }
-    {
-        parent_in(&self.places, place)
-    }
-
-    /// The place at the end of a path.
+    /// The place at the end of a path. The work grows with the path's names and their parents'
+    /// children alone.
     pub fn find(&self, path: &Path) -> Option<PlaceId>
         ensures found { result ≡ find_place self.now path.now }
         ensures there { IfSome result (λ place. place ≤ length self.now) }
@@ -160,23 +77,62 @@ impl<A: Allocator> Tree<A> {
         ensures found { result ≡ find_place self.now names.now }
         ensures there { IfSome result (λ place. place ≤ length self.now) }
     {
-        find_in(&self.places, names)
+        let mut at = PlaceId(0);
+        for name in names {
+            at = self.child(at, name)?;
+        }
+        Some(at)
     }
 
-    /// The place by this name under a parent.
+    /// The place by this name under a parent, of which the parent's children alone are looked at.
     pub fn child(&self, parent: PlaceId, name: &Name) -> Option<PlaceId>
         requires { parent ≤ length self.now }
         ensures { result ≡ child self.now parent name.now }
     {
-        child_in(&self.places, parent, name)
+        first_named(&self.places, self.child_list(parent), name)
     }
 
-    /// What a place is.
+    /// The children of a place, as the index has them.
+    fn child_list(&self, parent: PlaceId) -> &[PlaceId]
+        requires { parent ≤ length self.now }
+        ensures { result.now ≡ children_of self.now parent }
+    {
+        &self.children[parent.number() as usize]
+    }
+
+    /// The parent of a place; the library has none.
+    pub fn parent(&self, place: PlaceId) -> Option<PlaceId>
+        requires { place ≤ length self.now }
+        ensures parent { result ≡ parent_of self.now place }
+        ensures there { IfSome result (λ parent. parent ≤ length self.now) }
+        ensures smaller { IfSome result (λ parent. parent < place) }
+        ensures tree { IsTree self.now }
+    {
+        parent_in(&self.places, place)
+    }
+
+    /// The name of a place; the library has none.
+    pub fn name_of(&self, place: PlaceId) -> Option<Name>
+        requires { place ≤ length self.now }
+        ensures { result ≡ name_of self.now place }
+    {
+        name_in(&self.places, place)
+    }
+
+    /// The path of a place. The work grows with its depth alone, and takes no memory.
+    pub fn path_of(&self, place: PlaceId) -> Path
+        requires { place ≤ length self.now }
+        ensures { result ≡ path_of self.now place }
+    {
+        path_in(&self.places, place)
+    }
+
+    /// What a place is. The work grows with its depth alone.
     pub fn kind(&self, place: PlaceId) -> Kind
         requires { place ≤ length self.now }
         ensures { result ≡ kind_of self.now place }
     {
-        kind_of_depth_in(depth_in(&self.places, place))
+        kind_of_depth(depth_in(&self.places, place))
     }
 
     /// Whether a place is a part, under which there are no places.
@@ -184,10 +140,10 @@ impl<A: Allocator> Tree<A> {
         requires { place ≤ length self.now }
         ensures { result ≡ is_part self.now place }
     {
-        depth_in(&self.places, place) >= 3
+        is_part_in(&self.places, place)
     }
 
-    /// Whether a place is another, or lies under it.
+    /// Whether a place is another, or lies under it. The work grows with the place's depth alone.
     pub fn is_under(&self, place: PlaceId, top: PlaceId) -> bool
         requires { place ≤ length self.now }
         ensures { result ≡ is_under self.now place top }
@@ -200,10 +156,35 @@ impl<A: Allocator> Tree<A> {
         requires { parent ≤ length self.now }
         ensures { result ≡ is_full self.now parent }
     {
-        self.places.len() + 1 >= 4096 || children_in(&self.places, parent) >= 64
+        self.len() >= MOST_PLACES || self.child_list(parent).len() >= MOST_CHILDREN
+    }
+}
+
+impl<A: Allocator + Copy> Tree<A> {
+    /// A tree of the library alone, in this allocator's memory. It asks for memory once, for the
+    /// library's list of children.
+    pub fn new(alloc: A) -> Result<Tree<A>, NoMemory>
+        ensures { IfOk result (λ tree. tree ≡ []) }
+    {
+        let mut children = Vec::new(alloc);
+        children.push(Vec::new(alloc)).map_err(|_| NoMemory)?;
+        Ok(Tree {
+            places: Vec::new(alloc),
+            children,
+        })
     }
 
-    /// Makes a place where nothing forbids it.
+    /// The children of a place by number, in the tree's own allocator.
+    pub fn children(&self, parent: PlaceId) -> Result<Vec<PlaceId, A>, NoMemory>
+        requires { parent ≤ length self.now }
+        ensures { IfOk result (λ c. c.items ≡ children_of self.now parent) }
+    {
+        let alloc = *self.places.allocator();
+        Vec::from_slice(alloc, self.child_list(parent)).map_err(|_| NoMemory)
+    }
+
+    /// Makes a place where nothing forbids it, which the caller has tested. Room is asked for
+    /// before anything changes.
     pub fn push(&mut self, parent: PlaceId, name: Name) -> Result<PlaceId, NoMemory>
         requires there { parent ≤ length self.old }
         requires kind { is_part self.old parent ≡ false }
@@ -214,10 +195,35 @@ impl<A: Allocator> Tree<A> {
         ensures ok { OnOk result (self.new ≡ self.old ++ record { parent = parent; name = name } ∷ []) }
         ensures err { OnErr result (self.new ≡ self.old) }
     {
-        match self.places.push(Place { parent, name }) {
-            Ok(()) => {}
-            Err(_) => return Err(NoMemory)
+        let place = PlaceId(self.places.len() as u32 + 1);
+        self.places.reserve(1).map_err(|_| NoMemory)?;
+        enter(&mut self.children, parent, place).map_err(|_| NoMemory)?;
+        self.places.push(Place { parent, name }).unwrap();
+        Ok(place)
+    }
+
+    /// Makes a place, or says why there is none. The refusals are tried in the order of
+    /// `AddError`, and want of memory comes last.
+    pub fn add(&mut self, parent: PlaceId, name: Name) -> Result<PlaceId, AddError>
+        requires { parent ≤ length self.old }
+        ensures tree { IsTree self.new }
+        ensures made { IfOk result (λ place. place ≡ length self.old + 1) }
+        ensures ok { OnOk result (self.new ≡ self.old ++ record { parent = parent; name = name } ∷ []) }
+        ensures err { OnErr result (self.new ≡ self.old) }
+
+        // What refuses comes first, and memory is wanted only where nothing does.
+        ensures allowed { OnOk result (refusal self.old parent name ≡ None) }
+        ensures refused { IfErr result (λ e. refusal self.old parent name ≡ refusal_told e) }
+    {
+        if is_part_in(&self.places, parent) {
+            return Err(AddError::WrongKind);
         }
-        Ok(PlaceId(self.places.len() as u32))
+        if self.child(parent, &name).is_some() {
+            return Err(AddError::Exists);
+        }
+        if self.is_full(parent) {
+            return Err(AddError::Limit);
+        }
+        Ok(self.push(parent, name)?)
     }
 }

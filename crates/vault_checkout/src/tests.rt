@@ -379,6 +379,6 @@ fn a_new_book_is_refused_its_memory(rt: HostRuntime) -> Result<(), Fail> {
         }
     }
     memory.refuse(0);
-    assert!(rt; refusals < 19);
+    assert!(rt; 0 < refusals && refusals < 19);
     Ok(())
 }

@@ -1,6 +1,6 @@
 use Rattle.std.proofs.Common.{◌≡◌, ◌<◌, ◌∙◌, ◌==◌, false, sym, arith}
 use Rattle.vault_model.proofs.Walks.{is_under-next}
-use Rattle.design_tree.proofs.tree.is_under_in.Goals as goal
+use Rattle.design_tree.proofs.walk.is_under_in.Goals as goal
 
 pub loop-parent-preserved : goal.loop-parent-preserved
 loop-parent-preserved c =

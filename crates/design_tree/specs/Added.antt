@@ -1,0 +1,21 @@
+-- Why a place is not made. This project's own.
+use Rattle.std.specs.Prelude.{ℕ, List, Option, None, Some, is_some, if◌then◌else◌}
+use Rattle.vault_model.specs.declared.place.Place.{Place}
+use Rattle.vault_model.specs.Tree.{is_part, child, is_full}
+use Rattle.design_tree.specs.declared.tree.AddError.{AddError}
+use Rattle.design_tree.specs.declared.tree.AddError.TheVariants.{WrongKind, Exists, Limit, NoMemory}
+
+-- what forbids a place by this name under the parent: the parent is a part, has a child of the name, or there is no room
+abbrev pub refusal : List Place → ℕ → List ℕ → Option AddError
+refusal tree parent name =
+    if is_part tree parent then Some WrongKind
+    else if is_some (child tree parent name) then Some Exists
+    else if is_full tree parent then Some Limit
+    else None
+
+-- what an error says of the tree: want of memory says that nothing there forbids the place
+abbrev pub refusal_told : AddError → Option AddError
+refusal_told WrongKind = Some WrongKind
+refusal_told Exists = Some Exists
+refusal_told Limit = Some Limit
+refusal_told NoMemory = None

@@ -1,0 +1,24 @@
+-- The index behind a tree. This project's own.
+use Rattle.std.specs.Prelude.{◌≡◌, ℕ, ◌+◌, ◌≤◌, Bool, false, List, [], ◌∷◌, ◌++◌, length, Some, slice_get, slice_index_or, slice_set}
+use Rattle.std.specs.Option.{option_map_or}
+use Rattle.std.specs.Str.{bytes_eq}
+use Rattle.vault_model.specs.declared.place.Place.{Place}
+use Rattle.vault_model.specs.Tree.{name_of, children_of, IsTree}
+
+-- whether a place has this name
+abbrev pub has_name : List Place → List ℕ → ℕ → Bool
+has_name tree name place = option_map_or (λ own. bytes_eq own name) (name_of tree place) false
+
+-- each place's children stand in the list at its number
+pub record IsIndexed (tree : List Place) (lists : List (List ℕ)) : Type 0 where
+  pub whole : length lists ≡ length tree + 1
+  pub each : (p : ℕ) → p ≤ length tree → slice_get lists p ≡ Some (children_of tree p)
+
+-- what a tree keeps of its places and of the index behind them
+pub record IsKept (tree : List Place) (lists : List (List ℕ)) : Type 0 where
+  pub tree_is : IsTree tree
+  pub indexed : IsIndexed tree lists
+
+-- the lists with a new place behind its siblings, and its own children, of which there are none
+abbrev pub with_child : List (List ℕ) → ℕ → ℕ → List (List ℕ)
+with_child lists parent place = slice_set lists parent (slice_index_or lists parent [] ++ place ∷ []) ++ [] ∷ []

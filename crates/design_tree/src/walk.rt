@@ -1,0 +1,121 @@
+//! Walks over the places, each under its parent.
+ghost use Rattle.std.specs.Prelude.{◌≡◌, ℕ, ◌+◌, ◌-◌, ◌<◌, ◌≤◌, ◌==◌, List, length, slice_get, IfSome, All};
+ghost use Rattle.std.specs.List.{find};
+ghost use Rattle.vault_model.specs.Tree.{parent_of, name_of, is_under, depth, is_part, kind_of_depth, path_of, IsTree};
+ghost use Rattle.design_tree.specs.Index.{has_name};
+
+use vault_model::{DEEPEST, Kind, Name, Path, Place, PlaceId};
+
+/// The parent of a place.
+pub fn parent_in(places: &[Place], place: PlaceId) -> Option<PlaceId>
+    requires { place ≤ length places.now }
+    ensures { result ≡ parent_of places.now place }
+{
+    if place.number() == 0 {
+        return None;
+    }
+    Some(places[place.number() as usize - 1].parent)
+}
+
+/// The name of a place.
+pub fn name_in(places: &[Place], place: PlaceId) -> Option<Name>
+    requires { place ≤ length places.now }
+    ensures { result ≡ name_of places.now place }
+{
+    if place.number() == 0 {
+        return None;
+    }
+    Some(places[place.number() as usize - 1].name)
+}
+
+/// Whether a place has this name.
+fn has_name(places: &[Place], place: PlaceId, name: &Name) -> bool
+    requires { place ≤ length places.now }
+    ensures { result ≡ has_name places.now name.now place }
+{
+    match name_in(places, place) {
+        Some(own) => own == *name,
+        None => false,
+    }
+}
+
+/// The first of some places that has this name.
+pub fn first_named(places: &[Place], among: &[PlaceId], name: &Name) -> Option<PlaceId>
+    requires { All (λ p. p ≤ length places.now) among.now }
+    ensures { result ≡ find (has_name places.now name.now) among.now }
+{
+    for place in among {
+        if has_name(places, *place, name) {
+            return Some(*place);
+        }
+    }
+    None
+}
+
+/// Whether a place is another, or lies under it.
+pub fn is_under_in(places: &[Place], place: PlaceId, top: PlaceId) -> bool
+    requires tree { IsTree places.now }
+    requires there { place ≤ length places.now }
+    ensures { result ≡ is_under places.now place top }
+{
+    let mut at = place;
+    while let Some(parent) = parent_in(places, at) {
+        if at == top {
+            return true;
+        }
+        at = parent;
+    }
+    at == top
+}
+
+/// How many ancestors a place has.
+pub fn depth_in(places: &[Place], place: PlaceId) -> usize
+    requires tree { IsTree places.now }
+    requires there { place ≤ length places.now }
+    ensures { result ≡ depth places.now place }
+{
+    let mut at = place;
+    let mut steps = 0;
+    while let Some(parent) = parent_in(places, at) {
+        steps += 1;
+        at = parent;
+    }
+    steps
+}
+
+/// Whether a place is as deep as places are.
+pub fn is_part_in(places: &[Place], place: PlaceId) -> bool
+    requires tree { IsTree places.now }
+    requires there { place ≤ length places.now }
+    ensures { result ≡ is_part places.now place }
+{
+    depth_in(places, place) >= DEEPEST
+}
+
+/// What the depth makes of a place.
+pub fn kind_of_depth(depth: usize) -> Kind
+    ensures { result ≡ kind_of_depth depth }
+{
+    if depth == 0 {
+        Kind::Library
+    } else if depth >= DEEPEST {
+        Kind::Part
+    } else if depth == 1 {
+        Kind::Project
+    } else {
+        Kind::Assembly
+    }
+}
+
+/// The names on the way to a place.
+pub fn path_in(places: &[Place], place: PlaceId) -> Path
+    requires tree { IsTree places.now }
+    requires there { place ≤ length places.now }
+    ensures path { result ≡ path_of places.now place }
+    ensures len { length result ≡ depth places.now place }
+{
+    let Some(parent) = parent_in(places, place) else {
+        return Path::root();
+    };
+    path_in(places, parent).joined(places[place.number() as usize - 1].name)
+}
