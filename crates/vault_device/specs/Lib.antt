@@ -1,0 +1,7 @@
+pub mod Disk
+pub mod Memory
+pub mod MemoryView
+pub mod MemoryLaws
+pub mod MemDevice
+pub mod RawFile
+pub mod SettledByte

@@ -1,0 +1,25 @@
+-- A device in memory, as its callers see it.
+use Rattle.std.specs.Prelude.{◌≡◌, ◌+◌, ℕ, ◌-◌, min, List, IsErr, OnOk, OnErr, Result}
+use Rattle.vault_device.specs.Disk.{Disk, last_count}
+use Rattle.vault_device.specs.Memory.{Event}
+use Rattle.vault_device.specs.MemoryLaws.{memory_disk}
+
+pub record MemDisk : Type 0 where
+  -- all that was done to it, the latest first
+  pub history : List Event
+  pub calls : ℕ
+  pub faults : ℕ
+  -- the how manieth call from now is to fail, 0 for none
+  pub failing : ℕ
+
+-- what it shows as a device
+abbrev pub disk_of : MemDisk → Disk
+disk_of device = memory_disk device.history device.calls device.faults
+
+-- One call was counted, and a fault where it failed; it failed where it was to.
+pub record IsCounted {A E : Type 0} (old new : MemDisk) (result : Result A E) : Type 0 where
+  pub calls : new.calls ≡ min (old.calls + 1) last_count
+  pub failing : new.failing ≡ old.failing - 1
+  pub fails : old.failing ≡ 1 → IsErr result
+  pub no_fault : OnOk result (new.faults ≡ old.faults)
+  pub fault : OnErr result (new.faults ≡ min (old.faults + 1) last_count)
