@@ -7,8 +7,8 @@ use std::slice;
 use std::test::Fail;
 use test_memory::Refusing;
 use vault_model::{
-    ClaimId, Command, Effect, EffectIn, Intent, Item, Items, Listing, Name, NoMemory, Path, PathItem,
-    PlaceId, Refusal, Reply,
+    ClaimId, Command, Effect, EffectIn, Intent, Item, Items, Listing, Name, NoMemory, Path,
+    PathItem, PlaceId, Refusal, Reply,
 };
 
 /// A book, and how many commands it was given.

@@ -1,4 +1,4 @@
-// A disk as the layers above see it.
+//! A disk as the layers above see it.
 ghost use Rattle.std.specs.Prelude.{◌≡◌, ◌≤◌, ◌<◌, ◌+◌, ◌^◌, IsTrue, IfOk, OnOk, length, slice_range};
 ghost use Rattle.vault_device.specs.Disk.{Disk, IsOneCall, IsRead, IsWrite, IsSync, IsLawful};
 

@@ -1,4 +1,4 @@
-// The device over a file.
+//! The device over a file.
 ghost use Rattle.std.specs.Prelude.{◌≡◌, ◌≤◌, ◌<◌, ◌+◌, ◌^◌, ◌⊎◌, min, IsTrue, IsErr, OnOk, OnErr, length, slice_range};
 ghost use Rattle.vault_device.specs.Disk.{IsRead, IsWrite, last_count};
 ghost use Rattle.vault_device.specs.RawFile.{FileDisk, counted, counted_lawful};

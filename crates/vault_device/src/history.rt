@@ -1,4 +1,4 @@
-// What was done to a device in memory.
+//! What was done to a device in memory.
 ghost use Rattle.std.specs.Prelude.{◌≡◌, IfOk, length};
 
 use std::alloc::{AllocError, Allocator};
@@ -30,6 +30,7 @@ impl<A: Allocator> Model for Text<A> {
 }
 
 impl<A: Allocator> Text<A> {
+    /// The same bytes, in this memory.
     pub fn copy_of(alloc: A, bytes: &[u8]) -> Result<Text<A>, AllocError>
         ensures { IfOk result (λ text. text ≡ bytes.now) }
     {
@@ -38,6 +39,7 @@ impl<A: Allocator> Text<A> {
         })
     }
 
+    /// How many bytes there are.
     pub fn len(&self) -> usize
         ensures { result ≡ length self.now }
     {

@@ -1,4 +1,4 @@
-// The device over a memory.
+//! The device over a memory.
 ghost use Rattle.std.specs.Prelude.{◌≡◌, ◌≢◌, ◌≤◌, ◌<◌, ◌+◌, ◌-◌, ◌^◌, ◌∷◌, ◌↔◌, ◌⊎◌, [], ℕ, min, true, false, IsTrue, IsErr, IfOk, OnOk, OnErr, length, slice_range};
 ghost use Rattle.vault_device.specs.Disk.{IsOneCall, IsRead, IsWrite, IsSync, LeavesOnly, last_count};
 ghost use Rattle.vault_device.specs.Memory.{picked, content_of, after_sync, after_crash};
@@ -17,7 +17,7 @@ use std::marker::Model;
 struct Counts {
     calls: u64,
     faults: u64,
-    // The how manieth call from now fails; 0 for none.
+    // Which call from now fails, counted from 1; 0 for none.
     failing: u64,
 }
 

@@ -1,4 +1,4 @@
-// The bytes of a device in memory, and all that was done to them.
+//! The bytes of a device in memory, and all that was done to them.
 ghost use Rattle.std.specs.Prelude.{◌≡◌, ◌≤◌, ◌<◌, ◌+◌, ◌^◌, ◌∷◌, ◌++◌, [], OnOk, OnErr, IfOk, length, replicate, vec_len, vec_capacity};
 ghost use Rattle.vault_device.specs.Disk.{overwritten};
 ghost use Rattle.vault_device.specs.Memory.{content_of, covered, left, LeadsTo, after_sync, after_crash};
@@ -127,6 +127,7 @@ fn reserve_for<A: Allocator>(
 }
 
 impl<A: Allocator + Copy> Memory<A> {
+    /// No bytes, and nothing done to them.
     pub fn new(alloc: A) -> Result<Memory<A>, AllocError>
         ensures { IfOk result (λ memory. memory ≡ []) }
     {
@@ -139,13 +140,14 @@ impl<A: Allocator + Copy> Memory<A> {
         })
     }
 
+    /// What a read gives.
     pub fn shown(&self) -> &[u8]
         ensures { result.now ≡ (content_of self.now).shown }
     {
         &self.shown
     }
 
-    // Writes the bytes, unsettled. All room is taken first, so that a later settling takes none.
+    /// Writes the bytes, unsettled. All room is taken first, so that a later settling takes none.
     pub fn put(&mut self, at: usize, bytes: &[u8]) -> Result<(), AllocError>
         requires begin { at ≤ length (content_of self.old).shown }
         ensures ok { OnOk result (self.new ≡ Event.Wrote at bytes.now ∷ self.old) }
@@ -160,7 +162,7 @@ impl<A: Allocator + Copy> Memory<A> {
         Ok(())
     }
 
-    // Leaves what a crash with this pick does.
+    /// Leaves what a crash with this pick does.
     pub fn crash(&mut self, pick: Pick)
         ensures { self.new ≡ after_crash pick self.old }
     {
@@ -178,7 +180,7 @@ impl<A: Allocator + Copy> Memory<A> {
         self.start = self.events.len();
     }
 
-    // Settles what is shown.
+    /// Settles what is shown.
     pub fn settle(&mut self)
         ensures { self.new ≡ after_sync self.old }
     {

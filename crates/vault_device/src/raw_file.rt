@@ -1,4 +1,4 @@
-// A file by the calls of the system.
+//! A file by the calls of the system.
 ghost use Rattle.std.specs.Prelude.{◌≡◌, ◌≢◌, ◌≤◌, ◌<◌, ◌+◌, ◌^◌, IsTrue, IsErr, IfOk, IfErr, length, take, slice_range, unwrap_or};
 ghost use Rattle.std.specs.IoError.{error_kind};
 ghost use Rattle.vault_device.specs.Disk.{Disk, IsRead, IsSync, IsLawful};

@@ -1,11 +1,11 @@
-// What the disk model is for: bytes that a crash at any moment leaves out or leaves whole.
+//! What the disk model is for: bytes that a crash at any moment leaves out or leaves whole.
 ghost use Rattle.std.specs.Prelude.{◌≡◌, ◌+◌, ◌<◌, ◌≤◌, ◌^◌, ◌⊎◌, ◌++◌, List, ℕ, IsTrue, IsErr, OnOk, length};
 ghost use Rattle.vault_device.specs.Disk.{LeavesSince, last_count};
 ghost use Rattle.vault_device.specs.SettledByte.{stands_for, IsShut, IsOldOrNew};
 
 use crate::{Device, Fault};
 
-// Writes behind a byte that is shut, settles that, opens the byte and settles that.
+/// Writes behind a byte that is shut, settles that, opens the byte and settles that.
 pub fn append_behind<D: Device>(device: &mut D, gate: u64, bytes: &[u8]) -> Result<(), Fault>
     requires end { gate + 1 + length bytes.now < 2 ^ 63 }
     requires shut { IsTrue (D.disk device.old).honest → IsShut gate (D.disk device.old) }

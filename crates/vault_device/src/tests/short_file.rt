@@ -1,4 +1,4 @@
-// An honest file that moves few bytes at a time, and that a signal interrupts at every other call.
+//! An honest file that moves few bytes at a time, and that a signal interrupts at every other call.
 ghost use Rattle.std.specs.Prelude.{◌≡◌};
 
 use crate::{Device, Fault, RawFile};
@@ -10,6 +10,7 @@ pub struct ShortFile<D> {
 }
 
 impl<D: Device> ShortFile<D> {
+    /// A file over a device, in short parts.
     pub fn over(device: D) -> ShortFile<D>
         ensures { result.device ≡ device }
     {
