@@ -1,0 +1,9 @@
+pub mod Numbers
+pub mod Each
+pub mod Steps
+pub mod WordsFound
+pub mod WordsAgain
+pub mod Written
+pub mod Lines
+pub mod Rows
+pub mod Connections

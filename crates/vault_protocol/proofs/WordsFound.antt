@@ -1,0 +1,200 @@
+-- What is read is spelled so.
+use Rattle.std.proofs.Common.{◌≡◌, ℕ, ◌<◌, ◌^◌, ◌==◌, ◌&&◌, true, List, [], ◌∷◌, length, map, Some, None, refl, sym, ap, ◌∙◌, arith, inl, inr}
+use Rattle.std.specs.Prelude.{decimal, codes, nat_lt, nat_le}
+use Rattle.std.specs.List.{slice_split, AllByRecursion}
+use Rattle.std.specs.Option.{option_map}
+use Rattle.std.specs.Str.{bytes_eq}
+use Rattle.std.specs.Str.Parse.{digits_value}
+use Rattle.std.proofs.lemmas.Option.{cond_some, same_Some}
+use Rattle.std.proofs.lemmas.Bool.{and_parts, leb-true, ltb-true, eqb-true, eqb-false}
+use Rattle.std.proofs.lemmas.Slice.Eq.{bytes_eq-Decides}
+use Rattle.std.proofs.lemmas.List.Splits.{join_with_byte-slice_split}
+use Rattle.vault_model.specs.Said.{Command}
+use Rattle.vault_model.specs.Name.{is_name, name_in, IsName}
+use Rattle.vault_model.specs.Path.{path_in, IsPath, path_text}
+use Rattle.vault_model.specs.declared.ids.Intent.{Intent}
+use Rattle.vault_model.specs.declared.ids.Intent.TheVariants.{Look, Change}
+use Rattle.vault_model.specs.declared.ids.ClaimId.{ClaimId}
+use Rattle.vault_model.specs.declared.ids.ClaimId.TheVariants.{Long, Short}
+use Rattle.vault_model.specs.declared.claims.PathItem.{PathItem}
+use Rattle.vault_model.proofs.PathTexts.{path_is_its_text}
+use Rattle.vault_protocol.specs.Reading.{each_in}
+use Rattle.vault_protocol.specs.Words.{number_in, positive_in, long_in, claim_in}
+use Rattle.vault_protocol.specs.Items.{intent_in, item_in, items_in}
+use Rattle.vault_protocol.specs.Keywords.{keyword_in, keyword_text, all_keywords}
+use Rattle.vault_protocol.specs.Grammar.{arguments_in, words_in, command_of}
+use Rattle.vault_protocol.specs.Texts.{claim_text}
+use Rattle.vault_protocol.specs.Spelling.{IsClaimNumber, IsClaimId, intent_letter, item_text, Spells, LineSpells}
+use Rattle.vault_protocol.specs.declared.keyword.Keyword.{Keyword}
+use Rattle.vault_protocol.specs.declared.keyword.Keyword.TheVariants.{Hello, Make, CheckOut, Abandon, State}
+use Rattle.vault_protocol.proofs.Steps.{along, bind_some, and_then_some, map_some, chosen, find_passes}
+
+name_found : (word name : List ℕ) → name_in word ≡ Some name → IsName name × (word ≡ name)
+name_found word name e =
+    let parts = cond_some (is_name word) word name e in
+    (along (λ n. is_name n ≡ true) parts.1 parts.0, parts.1)
+
+path_found : (word : List ℕ) (path : List (List ℕ)) → path_in word ≡ Some path → IsPath path × (word ≡ path_text path)
+path_found word path e = let spelling = (path_is_its_text word path).0 e in (spelling.0, sym spelling.1)
+
+pub number_found : (word : List ℕ) (n : ℕ) → number_in word ≡ Some n → (n < 2 ^ 32) × (word ≡ decimal n)
+number_found word n e =
+    let parts = cond_some (nat_lt (digits_value 10 word) (2 ^ 32) && bytes_eq (decimal (digits_value 10 word)) word) (digits_value 10 word) n e in
+    let tests = and_parts _ _ parts.0 in
+    along (λ m. (m < 2 ^ 32) × (word ≡ decimal m)) parts.1
+    (ltb-true _ _ tests.0, sym ((bytes_eq-Decides (decimal (digits_value 10 word)) word).0 tests.1))
+
+positive_found : (word : List ℕ) (n : ℕ) → positive_in word ≡ Some n → IsClaimNumber n × (word ≡ decimal n)
+positive_found word n e =
+    let some = and_then_some (number_in word) _ n e in
+    elim (chosen (some.0 == 0) None (Some some.0) (Some n) some.2) [
+      | inl h ↦ cc (h.1)
+      | inr h ↦
+          let found = number_found word some.0 some.1 in
+          let same : some.0 ≡ n = same_Some _ _ h.1 in
+          let above : 0 < some.0 = grind (arith, eqb-false _ _ h.0) in
+          along (λ m. IsClaimNumber m × (word ≡ decimal m)) same ((above, found.0), found.1)
+    ]
+
+long_found : (word : List ℕ) (n : ℕ) → long_in word ≡ Some n → IsClaimNumber n × (word ≡ 99 ∷ decimal n)
+long_found [] n e = cc e
+long_found (letter ∷ digits) n e =
+    elim (chosen (letter == 99) (positive_in digits) None (Some n) e) [
+      | inr h ↦ cc (h.1)
+      | inl h ↦
+          let found = positive_found digits n h.1 in
+          (found.0, ap (λ k. k ∷ digits) (eqb-true _ _ h.0) ∙ ap (λ ds. 99 ∷ ds) found.1)
+    ]
+
+claim_found : (word : List ℕ) (id : ClaimId) → claim_in word ≡ Some id → IsClaimId id × (word ≡ claim_text id)
+claim_found [] id e = cc e
+claim_found (letter ∷ digits) id e =
+    elim (chosen (letter == 99) (option_map Long (positive_in digits)) _ (Some id) e) [
+      | inl h ↦
+          let number = map_some (positive_in digits) Long id h.1 in
+          let found = positive_found digits number.0 number.1 in
+          along (λ i. IsClaimId i × (letter ∷ digits ≡ claim_text i)) number.2
+          (found.0, ap (λ k. k ∷ digits) (eqb-true _ _ h.0) ∙ ap (λ ds. 99 ∷ ds) found.1)
+      | inr h ↦
+          elim (chosen (letter == 104) (option_map Short (positive_in digits)) None (Some id) h.1) [
+            | inr k ↦ cc (k.1)
+            | inl k ↦
+                let number = map_some (positive_in digits) Short id k.1 in
+                let found = positive_found digits number.0 number.1 in
+                along (λ i. IsClaimId i × (letter ∷ digits ≡ claim_text i)) number.2
+                (found.0, ap (λ l. l ∷ digits) (eqb-true _ _ k.0) ∙ ap (λ ds. 104 ∷ ds) found.1)
+          ]
+    ]
+
+intent_found : (letter : ℕ) (intent : Intent) → intent_in letter ≡ Some intent → letter ≡ intent_letter intent
+intent_found letter intent e =
+    elim (chosen (letter == 114) (Some Look) _ (Some intent) e) [
+      | inl h ↦ along (λ i. letter ≡ intent_letter i) (same_Some _ _ h.1) (eqb-true _ _ h.0)
+      | inr h ↦
+          elim (chosen (letter == 119) (Some Change) None (Some intent) h.1) [
+            | inl k ↦ along (λ i. letter ≡ intent_letter i) (same_Some _ _ k.1) (eqb-true _ _ k.0)
+            | inr k ↦ cc (k.1)
+          ]
+    ]
+
+item_found : (word : List ℕ) (item : PathItem) → item_in word ≡ Some item → IsPath item.path × (word ≡ item_text item)
+item_found [] item e = cc e
+item_found (letter ∷ []) item e = cc e
+item_found (letter ∷ colon ∷ word) item e =
+    let intent = bind_some (intent_in letter) _ item e in
+    let path = bind_some _ _ item intent.2 in
+    elim (chosen (colon == 58) (path_in word) None (Some path.0) path.1) [
+      | inr h ↦ cc (h.1)
+      | inl h ↦
+          let found = path_found word path.0 h.1 in
+          along (λ (i : PathItem). IsPath i.path × (letter ∷ colon ∷ word ≡ item_text i)) (same_Some _ _ path.2) (
+            found.0,
+            ap (λ l. l ∷ colon ∷ word) (intent_found letter intent.0 intent.1)
+                ∙ ap (λ c. intent_letter intent.0 ∷ c ∷ word) (eqb-true _ _ h.0)
+                ∙ ap (λ w. intent_letter intent.0 ∷ 58 ∷ w) found.1,
+          )
+    ]
+
+each_found : (words : List (List ℕ)) (items : List PathItem) → each_in item_in words ≡ Some items
+    → AllByRecursion (λ (item : PathItem). IsPath item.path) items × (words ≡ map item_text items)
+each_found [] items e =
+    along (λ is. AllByRecursion (λ (item : PathItem). IsPath item.path) is × ([] ≡ map item_text is)) (same_Some _ _ e) (tt, refl)
+each_found (word ∷ words) items e =
+    let first = bind_some (item_in word) _ items e in
+    let others = bind_some (each_in item_in words) _ items first.2 in
+    let here = item_found word first.0 first.1 in
+    let there = each_found words others.0 others.1 in
+    along (λ is. AllByRecursion (λ (item : PathItem). IsPath item.path) is × (word ∷ words ≡ map item_text is)) (same_Some _ _ others.2)
+    ((here.0, there.0), ap (λ w. w ∷ words) here.1 ∙ ap (λ ws. item_text first.0 ∷ ws) there.1)
+
+items_found : (words : List (List ℕ)) (items : List PathItem) → items_in words ≡ Some items
+    → (0 < length items) × AllByRecursion (λ (item : PathItem). IsPath item.path) items × (words ≡ map item_text items)
+items_found [] items e = cc e
+items_found (word ∷ words) [] e =
+    let found = each_found (word ∷ words) [] e in
+    cc (found.1)
+items_found (word ∷ words) (item ∷ items) e =
+    let found = each_found (word ∷ words) (item ∷ items) e in
+    (omega arith, found.0, found.1)
+
+hello_found : (words : List (List ℕ)) (command : Command) → arguments_in Hello words ≡ Some command → Spells (codes "hello" ∷ words) command
+hello_found [] command e = cc e
+hello_found (word ∷ []) command e =
+    let name = bind_some (name_in word) _ command e in
+    let found = name_found word name.0 name.1 in
+    along (λ c. Spells (codes "hello" ∷ word ∷ []) c) (same_Some _ _ name.2) (found.0, ap (λ w. codes "hello" ∷ w ∷ []) found.1)
+hello_found (word ∷ other ∷ words) command e = cc e
+
+make_found : (words : List (List ℕ)) (command : Command) → arguments_in Make words ≡ Some command → Spells (codes "make" ∷ words) command
+make_found [] command e = cc e
+make_found (word ∷ []) command e =
+    let path = bind_some (path_in word) _ command e in
+    let found = path_found word path.0 path.1 in
+    along (λ c. Spells (codes "make" ∷ word ∷ []) c) (same_Some _ _ path.2) (found.0, ap (λ w. codes "make" ∷ w ∷ []) found.1)
+make_found (word ∷ other ∷ words) command e = cc e
+
+check_out_found : (words : List (List ℕ)) (command : Command) → arguments_in CheckOut words ≡ Some command → Spells (codes "checkout" ∷ words) command
+check_out_found words command e =
+    let items = bind_some (items_in words) _ command e in
+    let found = items_found words items.0 items.1 in
+    along (λ c. Spells (codes "checkout" ∷ words) c) (same_Some _ _ items.2) (found.0, found.1, ap (λ ws. codes "checkout" ∷ ws) found.2)
+
+abandon_found : (words : List (List ℕ)) (command : Command) → arguments_in Abandon words ≡ Some command → Spells (codes "abandon" ∷ words) command
+abandon_found [] command e = cc e
+abandon_found (word ∷ []) command e =
+    let claim = bind_some (long_in word) _ command e in
+    let found = long_found word claim.0 claim.1 in
+    along (λ c. Spells (codes "abandon" ∷ word ∷ []) c) (same_Some _ _ claim.2) (found.0, ap (λ w. codes "abandon" ∷ w ∷ []) found.1)
+abandon_found (word ∷ other ∷ words) command e = cc e
+
+state_found : (words : List (List ℕ)) (command : Command) → arguments_in State words ≡ Some command → Spells (codes "state" ∷ words) command
+state_found [] command e = cc e
+state_found (word ∷ []) command e =
+    let claim = bind_some (claim_in word) _ command e in
+    let found = claim_found word claim.0 claim.1 in
+    along (λ c. Spells (codes "state" ∷ word ∷ []) c) (same_Some _ _ claim.2) (found.0, ap (λ w. codes "state" ∷ w ∷ []) found.1)
+state_found (word ∷ other ∷ words) command e = cc e
+
+arguments_found : (keyword : Keyword) (words : List (List ℕ)) (command : Command)
+    → arguments_in keyword words ≡ Some command → Spells (keyword_text keyword ∷ words) command
+arguments_found Hello words command e = hello_found words command e
+arguments_found Make words command e = make_found words command e
+arguments_found CheckOut words command e = check_out_found words command e
+arguments_found Abandon words command e = abandon_found words command e
+arguments_found State words command e = state_found words command e
+
+words_found : (words : List (List ℕ)) (command : Command) → words_in words ≡ Some command → Spells words command
+words_found [] command e = cc e
+words_found (word ∷ words) command e =
+    let keyword = bind_some (keyword_in word) _ command e in
+    let passes = find_passes (λ k. bytes_eq (keyword_text k) word) all_keywords keyword.0 keyword.1 in
+    let same : keyword_text keyword.0 ≡ word = (bytes_eq-Decides (keyword_text keyword.0) word).0 passes in
+    along (λ w. Spells (w ∷ words) command) same (arguments_found keyword.0 words command keyword.2)
+
+pub line_found : (line : List ℕ) (command : Command) → command_of line ≡ Some command → LineSpells line command
+line_found line command e =
+    elim (chosen (nat_le (length line) 4096) (words_in (slice_split (λ b. b == 32) line)) None (Some command) e) [
+      | inr h ↦ cc (h.1)
+      | inl h ↦
+          (leb-true _ _ h.0, (slice_split (λ b. b == 32) line, words_found (slice_split (λ b. b == 32) line) command h.1, sym (join_with_byte-slice_split 32 line)))
+    ]

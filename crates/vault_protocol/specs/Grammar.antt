@@ -1,0 +1,46 @@
+-- The grammar of lines. A line spells at most one command, since the command is a function of its bytes.
+-- This project's own.
+use Rattle.std.specs.Prelude.{ℕ, ◌==◌, nat_le, List, [], ◌∷◌, length, Option, Some, None, if◌then◌else◌}
+use Rattle.std.specs.List.{slice_split}
+use Rattle.vault_model.specs.Said.{Command}
+use Rattle.vault_model.specs.Name.{name_in}
+use Rattle.vault_model.specs.Path.{path_in}
+use Rattle.vault_model.specs.declared.commands.Command.TheVariants as commands
+use Rattle.vault_protocol.specs.Limits.{longest_line}
+use Rattle.vault_protocol.specs.Reading.{◌>>=◌}
+use Rattle.vault_protocol.specs.Keywords.{keyword_in}
+use Rattle.vault_protocol.specs.Words.{long_in, claim_in}
+use Rattle.vault_protocol.specs.Items.{items_in}
+use Rattle.vault_protocol.specs.declared.keyword.Keyword.{Keyword}
+use Rattle.vault_protocol.specs.declared.keyword.Keyword.TheVariants.{Hello, Make, CheckOut, Abandon, State}
+
+-- the command of a keyword and the words behind it, by one case per keyword
+abbrev pub arguments_in : Keyword → List (List ℕ) → Option Command
+arguments_in Hello (name ∷ []) = do
+  name ← name_in name
+  Some (commands.Join name)
+arguments_in Make (path ∷ []) = do
+  path ← path_in path
+  Some (commands.Make path)
+arguments_in CheckOut items = do
+  items ← items_in items
+  Some (commands.CheckOut items)
+arguments_in Abandon (claim ∷ []) = do
+  claim ← long_in claim
+  Some (commands.Abandon claim)
+arguments_in State (claim ∷ []) = do
+  claim ← claim_in claim
+  Some (commands.State claim)
+arguments_in keyword words = None
+
+-- the first word is the keyword
+abbrev pub words_in : List (List ℕ) → Option Command
+words_in [] = None
+words_in (word ∷ words) = do
+  keyword ← keyword_in word
+  arguments_in keyword words
+
+-- The command that a line spells, if it spells one: its words stand between single spaces.
+-- An empty word is no keyword, name, path, number or item, so nothing stands before the first or after the last.
+abbrev pub command_of : List ℕ → Option Command
+command_of line = if nat_le (length line) longest_line then words_in (slice_split (λ b. b == 32) line) else None

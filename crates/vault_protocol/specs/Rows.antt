@@ -1,0 +1,66 @@
+-- Scripts that were worked out by hand, and what the definitions have to print for them.
+use Rattle.std.specs.Prelude.{◌≡◌, List, ℕ, ◌++◌, codes}
+use Rattle.vault_protocol.specs.Script.{output}
+
+-- a script of no bytes prints nothing
+abbrev pub Empty : Type 0
+Empty = output (codes "") ≡ codes ""
+
+-- the last line may lack its line feed, and a commit has nothing to do
+abbrev pub OneLine : Type 0
+OneLine = (output (codes "@1 hello anna") ≡ codes "@1 OK session 1\n") × (output (codes "@1 hello anna\n!commit\n") ≡ codes "@1 OK session 1\n")
+
+-- of two claims on one place the second waits
+abbrev pub TwoDesigners : Type 0
+TwoDesigners =
+    output (codes "@1 hello anna\n@2 hello ben\n@1 make /e\n@1 checkout w:/e\n@2 checkout r:/e\n")
+    ≡ codes "@1 OK session 1\n@2 OK session 2\n@1 OK place 1\n@1 OK held c1\n@2 OK queued c2 behind c1\n"
+
+-- two designers, an assembly and two parts
+abbrev pub begun : List ℕ
+begun = codes "@1 hello anna\n@2 hello ben\n@1 make /e\n@1 make /e/b\n@1 make /e/b/p1\n@1 make /e/b/p2\n"
+
+-- what they are told
+abbrev pub begun_output : List ℕ
+begun_output = codes "@1 OK session 1\n@2 OK session 2\n@1 OK place 1\n@1 OK place 2\n@1 OK place 3\n@1 OK place 4\n"
+
+-- claims on siblings don't meet
+abbrev pub Siblings : Type 0
+Siblings =
+    output (begun ++ codes "@1 checkout w:/e/b/p1\n@2 checkout w:/e/b/p2\n")
+    ≡ begun_output ++ codes "@1 OK held c1\n@2 OK held c2\n"
+
+-- a claim that waits is held once the claim before it is abandoned
+abbrev pub LineMovesUp : Type 0
+LineMovesUp =
+    output (begun ++ codes "@1 checkout r:/e\n@2 checkout w:/e/b\n@1 checkout r:/e/b\n@1 abandon c1\n@1 state c2\n@1 state c3\n")
+    ≡ begun_output ++ codes "@1 OK held c1\n@2 OK queued c2 behind c1\n@1 OK queued c3 behind c2\n@1 OK abandoned\n@1 OK held c2\n@1 OK queued c3 behind c2\n"
+
+-- no place is made under a place that a held claim covers
+abbrev pub CoveredParent : Type 0
+CoveredParent =
+    output (begun ++ codes "@1 checkout r:/e\n@2 make /e/c\n")
+    ≡ begun_output ++ codes "@1 OK held c1\n@2 ERR 23 c1\n"
+
+-- one refusal after the other
+abbrev pub Refusals : Type 0
+Refusals =
+    output (codes "@1 state c1\n@1 hello Anna\n@1 hello anna\n@1 hello anna\nfoo\n@1 make /\n@1 make /x/y\n@1 state c1\n@1 state c0\n")
+    ≡ codes "@1 ERR 11\n@1 ERR 10\n@1 OK session 1\n@1 ERR 12\n! ERR 10\n@1 ERR 21\n@1 ERR 20\n@1 ERR 30\n@1 ERR 10\n"
+
+-- empty lines and comments print nothing; lines of no connection, and of no command, are bad
+abbrev pub BadLines : Type 0
+BadLines =
+    output (codes "\n# @1 hello anna\n@1 \n@1\n@01 hello anna\n@0 hello anna\n@65 hello anna\n@64  hello anna\n!pump\n!crash old\n @1 hello anna\n@2 hello ben\r\n\n")
+    ≡ codes "@1 ERR 10\n! ERR 10\n! ERR 10\n! ERR 10\n! ERR 10\n@64 ERR 10\n! ERR 10\n! ERR 10\n! ERR 10\n@2 ERR 10\n"
+
+-- each of these scripts prints what was worked out
+pub record Rows : Type 0 where
+  pub empty : Empty
+  pub one_line : OneLine
+  pub two_designers : TwoDesigners
+  pub siblings : Siblings
+  pub line_moves_up : LineMovesUp
+  pub covered_parent : CoveredParent
+  pub refusals : Refusals
+  pub bad_lines : BadLines

@@ -1,0 +1,66 @@
+-- How commands are spelled on a line, in the subject's words: what the grammar's reading must give back.
+-- This project's own.
+use Rattle.std.specs.Prelude.{ℕ, ◌≡◌, ◌<◌, ◌≤◌, ◌^◌, ◌↔◌, List, [], ◌∷◌, ◌++◌, length, map, codes, decimal, Some}
+use Rattle.std.specs.List.{join_with_byte, AllByRecursion}
+use Rattle.vault_model.specs.Said.{Command}
+use Rattle.vault_model.specs.Name.{IsName}
+use Rattle.vault_model.specs.Path.{IsPath, path_text}
+use Rattle.vault_model.specs.declared.ids.Intent.{Intent}
+use Rattle.vault_model.specs.declared.ids.Intent.TheVariants.{Look, Change}
+use Rattle.vault_model.specs.declared.ids.ClaimId.{ClaimId}
+use Rattle.vault_model.specs.declared.ids.ClaimId.TheVariants.{Long, Short}
+use Rattle.vault_model.specs.declared.claims.PathItem.{PathItem}
+use Rattle.vault_model.specs.declared.commands.Command.TheVariants as commands
+use Rattle.vault_protocol.specs.Limits.{longest_line, last_connection}
+use Rattle.vault_protocol.specs.Texts.{claim_text}
+use Rattle.vault_protocol.specs.Grammar.{command_of}
+use Rattle.vault_protocol.specs.Script.{connection_line}
+
+-- a number that a claim may have
+abbrev pub IsClaimNumber : ℕ → Type 0
+IsClaimNumber n = (0 < n) × (n < 2 ^ 32)
+
+-- the number of a long or of a short claim
+abbrev pub IsClaimId : ClaimId → Type 0
+IsClaimId (Long n) = IsClaimNumber n
+IsClaimId (Short n) = IsClaimNumber n
+
+-- `r` to look, `w` to change
+abbrev pub intent_letter : Intent → ℕ
+intent_letter Look = 114
+intent_letter Change = 119
+
+-- an item is the letter of its intent, a colon and its path
+abbrev pub item_text : PathItem → List ℕ
+item_text item = intent_letter item.intent ∷ 58 ∷ path_text item.path
+
+-- the words are a command's keyword and a spelling of each of its parts
+abbrev pub Spells : List (List ℕ) → Command → Type 0
+Spells words (commands.Join name) = IsName name × (words ≡ codes "hello" ∷ name ∷ [])
+Spells words (commands.Make path) = IsPath path × (words ≡ codes "make" ∷ path_text path ∷ [])
+Spells words (commands.CheckOut items) =
+    (0 < length items) × AllByRecursion (λ (item : PathItem). IsPath item.path) items × (words ≡ codes "checkout" ∷ map item_text items)
+Spells words (commands.Abandon number) = IsClaimNumber number × (words ≡ codes "abandon" ∷ claim_text (Long number) ∷ [])
+Spells words (commands.State claim) = IsClaimId claim × (words ≡ codes "state" ∷ claim_text claim ∷ [])
+
+-- the line is words that spell the command, joined by single spaces, and not too long
+abbrev pub LineSpells : List ℕ → Command → Type 0
+LineSpells line command = (length line ≤ longest_line) × ((words : List (List ℕ)) × Spells words command × (line ≡ join_with_byte 32 words))
+
+-- a line is read as the command that it spells
+abbrev pub ReadAsSpelled : Type 0
+ReadAsSpelled = (line : List ℕ) (command : Command) → (command_of line ≡ Some command) ↔ LineSpells line command
+
+-- a line spells at most one command
+abbrev pub OneCommand : Type 0
+OneCommand = (line : List ℕ) (one other : Command) → LineSpells line one → LineSpells line other → one ≡ other
+
+-- the line is a connection's: `@`, its number, a space and what the connection says, which may be any bytes
+abbrev pub ConnectionSpells : List ℕ → ℕ → List ℕ → Type 0
+ConnectionSpells line connection said =
+    (1 ≤ connection) × (connection ≤ last_connection) × (line ≡ codes "@" ++ (decimal connection ++ (codes " " ++ said)))
+
+-- a line of a script is read as the connection's that spells it
+abbrev pub ConnectionAsSpelled : Type 0
+ConnectionAsSpelled = (line : List ℕ) (connection : ℕ) (said : List ℕ)
+    → (connection_line line ≡ Some (connection, said)) ↔ ConnectionSpells line connection said

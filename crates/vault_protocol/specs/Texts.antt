@@ -1,0 +1,50 @@
+-- The texts of replies and of outside refusals. This project's own.
+use Rattle.std.specs.Prelude.{ℕ, List, [], ◌∷◌, ◌++◌, codes, decimal}
+use Rattle.vault_model.specs.declared.ids.ClaimId.{ClaimId}
+use Rattle.vault_model.specs.declared.ids.ClaimId.TheVariants.{Long, Short}
+use Rattle.vault_model.specs.declared.replies.Reply.{Reply}
+use Rattle.vault_model.specs.declared.replies.Reply.TheVariants.{Session, Place, Held, Queued, Abandoned, Refused}
+use Rattle.vault_model.specs.declared.replies.Refusal.{Refusal}
+use Rattle.vault_model.specs.declared.replies.Refusal.TheVariants as refusals
+use Rattle.vault_model.specs.declared.replies.Outside.{Outside}
+use Rattle.vault_model.specs.declared.replies.Outside.TheVariants as outsides
+
+-- each text ends with a line feed
+abbrev pub newline : List ℕ
+newline = 10 ∷ []
+
+-- a claim as lines name it
+abbrev pub claim_text : ClaimId → List ℕ
+claim_text (Long number) = codes "c" ++ decimal number
+claim_text (Short number) = codes "h" ++ decimal number
+
+-- the number of a refusal, and the claim that is in the way
+abbrev pub refusal_text : Refusal → List ℕ
+refusal_text refusals.NoSession = codes "ERR 11"
+refusal_text refusals.Joined = codes "ERR 12"
+refusal_text refusals.NoPlace = codes "ERR 20"
+refusal_text refusals.Exists = codes "ERR 21"
+refusal_text refusals.WrongKind = codes "ERR 22"
+refusal_text (refusals.Covered claim) = codes "ERR 23 " ++ claim_text claim
+refusal_text refusals.NoClaim = codes "ERR 30"
+refusal_text refusals.NotYours = codes "ERR 31"
+refusal_text refusals.ItemCount = codes "ERR 36"
+refusal_text refusals.Limit = codes "ERR 50"
+
+-- a claim, and the one that it waits behind
+abbrev pub queued_text : ClaimId → ClaimId → List ℕ
+queued_text claim before = codes "OK queued " ++ claim_text claim ++ (codes " behind " ++ claim_text before ++ newline)
+
+-- the line that a reply is told as
+abbrev pub reply_text : Reply → List ℕ
+reply_text (Session number) = codes "OK session " ++ decimal number ++ newline
+reply_text (Place number) = codes "OK place " ++ decimal number ++ newline
+reply_text (Held claim) = codes "OK held " ++ claim_text claim ++ newline
+reply_text (Queued claim before) = queued_text claim before
+reply_text Abandoned = codes "OK abandoned\n"
+reply_text (Refused refusal) = refusal_text refusal ++ newline
+
+-- the line that an outside refusal is told as
+abbrev pub outside_text : Outside → List ℕ
+outside_text outsides.BadLine = codes "ERR 10\n"
+outside_text outsides.Busy = codes "ERR 80\n"

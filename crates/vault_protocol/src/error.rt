@@ -1,0 +1,68 @@
+//! Why a line gives no command, and why a script stops.
+
+ghost use Rattle.std.specs.Prelude.{◌≡◌};
+ghost use Rattle.vault_protocol.specs.declared.error.LineError.TheVariants.{NoMemory};
+ghost use Rattle.vault_protocol.specs.declared.error.ScriptError.TheVariants as script_errors;
+
+use std::alloc::{AllocError, AllocFailed};
+use thiserror::Error;
+
+/// Why a line gives no command.
+#[derive(Clone, Copy, Debug, PartialEq, Eq, Error)]
+pub enum LineError {
+    /// It spells none.
+    #[error("the line is no command")]
+    BadLine,
+    /// Memory was wanted and refused.
+    #[error("want of memory")]
+    NoMemory,
+}
+
+impl From<AllocError> for LineError {
+    ghost from_gives = { λ _ e. e ≡ NoMemory };
+
+    fn from(_error: AllocError) -> LineError {
+        LineError::NoMemory
+    }
+}
+
+impl<T: Drop> From<AllocFailed<T>> for LineError {
+    ghost from_gives = { λ _ e. e ≡ NoMemory };
+
+    fn from(_error: AllocFailed<T>) -> LineError {
+        LineError::NoMemory
+    }
+}
+
+/// Why a script stops.
+#[derive(Clone, Copy, Debug, PartialEq, Eq, Error)]
+pub enum ScriptError {
+    /// The reader failed, or gave nothing in too many calls. Nothing is written.
+    #[error("read fault")]
+    Read,
+    /// The writer failed, or took nothing.
+    #[error("write fault")]
+    Write,
+    /// The script has more bytes than a script may have. Nothing is written.
+    #[error("script too long")]
+    TooLong,
+    /// Memory was wanted and refused.
+    #[error("want of memory")]
+    NoMemory,
+}
+
+impl From<vault_model::NoMemory> for ScriptError {
+    ghost from_gives = { λ _ e. e ≡ script_errors.NoMemory };
+
+    fn from(_error: vault_model::NoMemory) -> ScriptError {
+        ScriptError::NoMemory
+    }
+}
+
+impl From<AllocError> for ScriptError {
+    ghost from_gives = { λ _ e. e ≡ script_errors.NoMemory };
+
+    fn from(_error: AllocError) -> ScriptError {
+        ScriptError::NoMemory
+    }
+}

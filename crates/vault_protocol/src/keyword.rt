@@ -1,0 +1,48 @@
+//! The word that a line begins with.
+
+ghost use Rattle.std.specs.Prelude.{◌≡◌};
+ghost use Rattle.vault_protocol.specs.Keywords.{keyword_in, keyword_text};
+
+/// The word that a line begins with.
+#[derive(Clone, Copy, Debug, PartialEq, Eq)]
+pub(crate) enum Keyword {
+    Hello,
+    Make,
+    CheckOut,
+    Abandon,
+    State,
+}
+
+impl Keyword {
+    /// Every keyword.
+    const ALL: [Keyword; 5] = [
+        Keyword::Hello,
+        Keyword::Make,
+        Keyword::CheckOut,
+        Keyword::Abandon,
+        Keyword::State,
+    ];
+
+    /// How it is spelled.
+    fn text(self) -> &'static [u8]
+        ensures { result.now ≡ keyword_text self }
+    {
+        match self {
+            Keyword::Hello => b"hello",
+            Keyword::Make => b"make",
+            Keyword::CheckOut => b"checkout",
+            Keyword::Abandon => b"abandon",
+            Keyword::State => b"state",
+        }
+    }
+
+    /// The keyword that the word is.
+    pub(crate) fn read(word: &[u8]) -> Option<Keyword>
+        ensures { result ≡ keyword_in word.now }
+    {
+        Keyword::ALL
+            .iter()
+            .copied()
+            .find(|keyword| keyword.text() == word)
+    }
+}

@@ -1,0 +1,17 @@
+//! The limits of lines and scripts.
+//! Those that the definitions name, too, stand in `specs/Limits.antt` under the same names.
+
+/// The most bytes of a line, without the line feed at its end.
+pub const LONGEST_LINE: usize = 4096;
+
+/// The most bytes of a script.
+pub const LONGEST_SCRIPT: usize = 16_777_216;
+
+/// The last connection of a script. The first is 1.
+pub const LAST_CONNECTION: u32 = 64;
+
+/// How many commands of a script are answered. Those behind them find the vault busy.
+pub const MOST_COMMANDS: u32 = 4096;
+
+/// The most calls of a script's reader.
+pub const MOST_READS: u32 = 33_554_432;

@@ -1,0 +1,105 @@
+//! Lines as commands.
+
+ghost use Rattle.std.specs.Prelude.{◌≡◌, map};
+ghost use Rattle.vault_protocol.specs.Reading.{Gives};
+ghost use Rattle.vault_protocol.specs.Grammar.{arguments_in, command_of, words_in};
+ghost use Rattle.vault_protocol.specs.declared.keyword.Keyword.TheVariants as keywords;
+
+use crate::error::LineError;
+use crate::keyword::Keyword;
+use crate::limits::LONGEST_LINE;
+use crate::split::words_of;
+use crate::words::{read_claim, read_items, read_long};
+use std::alloc::Allocator;
+use vault_model::{Command, CommandIn, Name, Path};
+
+/// `hello NAME`
+fn hello<A: Allocator>(arguments: &[&[u8]]) -> Result<CommandIn<A>, LineError>
+    ensures { Gives result (arguments_in keywords.Hello (map (λ word. word.now) arguments.now)) }
+{
+    let [name] = arguments else {
+        return Err(LineError::BadLine);
+    };
+    let name = Name::read(name).ok_or(LineError::BadLine)?;
+    Ok(Command::Join(name))
+}
+
+/// `make PATH`
+fn make<A: Allocator>(arguments: &[&[u8]]) -> Result<CommandIn<A>, LineError>
+    ensures { Gives result (arguments_in keywords.Make (map (λ word. word.now) arguments.now)) }
+{
+    let [path] = arguments else {
+        return Err(LineError::BadLine);
+    };
+    let path = Path::read(path).ok_or(LineError::BadLine)?;
+    Ok(Command::Make(path))
+}
+
+/// `checkout ITEM ..`
+fn check_out<A: Allocator>(alloc: A, arguments: &[&[u8]]) -> Result<CommandIn<A>, LineError>
+    ensures { Gives result (arguments_in keywords.CheckOut (map (λ word. word.now) arguments.now)) }
+{
+    Ok(Command::CheckOut(read_items(alloc, arguments)?))
+}
+
+/// `abandon CNUM`
+fn abandon<A: Allocator>(arguments: &[&[u8]]) -> Result<CommandIn<A>, LineError>
+    ensures { Gives result (arguments_in keywords.Abandon (map (λ word. word.now) arguments.now)) }
+{
+    let [claim] = arguments else {
+        return Err(LineError::BadLine);
+    };
+    let claim = read_long(claim).ok_or(LineError::BadLine)?;
+    Ok(Command::Abandon(claim))
+}
+
+/// `state CLAIM`
+fn state<A: Allocator>(arguments: &[&[u8]]) -> Result<CommandIn<A>, LineError>
+    ensures { Gives result (arguments_in keywords.State (map (λ word. word.now) arguments.now)) }
+{
+    let [claim] = arguments else {
+        return Err(LineError::BadLine);
+    };
+    let claim = read_claim(claim).ok_or(LineError::BadLine)?;
+    Ok(Command::State(claim))
+}
+
+/// The command of a keyword and the words behind it.
+fn read_arguments<A: Allocator>(
+    alloc: A,
+    keyword: Keyword,
+    arguments: &[&[u8]],
+) -> Result<CommandIn<A>, LineError>
+    ensures { Gives result (arguments_in keyword (map (λ word. word.now) arguments.now)) }
+{
+    match keyword {
+        Keyword::Hello => hello(arguments),
+        Keyword::Make => make(arguments),
+        Keyword::CheckOut => check_out(alloc, arguments),
+        Keyword::Abandon => abandon(arguments),
+        Keyword::State => state(arguments),
+    }
+}
+
+/// The command of the words.
+fn read_words<A: Allocator>(alloc: A, words: &[&[u8]]) -> Result<CommandIn<A>, LineError>
+    ensures { Gives result (words_in (map (λ word. word.now) words.now)) }
+{
+    let [word, arguments @ ..] = words else {
+        return Err(LineError::BadLine);
+    };
+    let keyword = Keyword::read(word).ok_or(LineError::BadLine)?;
+    read_arguments(alloc, keyword, arguments)
+}
+
+/// The command that the line spells. The line comes without the line feed at its end.
+/// Memory goes to the list of its words, and to the items of a check-out.
+pub fn read_line_of<A: Allocator + Copy>(alloc: A, line: &[u8]) -> Result<CommandIn<A>, LineError>
+    ensures { Gives result (command_of line.now) }
+{
+    if line.len() > LONGEST_LINE {
+        return Err(LineError::BadLine);
+    }
+    let words = words_of(alloc, line)?;
+    read_words(alloc, words.as_slice())
+}

@@ -1,0 +1,97 @@
+//! The texts of replies.
+
+ghost use Rattle.std.specs.Prelude.{◌≡◌, Some, IfOk};
+ghost use Rattle.vault_protocol.specs.Texts.{claim_text, outside_text, queued_text, refusal_text, reply_text};
+
+use std::alloc::{AllocError, Allocator};
+use std::fmt;
+use vault_model::{ClaimId, NoMemory, Outside, Refusal, Reply};
+
+/// A claim as lines name it: `c1` is a long one, `h1` a short one.
+#[derive(Clone, Copy)]
+struct ClaimText(ClaimId);
+
+impl fmt::Display for ClaimText {
+    ghost output = { λ claim. Some (claim_text claim.0) };
+
+    fn fmt<W: fmt::Write>(&self, f: &mut fmt::Formatter<W>) -> fmt::Result {
+        match self.0 {
+            ClaimId::Long(number) => write!(f, "c{number}"),
+            ClaimId::Short(number) => write!(f, "h{number}"),
+        }
+    }
+}
+
+/// A refusal by its number, with the claim that is in the way.
+#[derive(Clone, Copy)]
+struct RefusalText(Refusal);
+
+impl fmt::Display for RefusalText {
+    ghost output = { λ refusal. Some (refusal_text refusal.0) };
+
+    fn fmt<W: fmt::Write>(&self, f: &mut fmt::Formatter<W>) -> fmt::Result {
+        match self.0 {
+            Refusal::NoSession => write!(f, "ERR 11"),
+            Refusal::Joined => write!(f, "ERR 12"),
+            Refusal::NoPlace => write!(f, "ERR 20"),
+            Refusal::Exists => write!(f, "ERR 21"),
+            Refusal::WrongKind => write!(f, "ERR 22"),
+            Refusal::Covered(claim) => write!(f, "ERR 23 {}", ClaimText(claim)),
+            Refusal::NoClaim => write!(f, "ERR 30"),
+            Refusal::NotYours => write!(f, "ERR 31"),
+            Refusal::ItemCount => write!(f, "ERR 36"),
+            Refusal::Limit => write!(f, "ERR 50"),
+        }
+    }
+}
+
+/// The text of a claim that waits behind another.
+fn text_of_queued<A: Allocator + Copy>(
+    alloc: A,
+    claim: ClaimId,
+    before: ClaimId,
+) -> Result<Vec<u8, A>, AllocError>
+    ensures { IfOk result (λ text. text.items ≡ queued_text claim before) }
+{
+    let mut text = format!(in alloc; "OK queued {}", ClaimText(claim))?.into_bytes();
+    let rest = format!(in alloc; " behind {}\n", ClaimText(before))?;
+    text.extend_from_slice(rest.as_bytes())?;
+    Ok(text)
+}
+
+/// The text of a reply, where memory is there.
+fn reply_text_of<A: Allocator + Copy>(alloc: A, reply: &Reply) -> Result<Vec<u8, A>, AllocError>
+    ensures { IfOk result (λ text. text.items ≡ reply_text reply.now) }
+{
+    match reply {
+        Reply::Session(number) => Ok(format!(in alloc; "OK session {number}\n")?.into_bytes()),
+        Reply::Place(number) => Ok(format!(in alloc; "OK place {number}\n")?.into_bytes()),
+        Reply::Held(claim) => Ok(format!(in alloc;
+            "OK held {}\n",
+            ClaimText(*claim)
+        )?.into_bytes()),
+        Reply::Queued(claim, before) => text_of_queued(alloc, *claim, *before),
+        Reply::Abandoned => Ok(format!(in alloc; "OK abandoned\n")?.into_bytes()),
+        Reply::Refused(refusal) => {
+            Ok(format!(in alloc; "{}\n", RefusalText(*refusal))?.into_bytes())
+        }
+    }
+}
+
+/// The line that a reply is told as, with its line feed.
+pub fn text_of<A: Allocator + Copy>(alloc: A, reply: &Reply) -> Result<Vec<u8, A>, NoMemory>
+    ensures { IfOk result (λ text. text.items ≡ reply_text reply.now) }
+{
+    reply_text_of(alloc, reply).or(Err(NoMemory))
+}
+
+/// The line that an outside refusal is told as, with its line feed.
+pub fn outside_text<A: Allocator>(alloc: A, outside: Outside) -> Result<Vec<u8, A>, NoMemory>
+    ensures { IfOk result (λ text. text.items ≡ outside_text outside) }
+{
+    let text = match outside {
+        Outside::BadLine => b"ERR 10\n",
+        Outside::Busy => b"ERR 80\n",
+    };
+    Vec::from_slice(alloc, text).or(Err(NoMemory))
+}

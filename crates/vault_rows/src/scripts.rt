@@ -1,0 +1,99 @@
+//! Scripts worked out by hand.
+
+use std::alloc::Global;
+use std::test::Fail;
+use vault_protocol::{MOST_COMMANDS, run_script};
+
+/// Two designers, an assembly and two parts.
+const BEGUN: &[u8] =
+    b"@1 hello anna\n@2 hello ben\n@1 make /e\n@1 make /e/b\n@1 make /e/b/p1\n@1 make /e/b/p2\n";
+
+/// What they are told.
+const BEGUN_OUTPUT: &[u8] =
+    b"@1 OK session 1\n@2 OK session 2\n@1 OK place 1\n@1 OK place 2\n@1 OK place 3\n@1 OK place 4\n";
+
+/// The bytes one after the other.
+fn joined(alloc: Global, front: &[u8], back: &[u8]) -> Result<Vec<u8>, Fail> {
+    let mut whole = Vec::new(alloc);
+    whole.extend_from_slice(front)?;
+    whole.extend_from_slice(back)?;
+    Ok(whole)
+}
+
+#[test]
+fn scripts_from_nothing(rt: HostRuntime) -> Result<(), Fail> {
+    let rows: [(&[u8], &[u8]); 6] = [
+        (b"", b""),
+        (b"@1 hello anna", b"@1 OK session 1\n"),
+        (b"@1 hello anna\n!commit\n", b"@1 OK session 1\n"),
+        (
+            b"@1 hello anna\n@2 hello ben\n@1 make /e\n@1 checkout w:/e\n@2 checkout r:/e\n",
+            b"@1 OK session 1\n@2 OK session 2\n@1 OK place 1\n@1 OK held c1\n@2 OK queued c2 behind c1\n",
+        ),
+        (
+            b"@1 state c1\n@1 hello Anna\n@1 hello anna\n@1 hello anna\nfoo\n@1 make /\n@1 make /x/y\n@1 state c1\n@1 state c0\n",
+            b"@1 ERR 11\n@1 ERR 10\n@1 OK session 1\n@1 ERR 12\n! ERR 10\n@1 ERR 21\n@1 ERR 20\n@1 ERR 30\n@1 ERR 10\n",
+        ),
+        (
+            b"\n# @1 hello anna\n@1 \n@01 hello anna\n@65 hello anna\n!pump\n@2 hello ben\r\n\n",
+            b"@1 ERR 10\n! ERR 10\n! ERR 10\n! ERR 10\n@2 ERR 10\n",
+        ),
+    ];
+    for (script, want) in rows {
+        let mut reader = script;
+        let mut held = Vec::new(rt.alloc());
+        run_script(rt.alloc(), &mut reader, &mut held)?;
+        assert_eq!(rt; held.as_slice(), want);
+    }
+    Ok(())
+}
+
+#[test]
+fn scripts_of_two_designers(rt: HostRuntime) -> Result<(), Fail> {
+    let rows: [(&[u8], &[u8]); 4] = [
+        (
+            b"@1 checkout w:/e/b/p1\n@2 checkout w:/e/b/p2\n",
+            b"@1 OK held c1\n@2 OK held c2\n",
+        ),
+        (
+            b"@1 checkout r:/e\n@2 checkout w:/e/b\n@1 checkout r:/e/b\n",
+            b"@1 OK held c1\n@2 OK queued c2 behind c1\n@1 OK queued c3 behind c2\n",
+        ),
+        (
+            b"@1 checkout r:/e\n@2 checkout w:/e/b\n@1 checkout r:/e/b\n@1 abandon c1\n@1 state c2\n@1 state c3\n",
+            b"@1 OK held c1\n@2 OK queued c2 behind c1\n@1 OK queued c3 behind c2\n@1 OK abandoned\n@1 OK held c2\n@1 OK queued c3 behind c2\n",
+        ),
+        (
+            b"@1 checkout r:/e\n@2 make /e/c\n",
+            b"@1 OK held c1\n@2 ERR 23 c1\n",
+        ),
+    ];
+    for (script, want) in rows {
+        let script = joined(rt.alloc(), BEGUN, script)?;
+        let mut reader = script.as_slice();
+        let mut held = Vec::new(rt.alloc());
+        run_script(rt.alloc(), &mut reader, &mut held)?;
+        assert_eq!(rt;
+            held.as_slice(),
+            joined(rt.alloc(), BEGUN_OUTPUT, want)?.as_slice()
+        );
+    }
+    Ok(())
+}
+
+#[test]
+fn busy_behind_the_last_command(rt: HostRuntime) -> Result<(), Fail> {
+    let mut script = joined(rt.alloc(), b"@1 hello anna\n", b"")?;
+    let mut want = joined(rt.alloc(), b"@1 OK session 1\n", b"")?;
+    for _ in 1..MOST_COMMANDS {
+        script.extend_from_slice(b"@1 state c1\n")?;
+        want.extend_from_slice(b"@1 ERR 30\n")?;
+    }
+    script.extend_from_slice(b"@1 state c1\n@1 foo\n@2 hello ben\n")?;
+    want.extend_from_slice(b"@1 ERR 80\n@1 ERR 10\n@2 ERR 80\n")?;
+    let mut reader = script.as_slice();
+    let mut held = Vec::new(rt.alloc());
+    run_script(rt.alloc(), &mut reader, &mut held)?;
+    assert!(rt; held == want);
+    Ok(())
+}
