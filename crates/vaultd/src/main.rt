@@ -52,7 +52,11 @@ fn command_line<'a>(alloc: Global) -> Result<Command<'a>, AllocError> {
 
 /// The words of the command line, the program's own name first.
 fn words(rt: &HostRuntime) -> io::Result<Vec<String>> {
-    Ok(env::args(rt)?.collect(rt.alloc())?)
+    let mut words = Vec::new(rt.alloc());
+    for word in env::args(rt)? {
+        words.push(word)?;
+    }
+    Ok(words)
 }
 
 /// What the words ask for.
