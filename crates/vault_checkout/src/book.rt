@@ -255,6 +255,10 @@ impl<A: Allocator + Copy> Book<A> {
     }
 
     /// Does a session's command, or refuses it, and counts it. Session 0 is the door.
+    ///
+    /// The work never grows with the number of places. With c claims standing, items up to i a
+    /// claim, and d the depth of the tree, a check-out and a question for a standing take c i² d
+    /// steps at most, making a place c² i² d; the others take c steps.
     #[tactic(auto, unfolding(vault_model::specs::Step::step))]
     pub fn act<B: Allocator>(
         &mut self,
