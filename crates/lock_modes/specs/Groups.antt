@@ -12,6 +12,7 @@ pub record Counts : Type 0 where
   pub six : ℕ
   pub x : ℕ
 
+-- no members of any mode
 abbrev pub no_members : Counts
 no_members = record { is = 0; ix = 0; s = 0; six = 0; x = 0 }
 

@@ -4,6 +4,7 @@ use Rattle.vault_device.specs.Disk.{Disk, last_count}
 use Rattle.vault_device.specs.Memory.{Event}
 use Rattle.vault_device.specs.MemoryLaws.{memory_disk}
 
+-- all that was done to the device, counts of calls and of faults, and which call from now is to fail
 pub record MemDisk : Type 0 where
   -- all that was done to it, the latest first
   pub history : List Event

@@ -3,6 +3,7 @@ use Rattle.std.specs.Prelude.{◌≡◌, ◌==◌, ℕ, ◌<◌, ◌≤◌, List
 use Rattle.vault_device.specs.declared.memory.Memory.TheInside.{Inside}
 use Rattle.vault_device.specs.Memory.{Event, content_of, covered, LeadsTo, is_at_rest}
 
+-- what was done, the latest first
 abbrev pub history_of : {A : Type 0} → Inside A → List Event
 history_of memory = reverse memory.events.items
 
@@ -10,6 +11,7 @@ history_of memory = reverse memory.events.items
 abbrev pub since : {A : Type 0} → Inside A → List Event
 since memory = drop memory.start memory.events.items
 
+-- what the fields of a memory agree on
 pub record IsMemory {A : Type 0} (memory : Inside A) : Type 0 where
   pub shown : memory.shown.items ≡ (content_of (history_of memory)).shown
   pub settled : memory.settled.items ≡ (content_of (history_of memory)).settled

@@ -56,6 +56,7 @@ abbrev pub standing_by : Option ClaimId → Standing
 standing_by None = Held
 standing_by (Some id) = Queued id
 
+-- the standing of some items behind these claims
 abbrev pub standing_behind : List Place → List Claim → List Item → Standing
 standing_behind tree before items = standing_by (blocker tree before items)
 
@@ -63,6 +64,7 @@ standing_behind tree before items = standing_by (blocker tree before items)
 abbrev pub claim_of : List Claim → ClaimId → Option Claim
 claim_of line id = find (λ c. same_id c.id id) line
 
+-- the claims of the line before the one of this id
 abbrev pub before : List Claim → ClaimId → List Claim
 before line id = take_while (λ c. not (same_id c.id id)) line
 

@@ -24,6 +24,7 @@ name_in word = if is_name word then Some word else None
 abbrev pub padded : List ℕ → List ℕ
 padded text = text ++ replicate (longest_name - length text) 0
 
+-- the room holds this many bytes, and zeros behind them
 pub record IsPadded (bytes : List ℕ) (len : ℕ) : Type 0 where
   pub within : len ≤ length bytes
   pub room : bytes ≡ padded (take len bytes)

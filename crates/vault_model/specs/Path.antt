@@ -23,6 +23,7 @@ names_of words = if nat_le (length words) deepest && list_all is_name words then
 abbrev pub names_in : List ℕ → Option (List (List ℕ))
 names_in text = names_of (slice_split (λ b. b == 47) text)
 
+-- what stands behind the first slash: nothing for the library, else names
 abbrev pub behind_slash : List ℕ → Option (List (List ℕ))
 behind_slash [] = Some []
 behind_slash (b ∷ text) = names_in (b ∷ text)
@@ -36,6 +37,7 @@ path_in (b ∷ text) = if b == 47 then behind_slash text else None
 abbrev pub front : List (List ℕ) → List (List ℕ)
 front path = take (length path - 1) path
 
+-- a path's last name; the library's has none
 abbrev pub last : List (List ℕ) → Option (List ℕ)
 last path = slice_get path (length path - 1)
 
@@ -47,6 +49,7 @@ blank = 95 ∷ []
 abbrev pub filled : List (List ℕ) → List (List ℕ)
 filled names = names ++ replicate (deepest - length names) blank
 
+-- the room holds this many names, and is spare behind them
 pub record IsFilled (room : List (List ℕ)) (len : ℕ) : Type 0 where
   pub within : len ≤ length room
   pub whole : length room ≡ deepest

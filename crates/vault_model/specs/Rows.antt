@@ -15,28 +15,35 @@ unfoldable pub replies_of : Vault → List (ℕ × Command) → List Reply
 replies_of v [] = []
 replies_of v (command ∷ commands) = let o : Outcome = step v command.0 command.1 in o.reply ∷ replies_of o.vault commands
 
+-- a designer
 abbrev pub anna : List ℕ
 anna = codes "anna"
 
+-- another designer
 abbrev pub ben : List ℕ
 ben = codes "ben"
 
--- /e, /e/b, and the parts p1 and p2 in it
+-- a project
 abbrev pub path_e : List (List ℕ)
 path_e = codes "e" ∷ []
 
+-- an assembly in it
 abbrev pub path_b : List (List ℕ)
 path_b = codes "e" ∷ codes "b" ∷ []
 
+-- a part
 abbrev pub path_p1 : List (List ℕ)
 path_p1 = codes "e" ∷ codes "b" ∷ codes "p1" ∷ []
 
+-- its sibling
 abbrev pub path_p2 : List (List ℕ)
 path_p2 = codes "e" ∷ codes "b" ∷ codes "p2" ∷ []
 
+-- an item to look at
 abbrev pub look : List (List ℕ) → PathItem
 look path = record { intent = Look; path = path }
 
+-- an item to change
 abbrev pub change : List (List ℕ) → PathItem
 change path = record { intent = Change; path = path }
 
@@ -44,6 +51,7 @@ change path = record { intent = Change; path = path }
 abbrev pub start : List (ℕ × Command)
 start = (0, Join anna) ∷ (0, Join ben) ∷ (1, Make path_e) ∷ (1, Make path_b) ∷ (1, Make path_p1) ∷ (1, Make path_p2) ∷ []
 
+-- what the start is told
 abbrev pub start_replies : List Reply
 start_replies = Session 1 ∷ Session 2 ∷ Place 1 ∷ Place 2 ∷ Place 3 ∷ Place 4 ∷ []
 
@@ -85,6 +93,7 @@ Refusals =
     Told ((0, Make []) ∷ (7, Join anna) ∷ (1, Join ben) ∷ (1, Make []) ∷ (1, Make (codes "x" ∷ codes "y" ∷ [])) ∷ (1, Make (path_p1 ++ codes "q" ∷ [])) ∷ (1, Make path_p1) ∷ [])
     (Refused NoSession ∷ Refused NoSession ∷ Refused Joined ∷ Refused Exists ∷ Refused NoPlace ∷ Refused WrongKind ∷ Refused Exists ∷ [])
 
+-- each refusal of check-outs and claims but the limits
 abbrev pub ClaimRefusals : Type 0
 ClaimRefusals =
     Told

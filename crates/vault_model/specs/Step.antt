@@ -37,13 +37,16 @@ chained (Ok x) f = f x
 chained (Err r) f = Err r
 
 infixl 10 ◌>>=◌
+-- the same, as `do` writes it
 abbrev pub ◌>>=◌ : {A B : Type 0} → Result A Refusal → (A → Result B Refusal) → Result B Refusal
 r >>= f = chained r f
 
+-- a refusal where the test holds
 abbrev pub refuse_if : Bool → Refusal → Result (Unit {0}) Refusal
 refuse_if true r = Err r
 refuse_if false r = Ok tt
 
+-- a refusal that names a claim, where there is one
 abbrev pub refuse_by : Option ClaimId → (ClaimId → Refusal) → Result (Unit {0}) Refusal
 refuse_by None r = Ok tt
 refuse_by (Some id) r = Err (r id)
@@ -79,6 +82,7 @@ abbrev pub placed : List Place → List PathItem → Option (List Item)
 placed tree [] = Some []
 placed tree (item ∷ items) = option_and_then (λ place. option_map (λ others. record { intent = item.intent; place = place } ∷ others) (placed tree items)) (find_place tree item.path)
 
+-- the reply to one who asks for a claim, or how it stands
 abbrev pub asked : ClaimId → Standing → Reply
 asked id standings.Held = replies.Held id
 asked id (standings.Queued other) = replies.Queued id other
@@ -96,6 +100,7 @@ check_out v designer wanted = do
     effect = Some (effects.Asked number designer items);
   })
 
+-- whether the claim is this designer's
 abbrev pub is_designer : List ℕ → Owner → Bool
 is_designer name (owners.Designer other) = bytes_eq other name
 is_designer name (owners.Session number) = false
@@ -129,6 +134,7 @@ at_door v (commands.CheckOut items) = Err NoSession
 at_door v (commands.Abandon number) = Err NoSession
 at_door v (commands.State id) = Err NoSession
 
+-- a command of a session that stands
 abbrev pub in_session : Vault → Session → Command → Result Outcome Refusal
 in_session v session (commands.Join name) = Err Joined
 in_session v session (commands.Make path) = make v path
@@ -136,6 +142,7 @@ in_session v session (commands.CheckOut items) = check_out v session.name items
 in_session v session (commands.Abandon number) = abandon v session.name number
 in_session v session (commands.State id) = state v id
 
+-- what a command does, before it is counted; a number without a standing session is no session
 unfoldable pub decide : Vault → ℕ → Command → Result Outcome Refusal
 decide v number command = if number == 0 then at_door v command else (ok_or (session_of v.sessions number) NoSession >>= λ session. in_session v session command)
 

@@ -22,6 +22,7 @@ is_under_within (suc n) tree p q = (p == q) || option_map_or (λ parent. is_unde
 abbrev pub is_under : List Place → ℕ → ℕ → Bool
 is_under tree p q = is_under_within p tree p q
 
+-- how many ancestors a place has, where they are at most n
 abbrev pub depth_within : ℕ → List Place → ℕ → ℕ
 depth_within zero tree p = 0
 depth_within (suc n) tree p = option_map_or (λ parent. suc (depth_within n tree parent)) (parent_of tree p) 0
@@ -38,6 +39,7 @@ is_child parent name place = (place.parent == parent) && bytes_eq place.name nam
 abbrev pub is_part : List Place → ℕ → Bool
 is_part tree p = nat_le deepest (depth tree p)
 
+-- the library, then projects, assemblies between, and parts where places are deepest
 abbrev pub kind_of_depth : ℕ → Kind
 kind_of_depth d =
     if d == 0 then Library
@@ -58,6 +60,7 @@ abbrev pub find_below : List Place → ℕ → List (List ℕ) → Option ℕ
 find_below tree at [] = Some at
 find_below tree at (name ∷ names) = option_and_then (λ next. find_below tree next names) (child tree at name)
 
+-- the place at the end of a path
 abbrev pub find_place : List Place → List (List ℕ) → Option ℕ
 find_place tree path = find_below tree 0 path
 

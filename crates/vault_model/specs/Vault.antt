@@ -31,6 +31,7 @@ new_vault = record { tree = []; line = []; sessions = []; last_session = 0; last
 abbrev pub session_of : List Session → ℕ → Option Session
 session_of sessions number = find (λ s. s.number == number) sessions
 
+-- a session with one more command counted, where it is the one of this number
 abbrev pub one_more : ℕ → Session → Session
 one_more number s = if s.number == number then record s { count = s.count + 1 } else s
 
@@ -38,6 +39,7 @@ one_more number s = if s.number == number then record s { count = s.count + 1 } 
 abbrev pub counted_in : ℕ → List Session → List Session
 counted_in number sessions = map (one_more number) sessions
 
+-- a vault with one more command counted: at the door, or of a session that stands
 abbrev pub counted : ℕ → Vault → Vault
 counted number v = if number == 0 then record v { door_count = v.door_count + 1 } else record v { sessions = counted_in number v.sessions }
 
