@@ -1,0 +1,10 @@
+-- What the damage of bytes says of them.
+use Rattle.std.specs.Prelude.{ℕ, List}
+use Rattle.vault_journal.specs.declared.records.Damage.{Damage}
+use Rattle.vault_journal.specs.declared.records.Damage.TheVariants.{At, NoMemory}
+use Rattle.vault_journal.specs.Rows.{IsFirstFault}
+
+-- an offset is that of the first record that isn't one
+abbrev pub IsDamage : List ℕ → Damage → Type 0
+IsDamage bytes (At offset) = IsFirstFault bytes offset
+IsDamage bytes NoMemory = Unit {0}

@@ -1,0 +1,36 @@
+//! A commit's first two device calls: the frame's body, written and settled behind its gate.
+ghost use Rattle.std.specs.Prelude.{◌<◌, ◌+◌, ◌^◌, List, ℕ, IsTrue};
+ghost use Rattle.vault_device.specs.Disk.{IsOneCall, IsWrite, IsSync, LeavesSince};
+ghost use Rattle.vault_journal.specs.Gate.{body_of, StaysClosed, IsBehind};
+
+use crate::Frame;
+use std::alloc::Allocator;
+use vault_device::{Device, Fault};
+
+/// Writes the frame's length, its records and a closed gate behind the gate, which is settled and closed. One device
+/// call.
+pub fn write_body<D: Device, A: Allocator>(
+    device: &mut D,
+    gate: u64,
+    frame: &Frame<A>,
+) -> Result<(), Fault>
+    requires end { gate < 2 ^ 62 }
+    requires closed { IsTrue (D.disk device.old).honest → StaysClosed gate (D.disk device.old) }
+    ensures one_call { IsOneCall (D.disk device.old) (D.disk device.new) result }
+    ensures write { IsTrue (D.disk device.old).honest → IsWrite (gate + 1) (body_of frame.now) result (D.disk device.old) (D.disk device.new) }
+
+    // At each moment and at the end a crash leaves the gate closed, and before it what a crash left there before.
+    ensures moments { IsTrue (D.disk device.old).honest → LeavesSince (D.disk device.old) (D.disk device.new) (IsBehind gate (D.disk device.old)) }
+    ensures images { IsTrue (D.disk device.old).honest → (x : List ℕ) → (D.disk device.new).IsImage x → IsBehind gate (D.disk device.old) x }
+{
+    device.write_at(gate + 1, frame.body())
+}
+
+/// Has the body on the disk. One device call.
+pub fn settle_body<D: Device>(device: &mut D) -> Result<(), Fault>
+    ensures one_call { IsOneCall (D.disk device.old) (D.disk device.new) result }
+    ensures sync { IsTrue (D.disk device.old).honest → IsSync result (D.disk device.old) (D.disk device.new) }
+    ensures moments { IsTrue (D.disk device.old).honest → LeavesSince (D.disk device.old) (D.disk device.new) (D.disk device.old).IsImage }
+{
+    device.sync()
+}

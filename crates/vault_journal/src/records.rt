@@ -1,0 +1,251 @@
+//! The record of each effect, written and read.
+ghost use Rattle.std.specs.Prelude.{◌≡◌, ◌≤◌, ◌<◌, ◌+◌, ◌*◌, ◌∷◌, ◌++◌, IfOk, IfErr, length};
+ghost use Rattle.vault_model.specs.Limits.{most_items};
+ghost use Rattle.vault_model.specs.declared.effects.Effect.TheVariants.{Made, Asked, Extended, Saved};
+ghost use Rattle.vault_journal.specs.Spelling.{record_of, in_four, longest_content, longest_record, HasRecord};
+ghost use Rattle.vault_journal.specs.Written.{IsWritten};
+ghost use Rattle.vault_journal.specs.Reading.{Reads, Gives, claim_at, made_at, asked_at, extended_at, saved_at, checked_in_at, abandoned_at, effect_at};
+ghost use Rattle.vault_journal.specs.Rows.{AreRecordsOf};
+ghost use Rattle.vault_journal.specs.Damage.{IsDamage};
+ghost use Rattle.vault_journal.specs.declared.records.ReadError.TheVariants.{Memory};
+ghost use Rattle.vault_journal.specs.declared.records.Damage.TheVariants.{NoMemory};
+
+use crate::reading::{content_at, items_at, name_at, u8_at, u32_at};
+use crate::writing::{put_content, put_items, put_name, put_u8, put_u32};
+use std::alloc::{AllocError, AllocFailed, Allocator};
+use thiserror::Error;
+use vault_model::{Effect, EffectIn, Items, Listing, Name, PlaceId};
+
+/// The most bytes of a record.
+pub const LONGEST_RECORD: usize = 1035;
+
+// Writes a record's kind and the number of a claim.
+fn put_claim(out: &mut [u8], at: usize, kind: u8, claim: u32) -> usize
+    requires { at + 5 ≤ length out.old }
+    ensures { IsWritten at (kind ∷ in_four claim) result out.old out.new }
+{
+    let at = put_u8(out, at, kind);
+    put_u32(out, at, claim)
+}
+
+fn put_made(out: &mut [u8], at: usize, parent: PlaceId, child: &Name) -> usize
+    requires { at + 6 + length child.now ≤ length out.old }
+    ensures { IsWritten at (record_of (Made parent child.now)) result out.old out.new }
+{
+    let at = put_u8(out, at, 1);
+    let at = put_u32(out, at, parent.number());
+    put_name(out, at, child)
+}
+
+fn put_asked(out: &mut [u8], at: usize, claim: u32, owner: &Name, items: &Items) -> usize
+    requires { at + 7 + length owner.now + 5 * length items.now ≤ length out.old }
+    ensures { IsWritten at (record_of (Asked claim owner.now items.now)) result out.old out.new }
+{
+    let at = put_claim(out, at, 2, claim);
+    let at = put_name(out, at, owner);
+    put_items(out, at, items.as_slice())
+}
+
+fn put_extended(out: &mut [u8], at: usize, claim: u32, items: &Items) -> usize
+    requires { at + 6 + 5 * length items.now ≤ length out.old }
+    ensures { IsWritten at (record_of (Extended claim items.now)) result out.old out.new }
+{
+    let at = put_claim(out, at, 3, claim);
+    put_items(out, at, items.as_slice())
+}
+
+fn put_saved(out: &mut [u8], at: usize, claim: u32, place: PlaceId, content: &[u8]) -> usize
+    requires short { length content.now ≤ longest_content }
+    requires room { at + 11 + length content.now ≤ length out.old }
+    ensures { IsWritten at (record_of (Saved claim place content.now)) result out.old out.new }
+{
+    let at = put_claim(out, at, 4, claim);
+    let at = put_u32(out, at, place.number());
+    put_content(out, at, content)
+}
+
+/// Writes the record of an effect into a slice, and answers the offset behind it. Takes no memory.
+#[tactic(auto, using(crate::proofs::Sizes::record_size))]
+pub fn put_effect<A: Allocator>(out: &mut [u8], at: usize, effect: &EffectIn<A>) -> usize
+    requires has { HasRecord effect.now }
+    requires room { at + length (record_of effect.now) ≤ length out.old }
+    ensures { IsWritten at (record_of effect.now) result out.old out.new }
+{
+    match effect {
+        Effect::Made(parent, child) => put_made(out, at, *parent, child),
+        Effect::Asked(claim, owner, items) => put_asked(out, at, *claim, owner, items),
+        Effect::Extended(claim, items) => put_extended(out, at, *claim, items),
+        Effect::Saved(claim, place, content) => {
+            put_saved(out, at, *claim, *place, content.as_slice())
+        }
+        Effect::CheckedIn(claim) => put_claim(out, at, 5, *claim),
+        Effect::Abandoned(claim) => put_claim(out, at, 6, *claim),
+    }
+}
+
+/// How many bytes the record of an effect has.
+#[tactic(auto, using(crate::proofs::Sizes::record_size))]
+pub fn record_len<A: Allocator>(effect: &EffectIn<A>) -> usize
+    requires { HasRecord effect.now }
+    ensures len { result ≡ length (record_of effect.now) }
+    ensures longest { result ≤ longest_record }
+{
+    match effect {
+        Effect::Made(_, child) => 6 + child.as_bytes().len(),
+        Effect::Asked(_, owner, items) => 7 + owner.as_bytes().len() + 5 * items.len(),
+        Effect::Extended(_, items) => 6 + 5 * items.len(),
+        Effect::Saved(_, _, content) => 11 + content.as_slice().len(),
+        Effect::CheckedIn(_) | Effect::Abandoned(_) => 5,
+    }
+}
+
+// Why the record at the front was not read.
+#[derive(Debug, Drop)]
+pub enum ReadError {
+    // Memory was refused.
+    Memory,
+    // What stands there is no record.
+    NotOne,
+}
+
+impl From<AllocError> for ReadError {
+    ghost from_gives = { λ _ e. e ≡ Memory };
+
+    fn from(_: AllocError) -> ReadError {
+        ReadError::Memory
+    }
+}
+
+// The number of a claim.
+#[tactic(auto, unfolding(crate::specs::Reading::claim_at))]
+fn claim_at(bytes: &[u8]) -> Option<(u32, &[u8])>
+    ensures { Reads (λ x. (x.0, x.1.now)) result (claim_at bytes.now) }
+{
+    let (claim, rest) = u32_at(bytes)?;
+    if claim == 0 {
+        return None;
+    }
+    Some((claim, rest))
+}
+
+#[tactic(auto, unfolding(crate::specs::Reading::made_at))]
+fn made_at<A: Allocator>(bytes: &[u8]) -> Option<(EffectIn<A>, &[u8])>
+    ensures { Reads (λ x. (x.0, x.1.now)) result (made_at bytes.now) }
+{
+    let (parent, rest) = u32_at(bytes)?;
+    let Some((child, rest)) = name_at(rest) else {
+        return None;
+    };
+    Some((Effect::Made(PlaceId(parent), child), rest))
+}
+
+#[tactic(auto, unfolding(crate::specs::Reading::asked_at))]
+fn asked_at<A: Allocator>(bytes: &[u8]) -> Option<(EffectIn<A>, &[u8])>
+    ensures { Reads (λ x. (x.0, x.1.now)) result (asked_at bytes.now) }
+{
+    let (claim, rest) = claim_at(bytes)?;
+    let Some((owner, rest)) = name_at(rest) else {
+        return None;
+    };
+    let Some((items, rest)) = items_at(rest) else {
+        return None;
+    };
+    Some((Effect::Asked(claim, owner, items), rest))
+}
+
+#[tactic(auto, unfolding(crate::specs::Reading::extended_at))]
+fn extended_at<A: Allocator>(bytes: &[u8]) -> Option<(EffectIn<A>, &[u8])>
+    ensures { Reads (λ x. (x.0, x.1.now)) result (extended_at bytes.now) }
+{
+    let (claim, rest) = claim_at(bytes)?;
+    let Some((items, rest)) = items_at(rest) else {
+        return None;
+    };
+    Some((Effect::Extended(claim, items), rest))
+}
+
+// A saved content, not yet in memory of its own.
+#[tactic(auto, unfolding(crate::specs::Reading::saved_at))]
+fn saved_at<A: Allocator>(alloc: A, bytes: &[u8]) -> Result<(EffectIn<A>, &[u8]), ReadError>
+    ensures { Gives (λ x. (x.0, x.1.now)) result (saved_at bytes.now) }
+{
+    let (claim, rest) = claim_at(bytes).ok_or(ReadError::NotOne)?;
+    let (place, rest) = u32_at(rest).ok_or(ReadError::NotOne)?;
+    let (content, rest) = content_at(rest).ok_or(ReadError::NotOne)?;
+    let content = Listing::from_vec(Vec::from_slice(alloc, content)?);
+    Ok((Effect::Saved(claim, PlaceId(place), content), rest))
+}
+
+#[tactic(auto, unfolding(crate::specs::Reading::checked_in_at))]
+fn checked_in_at<A: Allocator>(bytes: &[u8]) -> Option<(EffectIn<A>, &[u8])>
+    ensures { Reads (λ x. (x.0, x.1.now)) result (checked_in_at bytes.now) }
+{
+    let (claim, rest) = claim_at(bytes)?;
+    Some((Effect::CheckedIn(claim), rest))
+}
+
+#[tactic(auto, unfolding(crate::specs::Reading::abandoned_at))]
+fn abandoned_at<A: Allocator>(bytes: &[u8]) -> Option<(EffectIn<A>, &[u8])>
+    ensures { Reads (λ x. (x.0, x.1.now)) result (abandoned_at bytes.now) }
+{
+    let (claim, rest) = claim_at(bytes)?;
+    Some((Effect::Abandoned(claim), rest))
+}
+
+// The effect whose record stands at the front, and what is behind it.
+#[tactic(auto, unfolding(crate::specs::Reading::effect_at, crate::specs::Reading::effect_of_kind))]
+fn effect_at<A: Allocator>(alloc: A, bytes: &[u8]) -> Result<(EffectIn<A>, &[u8]), ReadError>
+    ensures { Gives (λ x. (x.0, x.1.now)) result (effect_at bytes.now) }
+{
+    let (kind, rest) = u8_at(bytes).ok_or(ReadError::NotOne)?;
+    match kind {
+        1 => made_at(rest).ok_or(ReadError::NotOne),
+        2 => asked_at(rest).ok_or(ReadError::NotOne),
+        3 => extended_at(rest).ok_or(ReadError::NotOne),
+        4 => saved_at(alloc, rest),
+        5 => checked_in_at(rest).ok_or(ReadError::NotOne),
+        6 => abandoned_at(rest).ok_or(ReadError::NotOne),
+        _ => Err(ReadError::NotOne),
+    }
+}
+
+/// Why bytes were not read as records.
+#[derive(Clone, Copy, Debug, PartialEq, Eq, Error)]
+pub enum Damage {
+    /// At this offset stands the first record that isn't one.
+    #[error("damaged at {0}")]
+    At(usize),
+    #[error("want of memory")]
+    NoMemory,
+}
+
+impl<T: Drop> From<AllocFailed<T>> for Damage {
+    ghost from_gives = { λ _ d. d ≡ NoMemory };
+
+    fn from(_: AllocFailed<T>) -> Damage {
+        Damage::NoMemory
+    }
+}
+
+/// The effects whose records the bytes are, in one pass.
+pub fn read_effects<A: Allocator + Copy>(
+    alloc: A,
+    bytes: &[u8],
+) -> Result<Vec<EffectIn<A>, A>, Damage>
+    ensures found { IfOk result (λ effects. AreRecordsOf effects.items bytes.now) }
+    ensures damage { IfErr result (λ damage. IsDamage bytes.now damage) }
+{
+    let mut effects = Vec::new(alloc);
+    let mut rest = bytes;
+    while !rest.is_empty() {
+        match effect_at(alloc, rest) {
+            Ok((effect, after)) => {
+                effects.push(effect)?;
+                rest = after;
+            }
+            Err(ReadError::NotOne) => return Err(Damage::At(bytes.len() - rest.len())),
+            Err(ReadError::Memory) => return Err(Damage::NoMemory),
+        }
+    }
+    Ok(effects)
+}

@@ -1,0 +1,208 @@
+mod committing;
+mod recording;
+
+use super::*;
+use committing::leaves;
+use recording::{full, is_recorded, is_spoiled, push_within, saved};
+use std::test::Fail;
+use test_memory::Refusing;
+use vault_device::Pick;
+use vault_model::{Effect, Intent, Item, Items, Listing, Name, NoMemory, PlaceId};
+
+// A frame's length, one record and a closed gate, behind the gate of the offset 0.
+const GATE_SHUT: [u8; 13] = [0, 0, 0, 0, 7, 1, 0, 0, 0, 0, 1, 0x65, 0];
+
+const GATE_OPEN: [u8; 13] = [1, 0, 0, 0, 7, 1, 0, 0, 0, 0, 1, 0x65, 0];
+
+#[test]
+fn torn_body_and_gate(rt: HostRuntime) -> Result<(), Fail> {
+    let alloc = rt.alloc();
+    let torn = [0, 1, 1, 1, 1, 1, 1, 1, 1, 1, 1, 1, 1];
+    assert!(rt; leaves(alloc, 1, None, &GATE_SHUT)?);
+    assert!(rt; leaves(alloc, 1, Some(Pick::Old), &[0])?);
+    assert!(rt; leaves(alloc, 1, Some(Pick::Bytes(1)), &torn)?);
+    assert!(rt; leaves(alloc, 3, Some(Pick::Old), &GATE_SHUT)?);
+    assert!(rt; leaves(alloc, 3, Some(Pick::New), &GATE_OPEN)?);
+    assert!(rt; leaves(alloc, 4, Some(Pick::Old), &GATE_OPEN)?);
+    assert!(rt; leaves(alloc, 4, Some(Pick::New), &GATE_OPEN)?);
+    Ok(())
+}
+
+#[test]
+fn records(rt: HostRuntime) -> Result<(), Fail> {
+    let alloc = rt.alloc();
+    let anna = Name::read(b"anna").ok_or("a name")?;
+    let e = Name::read(b"e").ok_or("a name")?;
+    let change = Item {
+        intent: Intent::Change,
+        place: PlaceId(1),
+    };
+    let look = Item {
+        intent: Intent::Look,
+        place: PlaceId(258),
+    };
+    let one = Items::new().with(change);
+    let two = one.with(look);
+    assert!(rt; is_recorded(alloc, &Effect::Made(PlaceId(0), e), b"\x01\0\0\0\0\x01e")?);
+    let asked = b"\x02\0\0\0\x01\x04anna\x01\x01\0\0\0\x01";
+    assert!(rt; is_recorded(alloc, &Effect::Asked(1, anna, one), asked)?);
+    let extended = b"\x03\x01\x02\x03\x04\x02\x01\0\0\0\x01\0\0\0\x01\x02";
+    assert!(rt; is_recorded(alloc, &Effect::Extended(0x0102_0304, two), extended)?);
+    let text = Listing::from_vec(Vec::from_slice(alloc, b"text")?);
+    let saved = b"\x04\0\0\0\x09\0\0\0\x03\0\x04text";
+    assert!(rt; is_recorded(alloc, &Effect::Saved(9, PlaceId(3), text), saved)?);
+    assert!(rt; is_recorded(alloc, &Effect::CheckedIn(u32::MAX), b"\x05\xff\xff\xff\xff")?);
+    assert!(rt; is_recorded(alloc, &Effect::Abandoned(1), b"\x06\0\0\0\x01")?);
+    Ok(())
+}
+
+#[test]
+fn no_records(rt: HostRuntime) -> Result<(), Fail> {
+    let alloc = rt.alloc();
+    assert!(rt; matches!(&read_effects(alloc, b""), Ok(effects) if effects.is_empty()));
+    assert!(rt; matches!(read_effects(alloc, b"\x01\0\0\0\0"), Err(Damage::At(0))));
+    Ok(())
+}
+
+#[test]
+fn spoiled_records(rt: HostRuntime) -> Result<(), Fail> {
+    let alloc = rt.alloc();
+    let whole: [&[u8]; 6] = [
+        b"\x01\0\0\0\0\x02ab",
+        b"\x02\0\0\0\x01\x04anna\x01\x01\0\0\0\x01",
+        b"\x03\0\0\0\x01\x02\x01\0\0\0\x01\0\0\0\x01\x02",
+        b"\x04\0\0\0\x09\0\0\0\x03\0\x04text",
+        b"\x05\0\0\0\x02",
+        b"\x06\0\0\0\x01",
+    ];
+    for record in whole {
+        assert!(rt; read_effects(alloc, record).is_ok(), "{record:?}");
+        for len in 1..record.len() {
+            assert!(rt;
+                is_spoiled(alloc, &record[..len])?,
+                "{record:?} cut to {len}"
+            );
+        }
+    }
+    let mut nine_items = [0; 51];
+    nine_items[..6].copy_from_slice(b"\x03\0\0\0\x01\x09");
+    let mut long_name = [b'a'; 39];
+    long_name[..6].copy_from_slice(b"\x01\0\0\0\0\x21");
+    let mut long_content = [0; 1036];
+    long_content[..11].copy_from_slice(b"\x04\0\0\0\x01\0\0\0\0\x04\x01");
+    let spoiled: [&[u8]; 18] = [
+        b"\0\0\0\0\x01",
+        b"\x07\0\0\0\x01",
+        b"\x01\0\0\0\0\0",
+        &long_name,
+        b"\x01\0\0\0\0\x02aB",
+        b"\x02\0\0\0\0\x04anna\x01\x01\0\0\0\x01",
+        b"\x02\0\0\0\x01\0\x01\x01\0\0\0\x01",
+        b"\x02\0\0\0\x01\x04anna\0",
+        b"\x02\0\0\0\x01\x04anna\x01\x02\0\0\0\x01",
+        b"\x03\0\0\0\0\x01\x01\0\0\0\x01",
+        b"\x03\0\0\0\x01\0",
+        &nine_items,
+        b"\x03\0\0\0\x01\x01\x02\0\0\0\x01",
+        b"\x04\0\0\0\0\0\0\0\x03\0\0",
+        &long_content,
+        b"\x04\0\0\0\x01\0\0\0\x03\x04\0text",
+        b"\x05\0\0\0\0",
+        b"\x06\0\0\0\0",
+    ];
+    for record in spoiled {
+        assert!(rt; is_spoiled(alloc, record)?, "{record:?}");
+    }
+    nine_items[5] = 8;
+    assert!(rt; read_effects(alloc, &nine_items[..46]).is_ok());
+    Ok(())
+}
+
+#[test]
+fn full_frame(rt: HostRuntime) -> Result<(), Fail> {
+    let alloc = rt.alloc();
+    let mut frame = full(alloc)?;
+    assert!(rt; !push_within(&mut frame, &Effect::CheckedIn(1)));
+    assert_eq!(rt; frame.len(), 262_139);
+    let body = frame.body();
+    assert_eq!(rt; body.len(), 262_144);
+    assert!(rt; &body[..4] == [0, 3, 0xff, 0xfb].as_slice() && body[262_143] == 0);
+    let effects = read_effects(alloc, &body[4..262_143])?;
+    assert_eq!(rt; effects.len(), 254);
+    frame.clear();
+    assert!(rt; frame.len() == 0 && frame.body() == [0; 5].as_slice());
+    Ok(())
+}
+
+#[test]
+fn refused_memory(rt: HostRuntime) -> Result<(), Fail> {
+    let memory = Refusing::new(rt.alloc());
+    memory.refuse(1);
+    assert!(rt; matches!(&Frame::new(&memory), Err(NoMemory)));
+    let mut frame = Frame::new(&memory)?;
+    memory.refuse(1);
+    assert!(rt; push_within(&mut frame, &saved(rt.alloc(), 5)?));
+    assert!(rt; memory.is_waiting());
+
+    let records =
+        b"\x04\0\0\0\x01\0\0\0\0\0\x04text\x05\0\0\0\x01\x05\0\0\0\x02\x05\0\0\0\x03\x05\0\0\0\x04\x05\0\0\0\x05\x06\0\0\0\x05";
+    let mut refusals = 0u64;
+    for number in 1..100u64 {
+        memory.refuse(number);
+        match read_effects(&memory, records) {
+            Ok(effects) => {
+                assert!(rt; memory.is_waiting() && effects.len() == 7);
+                break;
+            }
+            Err(damage) => {
+                assert!(rt; damage == Damage::NoMemory && !memory.is_waiting());
+                refusals = number;
+            }
+        }
+    }
+    // One content, and the list at least twice.
+    assert!(rt; 3 <= refusals && refusals < 99);
+    Ok(())
+}
+
+#[test]
+fn fields(rt: HostRuntime) -> Result<(), Fail> {
+    let anna = Name::read(b"anna").ok_or("a name")?;
+    let item = Item {
+        intent: Intent::Change,
+        place: PlaceId(2),
+    };
+    let items = Items::new().with(item);
+    let mut out = [b'-'; 45];
+    let at = put_u8(&mut out, 1, 0xab);
+    let at = put_u16(&mut out, at, 0x1234);
+    let at = put_u32(&mut out, at, 0x0102_0304);
+    let at = put_u64(&mut out, at, 0x0102_0304_0506_0708);
+    let at = put_bytes(&mut out, at, b"raw");
+    let at = put_name(&mut out, at, &anna);
+    let at = put_content(&mut out, at, b"text");
+    let at = put_item(&mut out, at, &item);
+    let at = put_items(&mut out, at, items.as_slice());
+    assert_eq!(rt; at, 41);
+    let numbers = b"-\xab\x12\x34\x01\x02\x03\x04\x01\x02\x03\x04\x05\x06\x07\x08";
+    let others = b"raw\x04anna\0\x04text\x01\0\0\0\x02\x01\x01\0\0\0\x02----";
+    assert!(rt; &out[..16] == numbers.as_slice() && &out[16..] == others.as_slice());
+
+    assert!(rt; matches!(u8_at(&out[1..]), Some((0xab, rest)) if rest.len() == 43));
+    assert!(rt; matches!(u16_at(&out[2..]), Some((0x1234, rest)) if rest.len() == 41));
+    assert!(rt; matches!(u32_at(&out[4..]), Some((0x0102_0304, rest)) if rest.len() == 37));
+    assert!(rt;
+        matches!(u64_at(&out[8..]), Some((0x0102_0304_0506_0708, rest)) if rest.len() == 29)
+    );
+    assert!(rt;
+        matches!(name_at(&out[19..]), Some((name, rest)) if name == anna && rest.len() == 21)
+    );
+    assert!(rt; matches!(content_at(&out[24..]), Some((b"text", rest)) if rest.len() == 15));
+    assert!(rt;
+        matches!(item_at(&out[30..]), Some((read, rest)) if read == item && rest.len() == 10)
+    );
+    assert!(rt;
+        matches!(items_at(&out[35..]), Some((read, rest)) if read == items && rest.len() == 4)
+    );
+    Ok(())
+}
