@@ -28,7 +28,7 @@ some_from (suc n) test e = by_last (some_from n test) (or_cases (test n) (some_b
     by_last rest (inl h) = (n, omega arith, h)
     by_last rest (inr h) = let found = rest h in let lower = found.1 in (found.0, omega arith, found.2)
 
-some_to : (n : ℕ) (test : ℕ → Bool) (p : ℕ) → p < n → test p ≡ true → some_below n test ≡ true
+pub some_to : (n : ℕ) (test : ℕ → Bool) (p : ℕ) → p < n → test p ≡ true → some_below n test ≡ true
 some_to zero test p h e = absurd (omega arith)
 some_to (suc n) test p h e = by_last (some_to n test p) (cases_lt p n)
   where
@@ -155,7 +155,7 @@ module _ (tree : List Place) where
         (and_intro (is_under tree place a.item.place) _ a.passes (refused_at a.item a.listed))
 
     -- what refuses IX above covers the place
-    covered_by : (q : ℕ) → is_under tree place q ≡ true → incompatible (Some IX) (claim_mode tree items q) ≡ true → look_set tree items place ≡ true
+    pub covered_by : (q : ℕ) → is_under tree place q ≡ true → incompatible (Some IX) (claim_mode tree items q) ≡ true → look_set tree items place ≡ true
     covered_by q above refused =
         let a = some_item items (length tree) (λ x. incompatible (item_mode tree x q) (Some IX)) there (sym (by_items_right items (Some IX) q) ∙ refused) in
         let here : (a.item.place == q) ≡ true = sym (ix_refused (a.item.place == q) (is_under tree a.item.place q) (is_change a.item.intent)) ∙ a.passes in

@@ -5,3 +5,7 @@ pub mod ItemTables
 pub mod Conflicts
 pub mod LockConflicts
 pub mod Ancestors
+pub mod Removals
+pub mod TablesKept
+pub mod Covers
+pub mod Lines

@@ -28,14 +28,14 @@ place_there P (l ∷ ls) p m all e = by_test (l.place == p) refl e (place_there 
     by_test false h k rest = rest k
 
 -- some lock of the list has this place and this mode
-record HasLock (ls : List Lock) (test : ℕ → Mode → Bool) : Type 0 where
-  place : ℕ
-  mode : Mode
-  here : mode_at ls place ≡ Some mode
-  passes : test place mode ≡ true
+pub record HasLock (ls : List Lock) (test : ℕ → Mode → Bool) : Type 0 where
+  pub place : ℕ
+  pub mode : Mode
+  pub here : mode_at ls place ≡ Some mode
+  pub passes : test place mode ≡ true
 
 module _ (test : ℕ → Mode → Bool) where
-  lock_from : (ls : List Lock) → AreApart ls → list_any (λ (l : Lock). test l.place l.mode) ls ≡ true → HasLock ls test
+  pub lock_from : (ls : List Lock) → AreApart ls → list_any (λ (l : Lock). test l.place l.mode) ls ≡ true → HasLock ls test
   unfolding IsDistinct
   lock_from [] apart e = cc
   lock_from (l ∷ ls) apart e = by_first (or_cases (test l.place l.mode) (list_any (λ (x : Lock). test x.place x.mode) ls) e) (lock_from ls apart.1)
@@ -49,7 +49,7 @@ module _ (test : ℕ → Mode → Bool) where
       by_first (inl h) rest = record { place = l.place; mode = l.mode; here = rw (eq_itself l.place) refl; passes = h }
       by_first (inr h) rest = behind (rest h)
 
-  lock_to : (ls : List Lock) (p : ℕ) (m : Mode) → mode_at ls p ≡ Some m → test p m ≡ true → list_any (λ (l : Lock). test l.place l.mode) ls ≡ true
+  pub lock_to : (ls : List Lock) (p : ℕ) (m : Mode) → mode_at ls p ≡ Some m → test p m ≡ true → list_any (λ (l : Lock). test l.place l.mode) ls ≡ true
   lock_to [] p m e h = cc
   lock_to (l ∷ ls) p m e h = by_test (l.place == p) refl e (λ k. lock_to ls p m k h)
     where

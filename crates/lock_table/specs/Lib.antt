@@ -1,2 +1,3 @@
 pub mod ClaimModes
 pub mod Locks
+pub mod Tables

@@ -5,9 +5,10 @@ use super::*;
 use Mode::{IS, IX, S, SIX, X};
 use design_tree::Tree;
 use lock_modes::Mode;
-use std::alloc::Global;
+use std::alloc::{Allocator, Global};
 use std::process::Abort;
-use vault_model::{Intent, Item, Name, PlaceId};
+use test_memory::Refusing;
+use vault_model::{ClaimId, Intent, Item, Name, NoMemory, PlaceId, Standing};
 
 fn look(place: u32) -> Item {
     Item {
@@ -131,6 +132,221 @@ fn modes_agree_with_overlap(rt: HostRuntime) {
             let others = locks_of(&rt, &tree, &[*other]);
             let expected = overlap(&rt, &tree, *one, *other);
             assert_eq!(rt; locks.conflicts(&others), expected, "{one:?} and {other:?}");
+        }
+    }
+}
+
+const C1: ClaimId = ClaimId::Long(1);
+
+const C2: ClaimId = ClaimId::Long(2);
+
+const C3: ClaimId = ClaimId::Long(3);
+
+fn ask<A: Allocator>(
+    rt: &impl Abort,
+    table: &mut Table<A>,
+    id: ClaimId,
+    locks: LockSet,
+) -> Result<Standing, NoMemory> {
+    assert!(rt; table.standing(id).is_none());
+    assert!(rt; !table.is_full());
+    table.ask(id, locks)
+}
+
+fn extend<A: Allocator>(
+    rt: &impl Abort,
+    table: &mut Table<A>,
+    id: ClaimId,
+    locks: LockSet,
+) -> Result<Extension, NoMemory> {
+    assert!(rt; matches!(table.standing(id), Some(Standing::Held)));
+    table.extend(id, locks)
+}
+
+// The claims of these items, c1, c2, .., asked one after another, with the standing that each is given.
+fn line_of(rt: &impl Abort, alloc: Global, tree: &Tree, claims: &[(&[Item], Standing)]) -> Table {
+    let mut table = Table::new(alloc).expect(rt, "memory");
+    let mut number = 0u32;
+    for (items, standing) in claims {
+        number = number.wrapping_add(1);
+        let id = ClaimId::Long(number);
+        let told = ask(rt, &mut table, id, locks_of(rt, tree, items)).expect(rt, "memory");
+        assert_eq!(rt; told, *standing, "of c{number}");
+        assert_eq!(rt; table.standing(id), Some(told));
+    }
+    table
+}
+
+#[test]
+fn newcomers_wait_for_all_before_them(rt: HostRuntime) {
+    let tree = small_tree(&rt, rt.alloc());
+    let held = Standing::Held;
+    let queued = Standing::Queued;
+    line_of(
+        &rt,
+        rt.alloc(),
+        &tree,
+        &[(&[change(1)], held), (&[look(1)], queued(C1))],
+    );
+    line_of(
+        &rt,
+        rt.alloc(),
+        &tree,
+        &[(&[change(3)], held), (&[change(4)], held)],
+    );
+    line_of(
+        &rt,
+        rt.alloc(),
+        &tree,
+        &[
+            (&[look(2), change(3)], held),
+            (&[look(4)], held),
+            (&[look(3)], queued(C1)),
+        ],
+    );
+    let mut table = line_of(
+        &rt,
+        rt.alloc(),
+        &tree,
+        &[
+            (&[look(1)], held),
+            (&[change(2)], queued(C1)),
+            (&[look(2)], queued(C2)),
+        ],
+    );
+    table.release(C1);
+    assert_eq!(rt; table.standing(C1), None);
+    assert_eq!(rt; table.standing(C2), Some(held));
+    assert_eq!(rt; table.blocker(C2), None);
+    assert_eq!(rt; table.standing(C3), Some(queued(C2)));
+    assert_eq!(rt; table.blocker(C3), Some(C2));
+}
+
+#[test]
+fn extensions_are_weighed_against_held_claims(rt: HostRuntime) {
+    let tree = small_tree(&rt, rt.alloc());
+    let held = Standing::Held;
+    let queued = Standing::Queued;
+    let mut table = line_of(
+        &rt,
+        rt.alloc(),
+        &tree,
+        &[(&[look(3)], held), (&[look(3)], held)],
+    );
+    let wanted = locks_of(&rt, &tree, &[look(3), change(3)]);
+    let answer = extend(&rt, &mut table, C1, wanted).expect(&rt, "memory");
+    assert_eq!(rt; answer, Extension::InTheWay(C2));
+    assert_eq!(rt; table.standing(C1), Some(held));
+    assert_eq!(rt; table.standing(C2), Some(held));
+    let mut table = line_of(
+        &rt,
+        rt.alloc(),
+        &tree,
+        &[
+            (&[look(3)], held),
+            (&[look(4)], held),
+            (&[change(2)], queued(C1)),
+        ],
+    );
+    let wanted = locks_of(&rt, &tree, &[look(4), change(4)]);
+    let answer = extend(&rt, &mut table, C2, wanted).expect(&rt, "memory");
+    assert_eq!(rt; answer, Extension::Done);
+    assert_eq!(rt; table.standing(C3), Some(queued(C2)));
+    let mut table = line_of(
+        &rt,
+        rt.alloc(),
+        &tree,
+        &[
+            (&[change(2)], held),
+            (&[look(1)], queued(C1)),
+            (&[look(0)], queued(C1)),
+        ],
+    );
+    let wanted = locks_of(&rt, &tree, &[change(2), look(1)]);
+    let answer = extend(&rt, &mut table, C1, wanted).expect(&rt, "memory");
+    assert_eq!(rt; answer, Extension::Done);
+}
+
+fn over(rt: &impl Abort, tree: &Tree, table: &Table, place: u32) -> Option<ClaimId> {
+    assert!(rt; (place as usize) < tree.len());
+    table.held_over(tree, PlaceId(place))
+}
+
+#[test]
+fn held_claims_cover_what_lies_under_them(rt: HostRuntime) {
+    let tree = small_tree(&rt, rt.alloc());
+    let table = line_of(&rt, rt.alloc(), &tree, &[(&[look(1)], Standing::Held)]);
+    assert_eq!(rt; over(&rt, &tree, &table, 2), Some(C1));
+    assert_eq!(rt; over(&rt, &tree, &table, 0), None);
+}
+
+#[test]
+fn each_request_of_memory_is_refused(rt: HostRuntime) {
+    let memory = Refusing::new(rt.alloc());
+    let tree = small_tree(&rt, rt.alloc());
+    let mut table = Table::new(&memory).expect(&rt, "memory");
+    let mut refused = (0, 0);
+    for number in 1..40u32 {
+        let id = ClaimId::Long(number);
+        memory.refuse(1);
+        if ask(&rt, &mut table, id, locks_of(&rt, &tree, &[look(1)])).is_err() {
+            assert!(rt; !memory.is_waiting());
+            assert_eq!(rt; table.standing(id), None);
+            refused.0 = number;
+            memory.refuse(0);
+            let told = ask(&rt, &mut table, id, locks_of(&rt, &tree, &[look(1)]));
+            assert_eq!(rt; told.expect(&rt, "memory"), Standing::Held);
+        }
+        memory.refuse(1);
+        let last_room = number > 20;
+        if last_room && extend(&rt, &mut table, C1, locks_of(&rt, &tree, &[look(2)])).is_err() {
+            assert!(rt; !memory.is_waiting());
+            assert_eq!(rt; table.standing(C1), Some(Standing::Held));
+            refused.1 = number;
+        }
+    }
+    memory.refuse(0);
+    assert!(rt; refused.0 > 1);
+    assert!(rt; refused.1 > 20);
+    let answer = extend(&rt, &mut table, C1, locks_of(&rt, &tree, &[look(2)]));
+    assert_eq!(rt; answer.expect(&rt, "memory"), Extension::Done);
+}
+
+fn item_of(seed: u32) -> Item {
+    let place = (seed >> 20) % 5;
+    if seed >> 30 == 0 {
+        change(place)
+    } else {
+        look(place)
+    }
+}
+
+// The standing of an item behind others, of which the first is c0, judged by sets of places.
+fn standing_behind(rt: &impl Abort, tree: &Tree, others: &[Item], item: &Item) -> Standing {
+    let mut number = 0u32;
+    for other in others {
+        if overlap(rt, tree, *item, *other) {
+            return Standing::Queued(ClaimId::Long(number));
+        }
+        number = number.wrapping_add(1);
+    }
+    Standing::Held
+}
+
+#[test]
+fn random_lines_agree_by_modes_and_by_places(rt: HostRuntime) {
+    let tree = small_tree(&rt, rt.alloc());
+    let mut seed = 1u32;
+    for _ in 0..10u8 {
+        let mut table = Table::new(rt.alloc()).expect(&rt, "memory");
+        let mut line = [look(0); 40];
+        for index in 0..40usize {
+            seed = seed.wrapping_mul(1_664_525).wrapping_add(1_013_904_223);
+            line[index] = item_of(seed);
+            let locks = locks_of(&rt, &tree, &[line[index]]);
+            let expected = standing_behind(&rt, &tree, &line[..index], &line[index]);
+            let told = ask(&rt, &mut table, ClaimId::Long(index as u32), locks);
+            assert_eq!(rt; told.expect(&rt, "memory"), expected, "of c{index}");
         }
     }
 }

@@ -1,0 +1,74 @@
+-- A claim put first, in a line and in its table.
+use Rattle.std.specs.Prelude.{◌≡◌, Bool, true, false, not, List, [], ◌∷◌, Option, None, Some, is_some, All, refl}
+use Rattle.std.proofs.Common.{sym, ap, ◌∙◌, cond}
+use Rattle.std.specs.Option.{option_map, option_map_or}
+use Rattle.std.proofs.lemmas.List.Elements.{All-cons, All-filter}
+use Rattle.vault_model.specs.declared.place.Place.{Place}
+use Rattle.vault_model.specs.declared.claims.Item.{Item}
+use Rattle.vault_model.specs.declared.claims.Claim.{Claim}
+use Rattle.vault_model.specs.declared.claims.Standing.{Standing}
+use Rattle.vault_model.specs.declared.claims.Standing.TheVariants.{Held}
+use Rattle.vault_model.specs.declared.ids.ClaimId.{ClaimId}
+use Rattle.vault_model.specs.Tree.{IsTree}
+use Rattle.vault_model.specs.Claims.{same_id, standing_behind, claim_of, before, without, standing_of}
+use Rattle.vault_model.specs.Vault.{AreThere}
+use Rattle.vault_model.proofs.Stays.{same_id_is, claim_there}
+use Rattle.lock_table.specs.declared.locks.Lock.{Lock}
+use Rattle.lock_table.specs.declared.entry.Entry.{Entry}
+use Rattle.lock_table.specs.declared.entry.Extension.TheVariants.{Done, InTheWay}
+use Rattle.lock_table.specs.Tables.{extension_by, held_in_way, AreLocksOf, IsTableOf}
+use Rattle.lock_table.specs.Tables as tables
+use Rattle.long_locks.specs.Lines.{LineSeen, IsGrownFrom, IsNumbered, IsLine, put_first, extended_by}
+use Rattle.long_locks.proofs.Zips.{zip_without}
+use Rattle.long_locks.proofs.LinesKept.{there_grown}
+
+pub is_done : (o : Option ClaimId) → Done ≡ extension_by o → o ≡ None
+is_done None e = refl
+is_done (Some id) e = cc
+
+pub is_in_way : (o : Option ClaimId) (id : ClaimId) → InTheWay id ≡ extension_by o → o ≡ Some id
+is_in_way None id e = cc
+is_in_way (Some other) id e = let same : id ≡ other = cc in ap Some (sym same)
+
+pub own_id : (line : List Claim) (id : ClaimId) (c : Claim) → claim_of line id ≡ Some c → c.id ≡ id
+own_id [] id c e = cc
+own_id (x ∷ line) id c e = by_test (same_id x.id id) refl e (own_id line id c)
+  where
+    by_test : (b : Bool) → same_id x.id id ≡ b → cond b (Some x) (claim_of line id) ≡ Some c → (claim_of line id ≡ Some c → c.id ≡ id) → c.id ≡ id
+    by_test true h k rest = let same : x ≡ c = cc in ap (λ (d : Claim). d.id) (sym same) ∙ same_id_is x.id id h
+    by_test false h k rest = rest k
+
+some_claim : (o : Option Claim) (f : Claim → Standing) (standing : Standing) → option_map f o ≡ Some standing → is_some o ≡ true
+some_claim None f standing e = cc
+some_claim (Some c) f standing e = refl
+
+-- a held claim is in the line
+pub held_there : (tree : List Place) (line : List Claim) (id : ClaimId) → standing_of tree line id ≡ Some Held → is_some (claim_of line id) ≡ true
+held_there tree line id held = some_claim (claim_of line id) (λ (c : Claim). standing_behind tree (before line id) c.items) Held held
+
+pub zip_first : (tree : List Place) (line : List Claim) (table : List Entry) (zip : IsTableOf tree line table) (id : ClaimId) (items : List Item) (locks : List Lock) → AreLocksOf tree items locks → is_some (claim_of line id) ≡ true
+    → IsTableOf tree (put_first line id items) (tables.put_first table id locks)
+zip_first tree line table zip id items locks are some = by_claim (claim_of line id) refl some
+  where
+    by_claim : (o : Option Claim) → claim_of line id ≡ o → is_some o ≡ true → IsTableOf tree (option_map_or (λ (c : Claim). record c { items = items } ∷ without line id) o line) (tables.put_first table id locks)
+    by_claim None e h = cc
+    by_claim (Some c) e h = (record { id = sym (own_id line id c e); locks = are }, zip_without tree line table zip id)
+
+module _ (P : Claim → Type 0) (line : List Claim) (all : All P line) (id : ClaimId) (items : List Item) (changed : (c : Claim) → P c → P (record c { items = items })) where
+  -- what holds of each claim, and of one with other items, holds of each after an extension
+  pub all_extended : (o : Option ClaimId) → All P (extended_by o line id items)
+  all_extended (Some other) = all
+  all_extended None = by_claim (claim_of line id) refl
+    where
+      by_claim : (o : Option Claim) → claim_of line id ≡ o → All P (option_map_or (λ (c : Claim). record c { items = items } ∷ without line id) o line)
+      by_claim None e = all
+      by_claim (Some c) e = All-cons P (record c { items = items }) (without line id) (changed c (claim_there P line id all c e)) (All-filter (λ (d : Claim). not (same_id d.id id)) P line all)
+
+pub line_extended : (l : LineSeen) (table : List Entry) → IsLine l table → (tree : List Place) → IsTree tree → IsGrownFrom l.tree tree → (id : ClaimId) (items : List Item) → AreThere tree items → (o : Option ClaimId) (new : List Entry)
+    → IsTableOf tree (extended_by o l.claims id items) new → IsLine (record l { claims = extended_by o l.claims id items; tree = tree }) new
+line_extended l table kept tree whole grown id items items_there o new zip = record {
+  tree = whole;
+  there = all_extended (λ (c : Claim). AreThere tree c.items) l.claims (there_grown l table kept tree grown) id items (λ c h. items_there) o;
+  numbered = all_extended (λ (c : Claim). IsNumbered l.last_long l.last_short c.id) l.claims kept.numbered id items (λ c h. h) o;
+  weighed = zip;
+}

@@ -1,0 +1,5 @@
+pub mod Grown
+pub mod Zips
+pub mod LinesKept
+pub mod Extensions
+pub mod Endings

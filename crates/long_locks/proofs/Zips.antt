@@ -1,0 +1,45 @@
+-- A line and its table, changed alike.
+use Rattle.std.specs.Prelude.{◌≡◌, suc, not, List, [], ◌∷◌, ◌++◌, length, None, All, refl}
+use Rattle.std.proofs.Common.{sym, ap, ◌∙◌}
+use Rattle.std.specs.List.{AllZip}
+use Rattle.std.specs.Option.{option_map}
+use Rattle.vault_model.specs.declared.place.Place.{Place}
+use Rattle.vault_model.specs.declared.claims.Item.{Item}
+use Rattle.vault_model.specs.declared.claims.Claim.{Claim}
+use Rattle.vault_model.specs.declared.ids.ClaimId.{ClaimId}
+use Rattle.vault_model.specs.Tree.{IsTree}
+use Rattle.vault_model.specs.Claims.{same_id, standing_by, standing_behind, claim_of, before, without}
+use Rattle.vault_model.specs.Vault.{AreThere}
+use Rattle.lock_table.specs.declared.locks.Lock.{Lock}
+use Rattle.lock_table.specs.declared.entry.Entry.{Entry}
+use Rattle.lock_table.specs.Tables.{standing_in, entries_without, first_in_way, AreLocksOf, IsEntryOf, IsTableOf}
+use Rattle.lock_table.proofs.Lines.{filter_both, way_law, standing_law}
+
+pub zip_length : {X Y : Type 0} (R : X → Y → Type 0) (xs : List X) (ys : List Y) → AllZip R xs ys → length ys ≡ length xs
+zip_length R [] [] zip = refl
+zip_length R [] (y ∷ ys) zip = absurd zip
+zip_length R (x ∷ xs) [] zip = absurd zip
+zip_length R (x ∷ xs) (y ∷ ys) zip = ap suc (zip_length R xs ys zip.1)
+
+pub zip_push : {X Y : Type 0} (R : X → Y → Type 0) (xs : List X) (ys : List Y) (x : X) (y : Y) → AllZip R xs ys → R x y → AllZip R (xs ++ x ∷ []) (ys ++ y ∷ [])
+zip_push R [] [] x y zip h = (h, tt)
+zip_push R [] (v ∷ ys) x y zip h = absurd zip
+zip_push R (u ∷ xs) [] x y zip h = absurd zip
+zip_push R (u ∷ xs) (v ∷ ys) x y zip h = (zip.0, zip_push R xs ys x y zip.1 h)
+
+module _ (tree : List Place) (line : List Claim) (table : List Entry) (zip : IsTableOf tree line table) where
+  pub as_long : length table ≡ length line
+  as_long = zip_length (IsEntryOf tree) line table zip
+
+  pub zip_without : (id : ClaimId) → IsTableOf tree (without line id) (entries_without table id)
+  zip_without id = filter_both (IsEntryOf tree) (λ (c : Claim). not (same_id c.id id)) (λ (e : Entry). not (same_id e.id id)) (λ c e of. ap (λ k. not (same_id k id)) (sym of.id)) line table zip
+
+  pub zip_asked : (c : Claim) (locks : List Lock) → AreLocksOf tree c.items locks → IsTableOf tree (line ++ c ∷ []) (table ++ record { id = c.id; locks = locks } ∷ [])
+  zip_asked c locks are = zip_push (IsEntryOf tree) line table c (record { id = c.id; locks = locks }) zip (record { id = refl; locks = are })
+
+  module _ (whole : IsTree tree) (there : All (λ (c : Claim). AreThere tree c.items) line) where
+    pub none_stands : (id : ClaimId) → claim_of line id ≡ None → standing_in table id ≡ None
+    none_stands id none = standing_law tree whole line table zip there id ∙ ap (option_map (λ (c : Claim). standing_behind tree (before line id) c.items)) none
+
+    pub asked_standing : (items : List Item) (locks : List Lock) → AreThere tree items → AreLocksOf tree items locks → standing_by (first_in_way table locks) ≡ standing_behind tree line items
+    asked_standing items locks items_there are = ap standing_by (way_law tree whole line table zip there items locks items_there are)

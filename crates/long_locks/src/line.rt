@@ -1,0 +1,342 @@
+//! The line of claims, weighed by their lock modes.
+ghost use Rattle.std.specs.Prelude.{◌≡◌, ℕ, ◌+◌, ◌<◌, ◌≤◌, ◌==◌, not, true, List, [], ◌∷◌, ◌++◌, length, map, slice_get, is_some, None, Some, find, position, vec_len, vec_capacity, All, IfOk, OnOk, OnErr};
+ghost use Rattle.std.specs.Option.{option_map, option_copied};
+ghost use Rattle.std.specs.List.{IsDistinct};
+ghost use Rattle.vault_model.specs.declared.claims.Claim.{Claim};
+ghost use Rattle.vault_model.specs.declared.place.Place.{Place};
+ghost use Rattle.vault_model.specs.Tree.{IsTree};
+ghost use Rattle.vault_model.specs.Claims.{same_id, standing_behind, standing_of, claim_of, without, covering};
+ghost use Rattle.vault_model.specs.Vault.{AreThere};
+ghost use Rattle.vault_model.specs.Limits.{most_items, most_claims, last_number};
+ghost use Rattle.lock_table.specs.Tables.{IsTable, IsTableOf, extension_by};
+ghost use Rattle.long_locks.specs.Lines.{ends, left_by, without_session, without_short, new_line, asked_long, asked_short, IsGrownFrom, in_way_of, put_first, extended_by};
+
+use crate::ending::{Ending, ends};
+use design_tree::Tree;
+use lock_table::{Extension, Table, lock_set};
+use std::alloc::{Allocator, Global};
+use std::marker::Model;
+use std::snapshot::Snapshot;
+use vault_model::{Claim, ClaimId, Items, Name, NoMemory, Owner, PlaceId, Standing};
+
+/// The claims of a vault in order of arrival. Contracts see them as a list, with the last number
+/// that was given to a claim of each kind, and the tree over which a claim was weighed last.
+#[derive(Drop)]
+pub struct Line<A: Allocator = Global> {
+    claims: Vec<Claim, A>,
+    table: Table<A>,
+    tree: Snapshot<Tree<A>>,
+    last_long: u32,
+    last_short: u32,
+}
+
+impl<A: Allocator> Model for Line<A> {
+    ghost use Rattle.long_locks.specs.Lines.{LineSeen, IsLine};
+
+    ghost Value = { LineSeen };
+
+    ghost view = { λ l. record {
+      claims = l.claims.items;
+      last_long = l.last_long;
+      last_short = l.last_short;
+      tree = l.tree.value;
+    } };
+
+    ghost invariant = { λ l. IsLine (record {
+      claims = l.claims.items;
+      last_long = l.last_long;
+      last_short = l.last_short;
+      tree = l.tree.value;
+    }) l.table };
+}
+
+fn is_same(id: ClaimId, other: ClaimId) -> bool
+    ensures { result ≡ same_id id other }
+{
+    match (id, other) {
+        (ClaimId::Long(m), ClaimId::Long(n)) => m == n,
+        (ClaimId::Short(m), ClaimId::Short(n)) => m == n,
+        (ClaimId::Long(_), ClaimId::Short(_)) => false,
+        (ClaimId::Short(_), ClaimId::Long(_)) => false,
+    }
+}
+
+fn find_claim(claims: &[Claim], id: ClaimId) -> Option<&Claim>
+    ensures { option_copied result ≡ claim_of claims.now id }
+{
+    claims.iter().find(|claim| is_same(claim.id, id))
+}
+
+fn see_whole<A: Allocator>(tree: &Tree<A>)
+    ensures { IsTree tree.now }
+{
+    let _ = tree.parent(PlaceId(0));
+}
+
+fn put_last<A: Allocator>(
+    claims: &mut Vec<Claim, A>,
+    table: &mut Table<A>,
+    tree: &Tree<A>,
+    claim: Claim,
+) -> Result<Standing, NoMemory>
+    requires tree { IsTree tree.now }
+    requires claims { All (λ (c : Claim). AreThere tree.now c.items) claims.old.items }
+    requires table { IsTableOf tree.now claims.old.items table.old }
+    requires items { AreThere tree.now claim.items }
+    requires new { claim_of claims.old.items claim.id ≡ None }
+    requires room { length claims.old.items < most_claims }
+    ensures standing { IfOk result (λ standing. standing ≡ standing_behind tree.now claims.old.items claim.items) }
+    ensures asked { OnOk result (claims.new.items ≡ claims.old.items ++ claim ∷ []) }
+    ensures table { OnOk result (IsTableOf tree.now claims.new.items table.new) }
+    ensures unchanged { OnErr result (claims.new.items ≡ claims.old.items) }
+    ensures same_table { OnErr result (table.new ≡ table.old) }
+{
+    let locks = lock_set(tree, claim.items.as_slice());
+    match claims.reserve(1) {
+        Ok(()) => {}
+        Err(_) => return Err(NoMemory),
+    }
+    let standing = table.ask(claim.id, locks)?;
+    claims.push(claim).unwrap();
+    Ok(standing)
+}
+
+fn put_first<A: Allocator>(claims: &mut Vec<Claim, A>, id: ClaimId, items: Items)
+    requires there { is_some (claim_of claims.old.items id) ≡ true }
+    requires room { vec_len claims.old < vec_capacity claims.old }
+    ensures { claims.new.items ≡ put_first claims.old.items id items }
+{
+    let claim = *find_claim(claims, id).unwrap();
+    claims.retain(|claim| !is_same(claim.id, id));
+    claims.insert(0, Claim { items, ..claim }).unwrap();
+}
+
+fn extend<A: Allocator>(
+    claims: &mut Vec<Claim, A>,
+    table: &mut Table<A>,
+    tree: &Tree<A>,
+    id: ClaimId,
+    items: Items,
+) -> Result<Extension, NoMemory>
+    requires tree { IsTree tree.now }
+    requires claims { All (λ (c : Claim). AreThere tree.now c.items) claims.old.items }
+    requires table { IsTableOf tree.now claims.old.items table.old }
+    requires items { AreThere tree.now items }
+    requires held { standing_of tree.now claims.old.items id ≡ Some Standing.Held }
+    ensures answer { IfOk result (λ extension. extension ≡ extension_by (in_way_of tree.now claims.old.items id items)) }
+    ensures extended { OnOk result (claims.new.items ≡ extended_by (in_way_of tree.now claims.old.items id items) claims.old.items id items) }
+    ensures table { OnOk result (IsTableOf tree.now claims.new.items table.new) }
+    ensures unchanged { OnErr result (claims.new.items ≡ claims.old.items) }
+    ensures same_table { OnErr result (table.new ≡ table.old) }
+{
+    let locks = lock_set(tree, items.as_slice());
+    match claims.reserve(1) {
+        Ok(()) => {}
+        Err(_) => return Err(NoMemory),
+    }
+    match table.extend(id, locks)? {
+        Extension::Done => {
+            put_first(claims, id, items);
+            Ok(Extension::Done)
+        }
+        Extension::InTheWay(other) => Ok(Extension::InTheWay(other)),
+    }
+}
+
+fn see_distinct<A: Allocator>(table: &Table<A>)
+    ensures { IsTable table.now }
+{
+    let _ = table.standing(ClaimId::Long(0));
+}
+
+fn first_ending(claims: &[Claim], ending: Ending) -> Option<ClaimId>
+    ensures { result ≡ option_map (λ (c : Claim). c.id) (find (ends ending) claims.now) }
+{
+    let claim = claims.iter().find(|claim| ends(ending, claim))?;
+    Some(claim.id)
+}
+
+fn drop_all<A: Allocator>(claims: &mut Vec<Claim, A>, table: &mut Table<A>, ending: Ending)
+    requires { IsDistinct same_id (map (λ (c : Claim). c.id) claims.old.items) }
+    ensures claims { claims.new.items ≡ left_by ending claims.old.items }
+    ensures table { (tree : List Place) → IsTableOf tree claims.old.items table.old → IsTableOf tree claims.new.items table.new }
+{
+    while let Some(id) = first_ending(claims, ending) {
+        claims.retain(|claim| !is_same(claim.id, id));
+        table.release(id);
+    }
+}
+
+impl<A: Allocator + Copy> Line<A> {
+    /// A line of no claims.
+    pub fn new(alloc: A) -> Result<Line<A>, NoMemory>
+        ensures { IfOk result (λ line. line ≡ new_line) }
+    {
+        let tree = Tree::new(alloc)?;
+        Ok(Line {
+            claims: Vec::new(alloc),
+            table: Table::new(alloc)?,
+            tree: Snapshot::of(&tree),
+            last_long: 0,
+            last_short: 0,
+        })
+    }
+}
+
+impl<A: Allocator> Line<A> {
+    /// How many claims there are.
+    pub fn len(&self) -> usize
+        ensures { result ≡ length self.now.claims }
+    {
+        self.claims.len()
+    }
+
+    /// The last number given to a long claim, or 0.
+    pub fn last_long(&self) -> u32
+        ensures { result ≡ self.now.last_long }
+    {
+        self.last_long
+    }
+
+    /// The last number given to a short claim, or 0.
+    pub fn last_short(&self) -> u32
+        ensures { result ≡ self.now.last_short }
+    {
+        self.last_short
+    }
+
+    /// The claim of this id.
+    pub fn get(&self, id: ClaimId) -> Option<&Claim>
+        ensures { option_copied result ≡ claim_of self.now.claims id }
+    {
+        find_claim(&self.claims, id)
+    }
+
+    /// The claim at a position of the line, counted from 0.
+    pub fn at(&self, position: usize) -> Option<&Claim>
+        ensures { option_copied result ≡ slice_get self.now.claims position }
+    {
+        self.claims.as_slice().get(position)
+    }
+
+    /// How a claim stands, over the line's tree and each that has grown from it.
+    pub fn standing(&self, id: ClaimId) -> Option<Standing>
+        ensures { (tree : List Place) → IsTree tree → IsGrownFrom self.now.tree tree →
+            result ≡ standing_of tree self.now.claims id }
+    {
+        self.table.standing(id)
+    }
+
+    /// The first held claim that covers a place.
+    pub fn covers(&self, tree: &Tree<A>, place: PlaceId) -> Option<ClaimId>
+        requires grown { IsGrownFrom self.now.tree tree.now }
+        requires there { place ≤ length tree.now }
+        ensures { result ≡ covering tree.now self.now.claims place }
+    {
+        see_whole(tree);
+        self.table.held_over(tree, place)
+    }
+
+    /// Puts a new long claim of a designer last, with the next number, and says how it stands there.
+    pub fn ask_long(
+        &mut self,
+        tree: &Tree<A>,
+        owner: Name,
+        items: Items,
+    ) -> Result<Standing, NoMemory>
+        requires grown { IsGrownFrom self.old.tree tree.now }
+        requires items { AreThere tree.now items }
+        requires room { length self.old.claims < most_claims }
+        requires number { self.old.last_long < last_number }
+        ensures standing { IfOk result (λ standing. standing ≡ standing_behind tree.now self.old.claims items) }
+        ensures asked { OnOk result (self.new ≡ asked_long self.old tree.now owner items) }
+        ensures unchanged { OnErr result (self.new ≡ self.old) }
+    {
+        see_whole(tree);
+        let claim = Claim {
+            id: ClaimId::Long(self.last_long + 1),
+            owner: Owner::Designer(owner),
+            items,
+        };
+        let standing = put_last(&mut self.claims, &mut self.table, tree, claim)?;
+        self.last_long += 1;
+        self.tree = Snapshot::of(tree);
+        Ok(standing)
+    }
+
+    /// Puts a new short claim of a session last, with the next number, and says how it stands there.
+    pub fn ask_short(
+        &mut self,
+        tree: &Tree<A>,
+        session: u32,
+        items: Items,
+    ) -> Result<Standing, NoMemory>
+        requires grown { IsGrownFrom self.old.tree tree.now }
+        requires items { AreThere tree.now items }
+        requires room { length self.old.claims < most_claims }
+        requires number { self.old.last_short < last_number }
+        ensures standing { IfOk result (λ standing. standing ≡ standing_behind tree.now self.old.claims items) }
+        ensures asked { OnOk result (self.new ≡ asked_short self.old tree.now session items) }
+        ensures unchanged { OnErr result (self.new ≡ self.old) }
+    {
+        see_whole(tree);
+        let claim = Claim {
+            id: ClaimId::Short(self.last_short + 1),
+            owner: Owner::Session(session),
+            items,
+        };
+        let standing = put_last(&mut self.claims, &mut self.table, tree, claim)?;
+        self.last_short += 1;
+        self.tree = Snapshot::of(tree);
+        Ok(standing)
+    }
+
+    /// Gives a held claim these items, in place of its own, and the first place in the line, if it
+    /// overlaps no other held claim with them.
+    pub fn extend(
+        &mut self,
+        tree: &Tree<A>,
+        id: ClaimId,
+        items: Items,
+    ) -> Result<Extension, NoMemory>
+        requires grown { IsGrownFrom self.old.tree tree.now }
+        requires items { AreThere tree.now items }
+        requires held { standing_of tree.now self.old.claims id ≡ Some Standing.Held }
+        ensures answer { IfOk result (λ extension. extension ≡ extension_by (in_way_of tree.now self.old.claims id items)) }
+        ensures extended { OnOk result (self.new ≡ record self.old {
+          claims = extended_by (in_way_of tree.now self.old.claims id items) self.old.claims id items;
+          tree = tree.now;
+        }) }
+        ensures unchanged { OnErr result (self.new ≡ self.old) }
+    {
+        see_whole(tree);
+        let extension = extend(&mut self.claims, &mut self.table, tree, id, items)?;
+        self.tree = Snapshot::of(tree);
+        Ok(extension)
+    }
+
+    /// Takes a claim out of the line. Where it has none of this id, nothing changes.
+    pub fn drop_claim(&mut self, id: ClaimId)
+        ensures { self.new ≡ record self.old { claims = without self.old.claims id } }
+    {
+        self.claims.retain(|claim| !is_same(claim.id, id));
+        self.table.release(id);
+    }
+
+    /// Takes every claim of a session out of the line, when the session ends.
+    pub fn drop_session(&mut self, session: u32)
+        ensures { self.new ≡ record self.old { claims = without_session session self.old.claims } }
+    {
+        see_distinct(&self.table);
+        drop_all(&mut self.claims, &mut self.table, Ending::Session(session));
+    }
+
+    /// Takes every short claim out of the line, and counts their numbers anew.
+    pub fn restart(&mut self)
+        ensures { self.new ≡ record self.old { claims = without_short self.old.claims; last_short = 0 } }
+    {
+        see_distinct(&self.table);
+        drop_all(&mut self.claims, &mut self.table, Ending::AllShort);
+        self.last_short = 0;
+    }
+}

@@ -1,0 +1,277 @@
+ghost use Rattle.std.specs.Prelude.{◌↔◌, IsTrue, List};
+ghost use Rattle.vault_model.specs.declared.place.Place.{Place};
+ghost use Rattle.vault_model.specs.Vault.{AreThere};
+ghost use Rattle.long_locks.specs.Lines.{IsGrownFrom};
+
+use super::*;
+use design_tree::Tree;
+use lock_table::Extension;
+use std::alloc::Allocator;
+use std::process::Abort;
+use test_memory::Refusing;
+use vault_model::{ClaimId, Intent, Item, Items, Name, NoMemory, PlaceId, Standing};
+
+const C1: ClaimId = ClaimId::Long(1);
+
+const C2: ClaimId = ClaimId::Long(2);
+
+const C3: ClaimId = ClaimId::Long(3);
+
+const H1: ClaimId = ClaimId::Short(1);
+
+fn look(place: u32) -> Item {
+    Item {
+        intent: Intent::Look,
+        place: PlaceId(place),
+    }
+}
+
+fn change(place: u32) -> Item {
+    Item {
+        intent: Intent::Change,
+        place: PlaceId(place),
+    }
+}
+
+fn make<A: Allocator + Copy>(rt: &impl Abort, tree: &mut Tree<A>, parent: u32, name: &str) -> u32 {
+    let parent = PlaceId(parent);
+    assert!(rt; (parent.number() as usize) < tree.len());
+    let name = Name::read(name.as_bytes()).expect(rt, "a name");
+    assert!(rt; !tree.is_part(parent));
+    assert!(rt; tree.child(parent, &name).is_none());
+    assert!(rt; !tree.is_full(parent));
+    tree.push(parent, name).expect(rt, "memory").number()
+}
+
+// The library, a project, an assembly in it, and two parts.
+fn small_tree<A: Allocator + Copy>(rt: &impl Abort, alloc: A) -> Tree<A> {
+    let mut tree = Tree::new(alloc).expect(rt, "memory");
+    make(rt, &mut tree, 0, "e");
+    make(rt, &mut tree, 1, "b");
+    make(rt, &mut tree, 2, "p1");
+    make(rt, &mut tree, 2, "p2");
+    tree
+}
+
+fn are_there<A: Allocator>(tree: &Tree<A>, items: &[Item]) -> bool
+    ensures { IsTrue result ↔ AreThere tree.now items.now }
+{
+    let count = tree.len();
+    items
+        .iter()
+        .all(|item| (item.place.number() as usize) < count)
+}
+
+fn items_of<A: Allocator>(rt: &impl Abort, tree: &Tree<A>, wanted: &[Item]) -> Items
+    ensures { AreThere tree.now result }
+{
+    let mut items = Items::new();
+    for item in wanted {
+        assert!(rt; items.len() < 8);
+        items.push(*item);
+    }
+    assert!(rt; are_there(tree, items.as_slice()));
+    items
+}
+
+fn new_line<A: Allocator + Copy>(rt: &impl Abort, alloc: A) -> Line<A>
+    ensures { (tree : List Place) → IsGrownFrom result.tree tree }
+{
+    Line::new(alloc).expect(rt, "memory")
+}
+
+fn check_out<A: Allocator>(
+    rt: &impl Abort,
+    line: &mut Line<A>,
+    tree: &Tree<A>,
+    wanted: &[Item],
+) -> Result<Standing, NoMemory>
+    requires { IsGrownFrom line.old.tree tree.now }
+    ensures { IsGrownFrom line.new.tree tree.now }
+{
+    let owner = Name::read(b"anna").expect(rt, "a name");
+    let items = items_of(rt, tree, wanted);
+    assert!(rt; line.len() < 256);
+    assert!(rt; line.last_long() < 1000);
+    line.ask_long(tree, owner, items)
+}
+
+fn hold<A: Allocator>(
+    rt: &impl Abort,
+    line: &mut Line<A>,
+    tree: &Tree<A>,
+    session: u32,
+    wanted: &[Item],
+) -> Result<Standing, NoMemory>
+    requires { IsGrownFrom line.old.tree tree.now }
+    ensures { IsGrownFrom line.new.tree tree.now }
+{
+    let items = items_of(rt, tree, wanted);
+    assert!(rt; line.len() < 256);
+    assert!(rt; line.last_short() < 1000);
+    line.ask_short(tree, session, items)
+}
+
+fn extend<A: Allocator>(
+    rt: &impl Abort,
+    line: &mut Line<A>,
+    tree: &Tree<A>,
+    id: ClaimId,
+    wanted: &[Item],
+) -> Result<Extension, NoMemory>
+    requires { IsGrownFrom line.old.tree tree.now }
+    ensures { IsGrownFrom line.new.tree tree.now }
+{
+    let items = items_of(rt, tree, wanted);
+    tree.parent(PlaceId(0));
+    assert!(rt; matches!(line.standing(id), Some(Standing::Held)));
+    line.extend(tree, id, items)
+}
+
+#[test]
+fn line_of_long_and_short_claims(rt: HostRuntime) {
+    let tree = small_tree(&rt, rt.alloc());
+    let mut line = new_line(&rt, rt.alloc());
+    let told = hold(&rt, &mut line, &tree, 2, &[look(3)]);
+    assert_eq!(rt; told, Ok(Standing::Held));
+    let told = check_out(&rt, &mut line, &tree, &[change(3)]);
+    assert_eq!(rt; told, Ok(Standing::Queued(H1)));
+    line.drop_claim(H1);
+    assert_eq!(rt; line.standing(C1), Some(Standing::Held));
+    let told = hold(&rt, &mut line, &tree, 2, &[look(3)]);
+    assert_eq!(rt; told, Ok(Standing::Queued(C1)));
+    assert_eq!(rt; line.last_short(), 2);
+    line.drop_session(2);
+    assert!(rt; line.get(ClaimId::Short(2)).is_none());
+    assert_eq!(rt; line.len(), 1);
+    assert_eq!(rt; line.last_long(), 1);
+}
+
+#[test]
+fn short_claims_end_with_the_life(rt: HostRuntime) {
+    let tree = small_tree(&rt, rt.alloc());
+    let mut line = new_line(&rt, rt.alloc());
+    let told = hold(&rt, &mut line, &tree, 2, &[change(2)]);
+    assert_eq!(rt; told, Ok(Standing::Held));
+    let told = check_out(&rt, &mut line, &tree, &[look(3)]);
+    assert_eq!(rt; told, Ok(Standing::Queued(H1)));
+    line.restart();
+    assert_eq!(rt; line.standing(C1), Some(Standing::Held));
+    assert_eq!(rt; line.standing(H1), None);
+    assert_eq!(rt; line.last_short(), 0);
+}
+
+#[test]
+fn extensions_of_held_claims(rt: HostRuntime) {
+    let tree = small_tree(&rt, rt.alloc());
+    let mut line = new_line(&rt, rt.alloc());
+    let told = check_out(&rt, &mut line, &tree, &[look(3)]);
+    assert_eq!(rt; told, Ok(Standing::Held));
+    let told = check_out(&rt, &mut line, &tree, &[look(3)]);
+    assert_eq!(rt; told, Ok(Standing::Held));
+    let answer = extend(&rt, &mut line, &tree, C1, &[look(3), change(3)]);
+    assert_eq!(rt; answer, Ok(Extension::InTheWay(C2)));
+    assert_eq!(rt; line.standing(C1), Some(Standing::Held));
+    assert_eq!(rt; line.standing(C2), Some(Standing::Held));
+    let told = check_out(&rt, &mut line, &tree, &[change(2)]);
+    assert_eq!(rt; told, Ok(Standing::Queued(C1)));
+    let answer = extend(&rt, &mut line, &tree, C2, &[look(3), change(4)]);
+    assert_eq!(rt; answer, Ok(Extension::Done));
+    assert_eq!(rt; line.standing(C3), Some(Standing::Queued(C2)));
+    let first = line.at(0).expect(&rt, "a claim");
+    assert_eq!(rt; first.id, C2);
+    assert_eq!(rt; first.items.len(), 2);
+}
+
+fn covered<A: Allocator>(
+    rt: &impl Abort,
+    line: &Line<A>,
+    tree: &Tree<A>,
+    place: u32,
+) -> Option<ClaimId>
+    requires { IsGrownFrom line.now.tree tree.now }
+{
+    assert!(rt; (place as usize) < tree.len());
+    line.covers(tree, PlaceId(place))
+}
+
+#[test]
+fn held_claims_cover_places(rt: HostRuntime) {
+    let tree = small_tree(&rt, rt.alloc());
+    let mut line = new_line(&rt, rt.alloc());
+    let told = check_out(&rt, &mut line, &tree, &[look(1)]);
+    assert_eq!(rt; told, Ok(Standing::Held));
+    assert_eq!(rt; covered(&rt, &line, &tree, 2), Some(C1));
+    assert_eq!(rt; covered(&rt, &line, &tree, 0), None);
+}
+
+#[test]
+fn a_new_line_is_refused_its_memory(rt: HostRuntime) {
+    let memory = Refusing::new(rt.alloc());
+    memory.refuse(1);
+    assert!(rt; Line::new(&memory).is_err());
+    assert!(rt; !memory.is_waiting());
+    let line = new_line(&rt, &memory);
+    assert_eq!(rt; line.len(), 0);
+}
+
+#[test]
+fn each_request_of_memory_of_a_new_claim_is_refused(rt: HostRuntime) {
+    let memory = Refusing::new(rt.alloc());
+    let tree = small_tree(&rt, &memory);
+    let mut refused = (0, 0);
+    for number in 1..5u32 {
+        let mut line = new_line(&rt, &memory);
+        memory.refuse(u64::from(number));
+        if check_out(&rt, &mut line, &tree, &[look(1)]).is_err() {
+            assert!(rt; !memory.is_waiting());
+            assert_eq!(rt; line.len(), 0);
+            assert_eq!(rt; line.last_long(), 0);
+            assert_eq!(rt; line.standing(C1), None);
+            refused.0 = number;
+        }
+        memory.refuse(0);
+        let mut line = new_line(&rt, &memory);
+        memory.refuse(u64::from(number));
+        if hold(&rt, &mut line, &tree, 1, &[look(1)]).is_err() {
+            assert!(rt; !memory.is_waiting());
+            assert_eq!(rt; line.last_short(), 0);
+            assert_eq!(rt; line.standing(H1), None);
+            refused.1 = number;
+        }
+        memory.refuse(0);
+        let told = hold(&rt, &mut line, &tree, 1, &[look(1)]);
+        assert_eq!(rt; told, Ok(Standing::Held));
+    }
+    assert_eq!(rt;
+        refused,
+        (2, 2),
+        "one request for the claim, one for its modes"
+    );
+}
+
+#[test]
+fn each_request_of_memory_of_an_extension_is_refused(rt: HostRuntime) {
+    let memory = Refusing::new(rt.alloc());
+    let tree = small_tree(&rt, &memory);
+    let mut refused = 0;
+    for number in 1..5u32 {
+        let mut line = new_line(&rt, &memory);
+        let first = check_out(&rt, &mut line, &tree, &[look(1)]);
+        let second = check_out(&rt, &mut line, &tree, &[look(1)]);
+        let third = check_out(&rt, &mut line, &tree, &[look(1)]);
+        let fourth = check_out(&rt, &mut line, &tree, &[look(1)]);
+        assert_eq!(rt; (first, second), (third, fourth));
+        memory.refuse(u64::from(number));
+        if extend(&rt, &mut line, &tree, C2, &[look(2)]).is_err() {
+            assert!(rt; !memory.is_waiting());
+            assert_eq!(rt; line.at(0).expect(&rt, "a claim").id, C1);
+            refused = number;
+        }
+        memory.refuse(0);
+        let answer = extend(&rt, &mut line, &tree, C2, &[look(2)]);
+        assert_eq!(rt; answer, Ok(Extension::Done));
+        assert_eq!(rt; line.at(0).expect(&rt, "a claim").id, C2);
+    }
+    assert_eq!(rt; refused, 2, "one request for the claim, one for its modes");
+}
