@@ -12,7 +12,7 @@ fn shows(alloc: Global, device: &mut MemDevice, expected: &[u8]) -> Result<bool,
     Ok(bytes.as_slice() == expected)
 }
 
-// Whether the first of a commit's four steps and a crash, if any, leave these bytes. Before them stands a settled 0.
+/// Whether the first of a commit's four steps and a crash, if any, leave these bytes. Before them stands a settled 0.
 pub fn leaves(
     alloc: Global,
     steps: u8,
