@@ -1,4 +1,3 @@
-pub mod Booleans
 pub mod JoinedAt
 pub mod Climb
 pub mod ItemTables
