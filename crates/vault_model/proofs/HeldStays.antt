@@ -1,6 +1,6 @@
 -- A claim that is held and still stands after a step is held there.
-use Rattle.std.specs.Prelude.{◌≡◌, ◌≤◌, ◌||◌, ◌&&◌, Bool, true, false, not, List, [], ◌∷◌, ◌++◌, length, Option, None, Some, is_some, find, All, refl}
-use Rattle.std.proofs.Common.{sym, subst, ap, ◌∙◌, cond}
+use Rattle.std.specs.Prelude.{◌≡◌, ◌≤◌, ◌||◌, ◌&&◌, Bool, true, false, not, List, [], ◌∷◌, ◌++◌, length, Option, None, Some, is_some, find, All, ◌⊎◌, refl}
+use Rattle.std.proofs.Common.{sym, subst, ap, ◌∙◌, cond, inl, inr}
 use Rattle.std.specs.List.{list_any}
 use Rattle.std.specs.Option.{option_map}
 use Rattle.std.proofs.lemmas.List.Elements.{All-head, All-tail, All-take, All-weaker}
@@ -10,18 +10,21 @@ use Rattle.vault_model.specs.declared.claims.Claim.{Claim}
 use Rattle.vault_model.specs.declared.claims.Standing.{Standing}
 use Rattle.vault_model.specs.declared.claims.Standing.TheVariants.{Held}
 use Rattle.vault_model.specs.declared.ids.ClaimId.{ClaimId}
+use Rattle.vault_model.specs.declared.ids.ClaimId.TheVariants.{Long}
 use Rattle.vault_model.specs.Tree.{is_under}
-use Rattle.vault_model.specs.Claims.{is_change, same_id, overlap, standing_by, standing_behind, claim_of, before, without, standing_of}
+use Rattle.vault_model.specs.Claims.{is_change, is_short, same_id, overlap, standing_by, standing_behind, claim_of, before, standing_of}
 use Rattle.vault_model.specs.Vault.{Vault, AreThere, IsClaim, IsVault}
 use Rattle.vault_model.specs.Step.{step}
-use Rattle.vault_model.specs.Laws.{HeldStays}
+use Rattle.vault_model.specs.Laws.{HeldStays, HeldIsDurable, HeldAreApart}
 use Rattle.vault_model.specs.Pairs.{pair_meets, pairs_meet}
 use Rattle.vault_model.proofs.Overlaps.{overlap-pairs}
 use Rattle.vault_model.proofs.Walks.{Rises}
 use Rattle.vault_model.proofs.Growth.{is_under-push, Rises-push}
 use Rattle.vault_model.proofs.Kept.{AreThere-push}
-use Rattle.vault_model.proofs.Stays.{standing_of-push, held_without, same_id_is, claim_there}
-use Rattle.vault_model.proofs.Moves.{Moves, stays, grows, asks, loses, step_moves}
+use Rattle.vault_model.proofs.Stays.{stood, take_while-cons, standing_of-push, find-filter, held_none, held_kept, kept_there, same_id_is, claim_there}
+use Rattle.vault_model.proofs.Fronts.{none_passes, held_front}
+use Rattle.vault_model.proofs.Meetings.{symmetric}
+use Rattle.vault_model.proofs.Moves.{Moves, stays, grows, asks, loses, fronts, step_moves}
 
 -- tests that agree on what each member is
 any_same : {X : Type 0} (P : X → Type 0) (p q : X → Bool) (xs : List X) → All P xs → ((x : X) → P x → p x ≡ q x) → list_any p xs ≡ list_any q xs
@@ -65,14 +68,6 @@ module _ (tree : List Place) (x : Place) (rises : Rises tree) (parent : x.parent
           (find_same (λ (d : Claim). AreThere tree d.items) (λ d. overlap bigger c.items d.items) (λ d. overlap tree c.items d.items) (before line id)
           (All-take (λ (d : Claim). AreThere tree d.items) _ line there) (λ d hd. overlap_grown c.items d.items (h c refl) hd))
 
-none_gone : (line : List Claim) (id : ClaimId) → claim_of (without line id) id ≡ None
-none_gone [] id = refl
-none_gone (c ∷ line) id = by_test (same_id c.id id) refl (none_gone line id)
-  where
-    by_test : (b : Bool) → same_id c.id id ≡ b → claim_of (without line id) id ≡ None → claim_of (cond (not b) (c ∷ without line id) (without line id)) id ≡ None
-    by_test true g ih = ih
-    by_test false g ih = rw g ih
-
 standing_some : (o : Option Claim) (f : Claim → Standing) → option_map f o ≡ Some Held → is_some o ≡ true
 standing_some None f e = cc
 standing_some (Some c) f e = refl
@@ -80,18 +75,56 @@ standing_some (Some c) f e = refl
 by_move : (v w : Vault) (id : ClaimId) → IsVault v → standing_of v.tree v.line id ≡ Some Held → is_some (claim_of w.line id) ≡ true → Moves v w → standing_of w.tree w.line id ≡ Some Held
 by_move v w id kept held stands (stays tree line) = rw (tree, line) held
 by_move v w id kept held stands (grows x parent tree line) =
-    rw (tree, line) (standing_of-grown v.tree x kept.tree.parents parent v.line id (All-weaker (IsClaim v.tree v.last_long) (λ (c : Claim). AreThere v.tree c.items) (λ c h. h.there) v.line kept.claims) ∙ held)
+    rw (tree, line) (standing_of-grown v.tree x kept.tree.parents parent v.line id (All-weaker (IsClaim v.tree v.sessions v.last_long v.last_short) (λ (c : Claim). AreThere v.tree c.items) (λ c h. h.there) v.line kept.claims) ∙ held)
 by_move v w id kept held stands (asks c tree line) =
     rw (tree, line) (standing_of-push v.tree v.line c id (standing_some (claim_of v.line id) _ held) ∙ held)
-by_move v w id kept held stands (loses gone tree line) = rw (tree, line) (by_test (same_id id gone) refl)
-  where
-    by_test : (b : Bool) → same_id id gone ≡ b → standing_of v.tree (without v.line gone) id ≡ Some Held
-    by_test true g =
-        let is : id ≡ gone = same_id_is id gone g in
-        let none : claim_of (without v.line gone) id ≡ None = subst (λ y. claim_of (without v.line y) id ≡ None) is (none_gone v.line id) in
-        let some : is_some (claim_of (without v.line gone) id) ≡ true = subst (λ (line : List Claim). is_some (claim_of line id) ≡ true) line stands in
-        absurd (let false_is : false ≡ true = ap is_some (sym none) ∙ some in cc)
-    by_test false g = held_without v.tree v.line id gone g held
+by_move v w id kept held stands (loses keep tree line) =
+    rw (tree, line) (held_kept keep v.tree v.line id kept.apart (subst (λ (claims : List Claim). is_some (claim_of claims id) ≡ true) line stands) held)
+by_move v w id kept held stands (fronts first items claim found free tree line) = rw (tree, line) (held_front v.tree v.line first items kept.apart (rw found refl) free id held)
 
 pub held_stays : HeldStays
 held_stays v n command id kept held stands = by_move v (step v n command).vault id kept held stands (step_moves v n command)
+
+-- a long claim that is held is held in the durable vault
+pub held_is_durable : HeldIsDurable
+held_is_durable v n kept held =
+    held_kept (λ (c : Claim). not (is_short c.id)) v.tree v.line (Long n) kept.apart (kept_there (λ (c : Claim). not (is_short c.id)) v.line (Long n) (λ c own. rw own refl) (standing_some (claim_of v.line (Long n)) _ held)) held
+
+-- of two claims of a line one stands before the other
+ahead : (line : List Claim) (a b : ClaimId) (c d : Claim) → same_id a b ≡ false → claim_of line a ≡ Some c → claim_of line b ≡ Some d → (claim_of (before line b) a ≡ Some c) ⊎ (claim_of (before line a) b ≡ Some d)
+ahead [] a b c d apart first second = cc
+ahead (x ∷ line) a b c d apart first second =
+    rw (take_while-cons (λ (e : Claim). not (same_id e.id b)) x line, take_while-cons (λ (e : Claim). not (same_id e.id a)) x line)
+    (by_tests (same_id x.id a) refl (same_id x.id b) refl first second (ahead line a b c d apart))
+  where
+    by_tests : (s : Bool) → same_id x.id a ≡ s → (t : Bool) → same_id x.id b ≡ t → cond s (Some x) (claim_of line a) ≡ Some c → cond t (Some x) (claim_of line b) ≡ Some d
+        → (claim_of line a ≡ Some c → claim_of line b ≡ Some d → (claim_of (before line b) a ≡ Some c) ⊎ (claim_of (before line a) b ≡ Some d))
+        → (claim_of (cond (not t) (x ∷ before line b) []) a ≡ Some c) ⊎ (claim_of (cond (not s) (x ∷ before line a) []) b ≡ Some d)
+    by_tests true g true h j k ih =
+        let one : x.id ≡ a = same_id_is x.id a g in
+        let clash : same_id a b ≡ true = subst (λ y. same_id y b ≡ true) one h in
+        let no : true ≡ false = sym clash ∙ apart in
+        cc
+    by_tests true g false h j k ih = inl (rw g j)
+    by_tests false g true h j k ih = inr (rw h k)
+    by_tests false g false h j k ih = by_side (ih j k)
+      where
+        by_side : (claim_of (before line b) a ≡ Some c) ⊎ (claim_of (before line a) b ≡ Some d) → (claim_of (x ∷ before line b) a ≡ Some c) ⊎ (claim_of (x ∷ before line a) b ≡ Some d)
+        by_side (inl e) = inl (rw g e)
+        by_side (inr e) = inr (rw h e)
+
+-- a held claim overlaps none that stands before it
+clear_before : (tree : List Place) (line : List Claim) (a b : ClaimId) (c d : Claim) → claim_of line b ≡ Some d → standing_of tree line b ≡ Some Held → claim_of (before line b) a ≡ Some c → overlap tree d.items c.items ≡ false
+clear_before tree line a b c d found held there =
+    let behind : stood tree (before line b) (Some d) ≡ Some Held = subst (λ o. stood tree (before line b) o ≡ Some Held) found held in
+    let is : standing_behind tree (before line b) d.items ≡ Held = cc in
+    let none = held_none (find (λ e. overlap tree d.items e.items) (before line b)) is in
+    none_passes (λ e. overlap tree d.items e.items) (λ _. true) (before line b) a c (find-filter (λ e. overlap tree d.items e.items) (λ _. true) (before line b) none) there refl
+
+-- two held claims don't overlap
+pub held_are_apart : HeldAreApart
+held_are_apart tree line a b c d apart first second held other = by_side (ahead line a b c d apart first second)
+  where
+    by_side : (claim_of (before line b) a ≡ Some c) ⊎ (claim_of (before line a) b ≡ Some d) → overlap tree c.items d.items ≡ false
+    by_side (inl e) = symmetric tree c.items d.items ∙ clear_before tree line a b c d second other e
+    by_side (inr e) = clear_before tree line b a d c first held e

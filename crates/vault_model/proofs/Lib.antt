@@ -5,6 +5,7 @@ pub mod Paths
 pub mod Growth
 pub mod Overlaps
 pub mod Stays
+pub mod Fronts
 pub mod Kept
 pub mod Moves
 pub mod HeldStays
@@ -13,3 +14,6 @@ pub mod Meetings
 pub mod Rows
 pub mod Joined
 pub mod PathTexts
+pub mod Durable
+pub mod Shelves
+pub mod Counts

@@ -1,36 +1,56 @@
 -- The conversations that were worked out by hand, computed.
 use Rattle.std.specs.Prelude.{refl}
 use Rattle.vault_model.specs.Claims.{overlap}
-use Rattle.vault_model.specs.Step.{step, decide, chained, join, make, check_out, abandon, state}
-use Rattle.vault_model.specs.Rows.{replies_of, Rows, TwoDesigners, Siblings, LookAndChange, LineMovesUp, CoveredParent, Refusals, ClaimRefusals}
+use Rattle.vault_model.specs.Step.{step, decide, chained, join, make, permitted, usable, check_out, extend, abandon, hold, release, state, list}
+use Rattle.vault_model.specs.Rows.{replies_of, Rows, TwoDesigners, Siblings, LookAndChange, LineMovesUp, CoveredParent, Refusals, ClaimRefusals, RefusedExtension, GrantedExtension, MadeUnderAClaim, HoldsAndLeaving, ExtensionRefusals}
 
 two_designers : TwoDesigners
-unfolding replies_of step decide chained join make check_out overlap
+unfolding replies_of step decide chained join make permitted check_out overlap
 two_designers = refl
 
 siblings : Siblings
-unfolding replies_of step decide chained join make check_out overlap
+unfolding replies_of step decide chained join make permitted check_out overlap
 siblings = refl
 
 look_and_change : LookAndChange
-unfolding replies_of step decide chained join make check_out overlap
+unfolding replies_of step decide chained join make permitted check_out overlap
 look_and_change = refl
 
 line_moves_up : LineMovesUp
-unfolding replies_of step decide chained join make check_out abandon state overlap
+unfolding replies_of step decide chained join make permitted check_out abandon state overlap
 line_moves_up = refl
 
 covered_parent : CoveredParent
-unfolding replies_of step decide chained join make check_out overlap
+unfolding replies_of step decide chained join make permitted check_out overlap
 covered_parent = refl
 
 refusals : Refusals
-unfolding replies_of step decide chained join make overlap
+unfolding replies_of step decide chained join make permitted overlap
 refusals = refl
 
 claim_refusals : ClaimRefusals
-unfolding replies_of step decide chained join make check_out abandon state overlap
+unfolding replies_of step decide chained join make permitted check_out abandon state overlap
 claim_refusals = refl
+
+refused_extension : RefusedExtension
+unfolding replies_of step decide chained join make permitted usable check_out extend state overlap
+refused_extension = refl
+
+granted_extension : GrantedExtension
+unfolding replies_of step decide chained join make permitted usable check_out extend state overlap
+granted_extension = refl
+
+made_under_a_claim : MadeUnderAClaim
+unfolding replies_of step decide chained join make permitted usable check_out extend list overlap
+made_under_a_claim = refl
+
+holds_and_leaving : HoldsAndLeaving
+unfolding replies_of step decide chained join make permitted check_out hold release state overlap
+holds_and_leaving = refl
+
+extension_refusals : ExtensionRefusals
+unfolding replies_of step decide chained join make permitted usable check_out extend hold release list overlap
+extension_refusals = refl
 
 pub rows : Rows
 rows = record {
@@ -41,4 +61,9 @@ rows = record {
   covered_parent = covered_parent;
   refusals = refusals;
   claim_refusals = claim_refusals;
+  refused_extension = refused_extension;
+  granted_extension = granted_extension;
+  made_under_a_claim = made_under_a_claim;
+  holds_and_leaving = holds_and_leaving;
+  extension_refusals = extension_refusals;
 }

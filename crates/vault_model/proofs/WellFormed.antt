@@ -1,9 +1,9 @@
 -- A well-formed vault stays well formed under each step.
-use Rattle.std.specs.Prelude.{◌≡◌, ℕ, ◌+◌, ◌<◌, ◌≤◌, ◌==◌, ◌||◌, nat_le, nat_lt, Bool, true, false, List, [], ◌∷◌, length, Option, None, Some, is_some, Result, Ok, Err, refl}
-use Rattle.std.proofs.Common.{cond, ap, arith}
+use Rattle.std.specs.Prelude.{◌≡◌, ℕ, ◌+◌, ◌<◌, ◌≤◌, ◌==◌, ◌||◌, nat_le, nat_lt, Bool, true, false, List, [], ◌∷◌, ◌++◌, length, Option, None, Some, is_some, Result, Ok, Err, refl}
+use Rattle.std.proofs.Common.{cond, arith, length-append}
 use Rattle.std.specs.Option.{ok_or, IfSome, option_map, option_and_then}
 use Rattle.std.proofs.lemmas.Bool.Decides.{nat_tests}
-use Rattle.std.proofs.lemmas.List.Elements.{All-nil, All-cons}
+use Rattle.std.proofs.lemmas.List.Elements.{All-nil, All-cons, All-append}
 use Rattle.vault_model.specs.Limits.{deepest, most_items, most_claims, most_sessions, last_number}
 use Rattle.vault_model.specs.Path.{front}
 use Rattle.vault_model.specs.Tree.{find_place, is_part, depth}
@@ -13,30 +13,22 @@ use Rattle.vault_model.specs.declared.place.Place.{Place}
 use Rattle.vault_model.specs.declared.claims.Item.{Item}
 use Rattle.vault_model.specs.declared.claims.PathItem.{PathItem}
 use Rattle.vault_model.specs.declared.ids.ClaimId.{ClaimId}
-use Rattle.vault_model.specs.declared.ids.ClaimId.TheVariants.{Long}
+use Rattle.vault_model.specs.declared.ids.ClaimId.TheVariants.{Long, Short}
 use Rattle.vault_model.specs.declared.session.Session.{Session}
 use Rattle.vault_model.specs.declared.replies.Refusal.{Refusal}
-use Rattle.vault_model.specs.declared.replies.Refusal.TheVariants.{NoSession, Joined}
-use Rattle.vault_model.specs.Vault.{Vault, AreThere, IsVault, session_of, counted, counted_in}
-use Rattle.vault_model.specs.Step.{Outcome, ◌>>=◌, refuse_if, placed, join, make, check_out, abandon, state, at_door, in_session, decide, told, step}
+use Rattle.vault_model.specs.declared.replies.Refusal.TheVariants.{NoSession, Joined, NoPlace, ItemCount, Limit}
+use Rattle.vault_model.specs.Vault.{Vault, AreThere, IsClaim, IsVault, session_of, counted, counted_in}
+use Rattle.vault_model.specs.Step.{Outcome, ◌>>=◌, refuse_if, placed, join, make, check_out, extend, abandon, hold, release, state, list, at_door, in_session, decide, told, step}
 use Rattle.vault_model.proofs.Growth.{IsTree-push, find_place_there}
-use Rattle.vault_model.proofs.Kept.{kept_made, kept_without, kept_asked, kept_joined, kept_counted, length-placed}
-use Rattle.vault_model.proofs.Moves.{by_bind, by_bind_is, found_at}
+use Rattle.vault_model.proofs.Kept.{kept_made, kept_without, kept_asked_long, kept_asked_short, kept_first, kept_gone, kept_joined, kept_counted, length-placed, session_stands}
+use Rattle.vault_model.proofs.Stays.{claim_there}
+use Rattle.vault_model.proofs.Moves.{by_bind, by_bind_is, found_at, passed, got, usable_is}
 
--- a test that did not refuse
-pub passed : (b : Bool) (e : Refusal) (u : Unit {0}) → refuse_if b e ≡ Ok u → b ≡ false
-passed true e u h = cc
-passed false e u h = refl
-
-pub got : {X : Type 0} (o : Option X) (e : Refusal) (x : X) → ok_or o e ≡ Ok x → o ≡ Some x
-got None e x h = cc
-got (Some y) e x h = let same : y ≡ x = cc in ap Some same
-
-neither : (a b : Bool) → (a || b) ≡ false → (a ≡ false) × (b ≡ false)
+pub neither : (a b : Bool) → (a || b) ≡ false → (a ≡ false) × (b ≡ false)
 neither true b e = cc
 neither false b e = (refl, e)
 
-absent : (o : Option ℕ) → is_some o ≡ false → o ≡ None
+pub absent : (o : Option ℕ) → is_some o ≡ false → o ≡ None
 absent None e = refl
 absent (Some x) e = cc
 
@@ -55,15 +47,7 @@ placed_there tree (w ∷ wanted) items e = by_place (find_place tree w.path) (fi
         rw (← same) (All-cons (λ (item : Item). item.place ≤ length tree) (record { intent = w.intent; place = place }) others there (ih others k))
 
 kept_door : (v : Vault) → IsVault v → IsVault (record v { door_count = v.door_count + 1 })
-kept_door v kept = record {
-  tree = kept.tree;
-  few_claims = kept.few_claims;
-  claims = kept.claims;
-  apart = kept.apart;
-  few_sessions = kept.few_sessions;
-  numbers = kept.numbers;
-  distinct = kept.distinct;
-}
+kept_door v kept = record { tree = kept.tree; few_claims = kept.few_claims; claims = kept.claims; apart = kept.apart; sessions = kept.sessions }
 
 kept_told : (n : ℕ) (v : Vault) → IsVault v → IsVault (counted n v)
 kept_told n v kept = by_door (n == 0)
@@ -89,9 +73,9 @@ module _ (v : Vault) (n : ℕ) (kept : IsVault v) where
       kept_told n _ (kept_joined v kept _ refl few))
       refused
 
-  make_keeps : (path : List (List ℕ)) → Keeps (make v path)
+  make_keeps : (session : Session) (path : List (List ℕ)) (claim : Option ℕ) → Keeps (make v session path claim)
   unfolding make
-  make_keeps path =
+  make_keeps session path claim =
       by_bind Keeps _ _
       (λ name. by_bind_is Keeps _ _
       (λ parent found. by_bind_is Keeps _ _
@@ -110,6 +94,18 @@ module _ (v : Vault) (n : ℕ) (kept : IsVault v) where
       refused)
       refused
 
+  -- what is asked for is not nothing, and not too much
+  pub asked_few : (wanted : List PathItem) (items : List Item) (u : Unit {0}) → refuse_if ((length wanted == 0) || nat_lt most_items (length wanted)) ItemCount ≡ Ok u → ok_or (placed v.tree wanted) NoPlace ≡ Ok items
+      → (0 < length items) × (length items ≤ most_items) × AreThere v.tree items
+  asked_few wanted items u number found =
+      let counts = neither (length wanted == 0) (nat_lt most_items (length wanted)) (passed _ _ u number) in
+      let is = got (placed v.tree wanted) _ items found in
+      let same = length-placed v.tree wanted items is in
+      (grind (arith, nat_tests, counts.0, same), grind (arith, nat_tests, counts.1, same), placed_there v.tree wanted items is)
+
+  pub line_room : (spent : Bool) (u : Unit {0}) → refuse_if (nat_le most_claims (length v.line) || spent) Limit ≡ Ok u → length v.line < most_claims
+  line_room spent u room = let free = neither (nat_le most_claims (length v.line)) spent (passed _ _ u room) in grind (arith, nat_tests, free.0)
+
   check_out_keeps : (name : List ℕ) (wanted : List PathItem) → Keeps (check_out v name wanted)
   unfolding check_out
   check_out_keeps name wanted =
@@ -117,17 +113,55 @@ module _ (v : Vault) (n : ℕ) (kept : IsVault v) where
       (λ u number. by_bind_is Keeps _ _
       (λ items found. by_bind_is Keeps _ _
       (λ w room.
-      let counts = neither (length wanted == 0) (nat_lt most_items (length wanted)) (passed _ _ u number) in
-      let free = neither (nat_le most_claims (length v.line)) (v.last_long == last_number) (passed _ _ w room) in
-      let is = got (placed v.tree wanted) _ items found in
-      let same = length-placed v.tree wanted items is in
-      let some : 0 < length items = grind (arith, nat_tests, counts.0, same) in
-      let few : length items ≤ most_items = grind (arith, nat_tests, counts.1, same) in
-      let line : length v.line < most_claims = grind (arith, nat_tests, free.0) in
-      kept_told n _ (kept_asked v kept _ refl tt line some few (placed_there v.tree wanted items is)))
+      let asked = asked_few wanted items u number found in
+      kept_told n _ (kept_asked_long v kept name items (line_room (v.last_long == last_number) w room) asked.0 asked.1 asked.2))
       refused)
       refused)
       refused
+
+  hold_keeps : (session : Session) → is_some (session_of v.sessions session.number) ≡ true → (wanted : List PathItem) → Keeps (hold v session wanted)
+  unfolding hold
+  hold_keeps session stands wanted =
+      by_bind_is Keeps _ _
+      (λ u number. by_bind_is Keeps _ _
+      (λ items found. by_bind_is Keeps _ _
+      (λ w room.
+      let asked = asked_few wanted items u number found in
+      kept_told n _ (kept_asked_short v kept session.number items stands (line_room (v.last_short == last_number) w room) asked.0 asked.1 asked.2))
+      refused)
+      refused)
+      refused
+
+  extend_keeps : (session : Session) (id : ClaimId) (wanted : List PathItem) → Keeps (extend v session id wanted)
+  unfolding extend
+  extend_keeps session id wanted =
+      by_bind_is Keeps _ _
+      (λ claim may. by_bind_is Keeps _ _
+      (λ u number. by_bind_is Keeps _ _
+      (λ items found. by_bind Keeps _ _
+      (λ _.
+      let there = (usable_is v session id claim may).0 in
+      let own = claim_there (IsClaim v.tree v.sessions v.last_long v.last_short) v.line id kept.claims claim there in
+      let counts = neither (length wanted == 0) (nat_lt most_items (length claim.items + length wanted)) (passed _ _ u number) in
+      let is = got (placed v.tree wanted) _ items found in
+      let same = length-placed v.tree wanted items is in
+      let longer = length-append claim.items items in
+      let before = own.some in
+      let some : 0 < length (claim.items ++ items) = omega arith in
+      let few : length (claim.items ++ items) ≤ most_items = grind (arith, nat_tests, counts.1, same, longer) in
+      kept_told n _ (kept_first v kept id claim (claim.items ++ items) there some few (All-append (λ (item : Item). item.place ≤ length v.tree) claim.items items own.there (placed_there v.tree wanted items is))))
+      refused)
+      refused)
+      refused)
+      refused
+
+  release_keeps : (session : Session) (number : ℕ) → Keeps (release v session number)
+  unfolding release
+  release_keeps session number = by_bind Keeps _ _ (λ _. by_bind Keeps _ _ (λ _. kept_told n _ (kept_without v kept (Short number))) refused) refused
+
+  list_keeps : (path : List (List ℕ)) → Keeps (list v path)
+  unfolding list
+  list_keeps path = by_bind Keeps _ _ (λ _. kept_told n v kept) refused
 
   abandon_keeps : (name : List ℕ) (number : ℕ) → Keeps (abandon v name number)
   unfolding abandon
@@ -137,19 +171,29 @@ module _ (v : Vault) (n : ℕ) (kept : IsVault v) where
   unfolding state
   state_keeps id = by_bind Keeps _ _ (λ _. kept_told n v kept) refused
 
-  session_keeps : (session : Session) (command : Command) → Keeps (in_session v session command)
-  session_keeps session (commands.Join name) = refused Joined
-  session_keeps session (commands.Make path) = make_keeps path
-  session_keeps session (commands.CheckOut items) = check_out_keeps session.name items
-  session_keeps session (commands.Abandon number) = abandon_keeps session.name number
-  session_keeps session (commands.State id) = state_keeps id
+  session_keeps : (session : Session) → is_some (session_of v.sessions session.number) ≡ true → (command : Command) → Keeps (in_session v session command)
+  session_keeps session stands (commands.Join name) = refused Joined
+  session_keeps session stands (commands.Make path claim) = make_keeps session path claim
+  session_keeps session stands (commands.CheckOut items) = check_out_keeps session.name items
+  session_keeps session stands (commands.Extend id items) = extend_keeps session id items
+  session_keeps session stands (commands.Abandon number) = abandon_keeps session.name number
+  session_keeps session stands (commands.Hold items) = hold_keeps session stands items
+  session_keeps session stands (commands.Release number) = release_keeps session number
+  session_keeps session stands (commands.State id) = state_keeps id
+  session_keeps session stands (commands.List path) = list_keeps path
+  session_keeps session stands commands.Leave = kept_told n _ (kept_gone v kept session.number)
 
   door_keeps : (command : Command) → Keeps (at_door v command)
   door_keeps (commands.Join name) = join_keeps name
-  door_keeps (commands.Make path) = refused NoSession
+  door_keeps (commands.Make path claim) = refused NoSession
   door_keeps (commands.CheckOut items) = refused NoSession
+  door_keeps (commands.Extend id items) = refused NoSession
   door_keeps (commands.Abandon number) = refused NoSession
+  door_keeps (commands.Hold items) = refused NoSession
+  door_keeps (commands.Release number) = refused NoSession
   door_keeps (commands.State id) = refused NoSession
+  door_keeps (commands.List path) = refused NoSession
+  door_keeps commands.Leave = refused NoSession
 
   decide_keeps : (command : Command) → Keeps (decide v n command)
   unfolding decide
@@ -157,7 +201,7 @@ module _ (v : Vault) (n : ℕ) (kept : IsVault v) where
     where
       by_door : (b : Bool) → Keeps (cond b (at_door v command) (ok_or (session_of v.sessions n) NoSession >>= λ session. in_session v session command))
       by_door true = door_keeps command
-      by_door false = by_bind Keeps _ _ (λ session. session_keeps session command) refused
+      by_door false = by_bind_is Keeps _ _ (λ session found. session_keeps session (session_stands v.sessions n session (got (session_of v.sessions n) NoSession session found)) command) refused
 
 pub step_keeps : (v : Vault) (n : ℕ) (command : Command) → IsVault v → IsVault (step v n command).vault
 unfolding step

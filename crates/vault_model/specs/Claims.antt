@@ -1,7 +1,7 @@
 -- Claims, the sets of places that they cover, and the line. This project's own; intents and queues by arrival follow Gray, Lorie, Putzolu and Traiger (1976).
-use Rattle.std.specs.Prelude.{ℕ, zero, suc, Bool, true, false, not, ◌||◌, ◌&&◌, ◌==◌, List, length, filter, take_while, Option, None, Some, find}
+use Rattle.std.specs.Prelude.{ℕ, zero, suc, Bool, true, false, not, ◌||◌, ◌&&◌, ◌==◌, List, ◌∷◌, length, filter, take_while, Option, None, Some, find}
 use Rattle.std.specs.List.{list_any}
-use Rattle.std.specs.Option.{option_map, is_none}
+use Rattle.std.specs.Option.{option_map, option_map_or, is_none}
 use Rattle.vault_model.specs.declared.place.Place.{Place}
 use Rattle.vault_model.specs.declared.ids.Intent.{Intent}
 use Rattle.vault_model.specs.declared.ids.Intent.TheVariants.{Look, Change}
@@ -9,6 +9,8 @@ use Rattle.vault_model.specs.declared.ids.ClaimId.{ClaimId}
 use Rattle.vault_model.specs.declared.ids.ClaimId.TheVariants.{Long, Short}
 use Rattle.vault_model.specs.declared.claims.Item.{Item}
 use Rattle.vault_model.specs.declared.claims.Claim.{Claim}
+use Rattle.vault_model.specs.declared.claims.Owner.{Owner}
+use Rattle.vault_model.specs.declared.claims.Owner.TheVariants as owners
 use Rattle.vault_model.specs.declared.claims.Standing.{Standing}
 use Rattle.vault_model.specs.declared.claims.Standing.TheVariants.{Held, Queued}
 use Rattle.vault_model.specs.Tree.{is_under}
@@ -83,3 +85,28 @@ is_held tree line c = is_none (blocker tree (before line c.id) c.items)
 -- the first held claim of the line whose look set has the place
 abbrev pub covering : List Place → List Claim → ℕ → Option ClaimId
 covering tree line p = option_map (λ c. c.id) (find (λ c. is_held tree line c && look_set tree c.items p) line)
+
+-- the first held claim of the line, another one than this, that the items overlap
+abbrev pub in_way_of : List Place → List Claim → ClaimId → List Item → Option ClaimId
+in_way_of tree line id items = blocker tree (filter (λ (c : Claim). not (same_id c.id id) && is_held tree line c) line) items
+
+-- the line with these items for a claim, which now stands first
+abbrev pub put_first : List Claim → ClaimId → List Item → List Claim
+put_first line id items = option_map_or (λ (c : Claim). record c { items = items } ∷ without line id) (claim_of line id) line
+
+-- whether a claim is owned by this session
+abbrev pub is_session : ℕ → Owner → Bool
+is_session session (owners.Designer name) = false
+is_session session (owners.Session number) = number == session
+
+-- whether a claim is a short one
+abbrev pub is_short : ClaimId → Bool
+is_short (Long n) = false
+is_short (Short n) = true
+
+-- the line without the claims of a session, and without the short ones
+abbrev pub without_session : ℕ → List Claim → List Claim
+without_session session line = filter (λ (c : Claim). not (is_session session c.owner)) line
+
+abbrev pub without_short : List Claim → List Claim
+without_short line = filter (λ (c : Claim). not (is_short c.id)) line

@@ -1,14 +1,17 @@
 -- Laws of the definitions: what they say in the subject's own words.
-use Rattle.std.specs.Prelude.{◌≡◌, ℕ, ◌≤◌, ◌↔◌, ◌⊎◌, true, List, Some, is_some, length}
+use Rattle.std.specs.Prelude.{◌≡◌, ℕ, ◌+◌, ◌≤◌, ◌↔◌, ◌⊎◌, true, List, Some, is_some, length, false}
 use Rattle.vault_model.specs.declared.place.Place.{Place}
 use Rattle.vault_model.specs.declared.claims.Item.{Item}
 use Rattle.vault_model.specs.declared.claims.Standing.TheVariants.{Held}
 use Rattle.vault_model.specs.declared.ids.ClaimId.{ClaimId}
+use Rattle.vault_model.specs.declared.ids.ClaimId.TheVariants.{Long}
+use Rattle.vault_model.specs.declared.claims.Claim.{Claim}
 use Rattle.vault_model.specs.Path.{IsPath, path_text, path_in}
 use Rattle.vault_model.specs.Tree.{IsTree, parent_of, is_under}
-use Rattle.vault_model.specs.Claims.{look_set, change_set, overlap, claim_of, standing_of}
-use Rattle.vault_model.specs.Vault.{Vault, IsVault, new_vault}
-use Rattle.vault_model.specs.Said.{Command}
+use Rattle.vault_model.specs.Claims.{same_id, look_set, change_set, overlap, claim_of, standing_of}
+use Rattle.vault_model.specs.Vault.{Vault, IsVault, CountsBelow, new_vault, durable}
+use Rattle.vault_model.specs.Said.{Command, Effect}
+use Rattle.vault_model.specs.After.{after, IsDurable, IsDurableChange}
 use Rattle.vault_model.specs.Step.{step}
 
 -- a text is read as a path exactly where it is the path's spelling
@@ -30,11 +33,33 @@ OverlapIsAMeeting = (tree : List Place) (c d : List Item)
 abbrev pub OverlapIsSymmetric : Type 0
 OverlapIsSymmetric = (tree : List Place) (c d : List Item) → overlap tree c d ≡ overlap tree d c
 
--- the new vault is well formed, and a well-formed vault stays so under each step
+-- the new vault is well formed, and a well-formed vault stays so under each step and at a restart
 abbrev pub WellFormedStays : Type 0
-WellFormedStays = IsVault new_vault × ((v : Vault) (n : ℕ) (command : Command) → IsVault v → IsVault (step v n command).vault)
+WellFormedStays = IsVault new_vault × ((v : Vault) (n : ℕ) (command : Command) → IsVault v → IsVault (step v n command).vault) × ((v : Vault) → IsVault v → IsVault (durable v))
+
+-- a step raises each command count by at most one
+abbrev pub CountsRise : Type 0
+CountsRise = (bound : ℕ) (v : Vault) (n : ℕ) (command : Command) → CountsBelow bound v → CountsBelow (bound + 1) (step v n command).vault
 
 -- a claim that is held, and still stands after a step, is held there
 abbrev pub HeldStays : Type 0
 HeldStays = (v : Vault) (n : ℕ) (command : Command) (id : ClaimId) → IsVault v → standing_of v.tree v.line id ≡ Some Held
     → is_some (claim_of (step v n command).vault.line id) ≡ true → standing_of (step v n command).vault.tree (step v n command).vault.line id ≡ Some Held
+
+-- a long claim that is held is held in the durable vault
+abbrev pub HeldIsDurable : Type 0
+HeldIsDurable = (v : Vault) (n : ℕ) → IsVault v → standing_of v.tree v.line (Long n) ≡ Some Held → standing_of (durable v).tree (durable v).line (Long n) ≡ Some Held
+
+-- two held claims don't overlap
+abbrev pub HeldAreApart : Type 0
+HeldAreApart = (tree : List Place) (line : List Claim) (a b : ClaimId) (c d : Claim) → same_id a b ≡ false → claim_of line a ≡ Some c → claim_of line b ≡ Some d
+    → standing_of tree line a ≡ Some Held → standing_of tree line b ≡ Some Held → overlap tree c.items d.items ≡ false
+
+-- where a step has an effect, it is applicable to the durable vault before, and gives the durable vault after; where it has
+-- none, the durable vault stays
+abbrev pub EffectIsTheDurableChange : Type 0
+EffectIsTheDurableChange = (v : Vault) (n : ℕ) (command : Command) → IsVault v → IsDurableChange v (step v n command).effect (step v n command).vault
+
+-- a well-formed durable vault stays well formed and durable under each effect that is applicable
+abbrev pub DurableStays : Type 0
+DurableStays = (w next : Vault) (effect : Effect) → IsVault w → after w effect ≡ Some next → IsVault next × (IsDurable w → IsDurable next)

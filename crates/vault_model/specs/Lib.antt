@@ -7,7 +7,9 @@ pub mod Tree
 pub mod Claims
 pub mod Vault
 pub mod Said
+pub mod Shelf
 pub mod Step
 pub mod Pairs
 pub mod Laws
 pub mod Rows
+pub mod After

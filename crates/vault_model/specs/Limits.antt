@@ -32,3 +32,19 @@ most_sessions = 64
 -- the last number that a session or a claim may get
 abbrev pub last_number : ℕ
 last_number = 4294967295
+
+-- the most bytes of a content
+abbrev pub longest_content : ℕ
+longest_content = 1024
+
+-- the most versions of a part
+abbrev pub most_versions : ℕ
+most_versions = 65535
+
+-- the most that all contents weigh together
+abbrev pub most_weight : ℕ
+most_weight = 16777216
+
+-- what a content weighs beside its bytes
+abbrev pub extra_weight : ℕ
+extra_weight = 8

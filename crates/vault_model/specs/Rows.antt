@@ -1,9 +1,9 @@
 -- Conversations worked out by hand, which the definitions have to give.
-use Rattle.std.specs.Prelude.{◌≡◌, ℕ, List, [], ◌∷◌, ◌++◌, codes, replicate}
+use Rattle.std.specs.Prelude.{◌≡◌, ℕ, List, [], ◌∷◌, ◌++◌, None, Some, codes, replicate}
 use Rattle.vault_model.specs.Said.{Command, Reply}
-use Rattle.vault_model.specs.declared.commands.Command.TheVariants.{Join, Make, CheckOut, Abandon, State}
-use Rattle.vault_model.specs.declared.replies.Reply.TheVariants.{Session, Place, Held, Queued, Abandoned, Refused}
-use Rattle.vault_model.specs.declared.replies.Refusal.TheVariants.{NoSession, Joined, NoPlace, Exists, WrongKind, Covered, NoClaim, NotYours, ItemCount}
+use Rattle.vault_model.specs.declared.commands.Command.TheVariants.{Join, Make, CheckOut, Extend, Abandon, Hold, Release, State, List as Names, Leave}
+use Rattle.vault_model.specs.declared.replies.Reply.TheVariants.{Session, Place, Held, Queued, Abandoned, Released, Children, Left, Refused}
+use Rattle.vault_model.specs.declared.replies.Refusal.TheVariants.{NoSession, Joined, NoPlace, Exists, WrongKind, Covered, NoClaim, NotYours, NotHeld, Overlaps, NotCovered, ItemCount}
 use Rattle.vault_model.specs.declared.claims.PathItem.{PathItem}
 use Rattle.vault_model.specs.declared.ids.ClaimId.TheVariants.{Long, Short}
 use Rattle.vault_model.specs.declared.ids.Intent.TheVariants.{Look, Change}
@@ -49,7 +49,7 @@ change path = record { intent = Change; path = path }
 
 -- anna and ben join, and anna makes the places
 abbrev pub start : List (ℕ × Command)
-start = (0, Join anna) ∷ (0, Join ben) ∷ (1, Make path_e) ∷ (1, Make path_b) ∷ (1, Make path_p1) ∷ (1, Make path_p2) ∷ []
+start = (0, Join anna) ∷ (0, Join ben) ∷ (1, Make path_e None) ∷ (1, Make path_b None) ∷ (1, Make path_p1 None) ∷ (1, Make path_p2 None) ∷ []
 
 -- what the start is told
 abbrev pub start_replies : List Reply
@@ -62,7 +62,7 @@ Told commands replies = replies_of new_vault (start ++ commands) ≡ start_repli
 -- one who looks is queued behind one who changes
 abbrev pub TwoDesigners : Type 0
 TwoDesigners =
-    replies_of new_vault ((0, Join anna) ∷ (0, Join ben) ∷ (1, Make path_e) ∷ (1, CheckOut (change path_e ∷ [])) ∷ (2, CheckOut (look path_e ∷ [])) ∷ [])
+    replies_of new_vault ((0, Join anna) ∷ (0, Join ben) ∷ (1, Make path_e None) ∷ (1, CheckOut (change path_e ∷ [])) ∷ (2, CheckOut (look path_e ∷ [])) ∷ [])
     ≡ Session 1 ∷ Session 2 ∷ Place 1 ∷ Held (Long 1) ∷ Queued (Long 2) (Long 1) ∷ []
 
 -- siblings don't overlap
@@ -84,23 +84,65 @@ LineMovesUp =
 -- no place is made under a place that a held claim covers
 abbrev pub CoveredParent : Type 0
 CoveredParent =
-    Told ((1, CheckOut (look path_e ∷ [])) ∷ (2, Make (codes "e" ∷ codes "c" ∷ [])) ∷ (2, Make (codes "f" ∷ [])) ∷ [])
+    Told ((1, CheckOut (look path_e ∷ [])) ∷ (2, Make (codes "e" ∷ codes "c" ∷ []) None) ∷ (2, Make (codes "f" ∷ []) None) ∷ [])
     (Held (Long 1) ∷ Refused (Covered (Long 1)) ∷ Place 5 ∷ [])
 
 -- each refusal but the limits, where two apply the first
 abbrev pub Refusals : Type 0
 Refusals =
-    Told ((0, Make []) ∷ (7, Join anna) ∷ (1, Join ben) ∷ (1, Make []) ∷ (1, Make (codes "x" ∷ codes "y" ∷ [])) ∷ (1, Make (path_p1 ++ codes "q" ∷ [])) ∷ (1, Make path_p1) ∷ [])
+    Told ((0, Make [] None) ∷ (7, Join anna) ∷ (1, Join ben) ∷ (1, Make [] None) ∷ (1, Make (codes "x" ∷ codes "y" ∷ []) None) ∷ (1, Make (path_p1 ++ codes "q" ∷ []) None) ∷ (1, Make path_p1 None) ∷ [])
     (Refused NoSession ∷ Refused NoSession ∷ Refused Joined ∷ Refused Exists ∷ Refused NoPlace ∷ Refused WrongKind ∷ Refused Exists ∷ [])
 
 -- each refusal of check-outs and claims but the limits
 abbrev pub ClaimRefusals : Type 0
 ClaimRefusals =
     Told
-    ((1, CheckOut []) ∷ (1, CheckOut (replicate 9 (look (codes "x" ∷ [])))) ∷ (1, CheckOut (look (codes "x" ∷ []) ∷ [])) ∷ (1, CheckOut (change path_b ∷ [])) ∷ (2, Make path_p1)
-    ∷ (2, Make (codes "e" ∷ codes "b" ∷ codes "p3" ∷ [])) ∷ (2, Abandon 1) ∷ (2, Abandon 2) ∷ (2, State (Long 2)) ∷ (2, State (Short 1)) ∷ (2, State (Long 1)) ∷ [])
+    ((1, CheckOut []) ∷ (1, CheckOut (replicate 9 (look (codes "x" ∷ [])))) ∷ (1, CheckOut (look (codes "x" ∷ []) ∷ [])) ∷ (1, CheckOut (change path_b ∷ [])) ∷ (2, Make path_p1 None)
+    ∷ (2, Make (codes "e" ∷ codes "b" ∷ codes "p3" ∷ []) None) ∷ (2, Abandon 1) ∷ (2, Abandon 2) ∷ (2, State (Long 2)) ∷ (2, State (Short 1)) ∷ (2, State (Long 1)) ∷ [])
     (Refused ItemCount ∷ Refused ItemCount ∷ Refused NoPlace ∷ Held (Long 1) ∷ Refused Exists ∷ Refused (Covered (Long 1)) ∷ Refused NotYours ∷ Refused NoClaim ∷ Refused NoClaim ∷ Refused NoClaim
     ∷ Held (Long 1) ∷ [])
+
+-- an extension is refused by the first held claim in its way, and nothing moves
+abbrev pub RefusedExtension : Type 0
+RefusedExtension =
+    Told ((1, CheckOut (look path_p1 ∷ [])) ∷ (2, CheckOut (look path_p1 ∷ [])) ∷ (1, Extend (Long 1) (change path_p1 ∷ [])) ∷ (1, State (Long 1)) ∷ (2, State (Long 2)) ∷ [])
+    (Held (Long 1) ∷ Held (Long 2) ∷ Refused (Overlaps (Long 2)) ∷ Held (Long 1) ∷ Held (Long 2) ∷ [])
+
+-- one that is granted goes to the front, past those who wait
+abbrev pub GrantedExtension : Type 0
+GrantedExtension =
+    Told ((2, CheckOut (look path_p1 ∷ [])) ∷ (1, CheckOut (look path_p2 ∷ [])) ∷ (2, CheckOut (change path_b ∷ [])) ∷ (1, Extend (Long 2) (change path_p2 ∷ [])) ∷ (2, State (Long 3)) ∷ [])
+    (Held (Long 1) ∷ Held (Long 2) ∷ Queued (Long 3) (Long 1) ∷ Held (Long 2) ∷ Queued (Long 3) (Long 2) ∷ [])
+
+-- a place in an assembly
+abbrev pub path_p : ℕ → List (List ℕ)
+path_p digit = codes "e" ∷ codes "b" ∷ (112 ∷ digit ∷ []) ∷ []
+
+-- a place is made under a covered parent only in the name of a check-out that changes it
+abbrev pub MadeUnderAClaim : Type 0
+MadeUnderAClaim =
+    Told
+    ((1, CheckOut (look path_e ∷ [])) ∷ (2, Make (path_p 57) None) ∷ (1, Make (path_p 57) (Some 1)) ∷ (1, Extend (Long 1) (change path_b ∷ [])) ∷ (1, Make (path_p 57) (Some 1)) ∷ (2, Make (path_p 56) None)
+    ∷ (2, Make (codes "f" ∷ []) None) ∷ (1, Names path_b) ∷ [])
+    (Held (Long 1) ∷ Refused (Covered (Long 1)) ∷ Refused NotCovered ∷ Held (Long 1) ∷ Place 5 ∷ Refused (Covered (Long 1)) ∷ Place 6 ∷ Children (codes "p1" ∷ codes "p2" ∷ codes "p9" ∷ []) ∷ [])
+
+-- a check-out waits behind a hold, a hold behind a check-out, and a hold goes with its session
+abbrev pub HoldsAndLeaving : Type 0
+HoldsAndLeaving =
+    Told
+    ((2, Hold (look path_p1 ∷ [])) ∷ (1, CheckOut (change path_p1 ∷ [])) ∷ (1, Release 1) ∷ (2, Release 1) ∷ (1, State (Long 1)) ∷ (2, Hold (look path_p1 ∷ [])) ∷ (2, Leave) ∷ (1, State (Short 2))
+    ∷ (2, Names []) ∷ [])
+    (Held (Short 1) ∷ Queued (Long 1) (Short 1) ∷ Refused NotYours ∷ Released ∷ Held (Long 1) ∷ Queued (Short 2) (Long 1) ∷ Left ∷ Refused NoClaim ∷ Refused NoSession ∷ [])
+
+-- each refusal of extensions and holds but the limits
+abbrev pub ExtensionRefusals : Type 0
+ExtensionRefusals =
+    Told
+    ((1, CheckOut (change path_b ∷ [])) ∷ (2, CheckOut (change path_p1 ∷ [])) ∷ (2, Extend (Long 9) []) ∷ (2, Extend (Long 1) []) ∷ (2, Extend (Long 2) []) ∷ (1, Extend (Long 1) []) ∷ (1, Extend (Long 1) (replicate 8 (look path_e)))
+    ∷ (1, Extend (Long 1) (look (codes "x" ∷ []) ∷ [])) ∷ (2, Make (path_p 57) (Some 9)) ∷ (2, Make (path_p 57) (Some 1)) ∷ (2, Make (path_p 57) (Some 2)) ∷ (2, Hold []) ∷ (2, Hold (look (codes "x" ∷ []) ∷ [])) ∷ (2, Release 1)
+    ∷ (2, Names (codes "x" ∷ [])) ∷ [])
+    (Held (Long 1) ∷ Queued (Long 2) (Long 1) ∷ Refused NoClaim ∷ Refused NotYours ∷ Refused NotHeld ∷ Refused ItemCount ∷ Refused ItemCount ∷ Refused NoPlace ∷ Refused NoClaim ∷ Refused NotYours ∷ Refused NotHeld
+    ∷ Refused ItemCount ∷ Refused NoPlace ∷ Refused NoClaim ∷ Refused NoPlace ∷ [])
 
 -- all of them
 pub record Rows : Type 0 where
@@ -111,3 +153,8 @@ pub record Rows : Type 0 where
   pub covered_parent : CoveredParent
   pub refusals : Refusals
   pub claim_refusals : ClaimRefusals
+  pub refused_extension : RefusedExtension
+  pub granted_extension : GrantedExtension
+  pub made_under_a_claim : MadeUnderAClaim
+  pub holds_and_leaving : HoldsAndLeaving
+  pub extension_refusals : ExtensionRefusals

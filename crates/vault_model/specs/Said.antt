@@ -11,7 +11,7 @@ Command = CommandOver (List PathItem)
 
 -- a reply
 abbrev pub Reply : Type 0
-Reply = ReplyOver
+Reply = ReplyOver (List (List ℕ))
 
 -- an effect
 abbrev pub Effect : Type 0

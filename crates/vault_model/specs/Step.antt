@@ -1,28 +1,29 @@
 -- What each command does: its refusals in order, the first that applies, and else its reply, change and effect.
 -- This project's own.
-use Rattle.std.specs.Prelude.{ℕ, ◌+◌, Bool, true, false, not, ◌||◌, ◌==◌, nat_le, nat_lt, if◌then◌else◌, List, [], ◌∷◌, ◌++◌, length, Option, None, Some, is_some, Result, Ok, Err}
+use Rattle.std.specs.Prelude.{ℕ, ◌+◌, Bool, true, false, not, ◌||◌, ◌==◌, nat_le, nat_lt, if◌then◌else◌, List, [], ◌∷◌, ◌++◌, length, filter, Option, None, Some, is_some, Result, Ok, Err}
 use Rattle.std.specs.Option.{option_map, option_and_then, ok_or}
 use Rattle.vault_model.specs.Said.{Command, Reply, Effect}
 use Rattle.vault_model.specs.declared.commands.Command.TheVariants as commands
 use Rattle.vault_model.specs.declared.effects.Effect.TheVariants as effects
 use Rattle.vault_model.specs.declared.replies.Reply.TheVariants as replies
 use Rattle.vault_model.specs.declared.replies.Refusal.{Refusal}
-use Rattle.vault_model.specs.declared.replies.Refusal.TheVariants.{NoSession, Joined, NoPlace, Exists, WrongKind, Covered, NoClaim, NotYours, ItemCount, Limit}
+use Rattle.vault_model.specs.declared.replies.Refusal.TheVariants.{NoSession, Joined, NoPlace, Exists, WrongKind, Covered, NoClaim, NotYours, NotHeld, Overlaps, NotCovered, ItemCount, Limit}
 use Rattle.vault_model.specs.declared.claims.Item.{Item}
+use Rattle.vault_model.specs.declared.claims.Claim.{Claim}
 use Rattle.vault_model.specs.declared.claims.PathItem.{PathItem}
 use Rattle.vault_model.specs.declared.claims.Owner.{Owner}
 use Rattle.vault_model.specs.declared.claims.Owner.TheVariants as owners
 use Rattle.vault_model.specs.declared.claims.Standing.{Standing}
 use Rattle.vault_model.specs.declared.claims.Standing.TheVariants as standings
 use Rattle.vault_model.specs.declared.ids.ClaimId.{ClaimId}
-use Rattle.vault_model.specs.declared.ids.ClaimId.TheVariants.{Long}
+use Rattle.vault_model.specs.declared.ids.ClaimId.TheVariants.{Long, Short}
 use Rattle.vault_model.specs.declared.place.Place.{Place}
 use Rattle.vault_model.specs.declared.session.Session.{Session}
 use Rattle.std.specs.Str.{bytes_eq}
 use Rattle.vault_model.specs.Path.{front, last}
 use Rattle.vault_model.specs.Limits.{most_items, most_claims, most_sessions, last_number}
-use Rattle.vault_model.specs.Tree.{find_place, child, is_part, is_full}
-use Rattle.vault_model.specs.Claims.{claim_of, without, covering, standing_behind, standing_of}
+use Rattle.vault_model.specs.Tree.{find_place, child, names_under, is_part, is_full}
+use Rattle.vault_model.specs.Claims.{claim_of, without, without_session, is_held, is_session, in_way_of, put_first, change_set, covering, standing_behind, standing_of}
 use Rattle.vault_model.specs.Vault.{Vault, session_of, counted}
 
 -- a reply, the vault after it, and what has changed for good
@@ -62,14 +63,38 @@ join v name = do
     effect = None;
   })
 
+-- whether a claim is this designer's
+abbrev pub is_designer : List ℕ → Owner → Bool
+is_designer name (owners.Designer other) = bytes_eq other name
+is_designer name (owners.Session number) = false
+
+-- whether a claim is its designer's, or its own
+abbrev pub is_owned_by : Session → Owner → Bool
+is_owned_by session owner = is_designer session.name owner || is_session session.number owner
+
+-- the held claim of this id, for one who owns it
+unfoldable pub usable : Vault → Session → ClaimId → Result Claim Refusal
+usable v session id = do
+  claim ← ok_or (claim_of v.line id) NoClaim
+  _ ← refuse_if (not (is_owned_by session claim.owner)) NotYours
+  _ ← refuse_if (not (is_held v.tree v.line claim)) NotHeld
+  Ok claim
+
+-- a place may be made under a parent that no held claim looks at, or in the name of a held check-out that changes it
+unfoldable pub permitted : Vault → Session → ℕ → Option ℕ → Result (Unit {0}) Refusal
+permitted v session parent None = refuse_by (covering v.tree v.line parent) Covered
+permitted v session parent (Some number) = do
+  claim ← usable v session (Long number)
+  refuse_if (not (change_set v.tree claim.items parent)) NotCovered
+
 -- make
-unfoldable pub make : Vault → List (List ℕ) → Result Outcome Refusal
-make v path = do
+unfoldable pub make : Vault → Session → List (List ℕ) → Option ℕ → Result Outcome Refusal
+make v session path claim = do
   name ← ok_or (last path) Exists
   parent ← ok_or (find_place v.tree (front path)) NoPlace
   _ ← refuse_if (is_part v.tree parent) WrongKind
   _ ← refuse_if (is_some (child v.tree parent name)) Exists
-  _ ← refuse_by (covering v.tree v.line parent) Covered
+  _ ← permitted v session parent claim
   _ ← refuse_if (is_full v.tree parent) Limit
   Ok (record {
     reply = replies.Place (length v.tree + 1);
@@ -100,10 +125,23 @@ check_out v designer wanted = do
     effect = Some (effects.Asked number designer items);
   })
 
--- whether the claim is this designer's
-abbrev pub is_designer : List ℕ → Owner → Bool
-is_designer name (owners.Designer other) = bytes_eq other name
-is_designer name (owners.Session number) = false
+-- an extension of a long claim is for good, one of a short claim isn't
+abbrev pub extension : ClaimId → List Item → Option Effect
+extension (Long number) items = Some (effects.Extended number items)
+extension (Short number) items = None
+
+-- extend
+unfoldable pub extend : Vault → Session → ClaimId → List PathItem → Result Outcome Refusal
+extend v session id wanted = do
+  claim ← usable v session id
+  _ ← refuse_if ((length wanted == 0) || nat_lt most_items (length claim.items + length wanted)) ItemCount
+  items ← ok_or (placed v.tree wanted) NoPlace
+  _ ← refuse_by (in_way_of v.tree v.line id (claim.items ++ items)) Overlaps
+  Ok (record {
+    reply = replies.Held id;
+    vault = record v { line = put_first v.line id (claim.items ++ items) };
+    effect = extension id items;
+  })
 
 -- abandon
 unfoldable pub abandon : Vault → List ℕ → ℕ → Result Outcome Refusal
@@ -116,6 +154,30 @@ abandon v designer number = do
     effect = Some (effects.Abandoned number);
   })
 
+-- hold
+unfoldable pub hold : Vault → Session → List PathItem → Result Outcome Refusal
+hold v session wanted = do
+  _ ← refuse_if ((length wanted == 0) || nat_lt most_items (length wanted)) ItemCount
+  items ← ok_or (placed v.tree wanted) NoPlace
+  _ ← refuse_if (nat_le most_claims (length v.line) || (v.last_short == last_number)) Limit
+  let number = v.last_short + 1
+  Ok (record {
+    reply = asked (Short number) (standing_behind v.tree v.line items);
+    vault = record v { line = v.line ++ record { id = Short number; owner = owners.Session session.number; items = items } ∷ []; last_short = number };
+    effect = None;
+  })
+
+-- release
+unfoldable pub release : Vault → Session → ℕ → Result Outcome Refusal
+release v session number = do
+  claim ← ok_or (claim_of v.line (Short number)) NoClaim
+  _ ← refuse_if (not (is_owned_by session claim.owner)) NotYours
+  Ok (record {
+    reply = replies.Released;
+    vault = record v { line = without v.line (Short number) };
+    effect = None;
+  })
+
 -- state
 unfoldable pub state : Vault → ClaimId → Result Outcome Refusal
 state v id = do
@@ -126,21 +188,49 @@ state v id = do
     effect = None;
   })
 
+-- list
+unfoldable pub list : Vault → List (List ℕ) → Result Outcome Refusal
+list v path = do
+  place ← ok_or (find_place v.tree path) NoPlace
+  Ok (record {
+    reply = replies.Children (names_under v.tree place);
+    vault = v;
+    effect = None;
+  })
+
+-- quit: the session goes, and its short claims with it
+abbrev pub leave : Vault → Session → Outcome
+leave v session = record {
+  reply = replies.Left;
+  vault = record v { line = without_session session.number v.line; sessions = filter (λ (s : Session). not (s.number == session.number)) v.sessions };
+  effect = None;
+}
+
 -- at the door, session 0, one may only join
 abbrev pub at_door : Vault → Command → Result Outcome Refusal
 at_door v (commands.Join name) = join v name
-at_door v (commands.Make path) = Err NoSession
+at_door v (commands.Make path claim) = Err NoSession
 at_door v (commands.CheckOut items) = Err NoSession
+at_door v (commands.Extend id items) = Err NoSession
 at_door v (commands.Abandon number) = Err NoSession
+at_door v (commands.Hold items) = Err NoSession
+at_door v (commands.Release number) = Err NoSession
 at_door v (commands.State id) = Err NoSession
+at_door v (commands.List path) = Err NoSession
+at_door v commands.Leave = Err NoSession
 
 -- a command of a session that stands
 abbrev pub in_session : Vault → Session → Command → Result Outcome Refusal
 in_session v session (commands.Join name) = Err Joined
-in_session v session (commands.Make path) = make v path
+in_session v session (commands.Make path claim) = make v session path claim
 in_session v session (commands.CheckOut items) = check_out v session.name items
+in_session v session (commands.Extend id items) = extend v session id items
 in_session v session (commands.Abandon number) = abandon v session.name number
+in_session v session (commands.Hold items) = hold v session items
+in_session v session (commands.Release number) = release v session number
 in_session v session (commands.State id) = state v id
+in_session v session (commands.List path) = list v path
+in_session v session commands.Leave = Ok (leave v session)
 
 -- what a command does, before it is counted; a number without a standing session is no session
 unfoldable pub decide : Vault → ℕ → Command → Result Outcome Refusal

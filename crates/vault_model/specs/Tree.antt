@@ -1,6 +1,6 @@
 -- The tree of places. This project's own, after the hierarchies of Gray, Lorie, Putzolu and Traiger (1976). Place 0 is the library; the list has the others, by number from 1 on.
 use Rattle.std.specs.Prelude.{◌≡◌, ℕ, zero, suc, ◌+◌, ◌<◌, ◌≤◌, Bool, false, ◌||◌, ◌&&◌, ◌==◌, nat_le, if◌then◌else◌, List, [], ◌∷◌, length, ◌++◌, Option, None, Some, slice_get, count_by, position, filter}
-use Rattle.std.specs.List.{range_with_len}
+use Rattle.std.specs.List.{range_with_len, filter_map}
 use Rattle.std.specs.Option.{option_map, option_map_or, option_and_then}
 use Rattle.std.specs.Str.{bytes_eq}
 use Rattle.vault_model.specs.declared.place.Place.{Place}
@@ -86,6 +86,10 @@ path_of tree p = path_within p tree p
 abbrev pub name_of : List Place → ℕ → Option (List ℕ)
 name_of tree zero = None
 name_of tree (suc n) = option_map (λ place. place.name) (slice_get tree n)
+
+-- the names of a place's children, by number
+abbrev pub names_under : List Place → ℕ → List (List ℕ)
+names_under tree parent = filter_map (name_of tree) (children_of tree parent)
 
 -- there is no room for one more place under the parent
 abbrev pub is_full : List Place → ℕ → Bool

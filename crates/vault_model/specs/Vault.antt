@@ -1,5 +1,5 @@
 -- The vault as commands see it. This project's own.
-use Rattle.std.specs.Prelude.{◌<◌, ◌≤◌, length, All, nat_eq, ℕ, ◌+◌, ◌==◌, if◌then◌else◌, List, [], map, Option, find}
+use Rattle.std.specs.Prelude.{◌<◌, ◌≤◌, length, All, nat_eq, ℕ, ◌+◌, ◌==◌, if◌then◌else◌, List, [], map, Option, find, true, ◌≡◌, is_some}
 use Rattle.vault_model.specs.declared.place.Place.{Place}
 use Rattle.vault_model.specs.declared.claims.Claim.{Claim}
 use Rattle.vault_model.specs.declared.claims.Item.{Item}
@@ -8,24 +8,25 @@ use Rattle.vault_model.specs.declared.ids.ClaimId.TheVariants.{Long, Short}
 use Rattle.vault_model.specs.declared.session.Session.{Session}
 use Rattle.std.specs.List.{IsDistinct}
 use Rattle.vault_model.specs.Tree.{IsTree}
-use Rattle.vault_model.specs.Claims.{same_id}
+use Rattle.vault_model.specs.Claims.{same_id, without_short}
 use Rattle.vault_model.specs.Limits.{most_items, most_claims, most_sessions}
 use Rattle.vault_model.specs.declared.claims.Owner.{Owner}
 use Rattle.vault_model.specs.declared.claims.Owner.TheVariants as owners
 
--- the tree, the line, the sessions that stand by rising number, the last number given to a session and to a
--- long claim, and how many commands were given at the door, which is session 0
+-- the tree, the line, the sessions that stand by rising number, the last number given to a session, to a long claim and to
+-- a short one, and how many commands were given at the door, which is session 0
 pub record Vault : Type 0 where
   pub tree : List Place
   pub line : List Claim
   pub sessions : List Session
   pub last_session : ℕ
   pub last_long : ℕ
+  pub last_short : ℕ
   pub door_count : ℕ
 
 -- the library alone
 abbrev pub new_vault : Vault
-new_vault = record { tree = []; line = []; sessions = []; last_session = 0; last_long = 0; door_count = 0 }
+new_vault = record { tree = []; line = []; sessions = []; last_session = 0; last_long = 0; last_short = 0; door_count = 0 }
 
 -- the standing session of this number
 abbrev pub session_of : List Session → ℕ → Option Session
@@ -52,32 +53,40 @@ pub record CountsBelow (bound : ℕ) (v : Vault) : Type 0 where
 abbrev pub AreThere : List Place → List Item → Type 0
 AreThere tree items = All (λ (item : Item). item.place ≤ length tree) items
 
--- the number of a long claim is 1 to the last one; there are no short claims yet
-abbrev pub IsGiven : ℕ → ClaimId → Type 0
-IsGiven last (Long n) = (0 < n) × (n ≤ last)
-IsGiven last (Short n) = ⊥
+-- the number of a claim is 1 to the last one of its kind
+abbrev pub IsGiven : ℕ → ℕ → ClaimId → Type 0
+IsGiven last_long last_short (Long n) = (0 < n) × (n ≤ last_long)
+IsGiven last_long last_short (Short n) = (0 < n) × (n ≤ last_short)
 
--- a long claim is a designer's, a short one a session's
-abbrev pub Owns : Owner → ClaimId → Type 0
-Owns (owners.Designer name) (Long n) = Unit {0}
-Owns (owners.Session number) (Short n) = Unit {0}
-Owns (owners.Designer name) (Short n) = ⊥
-Owns (owners.Session number) (Long n) = ⊥
+-- a long claim is a designer's, a short one a session's that stands
+abbrev pub Owns : List Session → Owner → ClaimId → Type 0
+Owns sessions (owners.Designer name) (Long n) = Unit {0}
+Owns sessions (owners.Session number) (Short n) = is_some (session_of sessions number) ≡ true
+Owns sessions (owners.Designer name) (Short n) = ⊥
+Owns sessions (owners.Session number) (Long n) = ⊥
 
--- what every claim of a line keeps
-pub record IsClaim (tree : List Place) (last_long : ℕ) (c : Claim) : Type 0 where
-  pub given : IsGiven last_long c.id
-  pub owned : Owns c.owner c.id
+-- what every claim of a vault keeps
+pub record IsClaim (tree : List Place) (sessions : List Session) (last_long last_short : ℕ) (c : Claim) : Type 0 where
+  pub given : IsGiven last_long last_short c.id
+  pub owned : Owns sessions c.owner c.id
   pub some : 0 < length c.items
   pub few : length c.items ≤ most_items
   pub there : AreThere tree c.items
+
+-- what the sessions that stand keep
+pub record AreSessions (last_session : ℕ) (sessions : List Session) : Type 0 where
+  pub few : length sessions ≤ most_sessions
+  pub numbers : All (λ (s : Session). (0 < s.number) × (s.number ≤ last_session)) sessions
+  pub distinct : IsDistinct nat_eq (map (λ (s : Session). s.number) sessions)
 
 -- What every vault keeps.
 pub record IsVault (v : Vault) : Type 0 where
   pub tree : IsTree v.tree
   pub few_claims : length v.line ≤ most_claims
-  pub claims : All (IsClaim v.tree v.last_long) v.line
+  pub claims : All (IsClaim v.tree v.sessions v.last_long v.last_short) v.line
   pub apart : IsDistinct same_id (map (λ (c : Claim). c.id) v.line)
-  pub few_sessions : length v.sessions ≤ most_sessions
-  pub numbers : All (λ (s : Session). (0 < s.number) × (s.number ≤ v.last_session)) v.sessions
-  pub distinct : IsDistinct nat_eq (map (λ (s : Session). s.number) v.sessions)
+  pub sessions : AreSessions v.last_session v.sessions
+
+-- The durable vault: without sessions and short claims, and with nothing counted. A restart leaves it.
+abbrev pub durable : Vault → Vault
+durable v = record v { line = without_short v.line; sessions = []; last_session = 0; last_short = 0; door_count = 0 }

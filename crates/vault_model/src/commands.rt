@@ -1,21 +1,53 @@
 //! What a session may ask.
-use crate::{ClaimId, Listing, Name, Path, PathItem};
-use std::alloc::Global;
+ghost use Rattle.std.specs.Prelude.{◌≡◌, IfOk};
+
+use crate::{ClaimId, Listing, Name, NoMemory, Path, PathItem};
+use std::alloc::{Allocator, Global};
 
 /// A command of a session, over how its lists of items are kept.
 #[derive(Debug, PartialEq, Eq, Drop)]
 pub enum Command<Wanted = Listing<PathItem, Global>> {
     /// Opens a session in a designer's name.
     Join(Name),
-    /// Makes a place.
-    Make(Path),
+    /// Makes a place, in the name of the long claim of this number, if there is one.
+    Make(Path, Option<u32>),
     /// Asks for a long claim on these items.
     CheckOut(Wanted),
+    /// Asks for more items for a held claim.
+    Extend(ClaimId, Wanted),
     /// Gives up the long claim of this number.
     Abandon(u32),
+    /// Asks for a short claim on these items.
+    Hold(Wanted),
+    /// Gives up the short claim of this number.
+    Release(u32),
     /// Asks how a claim stands.
     State(ClaimId),
+    /// Asks for the names of the places right under a place.
+    List(Path),
+    /// Closes the session.
+    Leave,
 }
 
 /// A command in an allocator's memory.
 pub type CommandIn<A> = Command<Listing<PathItem, A>>;
+
+impl<A: Allocator> CommandIn<A> {
+    /// The same command in memory of this or another kind.
+    pub fn copy<B: Allocator>(&self, alloc: B) -> Result<CommandIn<B>, NoMemory>
+        ensures { IfOk result (λ copy. copy ≡ self.now) }
+    {
+        Ok(match self {
+            Command::Join(name) => Command::Join(*name),
+            Command::Make(path, claim) => Command::Make(*path, *claim),
+            Command::CheckOut(wanted) => Command::CheckOut(wanted.copy(alloc)?),
+            Command::Extend(id, wanted) => Command::Extend(*id, wanted.copy(alloc)?),
+            Command::Abandon(number) => Command::Abandon(*number),
+            Command::Hold(wanted) => Command::Hold(wanted.copy(alloc)?),
+            Command::Release(number) => Command::Release(*number),
+            Command::State(id) => Command::State(*id),
+            Command::List(path) => Command::List(*path),
+            Command::Leave => Command::Leave,
+        })
+    }
+}

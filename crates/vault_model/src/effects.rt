@@ -1,6 +1,8 @@
 //! What a command changes in the durable vault.
-use crate::{Items, Listing, Name, PlaceId};
-use std::alloc::Global;
+ghost use Rattle.std.specs.Prelude.{◌≡◌, IfOk};
+
+use crate::{Items, Listing, Name, NoMemory, PlaceId};
+use std::alloc::{Allocator, Global};
 
 /// The change that a command made, as the journal keeps it, over how its content is kept.
 #[derive(Debug, PartialEq, Eq, Drop)]
@@ -21,3 +23,21 @@ pub enum Effect<Content = Listing<u8, Global>> {
 
 /// An effect in an allocator's memory.
 pub type EffectIn<A> = Effect<Listing<u8, A>>;
+
+impl<A: Allocator> EffectIn<A> {
+    /// The same effect in memory of this or another kind.
+    pub fn copy<B: Allocator>(&self, alloc: B) -> Result<EffectIn<B>, NoMemory>
+        ensures { IfOk result (λ copy. copy ≡ self.now) }
+    {
+        Ok(match self {
+            Effect::Made(parent, name) => Effect::Made(*parent, *name),
+            Effect::Asked(number, designer, items) => Effect::Asked(*number, *designer, *items),
+            Effect::Extended(number, items) => Effect::Extended(*number, *items),
+            Effect::Saved(number, place, content) => {
+                Effect::Saved(*number, *place, content.copy(alloc)?)
+            }
+            Effect::CheckedIn(number) => Effect::CheckedIn(*number),
+            Effect::Abandoned(number) => Effect::Abandoned(*number),
+        })
+    }
+}

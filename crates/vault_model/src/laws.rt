@@ -1,5 +1,5 @@
 //! Laws of the definitions, on which the program's theorems rest.
-ghost use Rattle.vault_model.specs.Laws.{PathIsItsText, UnderIsByParents, OverlapIsAMeeting, OverlapIsSymmetric, WellFormedStays, HeldStays};
+ghost use Rattle.vault_model.specs.Laws.{PathIsItsText, UnderIsByParents, OverlapIsAMeeting, OverlapIsSymmetric, WellFormedStays, CountsRise, HeldStays, HeldIsDurable, HeldAreApart, EffectIsTheDurableChange, DurableStays};
 ghost use Rattle.vault_model.specs.Rows.{Rows};
 
 /// A text is read as a path exactly where it is the path's spelling.
@@ -22,14 +22,39 @@ pub fn overlap_is_symmetric()
     ensures { OverlapIsSymmetric }
 {}
 
-/// A well-formed vault stays well formed under each step.
+/// A well-formed vault stays well formed under each step, and at a restart.
 pub fn well_formed_stays()
     ensures { WellFormedStays }
+{}
+
+/// A step raises each command count by at most one.
+pub fn counts_rise()
+    ensures { CountsRise }
 {}
 
 /// A claim that is held, and still stands after a step, is held there.
 pub fn held_stays()
     ensures { HeldStays }
+{}
+
+/// A long claim that is held is held in the durable vault.
+pub fn held_is_durable()
+    ensures { HeldIsDurable }
+{}
+
+/// Two held claims don't overlap.
+pub fn held_are_apart()
+    ensures { HeldAreApart }
+{}
+
+/// What a step changed for good is its effect, made on the durable vault.
+pub fn effect_is_the_durable_change()
+    ensures { EffectIsTheDurableChange }
+{}
+
+/// A well-formed durable vault stays so under each effect that is applicable.
+pub fn durable_stays()
+    ensures { DurableStays }
 {}
 
 /// The definitions give the conversations that were worked out by hand.

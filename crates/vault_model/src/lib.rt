@@ -3,6 +3,7 @@
 
 mod claims;
 mod commands;
+mod draft;
 mod effects;
 mod ids;
 mod items;
@@ -20,22 +21,30 @@ mod tests;
 
 pub use claims::{Claim, Item, Owner, PathItem, Standing};
 pub use commands::{Command, CommandIn};
+pub use draft::{Draft, DraftIn, Drafts};
 pub use effects::{Effect, EffectIn};
 pub use ids::{ClaimId, Intent, PlaceId};
 pub use items::Items;
 pub use limits::{
-    DEEPEST, LAST_NUMBER, LONGEST_NAME, MOST_CHILDREN, MOST_CLAIMS, MOST_ITEMS, MOST_PLACES,
-    MOST_SESSIONS,
+    DEEPEST, EXTRA_WEIGHT, LAST_NUMBER, LONGEST_CONTENT, LONGEST_NAME, MOST_CHILDREN, MOST_CLAIMS,
+    MOST_ITEMS, MOST_PLACES, MOST_SESSIONS, MOST_VERSIONS, MOST_WEIGHT,
 };
 pub use listing::Listing;
 pub use name::Name;
 pub use path::Path;
 pub use place::{Kind, Place};
-pub use replies::{Outside, Refusal, Reply};
+pub use replies::{Outside, Refusal, Reply, ReplyIn};
 pub use session::Session;
+use std::alloc::AllocError;
 use thiserror::Error;
 
 /// Memory was wanted and refused.
 #[derive(Clone, Copy, Debug, PartialEq, Eq, Error)]
 #[error("want of memory")]
 pub struct NoMemory;
+
+impl From<AllocError> for NoMemory {
+    fn from(_error: AllocError) -> NoMemory {
+        NoMemory
+    }
+}

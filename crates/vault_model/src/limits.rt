@@ -23,3 +23,15 @@ pub const MOST_SESSIONS: usize = 64;
 
 /// The last number that a session or a claim may get.
 pub const LAST_NUMBER: u32 = u32::MAX;
+
+/// The most bytes of a content.
+pub const LONGEST_CONTENT: usize = 1024;
+
+/// The most versions of a part.
+pub const MOST_VERSIONS: usize = 65_535;
+
+/// The most that all contents weigh together.
+pub const MOST_WEIGHT: usize = 16_777_216;
+
+/// What a content weighs beside its bytes.
+pub const EXTRA_WEIGHT: usize = 8;

@@ -1,5 +1,8 @@
 //! What a session is told.
-use crate::ClaimId;
+ghost use Rattle.std.specs.Prelude.{◌≡◌, IfOk};
+
+use crate::{ClaimId, Listing, Name, NoMemory};
+use std::alloc::{Allocator, Global};
 use thiserror::Error;
 
 /// Why a command was refused. Its number is what a reply's line says.
@@ -21,6 +24,12 @@ pub enum Refusal {
     NoClaim,
     #[error("the claim is another designer's")]
     NotYours,
+    #[error("the claim is not held")]
+    NotHeld,
+    #[error("a held claim is in the way")]
+    Overlaps(ClaimId),
+    #[error("the claim does not cover the place for change")]
+    NotCovered,
     #[error("no item, or too many")]
     ItemCount,
     #[error("a limit is reached")]
@@ -36,9 +45,9 @@ pub enum Outside {
     Busy,
 }
 
-/// The reply to a command.
+/// The reply to a command, over how its list of names is kept.
 #[derive(Debug, PartialEq, Eq, Drop)]
-pub enum Reply {
+pub enum Reply<Names = Listing<Name, Global>> {
     /// The session of this number was opened.
     Session(u32),
     /// The place of this number was made.
@@ -49,6 +58,34 @@ pub enum Reply {
     Queued(ClaimId, ClaimId),
     /// The claim was given up.
     Abandoned,
+    /// The short claim was given up.
+    Released,
+    /// The names of the places right under one, by their numbers.
+    Children(Names),
+    /// The session was closed.
+    Left,
     /// The command was refused, and changed nothing.
     Refused(Refusal),
+}
+
+/// A reply in an allocator's memory.
+pub type ReplyIn<A> = Reply<Listing<Name, A>>;
+
+impl<A: Allocator> ReplyIn<A> {
+    /// The same reply in memory of this or another kind.
+    pub fn copy<B: Allocator>(&self, alloc: B) -> Result<ReplyIn<B>, NoMemory>
+        ensures { IfOk result (λ copy. copy ≡ self.now) }
+    {
+        Ok(match self {
+            Reply::Session(number) => Reply::Session(*number),
+            Reply::Place(number) => Reply::Place(*number),
+            Reply::Held(id) => Reply::Held(*id),
+            Reply::Queued(id, behind) => Reply::Queued(*id, *behind),
+            Reply::Abandoned => Reply::Abandoned,
+            Reply::Released => Reply::Released,
+            Reply::Children(names) => Reply::Children(names.copy(alloc)?),
+            Reply::Left => Reply::Left,
+            Reply::Refused(refusal) => Reply::Refused(*refusal),
+        })
+    }
 }

@@ -91,3 +91,68 @@ fn a_copy_is_refused_its_memory(rt: HostRuntime) -> Result<(), Fail> {
     assert!(rt; list.into_vec().as_slice() == b"abc".as_slice());
     Ok(())
 }
+
+#[test]
+fn commands_are_copied(rt: HostRuntime) -> Result<(), Fail> {
+    let item = PathItem {
+        intent: Intent::Change,
+        path: Path::root(),
+    };
+    let asked: Command = Command::CheckOut(Listing::from_vec(Vec::from_slice(
+        rt.alloc(),
+        &[item],
+    )?));
+    let held: Command = Command::Hold(Listing::from_vec(Vec::from_slice(rt.alloc(), &[item])?));
+    let left: Command = Command::Leave;
+    let memory = Refusing::new(rt.alloc());
+    memory.refuse(1);
+    assert!(rt; matches!(&asked.copy(&memory), Err(NoMemory)));
+    assert!(rt; !memory.is_waiting());
+    memory.refuse(2);
+    let copy = asked.copy(&memory)?;
+    assert!(rt; copy.copy(rt.alloc())? == asked && copy.copy(rt.alloc())? != held);
+    memory.refuse(1);
+    let copy = left.copy(&memory)?;
+    assert!(rt; memory.is_waiting());
+    assert!(rt; copy.copy(rt.alloc())? == left);
+    Ok(())
+}
+
+#[test]
+fn replies_are_copied(rt: HostRuntime) -> Result<(), Fail> {
+    let Some(name) = Name::read(b"e") else {
+        assert!(rt; false);
+        return Ok(());
+    };
+    let listed: Reply = Reply::Children(Listing::from_vec(Vec::from_slice(rt.alloc(), &[name])?));
+    let told: Reply = Reply::Refused(Refusal::Overlaps(ClaimId::Short(1)));
+    let memory = Refusing::new(rt.alloc());
+    memory.refuse(1);
+    assert!(rt; matches!(&listed.copy(&memory), Err(NoMemory)));
+    assert!(rt; !memory.is_waiting());
+    let copy = listed.copy(&memory)?;
+    assert!(rt; copy.copy(rt.alloc())? == listed && copy.copy(rt.alloc())? != told);
+    memory.refuse(1);
+    let copy = told.copy(&memory)?;
+    assert!(rt; memory.is_waiting());
+    assert!(rt; copy.copy(rt.alloc())? == told);
+    Ok(())
+}
+
+#[test]
+fn effects_are_copied(rt: HostRuntime) -> Result<(), Fail> {
+    let content = Listing::from_vec(Vec::from_slice(rt.alloc(), b"abc")?);
+    let saved: Effect = Effect::Saved(1, PlaceId(3), content);
+    let closed: Effect = Effect::CheckedIn(1);
+    let memory = Refusing::new(rt.alloc());
+    memory.refuse(1);
+    assert!(rt; matches!(&saved.copy(&memory), Err(NoMemory)));
+    assert!(rt; !memory.is_waiting());
+    let copy = saved.copy(&memory)?;
+    assert!(rt; copy.copy(rt.alloc())? == saved && copy.copy(rt.alloc())? != closed);
+    memory.refuse(1);
+    let copy = closed.copy(&memory)?;
+    assert!(rt; memory.is_waiting());
+    assert!(rt; copy.copy(rt.alloc())? == closed);
+    Ok(())
+}

@@ -1,0 +1,72 @@
+-- What an effect changes in a durable vault, where it may be made there. Claims are not judged again. This project's own.
+use Rattle.std.specs.Prelude.{◌≡◌, ℕ, ◌+◌, Bool, true, false, not, ◌&&◌, ◌==◌, nat_le, nat_lt, List, [], ◌∷◌, ◌++◌, length, Option, None, Some, is_some}
+use Rattle.std.specs.List.{list_all}
+use Rattle.std.specs.Option.{option_and_then}
+use Rattle.vault_model.specs.Said.{Effect}
+use Rattle.vault_model.specs.declared.effects.Effect.TheVariants as effects
+use Rattle.vault_model.specs.declared.place.Place.{Place}
+use Rattle.vault_model.specs.declared.claims.Item.{Item}
+use Rattle.vault_model.specs.declared.claims.Claim.{Claim}
+use Rattle.vault_model.specs.declared.claims.Owner.TheVariants as owners
+use Rattle.vault_model.specs.declared.ids.ClaimId.TheVariants.{Long}
+use Rattle.vault_model.specs.Limits.{most_items, most_claims}
+use Rattle.vault_model.specs.Tree.{child, is_part, is_full}
+use Rattle.vault_model.specs.Claims.{claim_of, without, is_held, put_first}
+use Rattle.vault_model.specs.Vault.{Vault, durable}
+
+-- a vault, where a test holds
+abbrev pub only_if : Bool → Vault → Option Vault
+only_if true w = Some w
+only_if false w = None
+
+-- whether items name places that are there
+abbrev pub are_there : List Place → List Item → Bool
+are_there tree items = list_all (λ (item : Item). nat_le item.place (length tree)) items
+
+-- a place may be made: its parent is there and no part, has no child of the name, and there is room
+abbrev pub may_make : Vault → ℕ → List ℕ → Bool
+may_make w parent name = nat_le parent (length w.tree) && not (is_part w.tree parent) && not (is_some (child w.tree parent name)) && not (is_full w.tree parent)
+
+-- a check-out may be asked for: it has the next number, 1 to the most items at places that are there, and there is room
+abbrev pub may_ask : Vault → ℕ → List Item → Bool
+may_ask w number items = (number == w.last_long + 1) && not (length items == 0) && nat_le (length items) most_items && are_there w.tree items && nat_lt (length w.line) most_claims
+
+-- a claim may be extended: it is held, has no more than the most items with these, and their places are there
+abbrev pub may_extend : Vault → Claim → List Item → Bool
+may_extend w claim items = is_held w.tree w.line claim && nat_le (length claim.items + length items) most_items && are_there w.tree items
+
+unfoldable pub after_made : Vault → ℕ → List ℕ → Option Vault
+after_made w parent name = only_if (may_make w parent name) (record w { tree = w.tree ++ record { parent = parent; name = name } ∷ [] })
+
+unfoldable pub after_asked : Vault → ℕ → List ℕ → List Item → Option Vault
+after_asked w number designer items =
+    only_if (may_ask w number items)
+    (record w { line = w.line ++ record { id = Long number; owner = owners.Designer designer; items = items } ∷ []; last_long = number })
+
+unfoldable pub after_extended : Vault → ℕ → List Item → Option Vault
+after_extended w number items =
+    option_and_then
+    (λ (claim : Claim). only_if (may_extend w claim items) (record w { line = put_first w.line (Long number) (claim.items ++ items) }))
+    (claim_of w.line (Long number))
+
+-- one that stands may be given up
+unfoldable pub after_abandoned : Vault → ℕ → Option Vault
+after_abandoned w number = only_if (is_some (claim_of w.line (Long number))) (record w { line = without w.line (Long number) })
+
+-- The durable vault after an effect, where that is applicable. No command of today saves drafts or checks in.
+unfoldable pub after : Vault → Effect → Option Vault
+after w (effects.Made parent name) = after_made w parent name
+after w (effects.Asked number designer items) = after_asked w number designer items
+after w (effects.Extended number items) = after_extended w number items
+after w (effects.Saved number place content) = None
+after w (effects.CheckedIn number) = None
+after w (effects.Abandoned number) = after_abandoned w number
+
+-- a vault is a durable one: it has no sessions and no short claims, and counts nothing
+abbrev pub IsDurable : Vault → Type 0
+IsDurable w = durable w ≡ w
+
+-- what a step changed for good is its effect, if it has one, and nothing else
+abbrev pub IsDurableChange : Vault → Option Effect → Vault → Type 0
+IsDurableChange v None w = durable w ≡ durable v
+IsDurableChange v (Some effect) w = after (durable v) effect ≡ Some (durable w)
