@@ -149,6 +149,20 @@ fn new_is_refused_each_request_in_turn(rt: HostRuntime) -> Result<(), Fail> {
 }
 
 #[test]
+fn names_stand_under_their_parent(rt: HostRuntime) -> Result<(), Fail> {
+    let memory = Refusing::new(rt.alloc());
+    let tree = small_tree(&memory)?;
+    memory.refuse(1);
+    assert!(rt; tree.names_under(PlaceId(2)).is_err() && !memory.is_waiting());
+    memory.refuse(2);
+    let names = tree.names_under(PlaceId(2))?;
+    assert!(rt; memory.is_waiting());
+    assert!(rt; names.as_slice() == [name(b"p1")?, name(b"p2")?].as_slice());
+    assert!(rt; tree.names_under(PlaceId(4))?.as_slice().is_empty());
+    Ok(())
+}
+
+#[test]
 fn children_are_refused_each_request_in_turn(rt: HostRuntime) -> Result<(), Fail> {
     let memory = Refusing::new(rt.alloc());
     let tree = small_tree(&memory)?;

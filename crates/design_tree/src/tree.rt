@@ -1,16 +1,19 @@
 //! The tree.
 ghost use Rattle.std.specs.Prelude.{◌≡◌, ℕ, ◌+◌, ◌-◌, ◌<◌, ◌≤◌, false, None, List, [], ◌∷◌, ◌++◌, length, IfOk, IfErr, IfSome, OnOk, OnErr, All};
-ghost use Rattle.vault_model.specs.Tree.{parent_of, name_of, path_of, is_under, is_part, kind_of, child, find_below, find_place, children_of, is_full, IsTree};
+ghost use Rattle.vault_model.specs.Tree.{parent_of, name_of, path_of, is_under, is_part, kind_of, child, find_below, find_place, children_of, names_under, is_full, IsTree};
 ghost use Rattle.design_tree.specs.Added.{refusal, refusal_told};
 
 use crate::index::enter;
 use crate::walk::{
-    depth_in, first_named, is_part_in, is_under_in, kind_of_depth, name_in, parent_in, path_in,
+    depth_in, first_named, is_part_in, is_under_in, kind_of_depth, name_in, names_in, parent_in,
+    path_in,
 };
 use std::alloc::{Allocator, Global};
 use std::marker::Model;
 use thiserror::Error;
-use vault_model::{Kind, MOST_CHILDREN, MOST_PLACES, Name, NoMemory, Path, Place, PlaceId};
+use vault_model::{
+    Kind, Listing, MOST_CHILDREN, MOST_PLACES, Name, NoMemory, Path, Place, PlaceId,
+};
 
 /// The places of a vault, which contracts see as the list of them but for the library.
 #[derive(Drop)]
@@ -181,6 +184,16 @@ impl<A: Allocator + Copy> Tree<A> {
     {
         let alloc = *self.places.allocator();
         Vec::from_slice(alloc, self.child_list(parent)).map_err(|_| NoMemory)
+    }
+
+    /// The names of a place's children, by their numbers, in the tree's own allocator.
+    pub fn names_under(&self, parent: PlaceId) -> Result<Listing<Name, A>, NoMemory>
+        requires { parent ≤ length self.now }
+        ensures { IfOk result (λ names. names ≡ names_under self.now parent) }
+    {
+        let alloc = *self.places.allocator();
+        let names = names_in(alloc, &self.places, self.child_list(parent))?;
+        Ok(Listing::from_vec(names))
     }
 
     /// Makes a place where nothing forbids it, which the caller has tested. Room is asked for

@@ -1,10 +1,11 @@
 //! Walks over the places, each under its parent.
-ghost use Rattle.std.specs.Prelude.{◌≡◌, ℕ, ◌+◌, ◌-◌, ◌<◌, ◌≤◌, ◌==◌, List, length, slice_get, IfSome, All};
-ghost use Rattle.std.specs.List.{find};
+ghost use Rattle.std.specs.Prelude.{◌≡◌, ℕ, ◌+◌, ◌-◌, ◌<◌, ◌≤◌, ◌==◌, List, length, slice_get, IfSome, IfOk, All};
+ghost use Rattle.std.specs.List.{find, filter_map};
 ghost use Rattle.vault_model.specs.Tree.{parent_of, name_of, is_under, depth, is_part, kind_of_depth, path_of, IsTree};
 ghost use Rattle.design_tree.specs.Index.{has_name};
 
-use vault_model::{DEEPEST, Kind, Name, Path, Place, PlaceId};
+use std::alloc::Allocator;
+use vault_model::{DEEPEST, Kind, Name, NoMemory, Path, Place, PlaceId};
 
 /// The parent of a place.
 pub fn parent_in(places: &[Place], place: PlaceId) -> Option<PlaceId>
@@ -50,6 +51,25 @@ pub fn first_named(places: &[Place], among: &[PlaceId], name: &Name) -> Option<P
         }
     }
     None
+}
+
+/// The names of some places, in order.
+pub fn names_in<A: Allocator>(
+    alloc: A,
+    places: &[Place],
+    among: &[PlaceId],
+) -> Result<Vec<Name, A>, NoMemory>
+    requires { All (λ p. p ≤ length places.now) among.now }
+    ensures { IfOk result (λ names. names.items ≡ filter_map (name_of places.now) among.now) }
+{
+    let mut names = Vec::new(alloc);
+    names.reserve(among.len()).map_err(|_| NoMemory)?;
+    for place in among {
+        if let Some(name) = name_in(places, *place) {
+            names.push(name).map_err(|_| NoMemory)?;
+        }
+    }
+    Ok(names)
 }
 
 /// Whether a place is another, or lies under it.

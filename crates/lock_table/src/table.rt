@@ -166,6 +166,9 @@ impl<A: Allocator> Table<A> {
         requires held { standing_in self.old id ≡ Some Standing.Held }
         ensures answer { IfOk result (λ extension. extension ≡ extension_by (held_in_way self.old id locks)) }
         ensures extended { OnOk result (self.new ≡ extended_by (held_in_way self.old id locks) self.old id locks) }
+
+        // Memory is wanted only where nothing is in the way.
+        ensures memory { OnErr result (held_in_way self.old id locks ≡ None) }
         ensures unchanged { OnErr result (self.new ≡ self.old) }
     {
         match held_in_way(&self.entries, id, &locks) {
@@ -175,6 +178,18 @@ impl<A: Allocator> Table<A> {
                 Ok(Extension::Done)
             }
         }
+    }
+
+    /// Gives a claim another lock set, in place of its own, and the first place in the line, without
+    /// weighing it: a journal tells of an extension that was granted.
+    pub fn put_first(&mut self, id: ClaimId, locks: LockSet) -> Result<(), NoMemory>
+        requires there { is_some (entry_of self.old id) ≡ true }
+        ensures put { OnOk result (self.new ≡ put_first self.old id locks) }
+        ensures unchanged { OnErr result (self.new ≡ self.old) }
+    {
+        let entries = &mut self.entries;
+        put_first(entries, id, locks)?;
+        Ok(())
     }
 
     /// Takes a claim out of the table. Where it has none of this id, nothing changes.

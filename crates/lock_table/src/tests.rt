@@ -163,6 +163,16 @@ fn extend<A: Allocator>(
     table.extend(id, locks)
 }
 
+fn put_first<A: Allocator>(
+    rt: &impl Abort,
+    table: &mut Table<A>,
+    id: ClaimId,
+    locks: LockSet,
+) -> Result<(), NoMemory> {
+    assert!(rt; table.standing(id).is_some());
+    table.put_first(id, locks)
+}
+
 // The claims of these items, c1, c2, .., asked one after another, with the standing that each is given.
 fn line_of(rt: &impl Abort, alloc: Global, tree: &Tree, claims: &[(&[Item], Standing)]) -> Table {
     let mut table = Table::new(alloc).expect(rt, "memory");
@@ -265,6 +275,33 @@ fn extensions_are_weighed_against_held_claims(rt: HostRuntime) {
     let wanted = locks_of(&rt, &tree, &[change(2), look(1)]);
     let answer = extend(&rt, &mut table, C1, wanted).expect(&rt, "memory");
     assert_eq!(rt; answer, Extension::Done);
+}
+
+#[test]
+fn a_claim_put_first_is_not_weighed(rt: HostRuntime) {
+    let memory = Refusing::new(rt.alloc());
+    let tree = small_tree(&rt, rt.alloc());
+    let held = Standing::Held;
+    let mut table = Table::new(&memory).expect(&rt, "memory");
+    let told = ask(&rt, &mut table, C1, locks_of(&rt, &tree, &[look(3)]));
+    assert_eq!(rt; told, Ok(held));
+    let told = ask(&rt, &mut table, C2, locks_of(&rt, &tree, &[look(3)]));
+    assert_eq!(rt; told, Ok(held));
+    for number in 1..10u64 {
+        memory.refuse(number);
+        let told = put_first(&rt, &mut table, C2, locks_of(&rt, &tree, &[change(3)]));
+        let is_waiting = memory.is_waiting();
+        memory.refuse(0);
+        if told.is_ok() {
+            assert!(rt; is_waiting);
+            break;
+        }
+        assert!(rt; !is_waiting);
+        assert_eq!(rt; table.standing(C1), Some(held));
+        assert_eq!(rt; table.standing(C2), Some(held));
+    }
+    assert_eq!(rt; table.standing(C2), Some(held));
+    assert_eq!(rt; table.standing(C1), Some(Standing::Queued(C2)));
 }
 
 fn over(rt: &impl Abort, tree: &Tree, table: &Table, place: u32) -> Option<ClaimId> {

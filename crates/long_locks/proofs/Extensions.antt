@@ -16,7 +16,7 @@ use Rattle.vault_model.proofs.Stays.{same_id_is, claim_there}
 use Rattle.lock_table.specs.declared.locks.Lock.{Lock}
 use Rattle.lock_table.specs.declared.entry.Entry.{Entry}
 use Rattle.lock_table.specs.declared.entry.Extension.TheVariants.{Done, InTheWay}
-use Rattle.lock_table.specs.Tables.{extension_by, held_in_way, AreLocksOf, IsTableOf}
+use Rattle.lock_table.specs.Tables.{extension_by, held_in_way, entry_of, AreLocksOf, IsTableOf}
 use Rattle.lock_table.specs.Tables as tables
 use Rattle.long_locks.specs.Lines.{LineSeen, IsGrownFrom, IsNumbered, IsLine, put_first, extended_by}
 use Rattle.long_locks.proofs.Zips.{zip_without}
@@ -53,6 +53,17 @@ zip_first tree line table zip id items locks are some = by_claim (claim_of line 
     by_claim : (o : Option Claim) → claim_of line id ≡ o → is_some o ≡ true → IsTableOf tree (option_map_or (λ (c : Claim). record c { items = items } ∷ without line id) o line) (tables.put_first table id locks)
     by_claim None e h = cc
     by_claim (Some c) e h = (record { id = sym (own_id line id c e); locks = are }, zip_without tree line table zip id)
+
+-- a claim of the line has its modes in the table
+pub entry_there : (tree : List Place) (line : List Claim) (table : List Entry) → IsTableOf tree line table → (id : ClaimId) → is_some (claim_of line id) ≡ true → is_some (entry_of table id) ≡ true
+entry_there tree [] [] zip id stands = stands
+entry_there tree [] (e ∷ table) zip id stands = absurd zip
+entry_there tree (c ∷ line) [] zip id stands = absurd zip
+entry_there tree (c ∷ line) (e ∷ table) zip id stands = rw zip.0.id (by_test (same_id c.id id) _ stands (entry_there tree line table zip.1 id))
+  where
+    by_test : (b : Bool) (d : Entry) → is_some (cond b (Some c) (claim_of line id)) ≡ true → (is_some (claim_of line id) ≡ true → is_some (entry_of table id) ≡ true) → is_some (cond b (Some d) (entry_of table id)) ≡ true
+    by_test true d h rest = refl
+    by_test false d h rest = rest h
 
 module _ (P : Claim → Type 0) (line : List Claim) (all : All P line) (id : ClaimId) (items : List Item) (changed : (c : Claim) → P c → P (record c { items = items })) where
   -- what holds of each claim, and of one with other items, holds of each after an extension

@@ -1,3 +1,4 @@
+pub mod Keyed
 pub mod Grown
 pub mod Zips
 pub mod LinesKept

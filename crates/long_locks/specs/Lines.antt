@@ -9,7 +9,7 @@ use Rattle.vault_model.specs.declared.ids.ClaimId.TheVariants.{Long, Short}
 use Rattle.vault_model.specs.declared.claims.Owner.{Owner}
 use Rattle.vault_model.specs.declared.claims.Owner.TheVariants as owners
 use Rattle.vault_model.specs.Tree.{IsTree}
-use Rattle.vault_model.specs.Claims.{same_id, blocker, claim_of, without, is_held}
+pub use Rattle.vault_model.specs.Claims.{is_session, is_short, without_session, without_short, in_way_of, put_first}
 use Rattle.vault_model.specs.Vault.{AreThere}
 use Rattle.lock_table.specs.declared.entry.Entry.{Entry}
 use Rattle.long_locks.specs.declared.ending.Ending.{Ending}
@@ -52,29 +52,12 @@ abbrev pub IsNumbered : ℕ → ℕ → ClaimId → Type 0
 IsNumbered last_long last_short (Long n) = n ≤ last_long
 IsNumbered last_long last_short (Short n) = n ≤ last_short
 
--- whether a claim is owned by this session
-abbrev pub is_session : ℕ → Owner → Bool
-is_session session (owners.Designer name) = false
-is_session session (owners.Session number) = number == session
-
--- whether a claim is a short one
-abbrev pub is_short : ClaimId → Bool
-is_short (Long n) = false
-is_short (Short n) = true
-
 -- what every line keeps, with the table of its modes
 pub record IsLine (l : LineSeen) (table : List Entry) : Type 0 where
   pub tree : IsTree l.tree
   pub there : All (λ (c : Claim). AreThere l.tree c.items) l.claims
   pub numbered : All (λ (c : Claim). IsNumbered l.last_long l.last_short c.id) l.claims
   pub weighed : IsTableOf l.tree l.claims table
-
--- the line without the claims of a session, and without the short ones
-abbrev pub without_session : ℕ → List Claim → List Claim
-without_session session line = filter (λ (c : Claim). not (is_session session c.owner)) line
-
-abbrev pub without_short : List Claim → List Claim
-without_short line = filter (λ (c : Claim). not (is_short c.id)) line
 
 -- which claims end together: those of a session, or all short ones
 abbrev pub ends : Ending → Claim → Bool
@@ -84,14 +67,6 @@ ends AllShort c = is_short c.id
 -- what stays of some claims
 abbrev pub left_by : Ending → List Claim → List Claim
 left_by ending line = filter (λ (c : Claim). not (ends ending c)) line
-
--- the first held claim of the line, another one than this, that the items overlap
-abbrev pub in_way_of : List Place → List Claim → ClaimId → List Item → Option ClaimId
-in_way_of tree line id items = blocker tree (filter (λ (c : Claim). not (same_id c.id id) && is_held tree line c) line) items
-
--- the line with these items for a claim, which now stands first
-abbrev pub put_first : List Claim → ClaimId → List Item → List Claim
-put_first line id items = option_map_or (λ (c : Claim). record c { items = items } ∷ without line id) (claim_of line id) line
 
 -- the line after a claim wished for these items: put first where nothing is in the way; else as it was
 abbrev pub extended_by : Option ClaimId → List Claim → ClaimId → List Item → List Claim

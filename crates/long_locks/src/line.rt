@@ -1,17 +1,18 @@
 //! The line of claims, weighed by their lock modes.
-ghost use Rattle.std.specs.Prelude.{◌≡◌, ℕ, ◌+◌, ◌<◌, ◌≤◌, ◌==◌, not, true, List, [], ◌∷◌, ◌++◌, length, map, slice_get, is_some, None, Some, find, position, vec_len, vec_capacity, All, IfOk, OnOk, OnErr};
-ghost use Rattle.std.specs.Option.{option_map, option_copied};
+ghost use Rattle.std.specs.Prelude.{◌≡◌, ◌+◌, ◌<◌, ◌≤◌, List, [], ◌∷◌, ◌++◌, length, map, slice_get, is_some, None, Some, true, All, IfOk, OnOk, OnErr};
+ghost use Rattle.std.specs.Option.{option_copied};
 ghost use Rattle.std.specs.List.{IsDistinct};
 ghost use Rattle.vault_model.specs.declared.claims.Claim.{Claim};
 ghost use Rattle.vault_model.specs.declared.place.Place.{Place};
 ghost use Rattle.vault_model.specs.Tree.{IsTree};
 ghost use Rattle.vault_model.specs.Claims.{same_id, standing_behind, standing_of, claim_of, without, covering};
 ghost use Rattle.vault_model.specs.Vault.{AreThere};
-ghost use Rattle.vault_model.specs.Limits.{most_items, most_claims, last_number};
+ghost use Rattle.vault_model.specs.Limits.{most_claims, last_number};
 ghost use Rattle.lock_table.specs.Tables.{IsTable, IsTableOf, extension_by};
-ghost use Rattle.long_locks.specs.Lines.{ends, left_by, without_session, without_short, new_line, asked_long, asked_short, IsGrownFrom, in_way_of, put_first, extended_by};
+ghost use Rattle.long_locks.specs.Lines.{left_by, without_session, without_short, new_line, asked_long, asked_short, IsGrownFrom, in_way_of, put_first, extended_by};
 
-use crate::ending::{Ending, ends};
+use crate::claims::Claims;
+use crate::ending::Ending;
 use design_tree::Tree;
 use lock_table::{Extension, Table, lock_set};
 use std::alloc::{Allocator, Global};
@@ -23,7 +24,7 @@ use vault_model::{Claim, ClaimId, Items, Name, NoMemory, Owner, PlaceId, Standin
 /// that was given to a claim of each kind, and the tree over which a claim was weighed last.
 #[derive(Drop)]
 pub struct Line<A: Allocator = Global> {
-    claims: Vec<Claim, A>,
+    claims: Claims<A>,
     table: Table<A>,
     tree: Snapshot<Tree<A>>,
     last_long: u32,
@@ -36,35 +37,18 @@ impl<A: Allocator> Model for Line<A> {
     ghost Value = { LineSeen };
 
     ghost view = { λ l. record {
-      claims = l.claims.items;
+      claims = l.claims.claims;
       last_long = l.last_long;
       last_short = l.last_short;
       tree = l.tree.value;
     } };
 
     ghost invariant = { λ l. IsLine (record {
-      claims = l.claims.items;
+      claims = l.claims.claims;
       last_long = l.last_long;
       last_short = l.last_short;
       tree = l.tree.value;
     }) l.table };
-}
-
-fn is_same(id: ClaimId, other: ClaimId) -> bool
-    ensures { result ≡ same_id id other }
-{
-    match (id, other) {
-        (ClaimId::Long(m), ClaimId::Long(n)) => m == n,
-        (ClaimId::Short(m), ClaimId::Short(n)) => m == n,
-        (ClaimId::Long(_), ClaimId::Short(_)) => false,
-        (ClaimId::Short(_), ClaimId::Long(_)) => false,
-    }
-}
-
-fn find_claim(claims: &[Claim], id: ClaimId) -> Option<&Claim>
-    ensures { option_copied result ≡ claim_of claims.now id }
-{
-    claims.iter().find(|claim| is_same(claim.id, id))
 }
 
 fn see_whole<A: Allocator>(tree: &Tree<A>)
@@ -74,69 +58,53 @@ fn see_whole<A: Allocator>(tree: &Tree<A>)
 }
 
 fn put_last<A: Allocator>(
-    claims: &mut Vec<Claim, A>,
+    claims: &mut Claims<A>,
     table: &mut Table<A>,
     tree: &Tree<A>,
     claim: Claim,
 ) -> Result<Standing, NoMemory>
     requires tree { IsTree tree.now }
-    requires claims { All (λ (c : Claim). AreThere tree.now c.items) claims.old.items }
-    requires table { IsTableOf tree.now claims.old.items table.old }
+    requires claims { All (λ (c : Claim). AreThere tree.now c.items) claims.old.claims }
+    requires table { IsTableOf tree.now claims.old.claims table.old }
     requires items { AreThere tree.now claim.items }
-    requires new { claim_of claims.old.items claim.id ≡ None }
-    requires room { length claims.old.items < most_claims }
-    ensures standing { IfOk result (λ standing. standing ≡ standing_behind tree.now claims.old.items claim.items) }
-    ensures asked { OnOk result (claims.new.items ≡ claims.old.items ++ claim ∷ []) }
-    ensures table { OnOk result (IsTableOf tree.now claims.new.items table.new) }
-    ensures unchanged { OnErr result (claims.new.items ≡ claims.old.items) }
+    requires new { claim_of claims.old.claims claim.id ≡ None }
+    requires room { length claims.old.claims < most_claims }
+    ensures standing { IfOk result (λ standing. standing ≡ standing_behind tree.now claims.old.claims claim.items) }
+    ensures asked { OnOk result (claims.new.claims ≡ claims.old.claims ++ claim ∷ []) }
+    ensures table { OnOk result (IsTableOf tree.now claims.new.claims table.new) }
+    ensures unchanged { OnErr result (claims.new.claims ≡ claims.old.claims) }
     ensures same_table { OnErr result (table.new ≡ table.old) }
 {
     let locks = lock_set(tree, claim.items.as_slice());
-    match claims.reserve(1) {
-        Ok(()) => {}
-        Err(_) => return Err(NoMemory),
-    }
+    claims.reserve_one()?;
     let standing = table.ask(claim.id, locks)?;
-    claims.push(claim).unwrap();
+    claims.put_last(claim);
     Ok(standing)
 }
 
-fn put_first<A: Allocator>(claims: &mut Vec<Claim, A>, id: ClaimId, items: Items)
-    requires there { is_some (claim_of claims.old.items id) ≡ true }
-    requires room { vec_len claims.old < vec_capacity claims.old }
-    ensures { claims.new.items ≡ put_first claims.old.items id items }
-{
-    let claim = *find_claim(claims, id).unwrap();
-    claims.retain(|claim| !is_same(claim.id, id));
-    claims.insert(0, Claim { items, ..claim }).unwrap();
-}
-
 fn extend<A: Allocator>(
-    claims: &mut Vec<Claim, A>,
+    claims: &mut Claims<A>,
     table: &mut Table<A>,
     tree: &Tree<A>,
     id: ClaimId,
     items: Items,
 ) -> Result<Extension, NoMemory>
     requires tree { IsTree tree.now }
-    requires claims { All (λ (c : Claim). AreThere tree.now c.items) claims.old.items }
-    requires table { IsTableOf tree.now claims.old.items table.old }
+    requires claims { All (λ (c : Claim). AreThere tree.now c.items) claims.old.claims }
+    requires table { IsTableOf tree.now claims.old.claims table.old }
     requires items { AreThere tree.now items }
-    requires held { standing_of tree.now claims.old.items id ≡ Some Standing.Held }
-    ensures answer { IfOk result (λ extension. extension ≡ extension_by (in_way_of tree.now claims.old.items id items)) }
-    ensures extended { OnOk result (claims.new.items ≡ extended_by (in_way_of tree.now claims.old.items id items) claims.old.items id items) }
-    ensures table { OnOk result (IsTableOf tree.now claims.new.items table.new) }
-    ensures unchanged { OnErr result (claims.new.items ≡ claims.old.items) }
+    requires held { standing_of tree.now claims.old.claims id ≡ Some Standing.Held }
+    ensures answer { IfOk result (λ extension. extension ≡ extension_by (in_way_of tree.now claims.old.claims id items)) }
+    ensures extended { OnOk result (claims.new.claims ≡ extended_by (in_way_of tree.now claims.old.claims id items) claims.old.claims id items) }
+    ensures table { OnOk result (IsTableOf tree.now claims.new.claims table.new) }
+    ensures memory { OnErr result (in_way_of tree.now claims.old.claims id items ≡ None) }
+    ensures unchanged { OnErr result (claims.new.claims ≡ claims.old.claims) }
     ensures same_table { OnErr result (table.new ≡ table.old) }
 {
     let locks = lock_set(tree, items.as_slice());
-    match claims.reserve(1) {
-        Ok(()) => {}
-        Err(_) => return Err(NoMemory),
-    }
     match table.extend(id, locks)? {
         Extension::Done => {
-            put_first(claims, id, items);
+            claims.put_first(id, items);
             Ok(Extension::Done)
         }
         Extension::InTheWay(other) => Ok(Extension::InTheWay(other)),
@@ -149,20 +117,13 @@ fn see_distinct<A: Allocator>(table: &Table<A>)
     let _ = table.standing(ClaimId::Long(0));
 }
 
-fn first_ending(claims: &[Claim], ending: Ending) -> Option<ClaimId>
-    ensures { result ≡ option_map (λ (c : Claim). c.id) (find (ends ending) claims.now) }
+fn drop_all<A: Allocator>(claims: &mut Claims<A>, table: &mut Table<A>, ending: Ending)
+    requires { IsDistinct same_id (map (λ (c : Claim). c.id) claims.old.claims) }
+    ensures claims { claims.new.claims ≡ left_by ending claims.old.claims }
+    ensures table { (tree : List Place) → IsTableOf tree claims.old.claims table.old → IsTableOf tree claims.new.claims table.new }
 {
-    let claim = claims.iter().find(|claim| ends(ending, claim))?;
-    Some(claim.id)
-}
-
-fn drop_all<A: Allocator>(claims: &mut Vec<Claim, A>, table: &mut Table<A>, ending: Ending)
-    requires { IsDistinct same_id (map (λ (c : Claim). c.id) claims.old.items) }
-    ensures claims { claims.new.items ≡ left_by ending claims.old.items }
-    ensures table { (tree : List Place) → IsTableOf tree claims.old.items table.old → IsTableOf tree claims.new.items table.new }
-{
-    while let Some(id) = first_ending(claims, ending) {
-        claims.retain(|claim| !is_same(claim.id, id));
+    while let Some(id) = claims.first_ending(ending) {
+        claims.remove(id);
         table.release(id);
     }
 }
@@ -174,7 +135,7 @@ impl<A: Allocator + Copy> Line<A> {
     {
         let tree = Tree::new(alloc)?;
         Ok(Line {
-            claims: Vec::new(alloc),
+            claims: Claims::new(alloc),
             table: Table::new(alloc)?,
             tree: Snapshot::of(&tree),
             last_long: 0,
@@ -205,18 +166,18 @@ impl<A: Allocator> Line<A> {
         self.last_short
     }
 
-    /// The claim of this id.
+    /// The claim of this id, by one look-up.
     pub fn get(&self, id: ClaimId) -> Option<&Claim>
         ensures { option_copied result ≡ claim_of self.now.claims id }
     {
-        find_claim(&self.claims, id)
+        self.claims.get(id)
     }
 
     /// The claim at a position of the line, counted from 0.
     pub fn at(&self, position: usize) -> Option<&Claim>
         ensures { option_copied result ≡ slice_get self.now.claims position }
     {
-        self.claims.as_slice().get(position)
+        self.claims.at(position)
     }
 
     /// How a claim stands, over the line's tree and each that has grown from it.
@@ -307,6 +268,9 @@ impl<A: Allocator> Line<A> {
           claims = extended_by (in_way_of tree.now self.old.claims id items) self.old.claims id items;
           tree = tree.now;
         }) }
+
+        // Memory is wanted only where nothing is in the way.
+        ensures memory { OnErr result (in_way_of tree.now self.old.claims id items ≡ None) }
         ensures unchanged { OnErr result (self.new ≡ self.old) }
     {
         see_whole(tree);
@@ -315,11 +279,27 @@ impl<A: Allocator> Line<A> {
         Ok(extension)
     }
 
+    /// Gives a claim these items, in place of its own, and the first place in the line, without
+    /// weighing it: a journal tells of an extension that was granted.
+    pub fn put_first(&mut self, tree: &Tree<A>, id: ClaimId, items: Items) -> Result<(), NoMemory>
+        requires grown { IsGrownFrom self.old.tree tree.now }
+        requires items { AreThere tree.now items }
+        requires there { is_some (claim_of self.old.claims id) ≡ true }
+        ensures put { OnOk result (self.new ≡ record self.old { claims = put_first self.old.claims id items; tree = tree.now }) }
+        ensures unchanged { OnErr result (self.new ≡ self.old) }
+    {
+        see_whole(tree);
+        self.table.put_first(id, lock_set(tree, items.as_slice()))?;
+        self.claims.put_first(id, items);
+        self.tree = Snapshot::of(tree);
+        Ok(())
+    }
+
     /// Takes a claim out of the line. Where it has none of this id, nothing changes.
     pub fn drop_claim(&mut self, id: ClaimId)
         ensures { self.new ≡ record self.old { claims = without self.old.claims id } }
     {
-        self.claims.retain(|claim| !is_same(claim.id, id));
+        self.claims.remove(id);
         self.table.release(id);
     }
 

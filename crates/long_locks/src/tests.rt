@@ -33,7 +33,12 @@ fn change(place: u32) -> Item {
     }
 }
 
-fn make<A: Allocator + Copy>(rt: &impl Abort, tree: &mut Tree<A>, parent: u32, name: &str) -> u32 {
+pub(crate) fn make<A: Allocator + Copy>(
+    rt: &impl Abort,
+    tree: &mut Tree<A>,
+    parent: u32,
+    name: &str,
+) -> u32 {
     let parent = PlaceId(parent);
     assert!(rt; (parent.number() as usize) < tree.len());
     let name = Name::read(name.as_bytes()).expect(rt, "a name");
@@ -74,13 +79,13 @@ fn items_of<A: Allocator>(rt: &impl Abort, tree: &Tree<A>, wanted: &[Item]) -> I
     items
 }
 
-fn new_line<A: Allocator + Copy>(rt: &impl Abort, alloc: A) -> Line<A>
+pub(crate) fn new_line<A: Allocator + Copy>(rt: &impl Abort, alloc: A) -> Line<A>
     ensures { (tree : List Place) → IsGrownFrom result.tree tree }
 {
     Line::new(alloc).expect(rt, "memory")
 }
 
-fn check_out<A: Allocator>(
+pub(crate) fn check_out<A: Allocator>(
     rt: &impl Abort,
     line: &mut Line<A>,
     tree: &Tree<A>,
@@ -96,7 +101,7 @@ fn check_out<A: Allocator>(
     line.ask_long(tree, owner, items)
 }
 
-fn hold<A: Allocator>(
+pub(crate) fn hold<A: Allocator>(
     rt: &impl Abort,
     line: &mut Line<A>,
     tree: &Tree<A>,
@@ -112,7 +117,7 @@ fn hold<A: Allocator>(
     line.ask_short(tree, session, items)
 }
 
-fn extend<A: Allocator>(
+pub(crate) fn extend<A: Allocator>(
     rt: &impl Abort,
     line: &mut Line<A>,
     tree: &Tree<A>,
@@ -126,6 +131,21 @@ fn extend<A: Allocator>(
     tree.parent(PlaceId(0));
     assert!(rt; matches!(line.standing(id), Some(Standing::Held)));
     line.extend(tree, id, items)
+}
+
+fn put_first<A: Allocator>(
+    rt: &impl Abort,
+    line: &mut Line<A>,
+    tree: &Tree<A>,
+    id: ClaimId,
+    wanted: &[Item],
+) -> Result<(), NoMemory>
+    requires { IsGrownFrom line.old.tree tree.now }
+    ensures { IsGrownFrom line.new.tree tree.now }
+{
+    let items = items_of(rt, tree, wanted);
+    assert!(rt; line.get(id).is_some());
+    line.put_first(tree, id, items)
 }
 
 #[test]
@@ -162,6 +182,23 @@ fn short_claims_end_with_the_life(rt: HostRuntime) {
 }
 
 #[test]
+fn an_extension_is_not_weighed_against_the_waiting(rt: HostRuntime) {
+    let tree = small_tree(&rt, rt.alloc());
+    let mut line = new_line(&rt, rt.alloc());
+    let told = check_out(&rt, &mut line, &tree, &[change(2)]);
+    assert_eq!(rt; told, Ok(Standing::Held));
+    let told = check_out(&rt, &mut line, &tree, &[look(1)]);
+    assert_eq!(rt; told, Ok(Standing::Queued(C1)));
+    let told = check_out(&rt, &mut line, &tree, &[look(0)]);
+    assert_eq!(rt; told, Ok(Standing::Queued(C1)));
+    let answer = extend(&rt, &mut line, &tree, C1, &[change(2), look(1)]);
+    assert_eq!(rt; answer, Ok(Extension::Done));
+    assert_eq!(rt; line.standing(C1), Some(Standing::Held));
+    assert_eq!(rt; line.standing(C2), Some(Standing::Queued(C1)));
+    assert_eq!(rt; line.standing(C3), Some(Standing::Queued(C1)));
+}
+
+#[test]
 fn extensions_of_held_claims(rt: HostRuntime) {
     let tree = small_tree(&rt, rt.alloc());
     let mut line = new_line(&rt, rt.alloc());
@@ -181,6 +218,34 @@ fn extensions_of_held_claims(rt: HostRuntime) {
     let first = line.at(0).expect(&rt, "a claim");
     assert_eq!(rt; first.id, C2);
     assert_eq!(rt; first.items.len(), 2);
+}
+
+#[test]
+fn a_claim_put_first_is_not_weighed(rt: HostRuntime) {
+    let memory = Refusing::new(rt.alloc());
+    let tree = small_tree(&rt, &memory);
+    let mut refused = 0;
+    for number in 1..8u32 {
+        let mut line = new_line(&rt, &memory);
+        let first = check_out(&rt, &mut line, &tree, &[look(3)]);
+        let second = check_out(&rt, &mut line, &tree, &[look(3)]);
+        let third = check_out(&rt, &mut line, &tree, &[look(3)]);
+        let fourth = check_out(&rt, &mut line, &tree, &[look(3)]);
+        assert_eq!(rt; (first, second), (third, fourth));
+        memory.refuse(u64::from(number));
+        if put_first(&rt, &mut line, &tree, C2, &[look(3), change(3)]).is_err() {
+            assert!(rt; !memory.is_waiting());
+            assert_eq!(rt; line.at(0).expect(&rt, "a claim").id, C1);
+            refused = number;
+        }
+        memory.refuse(0);
+        let told = put_first(&rt, &mut line, &tree, C2, &[look(3), change(3)]);
+        assert_eq!(rt; told, Ok(()));
+        assert_eq!(rt; line.at(0).expect(&rt, "a claim").id, C2);
+        assert_eq!(rt; line.at(0).expect(&rt, "a claim").items.len(), 2);
+        assert_eq!(rt; line.standing(C1), Some(Standing::Queued(C2)));
+    }
+    assert_eq!(rt; refused, 1, "one request, for its modes");
 }
 
 fn covered<A: Allocator>(
@@ -220,7 +285,7 @@ fn each_request_of_memory_of_a_new_claim_is_refused(rt: HostRuntime) {
     let memory = Refusing::new(rt.alloc());
     let tree = small_tree(&rt, &memory);
     let mut refused = (0, 0);
-    for number in 1..5u32 {
+    for number in 1..8u32 {
         let mut line = new_line(&rt, &memory);
         memory.refuse(u64::from(number));
         if check_out(&rt, &mut line, &tree, &[look(1)]).is_err() {
@@ -245,8 +310,8 @@ fn each_request_of_memory_of_a_new_claim_is_refused(rt: HostRuntime) {
     }
     assert_eq!(rt;
         refused,
-        (2, 2),
-        "one request for the claim, one for its modes"
+        (5, 5),
+        "four requests for the claim, one for its modes"
     );
 }
 
@@ -255,7 +320,7 @@ fn each_request_of_memory_of_an_extension_is_refused(rt: HostRuntime) {
     let memory = Refusing::new(rt.alloc());
     let tree = small_tree(&rt, &memory);
     let mut refused = 0;
-    for number in 1..5u32 {
+    for number in 1..8u32 {
         let mut line = new_line(&rt, &memory);
         let first = check_out(&rt, &mut line, &tree, &[look(1)]);
         let second = check_out(&rt, &mut line, &tree, &[look(1)]);
@@ -273,5 +338,28 @@ fn each_request_of_memory_of_an_extension_is_refused(rt: HostRuntime) {
         assert_eq!(rt; answer, Ok(Extension::Done));
         assert_eq!(rt; line.at(0).expect(&rt, "a claim").id, C2);
     }
-    assert_eq!(rt; refused, 2, "one request for the claim, one for its modes");
+    assert_eq!(rt; refused, 1, "one request, for its modes");
+}
+
+#[test]
+fn a_growing_line_is_refused_its_memory(rt: HostRuntime) {
+    let memory = Refusing::new(rt.alloc());
+    let tree = small_tree(&rt, &memory);
+    let mut line = new_line(&rt, &memory);
+    let mut refused = 0;
+    for count in 0..40usize {
+        memory.refuse(1);
+        if check_out(&rt, &mut line, &tree, &[look(1)]).is_err() {
+            assert!(rt; !memory.is_waiting());
+            assert_eq!(rt; line.len(), count);
+            assert!(rt; line.get(C1).is_some() || count == 0);
+            let told = check_out(&rt, &mut line, &tree, &[look(1)]);
+            assert_eq!(rt; told, Ok(Standing::Held));
+            refused |= 1u64 << count;
+        }
+        memory.refuse(0);
+        assert_eq!(rt; line.len(), count + 1);
+    }
+    let growths = refused.count_ones();
+    assert!(rt; 2 < growths && growths < 16, "{refused:b}");
 }

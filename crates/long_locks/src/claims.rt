@@ -1,0 +1,114 @@
+//! Claims by their ids, in line order.
+ghost use Rattle.std.specs.Prelude.{◌≡◌, ◌<◌, ◌++◌, ◌∷◌, [], true, is_some, length, slice_get, find, None, IsOk, OnOk};
+ghost use Rattle.std.specs.Option.{option_map, option_copied};
+ghost use Rattle.vault_model.specs.declared.claims.Claim.{Claim};
+ghost use Rattle.vault_model.specs.Claims.{claim_of, without};
+ghost use Rattle.long_locks.specs.Lines.{ends, put_first};
+
+use crate::ending::{Ending, ends};
+use indexmap::IndexMap;
+use std::alloc::{Allocator, Global};
+use std::hash::{BuildHasherDefault, FoldHasher};
+use std::marker::Model;
+use vault_model::{Claim, ClaimId, Items, NoMemory};
+
+/// Claims in order, each found by its id without a search. Contracts see their list, and the room
+/// that there is for more.
+#[derive(Drop)]
+pub(crate) struct Claims<A: Allocator = Global> {
+    by_id: IndexMap<ClaimId, Claim, BuildHasherDefault<FoldHasher>, A>,
+}
+
+impl<A: Allocator> Model for Claims<A> {
+    ghost use Rattle.indexmap.specs.IndexMap.{values, spare};
+    ghost use Rattle.long_locks.specs.Keyed.{ClaimsSeen, AreKeyed};
+
+    ghost Value = { ClaimsSeen };
+
+    ghost view = { λ c. record { claims = values c.by_id; room = spare c.by_id } };
+
+    ghost invariant = { λ c. AreKeyed c.by_id.entries };
+}
+
+impl<A: Allocator + Copy> Claims<A> {
+    /// No claims, and no room yet.
+    pub(crate) fn new(alloc: A) -> Claims<A>
+        ensures { result.claims ≡ [] }
+    {
+        Claims {
+            by_id: IndexMap::new(alloc),
+        }
+    }
+}
+
+impl<A: Allocator> Claims<A> {
+    /// How many claims there are.
+    pub(crate) fn len(&self) -> usize
+        ensures { result ≡ length self.now.claims }
+    {
+        self.by_id.len()
+    }
+
+    /// The claim of this id, by one look-up.
+    pub(crate) fn get(&self, id: ClaimId) -> Option<&Claim>
+        ensures { option_copied result ≡ claim_of self.now.claims id }
+    {
+        self.by_id.get(&id)
+    }
+
+    /// The claim at a position, counted from 0.
+    pub(crate) fn at(&self, position: usize) -> Option<&Claim>
+        ensures { option_copied result ≡ slice_get self.now.claims position }
+    {
+        let (_, claim) = self.by_id.get_index(position)?;
+        Some(claim)
+    }
+
+    /// The id of the first claim that ends.
+    pub(crate) fn first_ending(&self, ending: Ending) -> Option<ClaimId>
+        ensures { result ≡ option_map (λ (c : Claim). c.id) (find (ends ending) self.now.claims) }
+    {
+        let claim = self.by_id.values().find(|claim| ends(ending, claim))?;
+        Some(claim.id)
+    }
+
+    /// Makes room for one claim more.
+    pub(crate) fn reserve_one(&mut self) -> Result<(), NoMemory>
+        ensures same { self.new.claims ≡ self.old.claims }
+        ensures room { OnOk result (0 < self.new.room) }
+        ensures succeeds { 0 < self.old.room → IsOk result }
+    {
+        match self.by_id.reserve(1) {
+            Ok(()) => Ok(()),
+            Err(_) => Err(NoMemory),
+        }
+    }
+
+    /// Puts a new claim last, where there is room. It takes no memory.
+    pub(crate) fn put_last(&mut self, claim: Claim)
+        requires new { claim_of self.old.claims claim.id ≡ None }
+        requires room { 0 < self.old.room }
+        ensures { self.new.claims ≡ self.old.claims ++ claim ∷ [] }
+    {
+        self.by_id.insert(claim.id, claim).unwrap();
+    }
+
+    /// Gives a claim these items, and the first place. The others keep their order.
+    pub(crate) fn put_first(&mut self, id: ClaimId, items: Items)
+        requires { is_some (claim_of self.old.claims id) ≡ true }
+        ensures { self.new.claims ≡ put_first self.old.claims id items }
+    {
+        let index = self.by_id.get_index_of(&id).unwrap();
+        self.by_id.move_index(index, 0);
+        self.by_id[0].items = items;
+    }
+
+    /// Takes a claim out. The others keep their order.
+    pub(crate) fn remove(&mut self, id: ClaimId)
+        ensures { self.new.claims ≡ without self.old.claims id }
+    {
+        if let Some(index) = self.by_id.get_index_of(&id) {
+            self.by_id.shift_remove_index(index);
+        }
+    }
+}
