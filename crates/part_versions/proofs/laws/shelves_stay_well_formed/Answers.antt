@@ -1,0 +1,8 @@
+use Rattle.vault_model.proofs.Shelves.{none_shelved, shelf_stays}
+use Rattle.part_versions.proofs.laws.shelves_stay_well_formed.Goals as goal
+
+pub returns : goal.returns
+returns c = record {
+  none = none_shelved;
+  more = shelf_stays;
+}

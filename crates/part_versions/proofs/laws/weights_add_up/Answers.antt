@@ -1,0 +1,5 @@
+use Rattle.vault_model.proofs.Shelves.{weight-shelved_all}
+use Rattle.part_versions.proofs.laws.weights_add_up.Goals as goal
+
+pub returns : goal.returns
+returns c = weight-shelved_all

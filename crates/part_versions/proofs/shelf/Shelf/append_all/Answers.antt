@@ -1,0 +1,45 @@
+use Rattle.std.proofs.Common.{◌≡◌, true, false, Some, None, ap, sym, ◌∙◌, refl, rules, arith}
+use Rattle.vault_model.specs.Shelf.{drafts_weight, is_shelvable}
+use Rattle.part_versions.specs.Rooms.{weight_with, have_room}
+use Rattle.part_versions.proofs.Rooms.{refused_by_weight, refused_by_room, allowed, not_too_heavy, kept_after}
+use Rattle.part_versions.proofs.shelf.Shelf.append_all.Goals as goal
+
+pub returns-in_default-clause-refused : goal.returns-in_default-clause-refused
+returns-in_default-clause-refused g c =
+    let none : None ≡ weight_with c.self.inside.weight c.args.drafts = sym c.in_default.is ∙ c.weight_with.ensures ∙ ap (weight_with c.self.inside.weight) c.as_slice.ensures in
+    (ap (λ s. is_shelvable s c.args.drafts) (sym c.self.view_is) ∙ refused_by_weight c.self.inside.parts.items c.args.drafts c.self.inside.weight c.self.invariant none, refl)
+
+pub returns-then-not-have_room-clause-refused : goal.returns-then-not-have_room-clause-refused
+returns-then-not-have_room-clause-refused g c =
+    let full : have_room c.self.inside.parts.items c.args.drafts ≡ false = search rules in
+    (ap (λ s. is_shelvable s c.args.drafts) (sym c.self.view_is) ∙ refused_by_room c.self.inside.parts.items c.args.drafts c.self.inside.weight c.self.invariant full, refl)
+
+pub append_each-requires : goal.append_each-requires
+append_each-requires g c =
+    let some : Some c.in-Some.weight ≡ weight_with c.self.inside.weight c.args.drafts = sym c.in-Some.is ∙ c.weight_with.ensures ∙ ap (weight_with c.self.inside.weight) c.as_slice.ensures in
+    let same = ap drafts_weight c.as_slice-3.ensures in
+    omega (arith, same, not_too_heavy c.self.inside.parts.items c.args.drafts c.self.inside.weight c.in-Some.weight c.self.invariant some)
+
+pub invariant_of-self : goal.invariant_of-self
+invariant_of-self g c =
+    let some : Some c.in-Some.weight ≡ weight_with c.self.inside.weight c.args.drafts = sym c.in-Some.is ∙ c.weight_with.ensures ∙ ap (weight_with c.self.inside.weight) c.as_slice.ensures in
+    let room : have_room c.self.inside.parts.items c.args.drafts ≡ true = search rules in
+    kept_after c.self.inside.parts.items c.append_each.new.parts.items c.args.drafts c.as_slice-3.result.now c.self.inside.weight c.in-Some.weight c.self.invariant some room c.in-Ok.ensures.ok c.as_slice-3.ensures
+
+pub returns-in-Ok-clause-shelf : goal.returns-in-Ok-clause-shelf
+returns-in-Ok-clause-shelf g c =
+    let some : Some c.in-Some.weight ≡ weight_with c.self.inside.weight c.args.drafts = sym c.in-Some.is ∙ c.weight_with.ensures ∙ ap (weight_with c.self.inside.weight) c.as_slice.ensures in
+    let room : have_room c.self.inside.parts.items c.args.drafts ≡ true = search rules in
+    (kept_after c.self.inside.parts.items c.append_each.new.parts.items c.args.drafts c.as_slice-3.result.now c.self.inside.weight c.in-Some.weight c.self.invariant some room c.in-Ok.ensures.ok c.as_slice-3.ensures).shelf_is
+
+pub returns-in-Ok-clause-allowed : goal.returns-in-Ok-clause-allowed
+returns-in-Ok-clause-allowed g c =
+    let some : Some c.in-Some.weight ≡ weight_with c.self.inside.weight c.args.drafts = sym c.in-Some.is ∙ c.weight_with.ensures ∙ ap (weight_with c.self.inside.weight) c.as_slice.ensures in
+    let room : have_room c.self.inside.parts.items c.args.drafts ≡ true = search rules in
+    ap (λ s. is_shelvable s c.args.drafts) (sym c.self.view_is) ∙ (allowed c.self.inside.parts.items c.args.drafts c.self.inside.weight c.in-Some.weight c.self.invariant some room).0
+
+pub returns-in-Err-clause-refused : goal.returns-in-Err-clause-refused
+returns-in-Err-clause-refused g c =
+    let some : Some c.in-Some.weight ≡ weight_with c.self.inside.weight c.args.drafts = sym c.in-Some.is ∙ c.weight_with.ensures ∙ ap (weight_with c.self.inside.weight) c.as_slice.ensures in
+    let room : have_room c.self.inside.parts.items c.args.drafts ≡ true = search rules in
+    (ap (λ s. is_shelvable s c.args.drafts) (sym c.self.view_is) ∙ (allowed c.self.inside.parts.items c.args.drafts c.self.inside.weight c.in-Some.weight c.self.invariant some room).0, refl)

@@ -1,0 +1,8 @@
+-- What a shelf keeps of its versions and of their weight. This project's own.
+use Rattle.std.specs.Prelude.{◌≡◌, ℕ, List}
+use Rattle.vault_model.specs.Shelf.{weight, IsShelf}
+
+-- the shelf is well formed, and its weight is known
+pub record IsKept (shelf : List (List (List ℕ))) (weight_known : ℕ) : Type 0 where
+  pub shelf_is : IsShelf shelf
+  pub weighed : weight_known ≡ weight shelf

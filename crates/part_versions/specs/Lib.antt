@@ -1,0 +1,5 @@
+pub mod Cuts
+pub mod Appended
+pub mod Kept
+pub mod Taken
+pub mod Rooms

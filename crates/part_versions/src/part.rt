@@ -1,0 +1,105 @@
+//! The versions of one part.
+ghost use Rattle.std.specs.Prelude.{◌≡◌, ℕ, ◌+◌, ◌-◌, ◌≤◌, List, [], ◌∷◌, ◌++◌, length, take, slice_get, vec_len, vec_capacity, OnOk, OnErr};
+ghost use Rattle.std.specs.Option.{option_copied};
+ghost use Rattle.vault_model.specs.Shelf.{content_weight, versions_weight};
+ghost use Rattle.vault_model.specs.Limits.{most_weight};
+ghost use Rattle.part_versions.specs.Cuts.{end_of};
+
+use std::alloc::{AllocError, Allocator, Global};
+use std::marker::Model;
+
+/// The contents of a part's versions, one behind another, and where each of them ends.
+#[derive(Drop)]
+pub(crate) struct Part<A: Allocator = Global> {
+    bytes: Vec<u8, A>,
+    ends: Vec<u32, A>,
+}
+
+impl<A: Allocator> Model for Part<A> {
+    ghost use Rattle.std.specs.Prelude.{ℕ, List};
+    ghost use Rattle.part_versions.specs.Cuts.{contents_of, IsCut};
+
+    ghost Value = { List (List ℕ) };
+
+    ghost view = { λ p. contents_of p.ends.items p.bytes.items };
+
+    ghost invariant = { λ p. IsCut p.ends.items p.bytes.items };
+}
+
+// Where the first `count` contents end.
+fn end_of(ends: &[u32], count: usize) -> usize
+    requires { count ≤ length ends.now }
+    ensures { result ≡ end_of ends.now count }
+{
+    if count == 0 {
+        return 0;
+    }
+    ends[count - 1] as usize
+}
+
+// Makes room for more bytes. Where they don't fit, it is for half as many as there are, or for more
+// bytes than that: so the work of many appends grows with their bytes, and a third at most is spare.
+fn make_room<A: Allocator>(bytes: &mut Vec<u8, A>, more: usize) -> Result<(), AllocError>
+    ensures items { bytes.new.items ≡ bytes.old.items }
+    ensures room { OnOk result (vec_len bytes.new + more ≤ vec_capacity bytes.new) }
+{
+    if more <= bytes.capacity() - bytes.len() {
+        return Ok(());
+    }
+    bytes.reserve_exact(more.max(bytes.len() / 2))
+}
+
+impl<A: Allocator + Copy> Part<A> {
+    /// No versions.
+    pub(crate) fn new(alloc: A) -> Part<A>
+        ensures { result ≡ [] }
+    {
+        Part {
+            bytes: Vec::new(alloc),
+            ends: Vec::new(alloc),
+        }
+    }
+}
+
+impl<A: Allocator> Part<A> {
+    /// How many versions there are.
+    pub(crate) fn len(&self) -> usize
+        ensures { result ≡ length self.now }
+    {
+        self.ends.len()
+    }
+
+    /// The content at an index.
+    pub(crate) fn get(&self, index: usize) -> Option<&[u8]>
+        ensures { option_copied result ≡ slice_get self.now index }
+    {
+        if index >= self.ends.len() {
+            return None;
+        }
+        let start = end_of(&self.ends, index);
+        let end = end_of(&self.ends, index + 1);
+        Some(&self.bytes[start..end])
+    }
+
+    /// Puts one more version behind the others. Room is asked for before anything changes.
+    pub(crate) fn push(&mut self, content: &[u8]) -> Result<(), AllocError>
+        requires { versions_weight self.old + content_weight content.now ≤ most_weight }
+        ensures ok { OnOk result (self.new ≡ self.old ++ content.now ∷ []) }
+        ensures err { OnErr result (self.new ≡ self.old) }
+    {
+        self.ends.reserve(1)?;
+        make_room(&mut self.bytes, content.len())?;
+        self.bytes.extend_from_slice(content).unwrap();
+        self.ends.push(self.bytes.len() as u32).unwrap();
+        Ok(())
+    }
+
+    /// Takes the last version away.
+    pub(crate) fn pop(&mut self)
+        ensures { self.new ≡ take (length self.old - 1) self.old }
+    {
+        let _ = self.ends.pop();
+        let end = end_of(&self.ends, self.ends.len());
+        self.bytes.truncate(end);
+    }
+}

@@ -1,0 +1,111 @@
+//! The shelf.
+ghost use Rattle.std.specs.Prelude.{◌≡◌, ℕ, true, None, List, [], length, OnOk, OnErr, IfErr};
+ghost use Rattle.std.specs.Option.{option_copied};
+ghost use Rattle.vault_model.specs.Shelf.{versions_of, numbered, weight, shelved_all, is_shelvable, IsShelf};
+ghost use Rattle.part_versions.specs.Appended.{IsRefusalOf};
+
+use crate::append::append_each;
+use crate::limits::{count_in, have_room, weight_with};
+use crate::part::Part;
+use std::alloc::{Allocator, Global};
+use std::marker::Model;
+use thiserror::Error;
+use vault_model::{Drafts, PlaceId};
+
+/// The versions of all parts, which contracts see as a list with the contents of each place.
+#[derive(Drop)]
+pub struct Shelf<A: Allocator = Global> {
+    parts: Vec<Part<A>, A>,
+    weight: usize,
+}
+
+impl<A: Allocator> Model for Shelf<A> {
+    ghost use Rattle.std.specs.Prelude.{ℕ, List};
+    ghost use Rattle.part_versions.specs.Kept.{IsKept};
+
+    ghost Value = { List (List (List ℕ)) };
+
+    ghost view = { λ s. s.parts.items };
+
+    ghost invariant = { λ s. IsKept s.parts.items s.weight };
+}
+
+/// Why drafts were not appended, with the very drafts given back.
+#[derive(Debug, PartialEq, Eq, Drop, Error)]
+pub enum NotAppended<Back = Drafts<Global>> {
+    #[error("a limit would be passed")]
+    Limit(Back),
+    #[error("want of memory")]
+    NoMemory(Back),
+}
+
+impl<A: Allocator> Shelf<A> {
+    /// A shelf of no versions, in this allocator's memory, of which it asks for none.
+    pub fn new(alloc: A) -> Shelf<A>
+        ensures { result ≡ [] }
+    {
+        Shelf {
+            parts: Vec::new(alloc),
+            weight: 0,
+        }
+    }
+
+    /// The content of a place's version; the first has number 1. One look-up, whatever the shelf
+    /// holds.
+    pub fn fetch(&self, place: PlaceId, version: u32) -> Option<&[u8]>
+        ensures { option_copied result ≡ numbered (versions_of self.now place) version }
+    {
+        let index = version.checked_sub(1)?;
+        self.parts.get(place.number() as usize)?.get(index as usize)
+    }
+
+    /// How many versions a place has.
+    pub fn count(&self, place: PlaceId) -> u32
+        ensures count { result ≡ length (versions_of self.now place) }
+        ensures shelf { IsShelf self.now }
+    {
+        count_in(&self.parts, place) as u32
+    }
+
+    /// What all versions weigh: the bytes of each, and 8 more. It is kept, and not summed anew.
+    pub fn weight(&self) -> usize
+        ensures weight { result ≡ weight self.now }
+        ensures shelf { IsShelf self.now }
+    {
+        self.weight
+    }
+}
+
+impl<A: Allocator + Copy> Shelf<A> {
+    /// Appends all drafts, each as one more version of its place, or gives the very drafts back. The
+    /// limits are tried first, then memory is asked for.
+    ///
+    /// The work grows with the drafts and their bytes; for each draft of a place that has room for
+    /// fewer versions than there are drafts, it also looks at all drafts once. The shelf keeps the
+    /// bytes of a place in one block with at most a third spare, 4 to 8 bytes for each version, and
+    /// two lists' heads for each place up to the last that has a version.
+    pub fn append_all<B: Allocator>(
+        &mut self,
+        drafts: Drafts<B>,
+    ) -> Result<(), NotAppended<Drafts<B>>>
+        ensures shelf { IsShelf self.new }
+        ensures allowed { OnOk result (is_shelvable self.old drafts ≡ true) }
+        ensures appended { OnOk result (self.new ≡ shelved_all self.old drafts) }
+        ensures refused { IfErr result (IsRefusalOf self.old drafts) }
+        ensures unchanged { OnErr result (self.new ≡ self.old) }
+    {
+        let Some(weight) = weight_with(self.weight, drafts.as_slice()) else {
+            return Err(NotAppended::Limit(drafts));
+        };
+        if !have_room(&self.parts, drafts.as_slice()) {
+            return Err(NotAppended::Limit(drafts));
+        }
+        match append_each(&mut self.parts, drafts.as_slice()) {
+            Ok(()) => {
+                self.weight = weight;
+                Ok(())
+            }
+            Err(_) => Err(NotAppended::NoMemory(drafts)),
+        }
+    }
+}
