@@ -1,31 +1,34 @@
 //! The book: a vault, and what each command does to it.
-ghost use Rattle.std.specs.Prelude.{◌≡◌, ℕ, ◌+◌, ◌-◌, ◌<◌, ◌≤◌, ◌==◌, ◌^◌, ◌||◌, List, [], ◌∷◌, ◌++◌, length, Option, Ok, IsOk, IfOk, OnOk, OnErr, All, is_some, find, true};
+ghost use Rattle.std.specs.Prelude.{◌≡◌, ℕ, ◌+◌, ◌-◌, ◌<◌, ◌≤◌, ◌==◌, ◌^◌, ◌||◌, List, [], ◌∷◌, ◌++◌, length, Option, Ok, IsOk, IfOk, OnOk, OnErr, Some, All, is_some, find, filter, not, true};
 ghost use Rattle.std.specs.Option.{option_map, option_copied};
 ghost use Rattle.vault_model.specs.Tree.{IsTree};
-ghost use Rattle.vault_model.specs.Vault.{Vault, AreThere, CountsBelow, session_of, one_more, counted, counted_in, new_vault};
-ghost use Rattle.vault_model.specs.Step.{Outcome, join, make, check_out, abandon, state, asked, placed, is_designer, at_door, in_session, decide, step};
+ghost use Rattle.vault_model.specs.Vault.{Vault, AreThere, CountsBelow, session_of, one_more, counted, counted_in, new_vault, durable};
+ghost use Rattle.vault_model.specs.Claims.{claim_of, is_held, is_session};
+ghost use Rattle.vault_model.specs.Step.{Outcome, usable, permitted, join, make, check_out, extend, abandon, hold, release, state, list, leave, asked, extension, placed, is_designer, is_owned_by, at_door, in_session, decide, step};
 ghost use Rattle.vault_model.specs.declared.session.Session.{Session};
+ghost use Rattle.long_locks.specs.Lines.{IsGrownFrom};
 ghost use Rattle.vault_checkout.specs.Done.{Follows};
 
 use crate::done::{Done, Stop};
-use crate::line::{claims_before, covering, drop_claim, find_claim, standing_behind, standing_of};
-use crate::places::places_of;
+use crate::places::{is_changed_by, joined, places_of};
 use design_tree::Tree;
+use lock_table::Extension;
+use long_locks::Line;
 use std::alloc::{Allocator, Global};
 use std::marker::Model;
 use vault_model::{
-    Claim, ClaimId, Command, CommandIn, Effect, EffectIn, LAST_NUMBER, MOST_CLAIMS, MOST_ITEMS,
-    MOST_SESSIONS, Name, NoMemory, Owner, Path, PathItem, Refusal, Reply, Session, Standing,
+    Claim, ClaimId, Command, CommandIn, Effect, EffectIn, Items, LAST_NUMBER, MOST_CLAIMS,
+    MOST_ITEMS, MOST_SESSIONS, Name, NoMemory, Owner, Path, PathItem, PlaceId, Refusal, Reply,
+    ReplyIn, Session, Standing,
 };
 
 /// A vault: its tree, its line of claims and its sessions.
 #[derive(Drop)]
 pub struct Book<A: Allocator = Global> {
-    tree: Tree<A>,
-    line: Vec<Claim, A>,
+    pub(crate) tree: Tree<A>,
+    pub(crate) line: Line<A>,
     sessions: Vec<Session, A>,
     last_session: u32,
-    last_long: u32,
     door_count: u64,
 }
 
@@ -41,7 +44,7 @@ impl<A: Allocator> Model for Book<A> {
     ghost invariant = { IsKept };
 }
 
-fn reply_of(id: ClaimId, standing: Standing) -> Reply
+fn reply_of<A: Allocator>(id: ClaimId, standing: Standing) -> ReplyIn<A>
     ensures { result ≡ asked id standing }
 {
     match standing {
@@ -50,7 +53,7 @@ fn reply_of(id: ClaimId, standing: Standing) -> Reply
     }
 }
 
-fn is_owned_by(owner: &Owner, name: &Name) -> bool
+fn is_designer(owner: &Owner, name: &Name) -> bool
     ensures { result ≡ is_designer name.now owner.now }
 {
     match owner {
@@ -59,10 +62,35 @@ fn is_owned_by(owner: &Owner, name: &Name) -> bool
     }
 }
 
+fn is_owned_by(owner: &Owner, session: &Session) -> bool
+    ensures { result ≡ is_owned_by session.now owner.now }
+{
+    match owner {
+        Owner::Designer(other) => *other == session.name,
+        Owner::Session(number) => *number == session.number,
+    }
+}
+
+/// What is kept of an extension for good.
+fn effect_of<A: Allocator>(id: ClaimId, items: Items) -> Option<EffectIn<A>>
+    ensures { result ≡ extension id items }
+{
+    match id {
+        ClaimId::Long(number) => Some(Effect::Extended(number, items)),
+        ClaimId::Short(_) => None,
+    }
+}
+
 fn find_session(sessions: &[Session], number: u32) -> Option<&Session>
     ensures { option_copied result ≡ session_of sessions.now number }
 {
     sessions.iter().find(|session| session.number == number)
+}
+
+fn drop_session<A: Allocator>(sessions: &mut Vec<Session, A>, number: u32)
+    ensures { sessions.new.items ≡ filter (λ (s : Session). not (s.number == number)) sessions.old.items }
+{
+    sessions.retain(|session| session.number != number);
 }
 
 fn count_one(session: &mut Session, number: u32)
@@ -91,10 +119,9 @@ impl<A: Allocator + Copy> Book<A> {
         let tree = Tree::new(alloc)?;
         Ok(Book {
             tree,
-            line: Vec::new(alloc),
+            line: Line::new(alloc)?,
             sessions: Vec::new(alloc),
             last_session: 0,
-            last_long: 0,
             door_count: 0,
         })
     }
@@ -104,6 +131,26 @@ impl<A: Allocator + Copy> Book<A> {
         ensures { result.now ≡ self.now.tree }
     {
         &self.tree
+    }
+
+    /// The line of claims.
+    pub fn line(&self) -> &Line<A>
+        ensures claims { result.now.claims ≡ self.now.line }
+        ensures last_long { result.now.last_long ≡ self.now.last_long }
+        ensures last_short { result.now.last_short ≡ self.now.last_short }
+        ensures grown { IsGrownFrom result.now.tree self.now.tree }
+    {
+        &self.line
+    }
+
+    /// What a restart leaves: the sessions and their holds go, and all counts begin anew.
+    pub fn restart(&mut self)
+        ensures { self.new ≡ durable self.old }
+    {
+        self.line.restart();
+        self.sessions.clear();
+        self.last_session = 0;
+        self.door_count = 0;
     }
 
     #[tactic(auto, unfolding(vault_model::specs::Step::join, vault_model::specs::Step::chained))]
@@ -127,9 +174,54 @@ impl<A: Allocator + Copy> Book<A> {
         })
     }
 
+    /// Whether a claim of the line is held.
+    pub(crate) fn is_held(&self, claim: &Claim) -> bool
+        requires { claim_of self.now.line claim.now.id ≡ Some claim.now }
+        ensures { result ≡ is_held self.now.tree self.now.line claim.now }
+    {
+        self.line.standing(claim.id) == Some(Standing::Held)
+    }
+
+    /// The held claim of this id, for one who owns it.
+    #[tactic(auto, unfolding(vault_model::specs::Step::usable, vault_model::specs::Step::chained))]
+    fn usable(&self, session: &Session, id: ClaimId) -> Result<Claim, Refusal>
+        ensures { result ≡ usable self.now session.now id }
+    {
+        let Some(claim) = self.line.get(id) else {
+            return Err(Refusal::NoClaim);
+        };
+        if !is_owned_by(&claim.owner, session) {
+            return Err(Refusal::NotYours);
+        }
+        if !self.is_held(claim) {
+            return Err(Refusal::NotHeld);
+        }
+        Ok(*claim)
+    }
+
+    /// Whether a place may be made under a parent, in the name of a claim if there is one.
+    #[tactic(auto, unfolding(vault_model::specs::Step::permitted, vault_model::specs::Step::chained))]
+    fn permit(&self, session: &Session, parent: PlaceId, claim: Option<u32>) -> Result<(), Refusal>
+        requires { parent ≤ length self.now.tree }
+        ensures { result ≡ permitted self.now session.now parent claim }
+    {
+        let Some(number) = claim else {
+            return match self.line.covers(&self.tree, parent) {
+                Some(id) => Err(Refusal::Covered(id)),
+                None => Ok(()),
+            };
+        };
+        let claim = self.usable(session, ClaimId::Long(number))?;
+        if is_changed_by(&self.tree, claim.items.as_slice(), parent) {
+            Ok(())
+        } else {
+            Err(Refusal::NotCovered)
+        }
+    }
+
     #[tactic(auto, unfolding(vault_model::specs::Step::make, vault_model::specs::Step::chained))]
-    fn make(&mut self, path: &Path) -> Result<Done<A>, Stop>
-        ensures told { Follows self.old result self.new (make self.old path.now) }
+    fn make(&mut self, session: &Session, path: &Path, claim: Option<u32>) -> Result<Done<A>, Stop>
+        ensures told { Follows self.old result self.new (make self.old session.now path.now claim) }
         ensures counts { (bound : ℕ) → CountsBelow bound self.old → CountsBelow bound self.new }
     {
         let Some((name, above)) = path.split_last() else {
@@ -144,9 +236,7 @@ impl<A: Allocator + Copy> Book<A> {
         if self.tree.child(parent, &name).is_some() {
             return Err(Stop::Refused(Refusal::Exists));
         }
-        if let Some(id) = covering(&self.tree, &self.line, parent) {
-            return Err(Stop::Refused(Refusal::Covered(id)));
-        }
+        self.permit(session, parent, claim)?;
         if self.tree.is_full(parent) {
             return Err(Stop::Refused(Refusal::Limit));
         }
@@ -163,13 +253,13 @@ impl<A: Allocator + Copy> Book<A> {
         ensures counts { (bound : ℕ) → CountsBelow bound self.old → CountsBelow bound self.new }
     {
         let id = ClaimId::Long(number);
-        let Some(claim) = find_claim(&self.line, id) else {
+        let Some(claim) = self.line.get(id) else {
             return Err(Stop::Refused(Refusal::NoClaim));
         };
-        if !is_owned_by(&claim.owner, &designer) {
+        if !is_designer(&claim.owner, &designer) {
             return Err(Stop::Refused(Refusal::NotYours));
         }
-        drop_claim(&mut self.line, id);
+        self.line.drop_claim(id);
         Ok(Done {
             reply: Reply::Abandoned,
             effect: Some(Effect::Abandoned(number)),
@@ -180,7 +270,7 @@ impl<A: Allocator + Copy> Book<A> {
     fn state(&self, id: ClaimId) -> Result<Done<A>, Stop>
         ensures { Follows self.now result self.now (state self.now id) }
     {
-        match standing_of(&self.tree, &self.line, id) {
+        match self.line.standing(id) {
             Some(standing) => Ok(Done {
                 reply: reply_of(id, standing),
                 effect: None,
@@ -200,22 +290,110 @@ impl<A: Allocator + Copy> Book<A> {
         let Some(items) = places_of(&self.tree, wanted) else {
             return Err(Stop::Refused(Refusal::NoPlace));
         };
-        if self.line.len() >= MOST_CLAIMS || self.last_long == LAST_NUMBER {
+        if self.line.len() >= MOST_CLAIMS || self.line.last_long() == LAST_NUMBER {
             return Err(Stop::Refused(Refusal::Limit));
         }
-        let number = self.last_long + 1;
-        let id = ClaimId::Long(number);
-        let standing = standing_behind(&self.tree, &self.line, items.as_slice());
-        self.line.push(Claim {
-            id,
-            owner: Owner::Designer(designer),
-            items,
-        })?;
-        self.last_long = number;
+        let standing = self.line.ask_long(&self.tree, designer, items)?;
+        let number = self.line.last_long();
         Ok(Done {
-            reply: reply_of(id, standing),
+            reply: reply_of(ClaimId::Long(number), standing),
             effect: Some(Effect::Asked(number, designer, items)),
         })
+    }
+
+    #[tactic(auto, unfolding(vault_model::specs::Step::extend, vault_model::specs::Step::chained))]
+    fn extend(
+        &mut self,
+        session: &Session,
+        id: ClaimId,
+        wanted: &[PathItem],
+    ) -> Result<Done<A>, Stop>
+        ensures told { Follows self.old result self.new (extend self.old session.now id wanted.now) }
+        ensures counts { (bound : ℕ) → CountsBelow bound self.old → CountsBelow bound self.new }
+    {
+        let claim = self.usable(session, id)?;
+        if wanted.is_empty() || wanted.len() > MOST_ITEMS - claim.items.len() {
+            return Err(Stop::Refused(Refusal::ItemCount));
+        }
+        let Some(items) = places_of(&self.tree, wanted) else {
+            return Err(Stop::Refused(Refusal::NoPlace));
+        };
+        match self
+            .line
+            .extend(&self.tree, id, joined(claim.items, &items))?
+        {
+            Extension::Done => Ok(Done {
+                reply: Reply::Held(id),
+                effect: effect_of(id, items),
+            }),
+            Extension::InTheWay(other) => Err(Stop::Refused(Refusal::Overlaps(other))),
+        }
+    }
+
+    #[tactic(auto, unfolding(vault_model::specs::Step::hold, vault_model::specs::Step::chained))]
+    fn hold(&mut self, session: &Session, wanted: &[PathItem]) -> Result<Done<A>, Stop>
+        requires { is_some (session_of self.old.sessions session.now.number) ≡ true }
+        ensures told { Follows self.old result self.new (hold self.old session.now wanted.now) }
+        ensures counts { (bound : ℕ) → CountsBelow bound self.old → CountsBelow bound self.new }
+    {
+        if wanted.is_empty() || wanted.len() > MOST_ITEMS {
+            return Err(Stop::Refused(Refusal::ItemCount));
+        }
+        let Some(items) = places_of(&self.tree, wanted) else {
+            return Err(Stop::Refused(Refusal::NoPlace));
+        };
+        if self.line.len() >= MOST_CLAIMS || self.line.last_short() == LAST_NUMBER {
+            return Err(Stop::Refused(Refusal::Limit));
+        }
+        let standing = self.line.ask_short(&self.tree, session.number, items)?;
+        Ok(Done {
+            reply: reply_of(ClaimId::Short(self.line.last_short()), standing),
+            effect: None,
+        })
+    }
+
+    #[tactic(auto, unfolding(vault_model::specs::Step::release, vault_model::specs::Step::chained))]
+    fn release(&mut self, session: &Session, number: u32) -> Result<Done<A>, Stop>
+        ensures told { Follows self.old result self.new (release self.old session.now number) }
+        ensures counts { (bound : ℕ) → CountsBelow bound self.old → CountsBelow bound self.new }
+    {
+        let id = ClaimId::Short(number);
+        let Some(claim) = self.line.get(id) else {
+            return Err(Stop::Refused(Refusal::NoClaim));
+        };
+        if !is_owned_by(&claim.owner, session) {
+            return Err(Stop::Refused(Refusal::NotYours));
+        }
+        self.line.drop_claim(id);
+        Ok(Done {
+            reply: Reply::Released,
+            effect: None,
+        })
+    }
+
+    #[tactic(auto, unfolding(vault_model::specs::Step::list, vault_model::specs::Step::chained))]
+    fn list(&self, path: &Path) -> Result<Done<A>, Stop>
+        ensures { Follows self.now result self.now (list self.now path.now) }
+    {
+        let Some(place) = self.tree.find(path) else {
+            return Err(Stop::Refused(Refusal::NoPlace));
+        };
+        Ok(Done {
+            reply: Reply::Children(self.tree.names_under(place)?),
+            effect: None,
+        })
+    }
+
+    fn leave(&mut self, session: &Session) -> Done<A>
+        ensures told { Follows self.old (Ok result) self.new (Ok (leave self.old session.now)) }
+        ensures counts { (bound : ℕ) → CountsBelow bound self.old → CountsBelow bound self.new }
+    {
+        self.line.drop_session(session.number);
+        drop_session(&mut self.sessions, session.number);
+        Done {
+            reply: Reply::Left,
+            effect: None,
+        }
     }
 
     #[tactic(auto, unfolding(vault_model::specs::Step::decide, vault_model::specs::Step::chained))]
@@ -235,10 +413,15 @@ impl<A: Allocator + Copy> Book<A> {
         let session = *session;
         match command {
             Command::Join(_) => Err(Stop::Refused(Refusal::Joined)),
-            Command::Make(path) => self.make(path),
+            Command::Make(path, claim) => self.make(&session, path, *claim),
             Command::CheckOut(wanted) => self.check_out(session.name, wanted.as_slice()),
+            Command::Extend(id, wanted) => self.extend(&session, *id, wanted.as_slice()),
             Command::Abandon(claim) => self.abandon(session.name, *claim),
+            Command::Hold(wanted) => self.hold(&session, wanted.as_slice()),
+            Command::Release(claim) => self.release(&session, *claim),
             Command::State(id) => self.state(*id),
+            Command::List(path) => self.list(path),
+            Command::Leave => Ok(self.leave(&session)),
         }
     }
 
@@ -264,7 +447,7 @@ impl<A: Allocator + Copy> Book<A> {
         &mut self,
         session: u32,
         command: &CommandIn<B>,
-    ) -> Result<(Reply, Option<EffectIn<A>>), NoMemory>
+    ) -> Result<(ReplyIn<A>, Option<EffectIn<A>>), NoMemory>
         requires { CountsBelow (2 ^ 64 - 1) self.old }
         ensures told { IfOk result (λ told. told.0 ≡ (step self.old session command.now).reply) }
         ensures effect { IfOk result (λ told. told.1 ≡ (step self.old session command.now).effect) }

@@ -1,14 +1,14 @@
 //! What one command did, before it is counted.
 ghost use Rattle.std.specs.Prelude.{◌≡◌};
-ghost use Rattle.vault_checkout.specs.declared.done.Stop.TheVariants.{OutOfMemory};
+ghost use Rattle.vault_checkout.specs.declared.done.Stop.TheVariants.{Refused, OutOfMemory};
 
 use std::alloc::{AllocFailed, Allocator};
-use vault_model::{EffectIn, NoMemory, Refusal, Reply};
+use vault_model::{EffectIn, NoMemory, Refusal, ReplyIn};
 
 /// A command that was done.
 #[derive(Drop)]
 pub(crate) struct Done<A: Allocator> {
-    pub reply: Reply,
+    pub reply: ReplyIn<A>,
     pub effect: Option<EffectIn<A>>,
 }
 
@@ -32,5 +32,13 @@ impl From<NoMemory> for Stop {
 
     fn from(_error: NoMemory) -> Stop {
         Stop::OutOfMemory
+    }
+}
+
+impl From<Refusal> for Stop {
+    ghost from_gives = { λ refusal e. e ≡ Refused refusal };
+
+    fn from(refusal: Refusal) -> Stop {
+        Stop::Refused(refusal)
     }
 }

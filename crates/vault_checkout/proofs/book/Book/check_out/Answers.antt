@@ -1,14 +1,15 @@
+use Rattle.std.proofs.Common.{◌≡◌, ◌<◌, ◌≤◌, rules, length, arith, sym}
 use Rattle.vault_model.specs.Limits.{most_items, most_claims}
-use Rattle.std.proofs.Common.{◌≡◌, ◌<◌, ◌≤◌, refl, rules, length, arith, sym}
-use Rattle.vault_model.proofs.Kept.{kept_asked, length-placed}
+use Rattle.vault_model.proofs.Kept.{kept_asked_long, length-placed}
+use Rattle.long_locks.proofs.Grown.{grown_itself}
 use Rattle.vault_checkout.specs.Seen.{vault_of}
 use Rattle.vault_checkout.proofs.book.Book.check_out.Goals as goal
 
 pub invariant_of-self-2 : goal.invariant_of-self-2
 invariant_of-self-2 g c =
-    let room : length c.self.inside.line.items < most_claims = search rules in
+    let room : length c.self.inside.line.claims < most_claims = search rules in
     let some : 0 < length c.args.wanted.now = search rules in
     let few : length c.args.wanted.now ≤ most_items = search rules in
     let same : length c.in-Some.items ≡ length c.args.wanted.now = length-placed c.self.inside.tree c.args.wanted.now c.in-Some.items (sym c.in-Some.ensures.placed) in
-    rw c.in_ok-push.ensures.items
-    (kept_asked (vault_of c.self.inside) c.self.invariant _ refl tt room (omega arith) (omega arith) c.in-Some.ensures.there)
+    rw c.in_ok-standing.ensures.asked
+    (kept_asked_long (vault_of c.self.inside) c.self.invariant.0 c.args.designer c.in-Some.items room (omega arith) (omega arith) c.in-Some.ensures.there, grown_itself c.self.inside.tree)
