@@ -1,0 +1,14 @@
+pub mod Folds
+pub mod Marks
+pub mod Order
+pub mod Sound
+pub mod Stays
+pub mod ViewLaw
+pub mod Facts
+pub mod Guarded
+pub mod Recovery
+pub mod Told
+pub mod Changes
+pub mod Counts
+pub mod Reach
+pub mod Rows
