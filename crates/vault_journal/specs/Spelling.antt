@@ -4,6 +4,7 @@ use Rattle.std.specs.List.{flat_map, AllByRecursion}
 use Rattle.std.specs.Int.{w16, w32, w64, to_be_bytes}
 use Rattle.vault_model.specs.Name.{IsName}
 use Rattle.vault_model.specs.Limits.{most_items}
+pub use Rattle.vault_model.specs.Limits.{longest_content}
 use Rattle.vault_model.specs.Said.{Effect}
 use Rattle.vault_model.specs.declared.effects.Effect.TheVariants.{Made, Asked, Extended, Saved, CheckedIn, Abandoned}
 use Rattle.vault_model.specs.declared.ids.Intent.{Intent}
@@ -55,10 +56,6 @@ record_of (Abandoned claim) = 6 ∷ in_four claim
 -- the records of effects, one behind another
 abbrev pub records_of : List Effect → List ℕ
 records_of effects = flat_map record_of effects
-
--- the most bytes of a content
-abbrev pub longest_content : ℕ
-longest_content = 1024
 
 -- the most bytes of a record
 abbrev pub longest_record : ℕ

@@ -19,6 +19,5 @@ pub use reading::{content_at, item_at, items_at, name_at, u8_at, u16_at, u32_at,
 pub use records::{Damage, LONGEST_RECORD, read_effects, record_len};
 pub use whole_commit::commit;
 pub use writing::{
-    LONGEST_CONTENT, put_bytes, put_content, put_item, put_items, put_name, put_u8, put_u16,
-    put_u32, put_u64,
+    put_bytes, put_content, put_item, put_items, put_name, put_u8, put_u16, put_u32, put_u64,
 };

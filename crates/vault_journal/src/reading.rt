@@ -4,8 +4,7 @@ ghost use Rattle.std.specs.Prelude.{◌≡◌, ◌≤◌};
 ghost use Rattle.vault_model.specs.Limits.{most_items};
 ghost use Rattle.vault_journal.specs.Reading.{Reads, u8_at, u16_at, u32_at, u64_at, bytes_at, name_at, item_at, each_item_at, items_at, content_at};
 
-use crate::LONGEST_CONTENT;
-use vault_model::{Intent, Item, Items, MOST_ITEMS, Name, PlaceId};
+use vault_model::{Intent, Item, Items, LONGEST_CONTENT, MOST_ITEMS, Name, PlaceId};
 
 /// The number in the first byte.
 pub fn u8_at(bytes: &[u8]) -> Option<(u8, &[u8])>

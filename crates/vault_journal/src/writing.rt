@@ -6,9 +6,6 @@ ghost use Rattle.vault_journal.specs.Written.{IsWritten};
 use byteorder::{BigEndian, ByteOrder};
 use vault_model::{Intent, Item, Name};
 
-/// The most bytes of a content.
-pub const LONGEST_CONTENT: usize = 1024;
-
 /// Writes a number in one byte.
 pub fn put_u8(out: &mut [u8], at: usize, n: u8) -> usize
     requires { at + 1 ≤ length out.old }
