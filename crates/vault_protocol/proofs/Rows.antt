@@ -2,8 +2,8 @@
 use Rattle.std.specs.Prelude.{refl}
 use Rattle.std.specs.Fmt.{digits}
 use Rattle.vault_model.specs.Claims.{overlap}
-use Rattle.vault_model.specs.Step.{step, decide, chained, join, make, check_out, abandon, state}
-use Rattle.vault_protocol.specs.Rows.{Rows, Empty, OneLine, TwoDesigners, Siblings, LineMovesUp, CoveredParent, Refusals, BadLines}
+use Rattle.vault_model.specs.Step.{step, decide, chained, join, make, permitted, usable, check_out, extend, abandon, hold, release, state, list}
+use Rattle.vault_protocol.specs.Rows.{Rows, Empty, OneLine, TwoDesigners, Siblings, LookAboveChange, LineMovesUp, CoveredParent, ExtensionRefused, ExtensionToFront, MakeUnderClaims, HoldFirst, Holds, Lists, Refusals, BadLines}
 
 empty : Empty
 empty = refl
@@ -13,23 +13,51 @@ unfolding digits step decide chained join
 one_line = (refl, refl)
 
 two_designers : TwoDesigners
-unfolding digits step decide chained join make check_out overlap
+unfolding digits step decide chained join make permitted check_out overlap
 two_designers = refl
 
 siblings : Siblings
-unfolding digits step decide chained join make check_out overlap
+unfolding digits step decide chained join make permitted check_out overlap
 siblings = refl
 
+look_above_change : LookAboveChange
+unfolding digits step decide chained join make permitted check_out overlap
+look_above_change = refl
+
 line_moves_up : LineMovesUp
-unfolding digits step decide chained join make check_out abandon state overlap
+unfolding digits step decide chained join make permitted check_out abandon state overlap
 line_moves_up = refl
 
 covered_parent : CoveredParent
-unfolding digits step decide chained join make check_out overlap
+unfolding digits step decide chained join make permitted check_out overlap
 covered_parent = refl
 
+extension_refused : ExtensionRefused
+unfolding digits step decide chained join make permitted usable check_out extend state overlap
+extension_refused = refl
+
+extension_to_front : ExtensionToFront
+unfolding digits step decide chained join make permitted usable check_out extend state overlap
+extension_to_front = refl
+
+make_under_claims : MakeUnderClaims
+unfolding digits step decide chained join make permitted usable check_out extend overlap
+make_under_claims = refl
+
+hold_first : HoldFirst
+unfolding digits step decide chained join make permitted check_out hold overlap
+hold_first = refl
+
+holds : Holds
+unfolding digits step decide chained join make permitted check_out hold release state overlap
+holds = refl
+
+lists : Lists
+unfolding digits step decide chained join make permitted list overlap
+lists = refl
+
 refusals : Refusals
-unfolding digits step decide chained join make state overlap
+unfolding digits step decide chained join make permitted state list overlap
 refusals = refl
 
 bad_lines : BadLines
@@ -42,8 +70,15 @@ rows = record {
   one_line = one_line;
   two_designers = two_designers;
   siblings = siblings;
+  look_above_change = look_above_change;
   line_moves_up = line_moves_up;
   covered_parent = covered_parent;
+  extension_refused = extension_refused;
+  extension_to_front = extension_to_front;
+  make_under_claims = make_under_claims;
+  hold_first = hold_first;
+  holds = holds;
+  lists = lists;
   refusals = refusals;
   bad_lines = bad_lines;
 }

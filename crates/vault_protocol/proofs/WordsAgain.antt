@@ -25,7 +25,7 @@ use Rattle.vault_protocol.specs.Words.{positive_in, claim_in}
 use Rattle.vault_protocol.specs.Items.{intent_in, item_in, items_in}
 use Rattle.vault_protocol.specs.Grammar.{words_in, command_of}
 use Rattle.vault_protocol.specs.Texts.{claim_text}
-use Rattle.vault_protocol.specs.Spelling.{IsClaimNumber, IsClaimId, intent_letter, item_text, Spells, LineSpells, OneCommand}
+use Rattle.vault_protocol.specs.Spelling.{IsClaimNumber, IsClaimId, AreItems, intent_letter, item_text, Spells, LineSpells, OneCommand}
 use Rattle.vault_protocol.proofs.Numbers.{number_is}
 use Rattle.vault_protocol.proofs.Steps.{along}
 
@@ -61,16 +61,28 @@ each_again (item ∷ items) h =
     ap (λ first. first >>= λ x. each_in item_in (map item_text items) >>= λ xs. Some (x ∷ xs)) (item_again item h.0)
     ∙ ap (λ others. others >>= λ xs. Some (item ∷ xs)) (each_again items h.1)
 
-items_again : (items : List PathItem) → 0 < length items → AllByRecursion (λ (item : PathItem). IsPath item.path) items → items_in (map item_text items) ≡ Some items
-items_again [] some h = absurd (omega arith)
-items_again (item ∷ items) some h = each_again (item ∷ items) h
+items_again : (items : List PathItem) → AreItems items → items_in (map item_text items) ≡ Some items
+items_again [] h = absurd (omega (arith, h.0))
+items_again (item ∷ items) h = each_again (item ∷ items) h.1
 
 words_again : (words : List (List ℕ)) (command : Command) → Spells words command → words_in words ≡ Some command
 words_again words (commands.Join name) h = ap words_in h.1 ∙ ap (λ name. name >>= λ n. Some (commands.Join n)) (name_again name h.0)
-words_again words (commands.Make path) h = ap words_in h.1 ∙ ap (λ path. path >>= λ p. Some (commands.Make p)) (path_again path h.0)
-words_again words (commands.CheckOut items) h = ap words_in h.2 ∙ ap (λ items. items >>= λ is. Some (commands.CheckOut is)) (items_again items h.0 h.1)
+words_again words (commands.Make path None) h = ap words_in h.1 ∙ ap (λ path. path >>= λ p. Some (commands.Make p None)) (path_again path h.0)
+words_again words (commands.Make path (Some number)) h =
+    ap words_in h.2
+    ∙ ap (λ place. place >>= λ p. positive_in (decimal number) >>= λ n. Some (commands.Make p (Some n))) (path_again path h.0)
+    ∙ ap (λ claim. claim >>= λ n. Some (commands.Make path (Some n))) (positive_again number h.1)
+words_again words (commands.CheckOut items) h = ap words_in h.1 ∙ ap (λ items. items >>= λ is. Some (commands.CheckOut is)) (items_again items h.0)
+words_again words (commands.Extend claim items) h =
+    ap words_in h.2
+    ∙ ap (λ named. named >>= λ c. items_in (map item_text items) >>= λ is. Some (commands.Extend c is)) (claim_again claim h.0)
+    ∙ ap (λ items. items >>= λ is. Some (commands.Extend claim is)) (items_again items h.1)
 words_again words (commands.Abandon number) h = ap words_in h.1 ∙ ap (λ claim. claim >>= λ n. Some (commands.Abandon n)) (positive_again number h.0)
+words_again words (commands.Hold items) h = ap words_in h.1 ∙ ap (λ items. items >>= λ is. Some (commands.Hold is)) (items_again items h.0)
+words_again words (commands.Release number) h = ap words_in h.1 ∙ ap (λ claim. claim >>= λ n. Some (commands.Release n)) (positive_again number h.0)
 words_again words (commands.State claim) h = ap words_in h.1 ∙ ap (λ claim. claim >>= λ c. Some (commands.State c)) (claim_again claim h.0)
+words_again words (commands.List path) h = ap words_in h.1 ∙ ap (λ path. path >>= λ p. Some (commands.List p)) (path_again path h.0)
+words_again words commands.Leave h = ap words_in h
 
 -- No word has a space.
 
@@ -140,14 +152,34 @@ pub record AreWords (words : List (List ℕ)) : Type 0 where
 words_of : (words : List (List ℕ)) (command : Command) → Spells words command → AreWords words
 words_of words (commands.Join name) h =
     record { first = codes "hello"; others = name ∷ []; all = h.1; apart = (by_looking (codes "hello") refl, (in_name name h.0, tt)) }
-words_of words (commands.Make path) h =
+words_of words (commands.Make path None) h =
     record { first = codes "make"; others = path_text path ∷ []; all = h.1; apart = (by_looking (codes "make") refl, (in_path path h.0, tt)) }
+words_of words (commands.Make path (Some number)) h = record {
+  first = codes "make";
+  others = path_text path ∷ claim_text (Long number) ∷ [];
+  all = h.2;
+  apart = (by_looking (codes "make") refl, (in_path path h.0, (in_claim (Long number) h.1, tt)));
+}
 words_of words (commands.CheckOut items) h =
-    record { first = codes "checkout"; others = map item_text items; all = h.2; apart = (by_looking (codes "checkout") refl, in_items items h.1) }
+    record { first = codes "checkout"; others = map item_text items; all = h.1; apart = (by_looking (codes "checkout") refl, in_items items h.0.1) }
+words_of words (commands.Extend claim items) h = record {
+  first = codes "extend";
+  others = claim_text claim ∷ map item_text items;
+  all = h.2;
+  apart = (by_looking (codes "extend") refl, (in_claim claim h.0, in_items items h.1.1));
+}
 words_of words (commands.Abandon number) h =
     record { first = codes "abandon"; others = claim_text (Long number) ∷ []; all = h.1; apart = (by_looking (codes "abandon") refl, (in_claim (Long number) h.0, tt)) }
+words_of words (commands.Hold items) h =
+    record { first = codes "hold"; others = map item_text items; all = h.1; apart = (by_looking (codes "hold") refl, in_items items h.0.1) }
+words_of words (commands.Release number) h =
+    record { first = codes "release"; others = claim_text (Short number) ∷ []; all = h.1; apart = (by_looking (codes "release") refl, (in_claim (Short number) h.0, tt)) }
 words_of words (commands.State claim) h =
     record { first = codes "state"; others = claim_text claim ∷ []; all = h.1; apart = (by_looking (codes "state") refl, (in_claim claim h.0, tt)) }
+words_of words (commands.List path) h =
+    record { first = codes "list"; others = path_text path ∷ []; all = h.1; apart = (by_looking (codes "list") refl, (in_path path h.0, tt)) }
+words_of words commands.Leave h =
+    record { first = codes "quit"; others = []; all = h; apart = (by_looking (codes "quit") refl, tt) }
 
 pub line_again : (line : List ℕ) (command : Command) → LineSpells line command → command_of line ≡ Some command
 line_again line command h =

@@ -19,14 +19,14 @@ use Rattle.vault_model.specs.declared.ids.ClaimId.TheVariants.{Long, Short}
 use Rattle.vault_model.specs.declared.claims.PathItem.{PathItem}
 use Rattle.vault_model.proofs.PathTexts.{path_is_its_text}
 use Rattle.vault_protocol.specs.Reading.{each_in}
-use Rattle.vault_protocol.specs.Words.{number_in, positive_in, long_in, claim_in}
+use Rattle.vault_protocol.specs.Words.{number_in, positive_in, long_in, short_in, claim_in}
 use Rattle.vault_protocol.specs.Items.{intent_in, item_in, items_in}
 use Rattle.vault_protocol.specs.Keywords.{keyword_in, keyword_text, all_keywords}
 use Rattle.vault_protocol.specs.Grammar.{arguments_in, words_in, command_of}
 use Rattle.vault_protocol.specs.Texts.{claim_text}
-use Rattle.vault_protocol.specs.Spelling.{IsClaimNumber, IsClaimId, intent_letter, item_text, Spells, LineSpells}
+use Rattle.vault_protocol.specs.Spelling.{IsClaimNumber, IsClaimId, AreItems, intent_letter, item_text, Spells, LineSpells}
 use Rattle.vault_protocol.specs.declared.keyword.Keyword.{Keyword}
-use Rattle.vault_protocol.specs.declared.keyword.Keyword.TheVariants.{Hello, Make, CheckOut, Abandon, State}
+use Rattle.vault_protocol.specs.declared.keyword.Keyword.TheVariants as keywords
 use Rattle.vault_protocol.proofs.Steps.{along, bind_some, and_then_some, map_some, chosen, find_passes}
 
 name_found : (word name : List ℕ) → name_in word ≡ Some name → IsName name × (word ≡ name)
@@ -64,6 +64,16 @@ long_found (letter ∷ digits) n e =
       | inl h ↦
           let found = positive_found digits n h.1 in
           (found.0, ap (λ k. k ∷ digits) (eqb-true _ _ h.0) ∙ ap (λ ds. 99 ∷ ds) found.1)
+    ]
+
+short_found : (word : List ℕ) (n : ℕ) → short_in word ≡ Some n → IsClaimNumber n × (word ≡ 104 ∷ decimal n)
+short_found [] n e = cc e
+short_found (letter ∷ digits) n e =
+    elim (chosen (letter == 104) (positive_in digits) None (Some n) e) [
+      | inr h ↦ cc (h.1)
+      | inl h ↦
+          let found = positive_found digits n h.1 in
+          (found.0, ap (λ k. k ∷ digits) (eqb-true _ _ h.0) ∙ ap (λ ds. 104 ∷ ds) found.1)
     ]
 
 claim_found : (word : List ℕ) (id : ClaimId) → claim_in word ≡ Some id → IsClaimId id × (word ≡ claim_text id)
@@ -128,16 +138,16 @@ each_found (word ∷ words) items e =
     ((here.0, there.0), ap (λ w. w ∷ words) here.1 ∙ ap (λ ws. item_text first.0 ∷ ws) there.1)
 
 items_found : (words : List (List ℕ)) (items : List PathItem) → items_in words ≡ Some items
-    → (0 < length items) × AllByRecursion (λ (item : PathItem). IsPath item.path) items × (words ≡ map item_text items)
+    → AreItems items × (words ≡ map item_text items)
 items_found [] items e = cc e
 items_found (word ∷ words) [] e =
     let found = each_found (word ∷ words) [] e in
     cc (found.1)
 items_found (word ∷ words) (item ∷ items) e =
     let found = each_found (word ∷ words) (item ∷ items) e in
-    (omega arith, found.0, found.1)
+    ((omega arith, found.0), found.1)
 
-hello_found : (words : List (List ℕ)) (command : Command) → arguments_in Hello words ≡ Some command → Spells (codes "hello" ∷ words) command
+hello_found : (words : List (List ℕ)) (command : Command) → arguments_in keywords.Hello words ≡ Some command → Spells (codes "hello" ∷ words) command
 hello_found [] command e = cc e
 hello_found (word ∷ []) command e =
     let name = bind_some (name_in word) _ command e in
@@ -145,21 +155,38 @@ hello_found (word ∷ []) command e =
     along (λ c. Spells (codes "hello" ∷ word ∷ []) c) (same_Some _ _ name.2) (found.0, ap (λ w. codes "hello" ∷ w ∷ []) found.1)
 hello_found (word ∷ other ∷ words) command e = cc e
 
-make_found : (words : List (List ℕ)) (command : Command) → arguments_in Make words ≡ Some command → Spells (codes "make" ∷ words) command
+make_found : (words : List (List ℕ)) (command : Command) → arguments_in keywords.Make words ≡ Some command → Spells (codes "make" ∷ words) command
 make_found [] command e = cc e
 make_found (word ∷ []) command e =
     let path = bind_some (path_in word) _ command e in
     let found = path_found word path.0 path.1 in
     along (λ c. Spells (codes "make" ∷ word ∷ []) c) (same_Some _ _ path.2) (found.0, ap (λ w. codes "make" ∷ w ∷ []) found.1)
-make_found (word ∷ other ∷ words) command e = cc e
+make_found (word ∷ other ∷ []) command e =
+    let path = bind_some (path_in word) _ command e in
+    let claim = bind_some (long_in other) _ command path.2 in
+    let place = path_found word path.0 path.1 in
+    let number = long_found other claim.0 claim.1 in
+    along (λ c. Spells (codes "make" ∷ word ∷ other ∷ []) c) (same_Some _ _ claim.2)
+    (place.0, number.0, ap (λ w. codes "make" ∷ w ∷ other ∷ []) place.1 ∙ ap (λ w. codes "make" ∷ path_text path.0 ∷ w ∷ []) number.1)
+make_found (word ∷ other ∷ another ∷ words) command e = cc e
 
-check_out_found : (words : List (List ℕ)) (command : Command) → arguments_in CheckOut words ≡ Some command → Spells (codes "checkout" ∷ words) command
+check_out_found : (words : List (List ℕ)) (command : Command) → arguments_in keywords.CheckOut words ≡ Some command → Spells (codes "checkout" ∷ words) command
 check_out_found words command e =
     let items = bind_some (items_in words) _ command e in
     let found = items_found words items.0 items.1 in
-    along (λ c. Spells (codes "checkout" ∷ words) c) (same_Some _ _ items.2) (found.0, found.1, ap (λ ws. codes "checkout" ∷ ws) found.2)
+    along (λ c. Spells (codes "checkout" ∷ words) c) (same_Some _ _ items.2) (found.0, ap (λ ws. codes "checkout" ∷ ws) found.1)
 
-abandon_found : (words : List (List ℕ)) (command : Command) → arguments_in Abandon words ≡ Some command → Spells (codes "abandon" ∷ words) command
+extend_found : (words : List (List ℕ)) (command : Command) → arguments_in keywords.Extend words ≡ Some command → Spells (codes "extend" ∷ words) command
+extend_found [] command e = cc e
+extend_found (word ∷ words) command e =
+    let claim = bind_some (claim_in word) _ command e in
+    let items = bind_some (items_in words) _ command claim.2 in
+    let named = claim_found word claim.0 claim.1 in
+    let found = items_found words items.0 items.1 in
+    along (λ c. Spells (codes "extend" ∷ word ∷ words) c) (same_Some _ _ items.2)
+    (named.0, found.0, ap (λ w. codes "extend" ∷ w ∷ words) named.1 ∙ ap (λ ws. codes "extend" ∷ claim_text claim.0 ∷ ws) found.1)
+
+abandon_found : (words : List (List ℕ)) (command : Command) → arguments_in keywords.Abandon words ≡ Some command → Spells (codes "abandon" ∷ words) command
 abandon_found [] command e = cc e
 abandon_found (word ∷ []) command e =
     let claim = bind_some (long_in word) _ command e in
@@ -167,7 +194,21 @@ abandon_found (word ∷ []) command e =
     along (λ c. Spells (codes "abandon" ∷ word ∷ []) c) (same_Some _ _ claim.2) (found.0, ap (λ w. codes "abandon" ∷ w ∷ []) found.1)
 abandon_found (word ∷ other ∷ words) command e = cc e
 
-state_found : (words : List (List ℕ)) (command : Command) → arguments_in State words ≡ Some command → Spells (codes "state" ∷ words) command
+hold_found : (words : List (List ℕ)) (command : Command) → arguments_in keywords.Hold words ≡ Some command → Spells (codes "hold" ∷ words) command
+hold_found words command e =
+    let items = bind_some (items_in words) _ command e in
+    let found = items_found words items.0 items.1 in
+    along (λ c. Spells (codes "hold" ∷ words) c) (same_Some _ _ items.2) (found.0, ap (λ ws. codes "hold" ∷ ws) found.1)
+
+release_found : (words : List (List ℕ)) (command : Command) → arguments_in keywords.Release words ≡ Some command → Spells (codes "release" ∷ words) command
+release_found [] command e = cc e
+release_found (word ∷ []) command e =
+    let claim = bind_some (short_in word) _ command e in
+    let found = short_found word claim.0 claim.1 in
+    along (λ c. Spells (codes "release" ∷ word ∷ []) c) (same_Some _ _ claim.2) (found.0, ap (λ w. codes "release" ∷ w ∷ []) found.1)
+release_found (word ∷ other ∷ words) command e = cc e
+
+state_found : (words : List (List ℕ)) (command : Command) → arguments_in keywords.State words ≡ Some command → Spells (codes "state" ∷ words) command
 state_found [] command e = cc e
 state_found (word ∷ []) command e =
     let claim = bind_some (claim_in word) _ command e in
@@ -175,13 +216,30 @@ state_found (word ∷ []) command e =
     along (λ c. Spells (codes "state" ∷ word ∷ []) c) (same_Some _ _ claim.2) (found.0, ap (λ w. codes "state" ∷ w ∷ []) found.1)
 state_found (word ∷ other ∷ words) command e = cc e
 
+list_found : (words : List (List ℕ)) (command : Command) → arguments_in keywords.List words ≡ Some command → Spells (codes "list" ∷ words) command
+list_found [] command e = cc e
+list_found (word ∷ []) command e =
+    let path = bind_some (path_in word) _ command e in
+    let found = path_found word path.0 path.1 in
+    along (λ c. Spells (codes "list" ∷ word ∷ []) c) (same_Some _ _ path.2) (found.0, ap (λ w. codes "list" ∷ w ∷ []) found.1)
+list_found (word ∷ other ∷ words) command e = cc e
+
+quit_found : (words : List (List ℕ)) (command : Command) → arguments_in keywords.Quit words ≡ Some command → Spells (codes "quit" ∷ words) command
+quit_found [] command e = along (λ c. Spells (codes "quit" ∷ []) c) (same_Some _ _ e) refl
+quit_found (word ∷ words) command e = cc e
+
 arguments_found : (keyword : Keyword) (words : List (List ℕ)) (command : Command)
     → arguments_in keyword words ≡ Some command → Spells (keyword_text keyword ∷ words) command
-arguments_found Hello words command e = hello_found words command e
-arguments_found Make words command e = make_found words command e
-arguments_found CheckOut words command e = check_out_found words command e
-arguments_found Abandon words command e = abandon_found words command e
-arguments_found State words command e = state_found words command e
+arguments_found keywords.Hello words command e = hello_found words command e
+arguments_found keywords.Make words command e = make_found words command e
+arguments_found keywords.CheckOut words command e = check_out_found words command e
+arguments_found keywords.Extend words command e = extend_found words command e
+arguments_found keywords.Abandon words command e = abandon_found words command e
+arguments_found keywords.Hold words command e = hold_found words command e
+arguments_found keywords.Release words command e = release_found words command e
+arguments_found keywords.State words command e = state_found words command e
+arguments_found keywords.List words command e = list_found words command e
+arguments_found keywords.Quit words command e = quit_found words command e
 
 words_found : (words : List (List ℕ)) (command : Command) → words_in words ≡ Some command → Spells words command
 words_found [] command e = cc e

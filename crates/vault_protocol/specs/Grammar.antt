@@ -9,28 +9,46 @@ use Rattle.vault_model.specs.declared.commands.Command.TheVariants as commands
 use Rattle.vault_protocol.specs.Limits.{longest_line}
 use Rattle.vault_protocol.specs.Reading.{◌>>=◌}
 use Rattle.vault_protocol.specs.Keywords.{keyword_in}
-use Rattle.vault_protocol.specs.Words.{long_in, claim_in}
+use Rattle.vault_protocol.specs.Words.{long_in, short_in, claim_in}
 use Rattle.vault_protocol.specs.Items.{items_in}
 use Rattle.vault_protocol.specs.declared.keyword.Keyword.{Keyword}
-use Rattle.vault_protocol.specs.declared.keyword.Keyword.TheVariants.{Hello, Make, CheckOut, Abandon, State}
+use Rattle.vault_protocol.specs.declared.keyword.Keyword.TheVariants as keywords
 
 -- the command of a keyword and the words behind it, by one case per keyword
 abbrev pub arguments_in : Keyword → List (List ℕ) → Option Command
-arguments_in Hello (name ∷ []) = do
+arguments_in keywords.Hello (name ∷ []) = do
   name ← name_in name
   Some (commands.Join name)
-arguments_in Make (path ∷ []) = do
+arguments_in keywords.Make (path ∷ []) = do
   path ← path_in path
-  Some (commands.Make path)
-arguments_in CheckOut items = do
+  Some (commands.Make path None)
+arguments_in keywords.Make (path ∷ claim ∷ []) = do
+  path ← path_in path
+  claim ← long_in claim
+  Some (commands.Make path (Some claim))
+arguments_in keywords.CheckOut items = do
   items ← items_in items
   Some (commands.CheckOut items)
-arguments_in Abandon (claim ∷ []) = do
+arguments_in keywords.Extend (claim ∷ items) = do
+  claim ← claim_in claim
+  items ← items_in items
+  Some (commands.Extend claim items)
+arguments_in keywords.Abandon (claim ∷ []) = do
   claim ← long_in claim
   Some (commands.Abandon claim)
-arguments_in State (claim ∷ []) = do
+arguments_in keywords.Hold items = do
+  items ← items_in items
+  Some (commands.Hold items)
+arguments_in keywords.Release (claim ∷ []) = do
+  claim ← short_in claim
+  Some (commands.Release claim)
+arguments_in keywords.State (claim ∷ []) = do
   claim ← claim_in claim
   Some (commands.State claim)
+arguments_in keywords.List (path ∷ []) = do
+  path ← path_in path
+  Some (commands.List path)
+arguments_in keywords.Quit [] = Some commands.Leave
 arguments_in keyword words = None
 
 -- the first word is the keyword

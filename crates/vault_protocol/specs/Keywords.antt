@@ -2,19 +2,26 @@
 use Rattle.std.specs.Prelude.{ℕ, List, [], ◌∷◌, codes, Option, find}
 use Rattle.std.specs.Str.{bytes_eq}
 use Rattle.vault_protocol.specs.declared.keyword.Keyword.{Keyword}
-use Rattle.vault_protocol.specs.declared.keyword.Keyword.TheVariants.{Hello, Make, CheckOut, Abandon, State}
+use Rattle.vault_protocol.specs.declared.keyword.Keyword.TheVariants as keywords
 
 -- how a keyword is spelled
 abbrev pub keyword_text : Keyword → List ℕ
-keyword_text Hello = codes "hello"
-keyword_text Make = codes "make"
-keyword_text CheckOut = codes "checkout"
-keyword_text Abandon = codes "abandon"
-keyword_text State = codes "state"
+keyword_text keywords.Hello = codes "hello"
+keyword_text keywords.Make = codes "make"
+keyword_text keywords.CheckOut = codes "checkout"
+keyword_text keywords.Extend = codes "extend"
+keyword_text keywords.Abandon = codes "abandon"
+keyword_text keywords.Hold = codes "hold"
+keyword_text keywords.Release = codes "release"
+keyword_text keywords.State = codes "state"
+keyword_text keywords.List = codes "list"
+keyword_text keywords.Quit = codes "quit"
 
 -- every keyword
 abbrev pub all_keywords : List Keyword
-all_keywords = Hello ∷ Make ∷ CheckOut ∷ Abandon ∷ State ∷ []
+all_keywords =
+    keywords.Hello ∷ keywords.Make ∷ keywords.CheckOut ∷ keywords.Extend ∷ keywords.Abandon
+    ∷ keywords.Hold ∷ keywords.Release ∷ keywords.State ∷ keywords.List ∷ keywords.Quit ∷ []
 
 -- the keyword that the word is
 abbrev pub keyword_in : List ℕ → Option Keyword

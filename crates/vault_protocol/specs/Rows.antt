@@ -30,6 +30,12 @@ Siblings =
     output (begun ++ codes "@1 checkout w:/e/b/p1\n@2 checkout w:/e/b/p2\n")
     ≡ begun_output ++ codes "@1 OK held c1\n@2 OK held c2\n"
 
+-- to look at an assembly and change one of its parts leaves its other parts to others to look at, but not that part
+abbrev pub LookAboveChange : Type 0
+LookAboveChange =
+    output (begun ++ codes "@1 checkout r:/e/b w:/e/b/p1\n@2 checkout r:/e/b/p2\n@2 checkout r:/e/b/p1\n")
+    ≡ begun_output ++ codes "@1 OK held c1\n@2 OK held c2\n@2 OK queued c3 behind c1\n"
+
 -- a claim that waits is held once the claim before it is abandoned
 abbrev pub LineMovesUp : Type 0
 LineMovesUp =
@@ -42,11 +48,47 @@ CoveredParent =
     output (begun ++ codes "@1 checkout r:/e\n@2 make /e/c\n")
     ≡ begun_output ++ codes "@1 OK held c1\n@2 ERR 23 c1\n"
 
--- one refusal after the other
+-- an extension that another held claim stands in the way of is refused, and changes nothing
+abbrev pub ExtensionRefused : Type 0
+ExtensionRefused =
+    output (begun ++ codes "@1 checkout r:/e/b/p1\n@2 checkout r:/e/b/p1\n@1 extend c1 w:/e/b/p1\n@1 state c1\n@2 state c2\n")
+    ≡ begun_output ++ codes "@1 OK held c1\n@2 OK held c2\n@1 ERR 33 c2\n@1 OK held c1\n@2 OK held c2\n"
+
+-- an extended claim goes to the front of the line
+abbrev pub ExtensionToFront : Type 0
+ExtensionToFront =
+    output (begun ++ codes "@2 checkout r:/e/b/p1\n@1 checkout r:/e/b/p2\n@2 checkout w:/e/b\n@1 extend c2 w:/e/b/p2\n@2 state c3\n")
+    ≡ begun_output ++ codes "@2 OK held c1\n@1 OK held c2\n@2 OK queued c3 behind c1\n@1 OK held c2\n@2 OK queued c3 behind c2\n"
+
+-- a place is made under a covered one only in the name of a check-out that changes it
+abbrev pub MakeUnderClaims : Type 0
+MakeUnderClaims =
+    output (begun ++ codes "@1 checkout r:/e\n@2 make /e/b/p9\n@1 make /e/b/p9 c1\n@1 extend c1 w:/e/b\n@1 make /e/b/p9 c1\n@2 make /e/b/p8\n@2 make /f\n")
+    ≡ begun_output ++ codes "@1 OK held c1\n@2 ERR 23 c1\n@1 ERR 34\n@1 OK held c1\n@1 OK place 5\n@2 ERR 23 c1\n@2 OK place 6\n"
+
+-- a check-out waits behind a hold
+abbrev pub HoldFirst : Type 0
+HoldFirst =
+    output (begun ++ codes "@2 hold w:/e/b\n@1 checkout r:/e/b/p1\n")
+    ≡ begun_output ++ codes "@2 OK held h1\n@1 OK queued c1 behind h1\n"
+
+-- a hold is its session's to release, and goes with it
+abbrev pub Holds : Type 0
+Holds =
+    output (begun ++ codes "@2 hold r:/e/b/p1\n@1 checkout w:/e/b/p1\n@1 release h1\n@2 release h1\n@1 state c1\n@2 hold r:/e/b/p1\n@2 quit\n@1 state h2\n")
+    ≡ begun_output ++ codes "@2 OK held h1\n@1 OK queued c1 behind h1\n@1 ERR 31\n@2 OK released\n@1 OK held c1\n@2 OK queued h2 behind c1\n@2 OK left\n@1 ERR 30\n"
+
+-- the places right under one, by their numbers
+abbrev pub Lists : Type 0
+Lists =
+    output (begun ++ codes "@1 list /\n@2 list /e/b\n@2 list /e/b/p1\n@1 list /f\n")
+    ≡ begun_output ++ codes "@1 OK list 1 e\n@2 OK list 2 p1 p2\n@2 OK list 0\n@1 ERR 20\n"
+
+-- one refusal after the other; a connection whose session left has none
 abbrev pub Refusals : Type 0
 Refusals =
-    output (codes "@1 state c1\n@1 hello Anna\n@1 hello anna\n@1 hello anna\nfoo\n@1 make /\n@1 make /x/y\n@1 state c1\n@1 state c0\n")
-    ≡ codes "@1 ERR 11\n@1 ERR 10\n@1 OK session 1\n@1 ERR 12\n! ERR 10\n@1 ERR 21\n@1 ERR 20\n@1 ERR 30\n@1 ERR 10\n"
+    output (codes "@1 list /\n@1 hello Anna\n@1 hello anna\n@1 hello anna\nfoo\n@1 make /\n@1 make /x/y\n@1 state c1\n@1 state c0\n@1 quit\n@1 list /\n")
+    ≡ codes "@1 ERR 11\n@1 ERR 10\n@1 OK session 1\n@1 ERR 12\n! ERR 10\n@1 ERR 21\n@1 ERR 20\n@1 ERR 30\n@1 ERR 10\n@1 OK left\n@1 ERR 11\n"
 
 -- empty lines and comments print nothing; lines of no connection, and of no command, are bad
 abbrev pub BadLines : Type 0
@@ -60,7 +102,14 @@ pub record Rows : Type 0 where
   pub one_line : OneLine
   pub two_designers : TwoDesigners
   pub siblings : Siblings
+  pub look_above_change : LookAboveChange
   pub line_moves_up : LineMovesUp
   pub covered_parent : CoveredParent
+  pub extension_refused : ExtensionRefused
+  pub extension_to_front : ExtensionToFront
+  pub make_under_claims : MakeUnderClaims
+  pub hold_first : HoldFirst
+  pub holds : Holds
+  pub lists : Lists
   pub refusals : Refusals
   pub bad_lines : BadLines

@@ -37,9 +37,10 @@ pub record State : Type 0 where
 abbrev pub new_state : State
 new_state = record { vault = new_vault; sessions = replicate last_connection 0; commands = 0 }
 
--- a connection speaks for the session that it was told last
+-- a connection speaks for the session that it was told last, and for the door again once it left
 abbrev pub sessions_after : List ℕ → ℕ → Reply → List ℕ
 sessions_after sessions connection (replies.Session number) = slice_set sessions (connection - 1) number
+sessions_after sessions connection replies.Left = slice_set sessions (connection - 1) 0
 sessions_after sessions connection reply = sessions
 
 -- what a command that was answered leaves: one step of the vault, and one command more

@@ -1,6 +1,6 @@
 -- How commands are spelled on a line, in the subject's words: what the grammar's reading must give back.
 -- This project's own.
-use Rattle.std.specs.Prelude.{ℕ, ◌≡◌, ◌<◌, ◌≤◌, ◌^◌, ◌↔◌, List, [], ◌∷◌, ◌++◌, length, map, codes, decimal, Some}
+use Rattle.std.specs.Prelude.{ℕ, ◌≡◌, ◌<◌, ◌≤◌, ◌^◌, ◌↔◌, List, [], ◌∷◌, ◌++◌, length, map, codes, decimal, Some, None}
 use Rattle.std.specs.List.{join_with_byte, AllByRecursion}
 use Rattle.vault_model.specs.Said.{Command}
 use Rattle.vault_model.specs.Name.{IsName}
@@ -34,14 +34,25 @@ intent_letter Change = 119
 abbrev pub item_text : PathItem → List ℕ
 item_text item = intent_letter item.intent ∷ 58 ∷ path_text item.path
 
+-- one item or more, each at a path
+abbrev pub AreItems : List PathItem → Type 0
+AreItems items = (0 < length items) × AllByRecursion (λ (item : PathItem). IsPath item.path) items
+
 -- the words are a command's keyword and a spelling of each of its parts
 abbrev pub Spells : List (List ℕ) → Command → Type 0
 Spells words (commands.Join name) = IsName name × (words ≡ codes "hello" ∷ name ∷ [])
-Spells words (commands.Make path) = IsPath path × (words ≡ codes "make" ∷ path_text path ∷ [])
-Spells words (commands.CheckOut items) =
-    (0 < length items) × AllByRecursion (λ (item : PathItem). IsPath item.path) items × (words ≡ codes "checkout" ∷ map item_text items)
+Spells words (commands.Make path None) = IsPath path × (words ≡ codes "make" ∷ path_text path ∷ [])
+Spells words (commands.Make path (Some number)) =
+    IsPath path × IsClaimNumber number × (words ≡ codes "make" ∷ path_text path ∷ claim_text (Long number) ∷ [])
+Spells words (commands.CheckOut items) = AreItems items × (words ≡ codes "checkout" ∷ map item_text items)
+Spells words (commands.Extend claim items) =
+    IsClaimId claim × AreItems items × (words ≡ codes "extend" ∷ claim_text claim ∷ map item_text items)
 Spells words (commands.Abandon number) = IsClaimNumber number × (words ≡ codes "abandon" ∷ claim_text (Long number) ∷ [])
+Spells words (commands.Hold items) = AreItems items × (words ≡ codes "hold" ∷ map item_text items)
+Spells words (commands.Release number) = IsClaimNumber number × (words ≡ codes "release" ∷ claim_text (Short number) ∷ [])
 Spells words (commands.State claim) = IsClaimId claim × (words ≡ codes "state" ∷ claim_text claim ∷ [])
+Spells words (commands.List path) = IsPath path × (words ≡ codes "list" ∷ path_text path ∷ [])
+Spells words commands.Leave = words ≡ codes "quit" ∷ []
 
 -- the line is words that spell the command, joined by single spaces, and not too long
 abbrev pub LineSpells : List ℕ → Command → Type 0

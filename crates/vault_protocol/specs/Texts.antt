@@ -1,9 +1,10 @@
 -- The texts of replies and of outside refusals. This project's own.
-use Rattle.std.specs.Prelude.{ℕ, List, [], ◌∷◌, ◌++◌, codes, decimal}
+use Rattle.std.specs.Prelude.{ℕ, List, [], ◌∷◌, ◌++◌, codes, decimal, length}
+use Rattle.std.specs.List.{flat_map}
+use Rattle.vault_model.specs.Said.{Reply}
 use Rattle.vault_model.specs.declared.ids.ClaimId.{ClaimId}
 use Rattle.vault_model.specs.declared.ids.ClaimId.TheVariants.{Long, Short}
-use Rattle.vault_model.specs.declared.replies.Reply.{Reply}
-use Rattle.vault_model.specs.declared.replies.Reply.TheVariants.{Session, Place, Held, Queued, Abandoned, Refused}
+use Rattle.vault_model.specs.declared.replies.Reply.TheVariants.{Session, Place, Held, Queued, Abandoned, Released, Children, Left, Refused}
 use Rattle.vault_model.specs.declared.replies.Refusal.{Refusal}
 use Rattle.vault_model.specs.declared.replies.Refusal.TheVariants as refusals
 use Rattle.vault_model.specs.declared.replies.Outside.{Outside}
@@ -28,12 +29,19 @@ refusal_text refusals.WrongKind = codes "ERR 22"
 refusal_text (refusals.Covered claim) = codes "ERR 23 " ++ claim_text claim
 refusal_text refusals.NoClaim = codes "ERR 30"
 refusal_text refusals.NotYours = codes "ERR 31"
+refusal_text refusals.NotHeld = codes "ERR 32"
+refusal_text (refusals.Overlaps claim) = codes "ERR 33 " ++ claim_text claim
+refusal_text refusals.NotCovered = codes "ERR 34"
 refusal_text refusals.ItemCount = codes "ERR 36"
 refusal_text refusals.Limit = codes "ERR 50"
 
 -- a claim, and the one that it waits behind
 abbrev pub queued_text : ClaimId → ClaimId → List ℕ
 queued_text claim before = codes "OK queued " ++ claim_text claim ++ (codes " behind " ++ claim_text before ++ newline)
+
+-- names, each behind a space, after how many there are
+abbrev pub children_text : List (List ℕ) → List ℕ
+children_text names = codes "OK list " ++ decimal (length names) ++ flat_map (λ name. 32 ∷ name) names ++ newline
 
 -- the line that a reply is told as
 abbrev pub reply_text : Reply → List ℕ
@@ -42,6 +50,9 @@ reply_text (Place number) = codes "OK place " ++ decimal number ++ newline
 reply_text (Held claim) = codes "OK held " ++ claim_text claim ++ newline
 reply_text (Queued claim before) = queued_text claim before
 reply_text Abandoned = codes "OK abandoned\n"
+reply_text Released = codes "OK released\n"
+reply_text (Children names) = children_text names
+reply_text Left = codes "OK left\n"
 reply_text (Refused refusal) = refusal_text refusal ++ newline
 
 -- the line that an outside refusal is told as

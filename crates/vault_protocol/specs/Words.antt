@@ -22,6 +22,11 @@ abbrev pub long_in : List ℕ → Option ℕ
 long_in [] = None
 long_in (letter ∷ digits) = if letter == 99 then positive_in digits else None
 
+-- a short claim: `h` and a number from 1 on
+abbrev pub short_in : List ℕ → Option ℕ
+short_in [] = None
+short_in (letter ∷ digits) = if letter == 104 then positive_in digits else None
+
 -- a claim: `c` or `h` and a number from 1 on
 abbrev pub claim_in : List ℕ → Option ClaimId
 claim_in [] = None

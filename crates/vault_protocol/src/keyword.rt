@@ -9,18 +9,28 @@ pub(crate) enum Keyword {
     Hello,
     Make,
     CheckOut,
+    Extend,
     Abandon,
+    Hold,
+    Release,
     State,
+    List,
+    Quit,
 }
 
 impl Keyword {
     /// Every keyword.
-    const ALL: [Keyword; 5] = [
+    const ALL: [Keyword; 10] = [
         Keyword::Hello,
         Keyword::Make,
         Keyword::CheckOut,
+        Keyword::Extend,
         Keyword::Abandon,
+        Keyword::Hold,
+        Keyword::Release,
         Keyword::State,
+        Keyword::List,
+        Keyword::Quit,
     ];
 
     /// How it is spelled.
@@ -31,8 +41,13 @@ impl Keyword {
             Keyword::Hello => b"hello",
             Keyword::Make => b"make",
             Keyword::CheckOut => b"checkout",
+            Keyword::Extend => b"extend",
             Keyword::Abandon => b"abandon",
+            Keyword::Hold => b"hold",
+            Keyword::Release => b"release",
             Keyword::State => b"state",
+            Keyword::List => b"list",
+            Keyword::Quit => b"quit",
         }
     }
 

@@ -9,7 +9,7 @@ use crate::error::LineError;
 use crate::keyword::Keyword;
 use crate::limits::LONGEST_LINE;
 use crate::split::words_of;
-use crate::words::{read_claim, read_items, read_long};
+use crate::words::{read_claim, read_items, read_long, read_short};
 use std::alloc::Allocator;
 use vault_model::{Command, CommandIn, Name, Path};
 
@@ -24,15 +24,17 @@ fn hello<A: Allocator>(arguments: &[&[u8]]) -> Result<CommandIn<A>, LineError>
     Ok(Command::Join(name))
 }
 
-/// `make PATH`
+/// `make PATH` or `make PATH CNUM`
 fn make<A: Allocator>(arguments: &[&[u8]]) -> Result<CommandIn<A>, LineError>
     ensures { Gives result (arguments_in keywords.Make (map (λ word. word.now) arguments.now)) }
 {
-    let [path] = arguments else {
-        return Err(LineError::BadLine);
+    let (path, claim) = match arguments {
+        [path] => (*path, None),
+        [path, claim] => (*path, Some(read_long(claim).ok_or(LineError::BadLine)?)),
+        _ => return Err(LineError::BadLine),
     };
     let path = Path::read(path).ok_or(LineError::BadLine)?;
-    Ok(Command::Make(path))
+    Ok(Command::Make(path, claim))
 }
 
 /// `checkout ITEM ..`
@@ -40,6 +42,17 @@ fn check_out<A: Allocator>(alloc: A, arguments: &[&[u8]]) -> Result<CommandIn<A>
     ensures { Gives result (arguments_in keywords.CheckOut (map (λ word. word.now) arguments.now)) }
 {
     Ok(Command::CheckOut(read_items(alloc, arguments)?))
+}
+
+/// `extend CLAIM ITEM ..`
+fn extend<A: Allocator>(alloc: A, arguments: &[&[u8]]) -> Result<CommandIn<A>, LineError>
+    ensures { Gives result (arguments_in keywords.Extend (map (λ word. word.now) arguments.now)) }
+{
+    let [claim, items @ ..] = arguments else {
+        return Err(LineError::BadLine);
+    };
+    let claim = read_claim(claim).ok_or(LineError::BadLine)?;
+    Ok(Command::Extend(claim, read_items(alloc, items)?))
 }
 
 /// `abandon CNUM`
@@ -53,6 +66,24 @@ fn abandon<A: Allocator>(arguments: &[&[u8]]) -> Result<CommandIn<A>, LineError>
     Ok(Command::Abandon(claim))
 }
 
+/// `hold ITEM ..`
+fn hold<A: Allocator>(alloc: A, arguments: &[&[u8]]) -> Result<CommandIn<A>, LineError>
+    ensures { Gives result (arguments_in keywords.Hold (map (λ word. word.now) arguments.now)) }
+{
+    Ok(Command::Hold(read_items(alloc, arguments)?))
+}
+
+/// `release HNUM`
+fn release<A: Allocator>(arguments: &[&[u8]]) -> Result<CommandIn<A>, LineError>
+    ensures { Gives result (arguments_in keywords.Release (map (λ word. word.now) arguments.now)) }
+{
+    let [claim] = arguments else {
+        return Err(LineError::BadLine);
+    };
+    let claim = read_short(claim).ok_or(LineError::BadLine)?;
+    Ok(Command::Release(claim))
+}
+
 /// `state CLAIM`
 fn state<A: Allocator>(arguments: &[&[u8]]) -> Result<CommandIn<A>, LineError>
     ensures { Gives result (arguments_in keywords.State (map (λ word. word.now) arguments.now)) }
@@ -62,6 +93,28 @@ fn state<A: Allocator>(arguments: &[&[u8]]) -> Result<CommandIn<A>, LineError>
     };
     let claim = read_claim(claim).ok_or(LineError::BadLine)?;
     Ok(Command::State(claim))
+}
+
+/// `list PATH`
+fn list<A: Allocator>(arguments: &[&[u8]]) -> Result<CommandIn<A>, LineError>
+    ensures { Gives result (arguments_in keywords.List (map (λ word. word.now) arguments.now)) }
+{
+    let [path] = arguments else {
+        return Err(LineError::BadLine);
+    };
+    let path = Path::read(path).ok_or(LineError::BadLine)?;
+    Ok(Command::List(path))
+}
+
+/// `quit`
+fn quit<A: Allocator>(arguments: &[&[u8]]) -> Result<CommandIn<A>, LineError>
+    ensures { Gives result (arguments_in keywords.Quit (map (λ word. word.now) arguments.now)) }
+{
+    if arguments.is_empty() {
+        Ok(Command::Leave)
+    } else {
+        Err(LineError::BadLine)
+    }
 }
 
 /// The command of a keyword and the words behind it.
@@ -76,8 +129,13 @@ fn read_arguments<A: Allocator>(
         Keyword::Hello => hello(arguments),
         Keyword::Make => make(arguments),
         Keyword::CheckOut => check_out(alloc, arguments),
+        Keyword::Extend => extend(alloc, arguments),
         Keyword::Abandon => abandon(arguments),
+        Keyword::Hold => hold(alloc, arguments),
+        Keyword::Release => release(arguments),
         Keyword::State => state(arguments),
+        Keyword::List => list(arguments),
+        Keyword::Quit => quit(arguments),
     }
 }
 
@@ -93,7 +151,7 @@ fn read_words<A: Allocator>(alloc: A, words: &[&[u8]]) -> Result<CommandIn<A>, L
 }
 
 /// The command that the line spells. The line comes without the line feed at its end.
-/// Memory goes to the list of its words, and to the items of a check-out.
+/// Memory goes to the list of its words, and to the items of a check-out, an extension or a hold.
 pub fn read_line_of<A: Allocator + Copy>(alloc: A, line: &[u8]) -> Result<CommandIn<A>, LineError>
     ensures { Gives result (command_of line.now) }
 {

@@ -15,7 +15,7 @@ use crate::words::read_number;
 use std::alloc::{AllocError, Allocator};
 use std::marker::Model;
 use vault_checkout::Book;
-use vault_model::{CommandIn, NoMemory, Outside, Reply};
+use vault_model::{CommandIn, NoMemory, Outside, Reply, ReplyIn};
 
 /// The vault, the session that each connection speaks for, and how many commands there were.
 #[derive(Drop)]
@@ -79,14 +79,16 @@ fn connection_of(line: &[u8]) -> Option<(u32, &[u8])>
     }
 }
 
-/// A connection speaks for the session that it was told last.
-fn speak_for(sessions: &mut [u32; 64], connection: u32, reply: &Reply)
+/// A connection speaks for the session that it was told last, and for session 0 again once it left.
+fn speak_for<A: Allocator>(sessions: &mut [u32; 64], connection: u32, reply: &ReplyIn<A>)
     requires first { 1 ≤ connection }
     requires last { connection ≤ last_connection }
     ensures { sessions.new ≡ sessions_after sessions.old connection reply.now }
 {
-    if let Reply::Session(number) = reply {
-        sessions[connection as usize - 1] = *number;
+    match reply {
+        Reply::Session(number) => sessions[connection as usize - 1] = *number,
+        Reply::Left => sessions[connection as usize - 1] = 0,
+        _ => {}
     }
 }
 
@@ -112,7 +114,7 @@ impl<A: Allocator + Copy> Runner<A> {
     }
 
     /// The reply to a command of a connection.
-    fn reply_to(&mut self, connection: u32, command: &CommandIn<A>) -> Result<Reply, NoMemory>
+    fn reply_to(&mut self, connection: u32, command: &CommandIn<A>) -> Result<ReplyIn<A>, NoMemory>
         requires first { 1 ≤ connection }
         requires last { connection ≤ last_connection }
         requires room { self.old.commands < most_commands }

@@ -1,11 +1,11 @@
 //! The texts of replies.
 
 ghost use Rattle.std.specs.Prelude.{◌≡◌, Some, IfOk};
-ghost use Rattle.vault_protocol.specs.Texts.{claim_text, outside_text, queued_text, refusal_text, reply_text};
+ghost use Rattle.vault_protocol.specs.Texts.{children_text, claim_text, outside_text, queued_text, refusal_text, reply_text};
 
 use std::alloc::{AllocError, Allocator};
 use std::fmt;
-use vault_model::{ClaimId, NoMemory, Outside, Refusal, Reply};
+use vault_model::{ClaimId, Name, NoMemory, Outside, Refusal, Reply, ReplyIn};
 
 /// A claim as lines name it: `c1` is a long one, `h1` a short one.
 #[derive(Clone, Copy)]
@@ -39,6 +39,9 @@ impl fmt::Display for RefusalText {
             Refusal::Covered(claim) => write!(f, "ERR 23 {}", ClaimText(claim)),
             Refusal::NoClaim => write!(f, "ERR 30"),
             Refusal::NotYours => write!(f, "ERR 31"),
+            Refusal::NotHeld => write!(f, "ERR 32"),
+            Refusal::Overlaps(claim) => write!(f, "ERR 33 {}", ClaimText(claim)),
+            Refusal::NotCovered => write!(f, "ERR 34"),
             Refusal::ItemCount => write!(f, "ERR 36"),
             Refusal::Limit => write!(f, "ERR 50"),
         }
@@ -59,8 +62,24 @@ fn text_of_queued<A: Allocator + Copy>(
     Ok(text)
 }
 
+/// The text of the names of places.
+fn text_of_children<A: Allocator + Copy>(alloc: A, names: &[Name]) -> Result<Vec<u8, A>, AllocError>
+    ensures { IfOk result (λ text. text.items ≡ children_text names.now) }
+{
+    let mut text = format!(in alloc; "OK list {}", names.len())?.into_bytes();
+    for name in names {
+        text.extend_from_slice(b" ")?;
+        text.extend_from_slice(name.as_bytes())?;
+    }
+    text.extend_from_slice(b"\n")?;
+    Ok(text)
+}
+
 /// The text of a reply, where memory is there.
-fn reply_text_of<A: Allocator + Copy>(alloc: A, reply: &Reply) -> Result<Vec<u8, A>, AllocError>
+fn reply_text_of<A: Allocator + Copy, B: Allocator>(
+    alloc: A,
+    reply: &ReplyIn<B>,
+) -> Result<Vec<u8, A>, AllocError>
     ensures { IfOk result (λ text. text.items ≡ reply_text reply.now) }
 {
     match reply {
@@ -72,14 +91,20 @@ fn reply_text_of<A: Allocator + Copy>(alloc: A, reply: &Reply) -> Result<Vec<u8,
         )?.into_bytes()),
         Reply::Queued(claim, before) => text_of_queued(alloc, *claim, *before),
         Reply::Abandoned => Ok(format!(in alloc; "OK abandoned\n")?.into_bytes()),
+        Reply::Released => Ok(format!(in alloc; "OK released\n")?.into_bytes()),
+        Reply::Children(names) => text_of_children(alloc, names.as_slice()),
+        Reply::Left => Ok(format!(in alloc; "OK left\n")?.into_bytes()),
         Reply::Refused(refusal) => {
             Ok(format!(in alloc; "{}\n", RefusalText(*refusal))?.into_bytes())
         }
     }
 }
 
-/// The line that a reply is told as, with its line feed.
-pub fn text_of<A: Allocator + Copy>(alloc: A, reply: &Reply) -> Result<Vec<u8, A>, NoMemory>
+/// The line that a reply is told as, with its line feed. Takes time proportional to its length.
+pub fn text_of<A: Allocator + Copy, B: Allocator>(
+    alloc: A,
+    reply: &ReplyIn<B>,
+) -> Result<Vec<u8, A>, NoMemory>
     ensures { IfOk result (λ text. text.items ≡ reply_text reply.now) }
 {
     reply_text_of(alloc, reply).or(Err(NoMemory))

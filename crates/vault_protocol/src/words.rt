@@ -1,7 +1,7 @@
 //! Single words of a line.
 
 ghost use Rattle.std.specs.Prelude.{◌≡◌, List, map};
-ghost use Rattle.vault_protocol.specs.Words.{claim_in, long_in, number_in, positive_in};
+ghost use Rattle.vault_protocol.specs.Words.{claim_in, long_in, number_in, positive_in, short_in};
 ghost use Rattle.vault_protocol.specs.Items.{item_in, items_in};
 ghost use Rattle.vault_protocol.specs.Reading.{Gives};
 
@@ -43,6 +43,16 @@ pub(crate) fn read_long(word: &[u8]) -> Option<u32>
 {
     match word {
         [b'c', digits @ ..] => read_positive(digits),
+        _ => None,
+    }
+}
+
+/// The number of a short claim.
+pub(crate) fn read_short(word: &[u8]) -> Option<u32>
+    ensures { result ≡ short_in word.now }
+{
+    match word {
+        [b'h', digits @ ..] => read_positive(digits),
         _ => None,
     }
 }

@@ -2,19 +2,54 @@
 
 use std::alloc::Global;
 use std::test::Fail;
-use vault_model::{ClaimId, Command, CommandIn, Name, Outside, Path, Refusal, Reply};
+use vault_model::{
+    ClaimId, Command, CommandIn, Intent, Listing, Name, Outside, Path, PathItem, Refusal, Reply,
+};
 use vault_protocol::{LONGEST_LINE, LineError, outside_text, read_line_of, text_of};
 
 #[test]
 fn lines_that_spell_a_command(rt: HostRuntime) -> Result<(), Fail> {
     let anna = Name::read(b"anna").ok_or("a name")?;
     let path = Path::read(b"/e/b").ok_or("a path")?;
-    let rows: [(&[u8], CommandIn<Global>); 5] = [
+    let rows: [(&[u8], CommandIn<Global>); 9] = [
         (b"hello anna", Command::Join(anna)),
-        (b"make /e/b", Command::Make(path)),
+        (b"make /e/b", Command::Make(path, None)),
+        (b"make /e/b c7", Command::Make(path, Some(7))),
         (b"abandon c4294967295", Command::Abandon(4294967295)),
         (b"state c1", Command::State(ClaimId::Long(1))),
         (b"state h20", Command::State(ClaimId::Short(20))),
+        (b"release h20", Command::Release(20)),
+        (b"list /e/b", Command::List(path)),
+        (b"quit", Command::Leave),
+    ];
+    for (line, want) in rows {
+        assert!(rt; read_line_of(rt.alloc(), line)? == want);
+    }
+    Ok(())
+}
+
+#[test]
+fn lines_of_items(rt: HostRuntime) -> Result<(), Fail> {
+    let items = [
+        PathItem {
+            intent: Intent::Look,
+            path: Path::root(),
+        },
+        PathItem {
+            intent: Intent::Change,
+            path: Path::read(b"/e/b").ok_or("a path")?,
+        },
+    ];
+    let checked_out = Listing::from_vec(Vec::from_slice(rt.alloc(), &items)?);
+    let held = Listing::from_vec(Vec::from_slice(rt.alloc(), &items)?);
+    let more = Listing::from_vec(Vec::from_slice(rt.alloc(), &items)?);
+    let rows: [(&[u8], CommandIn<Global>); 3] = [
+        (b"checkout r:/ w:/e/b", Command::CheckOut(checked_out)),
+        (b"hold r:/ w:/e/b", Command::Hold(held)),
+        (
+            b"extend h3 r:/ w:/e/b",
+            Command::Extend(ClaimId::Short(3), more),
+        ),
     ];
     for (line, want) in rows {
         assert!(rt; read_line_of(rt.alloc(), line)? == want);
@@ -58,6 +93,36 @@ fn lines_that_spell_none(rt: HostRuntime) -> Result<(), Fail> {
 }
 
 #[test]
+fn lines_that_say_too_little_or_too_much(rt: HostRuntime) -> Result<(), Fail> {
+    let rows: [&[u8]; 19] = [
+        b"make",
+        b"make /e h1",
+        b"make /e 1",
+        b"make /e c1 c2",
+        b"make c1 /e",
+        b"extend",
+        b"extend c1",
+        b"extend 1 r:/e",
+        b"extend r:/e c1",
+        b"extend c1 r:/e /f",
+        b"hold",
+        b"hold h1",
+        b"release",
+        b"release c1",
+        b"release h0",
+        b"list",
+        b"list / /e",
+        b"quit ",
+        b"quit anna",
+    ];
+    for line in rows {
+        let read: Result<CommandIn<Global>, LineError> = read_line_of(rt.alloc(), line);
+        assert!(rt; read == Err(LineError::BadLine));
+    }
+    Ok(())
+}
+
+#[test]
 fn longest_line(rt: HostRuntime) -> Result<(), Fail> {
     let mut line = b"checkout".to_vec(rt.alloc())?;
     for _ in 0..1022 {
@@ -77,7 +142,7 @@ fn longest_line(rt: HostRuntime) -> Result<(), Fail> {
 
 #[test]
 fn texts_of_replies(rt: HostRuntime) -> Result<(), Fail> {
-    let rows: [(Reply, &[u8]); 8] = [
+    let rows: [(Reply, &[u8]); 13] = [
         (Reply::Session(64), b"OK session 64\n"),
         (Reply::Place(4095), b"OK place 4095\n"),
         (Reply::Held(ClaimId::Long(1)), b"OK held c1\n"),
@@ -86,11 +151,19 @@ fn texts_of_replies(rt: HostRuntime) -> Result<(), Fail> {
             b"OK queued h2 behind c1\n",
         ),
         (Reply::Abandoned, b"OK abandoned\n"),
+        (Reply::Released, b"OK released\n"),
+        (Reply::Left, b"OK left\n"),
         (Reply::Refused(Refusal::NoSession), b"ERR 11\n"),
         (
             Reply::Refused(Refusal::Covered(ClaimId::Long(7))),
             b"ERR 23 c7\n",
         ),
+        (Reply::Refused(Refusal::NotHeld), b"ERR 32\n"),
+        (
+            Reply::Refused(Refusal::Overlaps(ClaimId::Short(12))),
+            b"ERR 33 h12\n",
+        ),
+        (Reply::Refused(Refusal::NotCovered), b"ERR 34\n"),
         (Reply::Refused(Refusal::Limit), b"ERR 50\n"),
     ];
     for (reply, want) in rows {
@@ -104,5 +177,23 @@ fn texts_of_replies(rt: HostRuntime) -> Result<(), Fail> {
         outside_text(rt.alloc(), Outside::Busy)?.as_slice(),
         b"ERR 80\n".as_slice()
     );
+    Ok(())
+}
+
+#[test]
+fn texts_of_names(rt: HostRuntime) -> Result<(), Fail> {
+    let names = [
+        Name::read(b"p2").ok_or("a name")?,
+        Name::read(b"p1").ok_or("a name")?,
+    ];
+    let rows: [(&[Name], &[u8]); 3] = [
+        (&[], b"OK list 0\n"),
+        (&names[..1], b"OK list 1 p2\n"),
+        (&names, b"OK list 2 p2 p1\n"),
+    ];
+    for (names, want) in rows {
+        let reply: Reply = Reply::Children(Listing::from_vec(Vec::from_slice(rt.alloc(), names)?));
+        assert_eq!(rt; text_of(rt.alloc(), &reply)?.as_slice(), want);
+    }
     Ok(())
 }

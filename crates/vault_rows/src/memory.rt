@@ -1,9 +1,9 @@
 //! Each request for memory refused in turn.
 
-use std::alloc::Allocator;
+use std::alloc::{Allocator, Global};
 use std::test::Fail;
 use test_memory::Refusing;
-use vault_model::{ClaimId, Command, CommandIn, NoMemory, Outside, Reply};
+use vault_model::{ClaimId, Command, CommandIn, Listing, Name, NoMemory, Outside, Reply};
 use vault_protocol::{LineError, ScriptError, outside_text, read_line_of, run_script, text_of};
 
 #[test]
@@ -33,41 +33,76 @@ fn scripts_refused_memory(rt: HostRuntime) -> Result<(), Fail> {
     Ok(())
 }
 
-/// How many items a check-out asks for.
+#[test]
+fn scripts_of_claims_refused_memory(rt: HostRuntime) -> Result<(), Fail> {
+    let memory = Refusing::new(rt.alloc());
+    let script =
+        b"@1 hello anna\n@1 hold r:/\n@1 extend h1 w:/\n@1 list /\n@1 release h1\n@1 quit\n".as_slice();
+    let output =
+        b"@1 OK session 1\n@1 OK held h1\n@1 OK held h1\n@1 OK list 0\n@1 OK released\n@1 OK left\n".as_slice();
+    let mut refusals = 0u64;
+    for number in 1..200u64 {
+        let mut reader = script;
+        let mut held = Vec::new(rt.alloc());
+        memory.refuse(number);
+        match run_script(&memory, &mut reader, &mut held) {
+            Ok(()) => {
+                assert!(rt; memory.is_waiting());
+                assert_eq!(rt; held.as_slice(), output);
+                break;
+            }
+            Err(error) => {
+                assert!(rt; !memory.is_waiting());
+                assert_eq!(rt; error, ScriptError::NoMemory);
+                assert!(rt; output.starts_with(&held));
+                refusals = number;
+            }
+        }
+    }
+    assert!(rt; 2 < refusals && refusals < 199);
+    Ok(())
+}
+
+/// How many items a command asks for.
 fn item_count<A: Allocator>(command: &CommandIn<A>) -> usize {
     match command {
-        Command::CheckOut(items) => items.as_slice().len(),
+        Command::CheckOut(items) | Command::Extend(_, items) | Command::Hold(items) => {
+            items.as_slice().len()
+        }
         _ => 0,
     }
+}
+
+/// How many requests for memory a line of two items makes, where each is refused in turn, and the line is read at the end.
+fn requests_of(memory: &Refusing<Global>, line: &[u8]) -> Option<u64> {
+    let mut refusals = 0u64;
+    for number in 1..20u64 {
+        memory.refuse(number);
+        match read_line_of(memory, line) {
+            Ok(command) => {
+                let whole = memory.is_waiting() && item_count(&command) == 2;
+                return whole.then_some(refusals);
+            }
+            Err(LineError::NoMemory) if !memory.is_waiting() => refusals = number,
+            Err(_) => return None,
+        }
+    }
+    None
 }
 
 #[test]
 fn lines_refused_memory(rt: HostRuntime) -> Result<(), Fail> {
     let memory = Refusing::new(rt.alloc());
-    let mut refusals = 0u64;
-    for number in 1..20u64 {
-        memory.refuse(number);
-        match read_line_of(&memory, b"checkout r:/e w:/") {
-            Ok(command) => {
-                assert!(rt; memory.is_waiting());
-                assert_eq!(rt; item_count(&command), 2);
-                break;
-            }
-            Err(error) => {
-                assert!(rt; !memory.is_waiting());
-                assert_eq!(rt; error, LineError::NoMemory);
-                refusals = number;
-            }
-        }
-    }
-    assert_eq!(rt; refusals, 2);
+    assert_eq!(rt; requests_of(&memory, b"checkout r:/e w:/"), Some(2));
+    assert_eq!(rt; requests_of(&memory, b"hold r:/e w:/"), Some(2));
+    assert_eq!(rt; requests_of(&memory, b"extend c1 r:/e w:/"), Some(2));
     Ok(())
 }
 
 #[test]
 fn texts_refused_memory(rt: HostRuntime) -> Result<(), Fail> {
     let memory = Refusing::new(rt.alloc());
-    let queued = Reply::Queued(ClaimId::Long(2), ClaimId::Long(1));
+    let queued: Reply = Reply::Queued(ClaimId::Long(2), ClaimId::Long(1));
     let mut refusals = 0u64;
     for number in 1..20u64 {
         memory.refuse(number);
@@ -88,5 +123,30 @@ fn texts_refused_memory(rt: HostRuntime) -> Result<(), Fail> {
     assert!(rt; outside_text(&memory, Outside::Busy).is_err());
     memory.refuse(2);
     assert!(rt; outside_text(&memory, Outside::Busy).is_ok());
+    Ok(())
+}
+
+#[test]
+fn names_refused_memory(rt: HostRuntime) -> Result<(), Fail> {
+    let memory = Refusing::new(rt.alloc());
+    let names = [Name::read(b"aaaaaaaaaaaaaaaaaaaaaaaaaaaaaaaa").ok_or("a name")?; 3];
+    let reply: Reply = Reply::Children(Listing::from_vec(Vec::from_slice(rt.alloc(), &names)?));
+    let want = text_of(rt.alloc(), &reply)?;
+    let mut refusals = 0u64;
+    for number in 1..20u64 {
+        memory.refuse(number);
+        match text_of(&memory, &reply) {
+            Ok(text) => {
+                assert!(rt; memory.is_waiting());
+                assert_eq!(rt; text.as_slice(), want.as_slice());
+                break;
+            }
+            Err(NoMemory) => {
+                assert!(rt; !memory.is_waiting());
+                refusals = number;
+            }
+        }
+    }
+    assert!(rt; 1 < refusals && refusals < 19);
     Ok(())
 }

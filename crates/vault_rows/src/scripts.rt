@@ -31,8 +31,8 @@ fn scripts_from_nothing(rt: HostRuntime) -> Result<(), Fail> {
             b"@1 OK session 1\n@2 OK session 2\n@1 OK place 1\n@1 OK held c1\n@2 OK queued c2 behind c1\n",
         ),
         (
-            b"@1 state c1\n@1 hello Anna\n@1 hello anna\n@1 hello anna\nfoo\n@1 make /\n@1 make /x/y\n@1 state c1\n@1 state c0\n",
-            b"@1 ERR 11\n@1 ERR 10\n@1 OK session 1\n@1 ERR 12\n! ERR 10\n@1 ERR 21\n@1 ERR 20\n@1 ERR 30\n@1 ERR 10\n",
+            b"@1 list /\n@1 hello Anna\n@1 hello anna\n@1 hello anna\nfoo\n@1 make /\n@1 make /x/y\n@1 state c1\n@1 state c0\n@1 quit\n@1 list /\n",
+            b"@1 ERR 11\n@1 ERR 10\n@1 OK session 1\n@1 ERR 12\n! ERR 10\n@1 ERR 21\n@1 ERR 20\n@1 ERR 30\n@1 ERR 10\n@1 OK left\n@1 ERR 11\n",
         ),
         (
             b"\n# @1 hello anna\n@1 \n@01 hello anna\n@65 hello anna\n!pump\n@2 hello ben\r\n\n",
@@ -50,10 +50,14 @@ fn scripts_from_nothing(rt: HostRuntime) -> Result<(), Fail> {
 
 #[test]
 fn scripts_of_two_designers(rt: HostRuntime) -> Result<(), Fail> {
-    let rows: [(&[u8], &[u8]); 4] = [
+    let rows: [(&[u8], &[u8]); 5] = [
         (
             b"@1 checkout w:/e/b/p1\n@2 checkout w:/e/b/p2\n",
             b"@1 OK held c1\n@2 OK held c2\n",
+        ),
+        (
+            b"@1 checkout r:/e/b w:/e/b/p1\n@2 checkout r:/e/b/p2\n@2 checkout r:/e/b/p1\n",
+            b"@1 OK held c1\n@2 OK held c2\n@2 OK queued c3 behind c1\n",
         ),
         (
             b"@1 checkout r:/e\n@2 checkout w:/e/b\n@1 checkout r:/e/b\n",
@@ -66,6 +70,47 @@ fn scripts_of_two_designers(rt: HostRuntime) -> Result<(), Fail> {
         (
             b"@1 checkout r:/e\n@2 make /e/c\n",
             b"@1 OK held c1\n@2 ERR 23 c1\n",
+        ),
+    ];
+    for (script, want) in rows {
+        let script = joined(rt.alloc(), BEGUN, script)?;
+        let mut reader = script.as_slice();
+        let mut held = Vec::new(rt.alloc());
+        run_script(rt.alloc(), &mut reader, &mut held)?;
+        assert_eq!(rt;
+            held.as_slice(),
+            joined(rt.alloc(), BEGUN_OUTPUT, want)?.as_slice()
+        );
+    }
+    Ok(())
+}
+
+#[test]
+fn scripts_of_extensions_and_holds(rt: HostRuntime) -> Result<(), Fail> {
+    let rows: [(&[u8], &[u8]); 6] = [
+        (
+            b"@1 checkout r:/e/b/p1\n@2 checkout r:/e/b/p1\n@1 extend c1 w:/e/b/p1\n@1 state c1\n@2 state c2\n",
+            b"@1 OK held c1\n@2 OK held c2\n@1 ERR 33 c2\n@1 OK held c1\n@2 OK held c2\n",
+        ),
+        (
+            b"@2 checkout r:/e/b/p1\n@1 checkout r:/e/b/p2\n@2 checkout w:/e/b\n@1 extend c2 w:/e/b/p2\n@2 state c3\n",
+            b"@2 OK held c1\n@1 OK held c2\n@2 OK queued c3 behind c1\n@1 OK held c2\n@2 OK queued c3 behind c2\n",
+        ),
+        (
+            b"@1 checkout r:/e\n@2 make /e/b/p9\n@1 make /e/b/p9 c1\n@1 extend c1 w:/e/b\n@1 make /e/b/p9 c1\n@2 make /e/b/p8\n@2 make /f\n",
+            b"@1 OK held c1\n@2 ERR 23 c1\n@1 ERR 34\n@1 OK held c1\n@1 OK place 5\n@2 ERR 23 c1\n@2 OK place 6\n",
+        ),
+        (
+            b"@2 hold w:/e/b\n@1 checkout r:/e/b/p1\n",
+            b"@2 OK held h1\n@1 OK queued c1 behind h1\n",
+        ),
+        (
+            b"@2 hold r:/e/b/p1\n@1 checkout w:/e/b/p1\n@1 release h1\n@2 release h1\n@1 state c1\n@2 hold r:/e/b/p1\n@2 quit\n@1 state h2\n",
+            b"@2 OK held h1\n@1 OK queued c1 behind h1\n@1 ERR 31\n@2 OK released\n@1 OK held c1\n@2 OK queued h2 behind c1\n@2 OK left\n@1 ERR 30\n",
+        ),
+        (
+            b"@1 list /\n@2 list /e/b\n@2 list /e/b/p1\n@2 quit\n@2 hello cleo\n@2 list /f\n",
+            b"@1 OK list 1 e\n@2 OK list 2 p1 p2\n@2 OK list 0\n@2 OK left\n@2 OK session 3\n@2 ERR 20\n",
         ),
     ];
     for (script, want) in rows {

@@ -18,11 +18,16 @@ const REFUSED: u8 = 2;
 /// What a script may say, below the help of `script`.
 const LINES: &str = "\
 A line is '@K LINE' for a connection K of 1 to 64, and LINE is one of:
-  hello NAME        opens a session in a designer's name
-  make PATH         makes a place, as /engine, /engine/block or /engine/block/piston
-  checkout ITEM ..  asks for a claim on 1 to 8 items, as r:/engine to look or w:/engine to change
-  abandon CLAIM     gives up a claim, as c1
-  state CLAIM       says whether a claim is held, or behind which one it is queued
+  hello NAME            opens a session in a designer's name
+  make PATH [CLAIM]     makes a place, as /engine or /engine/block/piston, in a check-out's name if one is given
+  list PATH             lists the places right under one
+  checkout ITEM ..      asks for a claim on 1 to 8 items, as r:/engine to look or w:/engine to change
+  extend CLAIM ITEM ..  asks for more items for a held claim, as c1
+  abandon CLAIM         gives up a check-out, as c1
+  hold ITEM ..          asks for a claim that ends with the session
+  release CLAIM         gives up such a claim, as h1
+  state CLAIM           says whether a claim is held, or behind which one it is queued
+  quit                  closes the session
 Empty lines and lines that begin with '#' are skipped.";
 
 /// An example, below the help of the program.
