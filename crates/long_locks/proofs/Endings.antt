@@ -4,7 +4,6 @@ use Rattle.std.proofs.Common.{sym, ap, subst, ◌∙◌, cond, arith}
 use Rattle.std.specs.List.{IsDistinct, AllByRecursion}
 use Rattle.std.specs.Option.{option_map}
 use Rattle.std.proofs.lemmas.List.Elements.{All-nil, All-cons, All-head, All-tail, All-filter}
-use Rattle.std.proofs.lemmas.Bool.Decides.{nat_tests}
 use Rattle.vault_model.specs.declared.place.Place.{Place}
 use Rattle.vault_model.specs.declared.claims.Claim.{Claim}
 use Rattle.vault_model.specs.declared.ids.ClaimId.{ClaimId}
@@ -13,13 +12,10 @@ use Rattle.vault_model.specs.Claims.{same_id, without}
 use Rattle.vault_model.specs.Vault.{AreThere}
 use Rattle.lock_table.specs.declared.entry.Entry.{Entry}
 use Rattle.lock_table.specs.Tables.{IsTableOf}
-use Rattle.lock_table.proofs.Removals.{same_id_turned}
+use Rattle.vault_model.proofs.Stays.{ids, same_id_itself, same_id_turned}
 use Rattle.long_locks.specs.Lines.{LineSeen, IsNumbered, IsLine, is_short, ends, left_by}
 use Rattle.long_locks.specs.declared.ending.Ending.{Ending}
 use Rattle.long_locks.specs.declared.ending.Ending.TheVariants.{AllShort}
-
-abbrev pub ids : List Claim → List ClaimId
-ids line = map (λ (c : Claim). c.id) line
 
 -- a line's claims are its table's
 pub same_ids : (tree : List Place) (line : List Claim) (table : List Entry) → IsTableOf tree line table → map (λ (e : Entry). e.id) table ≡ ids line
@@ -30,10 +26,6 @@ same_ids tree (c ∷ line) (e ∷ table) zip = rw zip.0.id (ap (λ ks. c.id ∷ 
 
 pub distinct_claims : (tree : List Place) (line : List Claim) (table : List Entry) → IsTableOf tree line table → IsDistinct same_id (map (λ (e : Entry). e.id) table) → IsDistinct same_id (ids line)
 distinct_claims tree line table zip distinct = subst (λ ks. IsDistinct same_id ks) (same_ids tree line table zip) distinct
-
-same_id_itself : (a : ClaimId) → same_id a a ≡ true
-same_id_itself (Long m) = grind (arith, nat_tests)
-same_id_itself (Short m) = grind (arith, nat_tests)
 
 others_stay : (id : ClaimId) (line : List Claim) → AllByRecursion (λ k. same_id id k ≡ false) (ids line) → without line id ≡ line
 others_stay id [] all = refl

@@ -1,18 +1,16 @@
 -- A claim put first, in a line and in its table.
 use Rattle.std.specs.Prelude.{◌≡◌, Bool, true, false, not, List, [], ◌∷◌, Option, None, Some, is_some, All, refl}
-use Rattle.std.proofs.Common.{sym, ap, ◌∙◌, cond}
-use Rattle.std.specs.Option.{option_map, option_map_or}
+use Rattle.std.proofs.Common.{sym, ap, cond}
+use Rattle.std.specs.Option.{option_map_or}
 use Rattle.std.proofs.lemmas.List.Elements.{All-cons, All-filter}
 use Rattle.vault_model.specs.declared.place.Place.{Place}
 use Rattle.vault_model.specs.declared.claims.Item.{Item}
 use Rattle.vault_model.specs.declared.claims.Claim.{Claim}
-use Rattle.vault_model.specs.declared.claims.Standing.{Standing}
-use Rattle.vault_model.specs.declared.claims.Standing.TheVariants.{Held}
 use Rattle.vault_model.specs.declared.ids.ClaimId.{ClaimId}
 use Rattle.vault_model.specs.Tree.{IsTree}
-use Rattle.vault_model.specs.Claims.{same_id, standing_behind, claim_of, before, without, standing_of}
+use Rattle.vault_model.specs.Claims.{same_id, claim_of, without}
 use Rattle.vault_model.specs.Vault.{AreThere}
-use Rattle.vault_model.proofs.Stays.{same_id_is, claim_there}
+use Rattle.vault_model.proofs.Stays.{own_id, claim_there}
 use Rattle.lock_table.specs.declared.locks.Lock.{Lock}
 use Rattle.lock_table.specs.declared.entry.Entry.{Entry}
 use Rattle.lock_table.specs.declared.entry.Extension.TheVariants.{Done, InTheWay}
@@ -29,22 +27,6 @@ is_done (Some id) e = cc
 pub is_in_way : (o : Option ClaimId) (id : ClaimId) → InTheWay id ≡ extension_by o → o ≡ Some id
 is_in_way None id e = cc
 is_in_way (Some other) id e = let same : id ≡ other = cc in ap Some (sym same)
-
-pub own_id : (line : List Claim) (id : ClaimId) (c : Claim) → claim_of line id ≡ Some c → c.id ≡ id
-own_id [] id c e = cc
-own_id (x ∷ line) id c e = by_test (same_id x.id id) refl e (own_id line id c)
-  where
-    by_test : (b : Bool) → same_id x.id id ≡ b → cond b (Some x) (claim_of line id) ≡ Some c → (claim_of line id ≡ Some c → c.id ≡ id) → c.id ≡ id
-    by_test true h k rest = let same : x ≡ c = cc in ap (λ (d : Claim). d.id) (sym same) ∙ same_id_is x.id id h
-    by_test false h k rest = rest k
-
-some_claim : (o : Option Claim) (f : Claim → Standing) (standing : Standing) → option_map f o ≡ Some standing → is_some o ≡ true
-some_claim None f standing e = cc
-some_claim (Some c) f standing e = refl
-
--- a held claim is in the line
-pub held_there : (tree : List Place) (line : List Claim) (id : ClaimId) → standing_of tree line id ≡ Some Held → is_some (claim_of line id) ≡ true
-held_there tree line id held = some_claim (claim_of line id) (λ (c : Claim). standing_behind tree (before line id) c.items) Held held
 
 pub zip_first : (tree : List Place) (line : List Claim) (table : List Entry) (zip : IsTableOf tree line table) (id : ClaimId) (items : List Item) (locks : List Lock) → AreLocksOf tree items locks → is_some (claim_of line id) ≡ true
     → IsTableOf tree (put_first line id items) (tables.put_first table id locks)

@@ -1,12 +1,10 @@
 -- The line of claims, with the numbers given so far and the tree over which it was weighed last. This project's own.
-use Rattle.std.specs.Prelude.{◌≡◌, ℕ, ◌+◌, ◌≤◌, Bool, true, false, ◌==◌, not, ◌&&◌, List, [], ◌∷◌, ◌++◌, filter, Option, None, Some, All}
-use Rattle.std.specs.Option.{option_map_or}
+use Rattle.std.specs.Prelude.{◌≡◌, ℕ, ◌+◌, ◌≤◌, Bool, not, List, [], ◌∷◌, ◌++◌, filter, Option, None, Some, All}
 use Rattle.vault_model.specs.declared.place.Place.{Place}
 use Rattle.vault_model.specs.declared.claims.Item.{Item}
 use Rattle.vault_model.specs.declared.claims.Claim.{Claim}
 use Rattle.vault_model.specs.declared.ids.ClaimId.{ClaimId}
 use Rattle.vault_model.specs.declared.ids.ClaimId.TheVariants.{Long, Short}
-use Rattle.vault_model.specs.declared.claims.Owner.{Owner}
 use Rattle.vault_model.specs.declared.claims.Owner.TheVariants as owners
 use Rattle.vault_model.specs.Tree.{IsTree}
 pub use Rattle.vault_model.specs.Claims.{is_session, is_short, without_session, without_short, in_way_of, put_first}

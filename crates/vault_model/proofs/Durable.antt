@@ -3,7 +3,8 @@ use Rattle.std.specs.Prelude.{◌≡◌, ℕ, ◌+◌, ◌<◌, ◌≤◌, ◌==
 use Rattle.std.proofs.Common.{cond, ap, sym, subst, arith, length-append, ◌∙◌}
 use Rattle.std.specs.Option.{ok_or, option_and_then}
 use Rattle.std.proofs.lemmas.Bool.Decides.{nat_tests}
-use Rattle.std.proofs.lemmas.List.Elements.{All-head, All-tail, All-cons, All-nil, All-append}
+use Rattle.std.proofs.lemmas.List.{append-nil}
+use Rattle.std.proofs.lemmas.List.Elements.{filter-append, All-head, All-tail, All-cons, All-nil, All-append}
 use Rattle.std.proofs.lemmas.List.Sums.{length-filter, count_by-le-length}
 use Rattle.vault_model.specs.Limits.{deepest, most_items, most_claims, last_number}
 use Rattle.vault_model.specs.Path.{front}
@@ -74,18 +75,6 @@ five : (a b c d f : Bool) → (a && b && c && d && f) ≡ true → (a ≡ true) 
 five a b c d f e = let x = and_both (a && b && c && d) f e in let y = four a b c d x.0 in (y.0, y.1, y.2, y.3, x.1)
 
 -- filters of a line
-filter_push : (keep : Claim → Bool) (line : List Claim) (c : Claim) → filter keep (line ++ c ∷ []) ≡ filter keep line ++ cond (keep c) (c ∷ []) []
-filter_push keep [] c = by_test (keep c)
-  where
-    by_test : (b : Bool) → cond b (c ∷ []) [] ≡ cond b (c ∷ []) []
-    by_test b = refl
-filter_push keep (x ∷ line) c = by_test (keep x) (filter_push keep line c)
-  where
-    by_test : (b : Bool) → filter keep (line ++ c ∷ []) ≡ filter keep line ++ cond (keep c) (c ∷ []) []
-        → cond b (x ∷ filter keep (line ++ c ∷ [])) (filter keep (line ++ c ∷ [])) ≡ cond b (x ∷ filter keep line) (filter keep line) ++ cond (keep c) (c ∷ []) []
-    by_test true ih = ap (λ rest. x ∷ rest) ih
-    by_test false ih = ih
-
 filter_swap : (p q : Claim → Bool) (line : List Claim) → filter p (filter q line) ≡ filter q (filter p line)
 filter_swap p q [] = refl
 filter_swap p q (x ∷ line) = by_tests (p x) refl (q x) refl (filter_swap p q line)
@@ -236,7 +225,7 @@ module _ (v : Vault) (n : ℕ) (kept : IsVault v) where
       let fewer : length (without_short v.line) < most_claims = omega arith in
       counted_change v n (Some (effects.Asked (v.last_long + 1) name items)) (record v { line = v.line ++ record { id = Long (v.last_long + 1); owner = owners.Designer name; items = items } ∷ []; last_long = v.last_long + 1 })
       (asks_for (durable v) name items asked.0 asked.1 asked.2 fewer
-      ∙ ap (λ line. Some (record (durable v) { line = line; last_long = v.last_long + 1 })) (sym (filter_push lasts v.line (record { id = Long (v.last_long + 1); owner = owners.Designer name; items = items })))))
+      ∙ ap (λ line. Some (record (durable v) { line = line; last_long = v.last_long + 1 })) (sym (filter-append lasts v.line (record { id = Long (v.last_long + 1); owner = owners.Designer name; items = items } ∷ [])))))
       refused)
       refused)
       refused
@@ -284,14 +273,10 @@ module _ (v : Vault) (n : ℕ) (kept : IsVault v) where
       by_bind Changes _ _
       (λ _. by_bind Changes _ _
       (λ items. by_bind Changes _ _
-      (λ _. counted_change v n None _ (ap (λ line. record (durable v) { line = line }) (filter_push lasts v.line (record { id = Short (v.last_short + 1); owner = owners.Session session.number; items = items }) ∙ ends (without_short v.line))))
+      (λ _. counted_change v n None _ (ap (λ line. record (durable v) { line = line }) (filter-append lasts v.line (record { id = Short (v.last_short + 1); owner = owners.Session session.number; items = items } ∷ []) ∙ append-nil (without_short v.line))))
       refused)
       refused)
       refused
-    where
-      ends : (line : List Claim) → line ++ [] ≡ line
-      ends [] = refl
-      ends (x ∷ line) = ap (λ rest. x ∷ rest) (ends line)
 
   release_changes : (session : Session) (number : ℕ) → Changes (release v session number)
   unfolding release
@@ -385,7 +370,7 @@ module _ (w : Vault) (kept : IsVault w) where
       let room : length w.line < most_claims = grind (arith, nat_tests, all.4) in
       subst (λ (x : Vault). IsVault x × (IsDurable w → IsDurable x)) is.1 (
         rw own (kept_asked_long w kept designer items room some few (there_all w.tree items all.3)),
-        λ h. ap (λ line. record (durable w) { line = line; last_long = number }) (filter_push lasts w.line (record { id = Long number; owner = owners.Designer designer; items = items }))
+        λ h. ap (λ line. record (durable w) { line = line; last_long = number }) (filter-append lasts w.line (record { id = Long number; owner = owners.Designer designer; items = items } ∷ []))
             ∙ ap (λ (x : Vault). record x { line = x.line ++ record { id = Long number; owner = owners.Designer designer; items = items } ∷ []; last_long = number }) h,
       )
 

@@ -7,7 +7,6 @@ use Rattle.std.proofs.lemmas.List.Elements.{All-head, All-tail, All-take, All-we
 use Rattle.vault_model.specs.declared.place.Place.{Place}
 use Rattle.vault_model.specs.declared.claims.Item.{Item}
 use Rattle.vault_model.specs.declared.claims.Claim.{Claim}
-use Rattle.vault_model.specs.declared.claims.Standing.{Standing}
 use Rattle.vault_model.specs.declared.claims.Standing.TheVariants.{Held}
 use Rattle.vault_model.specs.declared.ids.ClaimId.{ClaimId}
 use Rattle.vault_model.specs.declared.ids.ClaimId.TheVariants.{Long}
@@ -21,7 +20,7 @@ use Rattle.vault_model.proofs.Overlaps.{overlap-pairs}
 use Rattle.vault_model.proofs.Walks.{Rises}
 use Rattle.vault_model.proofs.Growth.{is_under-push, Rises-push}
 use Rattle.vault_model.proofs.Kept.{AreThere-push}
-use Rattle.vault_model.proofs.Stays.{stood, take_while-cons, standing_of-push, find-filter, held_none, held_kept, kept_there, same_id_is, claim_there}
+use Rattle.vault_model.proofs.Stays.{held_there, stood, take_while-cons, standing_of-push, find-filter, held_none, held_kept, kept_there, same_id_is, claim_there}
 use Rattle.vault_model.proofs.Fronts.{none_passes, held_front}
 use Rattle.vault_model.proofs.Meetings.{symmetric}
 use Rattle.vault_model.proofs.Moves.{Moves, stays, grows, asks, loses, fronts, step_moves}
@@ -68,16 +67,12 @@ module _ (tree : List Place) (x : Place) (rises : Rises tree) (parent : x.parent
           (find_same (λ (d : Claim). AreThere tree d.items) (λ d. overlap bigger c.items d.items) (λ d. overlap tree c.items d.items) (before line id)
           (All-take (λ (d : Claim). AreThere tree d.items) _ line there) (λ d hd. overlap_grown c.items d.items (h c refl) hd))
 
-standing_some : (o : Option Claim) (f : Claim → Standing) → option_map f o ≡ Some Held → is_some o ≡ true
-standing_some None f e = cc
-standing_some (Some c) f e = refl
-
 by_move : (v w : Vault) (id : ClaimId) → IsVault v → standing_of v.tree v.line id ≡ Some Held → is_some (claim_of w.line id) ≡ true → Moves v w → standing_of w.tree w.line id ≡ Some Held
 by_move v w id kept held stands (stays tree line) = rw (tree, line) held
 by_move v w id kept held stands (grows x parent tree line) =
     rw (tree, line) (standing_of-grown v.tree x kept.tree.parents parent v.line id (All-weaker (IsClaim v.tree v.sessions v.last_long v.last_short) (λ (c : Claim). AreThere v.tree c.items) (λ c h. h.there) v.line kept.claims) ∙ held)
 by_move v w id kept held stands (asks c tree line) =
-    rw (tree, line) (standing_of-push v.tree v.line c id (standing_some (claim_of v.line id) _ held) ∙ held)
+    rw (tree, line) (standing_of-push v.tree v.line c id (held_there v.tree v.line id held) ∙ held)
 by_move v w id kept held stands (loses keep tree line) =
     rw (tree, line) (held_kept keep v.tree v.line id kept.apart (subst (λ (claims : List Claim). is_some (claim_of claims id) ≡ true) line stands) held)
 by_move v w id kept held stands (fronts first items claim found free tree line) = rw (tree, line) (held_front v.tree v.line first items kept.apart (rw found refl) free id held)
@@ -88,7 +83,7 @@ held_stays v n command id kept held stands = by_move v (step v n command).vault 
 -- a long claim that is held is held in the durable vault
 pub held_is_durable : HeldIsDurable
 held_is_durable v n kept held =
-    held_kept (λ (c : Claim). not (is_short c.id)) v.tree v.line (Long n) kept.apart (kept_there (λ (c : Claim). not (is_short c.id)) v.line (Long n) (λ c own. rw own refl) (standing_some (claim_of v.line (Long n)) _ held)) held
+    held_kept (λ (c : Claim). not (is_short c.id)) v.tree v.line (Long n) kept.apart (kept_there (λ (c : Claim). not (is_short c.id)) v.line (Long n) (λ c own. rw own refl) (held_there v.tree v.line (Long n) held)) held
 
 -- of two claims of a line one stands before the other
 ahead : (line : List Claim) (a b : ClaimId) (c d : Claim) → same_id a b ≡ false → claim_of line a ≡ Some c → claim_of line b ≡ Some d → (claim_of (before line b) a ≡ Some c) ⊎ (claim_of (before line a) b ≡ Some d)

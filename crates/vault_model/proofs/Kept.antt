@@ -106,7 +106,7 @@ claim_with tree sessions others last_long last_short c more h = record { given =
     by_owner (owners.Session number) (Long n) owned = owned
 
 -- without a claim that stands the line is shorter
-pub without_shorter : (line : List Claim) (id : ClaimId) → length (without line id) + cond (is_some (claim_of line id)) 1 0 ≤ length line
+without_shorter : (line : List Claim) (id : ClaimId) → length (without line id) + cond (is_some (claim_of line id)) 1 0 ≤ length line
 without_shorter [] id = omega arith
 without_shorter (x ∷ line) id = by_test (same_id x.id id) (claim_of line id) (without_shorter line id)
   where
@@ -192,10 +192,9 @@ module _ (v : Vault) (kept : IsVault v) where
   kept_first id claim items found some few there = rw found (record {
     tree = kept.tree;
     few_claims =
-        let shorter = without_shorter v.line id in
-        let less = rw found at shorter in
+        let less = without_less v.line id (rw found refl) in
         let bound = kept.few_claims in
-        omega (arith, less);
+        omega arith;
     claims = All-cons (IsClaim v.tree v.sessions v.last_long v.last_short) (record claim { items = items }) (without v.line id)
         (let h = claim_there (IsClaim v.tree v.sessions v.last_long v.last_short) v.line id kept.claims claim found in record { given = h.given; owned = h.owned; some = some; few = few; there = there })
         (All-filter (λ (c : Claim). not (same_id c.id id)) (IsClaim v.tree v.sessions v.last_long v.last_short) v.line kept.claims);

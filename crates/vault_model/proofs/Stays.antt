@@ -87,6 +87,14 @@ pub held_none : (o : Option Claim) → standing_by (option_map (λ (d : Claim). 
 held_none None e = refl
 held_none (Some d) e = cc
 
+some_claim : (o : Option Claim) (f : Claim → Standing) (standing : Standing) → option_map f o ≡ Some standing → is_some o ≡ true
+some_claim None f standing e = cc
+some_claim (Some c) f standing e = refl
+
+-- a held claim is in the line
+pub held_there : (tree : List Place) (line : List Claim) (id : ClaimId) → standing_of tree line id ≡ Some Held → is_some (claim_of line id) ≡ true
+held_there tree line id held = some_claim (claim_of line id) (λ (c : Claim). standing_behind tree (before line id) c.items) Held held
+
 abbrev pub ids : List Claim → List ClaimId
 ids line = map (λ (c : Claim). c.id) line
 

@@ -3,7 +3,8 @@ use Rattle.std.proofs.Common.{refl, ap, sym, ◌∙◌}
 use Rattle.lock_table.specs.Tables.{extension_by, held_in_way, AreLocksOf}
 use Rattle.lock_table.proofs.Lines.{standing_law, in_way_law}
 use Rattle.long_locks.specs.Lines.{in_way_of}
-use Rattle.long_locks.proofs.Extensions.{is_done, is_in_way, held_there, zip_first}
+use Rattle.long_locks.proofs.Extensions.{is_done, is_in_way, zip_first}
+use Rattle.vault_model.proofs.Stays.{held_there}
 use Rattle.long_locks.proofs.line.extend.Goals as goal
 
 on_error : {T E : Type 0} (P : Type 0) (r : Result T E) → P → OnErr r P
