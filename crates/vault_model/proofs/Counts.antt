@@ -11,7 +11,7 @@ use Rattle.vault_model.specs.declared.session.Session.{Session}
 use Rattle.vault_model.specs.declared.replies.Refusal.{Refusal}
 use Rattle.vault_model.specs.declared.replies.Refusal.TheVariants.{NoSession, Joined}
 use Rattle.vault_model.specs.Vault.{Vault, session_of, counted, counted_in, CountsBelow}
-use Rattle.vault_model.specs.Step.{Outcome, ◌>>=◌, join, make, check_out, extend, abandon, hold, release, state, list, at_door, in_session, decide, told, step}
+use Rattle.vault_model.specs.Step.{Outcome, ◌>>=◌, join, make, check_out, extend, abandon, hold, release, state, list, save, check_in, fetch, count, at_door, in_session, decide, told, step}
 use Rattle.vault_model.specs.Laws.{CountsRise}
 use Rattle.vault_model.proofs.Kept.{counts_rise, counts_left}
 use Rattle.vault_model.proofs.Moves.{by_bind}
@@ -76,16 +76,36 @@ module _ (v : Vault) (n bound : ℕ) (low : CountsBelow bound v) where
   unfolding list
   list_rises path = by_bind Rises _ _ (λ _. same _ refl refl) refused
 
+  save_rises : (session : Session) (number : ℕ) (path : List (List ℕ)) (content : List ℕ) → Rises (save v session number path content)
+  unfolding save
+  save_rises session number path content = by_bind Rises _ _ (λ _. by_bind Rises _ _ (λ _. by_bind Rises _ _ (λ _. by_bind Rises _ _ (λ _. by_bind Rises _ _ (λ _. same _ refl refl) refused) refused) refused) refused) refused
+
+  check_in_rises : (session : Session) (number : ℕ) → Rises (check_in v session number)
+  unfolding check_in
+  check_in_rises session number = by_bind Rises _ _ (λ _. by_bind Rises _ _ (λ _. same _ refl refl) refused) refused
+
+  fetch_rises : (path : List (List ℕ)) (version : ℕ) → Rises (fetch v path version)
+  unfolding fetch
+  fetch_rises path version = by_bind Rises _ _ (λ _. by_bind Rises _ _ (λ _. by_bind Rises _ _ (λ _. same _ refl refl) refused) refused) refused
+
+  count_rises : (path : List (List ℕ)) → Rises (count v path)
+  unfolding count
+  count_rises path = by_bind Rises _ _ (λ _. by_bind Rises _ _ (λ _. same _ refl refl) refused) refused
+
   session_rises : (session : Session) (command : Command) → Rises (in_session v session command)
   session_rises session (commands.Join name) = refused Joined
   session_rises session (commands.Make path claim) = make_rises session path claim
   session_rises session (commands.CheckOut items) = check_out_rises session.name items
   session_rises session (commands.Extend id items) = extend_rises session id items
+  session_rises session (commands.Save number path content) = save_rises session number path content
+  session_rises session (commands.CheckIn number) = check_in_rises session number
   session_rises session (commands.Abandon number) = abandon_rises session.name number
   session_rises session (commands.Hold items) = hold_rises session items
   session_rises session (commands.Release number) = release_rises session number
   session_rises session (commands.State id) = state_rises id
   session_rises session (commands.List path) = list_rises path
+  session_rises session (commands.Fetch path version) = fetch_rises path version
+  session_rises session (commands.Count path) = count_rises path
   session_rises session commands.Leave = counted_low n bound _ (counts_left session.number bound v _ low)
 
   door_rises : (command : Command) → Rises (at_door v command)
@@ -93,11 +113,15 @@ module _ (v : Vault) (n bound : ℕ) (low : CountsBelow bound v) where
   door_rises (commands.Make path claim) = refused NoSession
   door_rises (commands.CheckOut items) = refused NoSession
   door_rises (commands.Extend id items) = refused NoSession
+  door_rises (commands.Save number path content) = refused NoSession
+  door_rises (commands.CheckIn number) = refused NoSession
   door_rises (commands.Abandon number) = refused NoSession
   door_rises (commands.Hold items) = refused NoSession
   door_rises (commands.Release number) = refused NoSession
   door_rises (commands.State id) = refused NoSession
   door_rises (commands.List path) = refused NoSession
+  door_rises (commands.Fetch path version) = refused NoSession
+  door_rises (commands.Count path) = refused NoSession
   door_rises commands.Leave = refused NoSession
 
   decide_rises : (command : Command) → Rises (decide v n command)

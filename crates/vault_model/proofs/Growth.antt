@@ -5,13 +5,16 @@ use Rattle.std.specs.Option.{option_map, option_map_or, option_and_then, IfSome}
 use Rattle.std.specs.Str.{bytes_eq}
 use Rattle.std.specs.List.{position_or_len}
 use Rattle.std.proofs.lemmas.Option.{slice_get_past, slice_get_within, get_or_from_slice_get}
+use Rattle.std.proofs.lemmas.List.Elements.{All-weaker}
 use Rattle.std.proofs.lemmas.List.Sums.{prefix_len_passes, sum_by-append}
 use Rattle.std.proofs.lemmas.Slice.Eq.{bytes_eq-Decides}
 use Rattle.std.proofs.lemmas.Bool.{cases_lt}
 use Rattle.std.proofs.lemmas.Bool.Decides.{nat_tests}
 use Rattle.vault_model.specs.declared.place.Place.{Place}
+use Rattle.vault_model.specs.declared.claims.Item.{Item}
 use Rattle.vault_model.specs.Tree.{parent_of, is_under_within, is_under, depth_within, depth, is_child, child, find_below, find_place, children_count, is_full, IsTree}
 use Rattle.vault_model.specs.Limits.{deepest, most_places, most_children}
+use Rattle.vault_model.specs.Vault.{AreThere}
 use Rattle.vault_model.proofs.Walks.{Rises, same_at, depth-step, depth-top}
 
 pub slice_get-push_old : {X : Type 0} (xs : List X) (y : X) (i : ℕ) → i < length xs → slice_get (xs ++ y ∷ []) i ≡ slice_get xs i
@@ -200,3 +203,7 @@ find_below_there tree at (name ∷ names) h = by_child (child tree at name) (chi
 -- what a path leads to is there
 pub find_place_there : (tree : List Place) (path : List (List ℕ)) → IfSome (find_place tree path) (λ p. p ≤ length tree)
 find_place_there tree path = find_below_there tree 0 path (omega arith)
+
+-- items stay there as the tree grows
+pub AreThere-push : (tree : List Place) (x : Place) (items : List Item) → AreThere tree items → AreThere (tree ++ x ∷ []) items
+AreThere-push tree x items = All-weaker (λ (item : Item). item.place ≤ length tree) (λ (item : Item). item.place ≤ length (tree ++ x ∷ [])) (λ item h. let longer = length-append tree (x ∷ []) in omega arith) items

@@ -1,5 +1,5 @@
 -- What every vault keeps, through each change.
-use Rattle.std.specs.Prelude.{◌≡◌, ℕ, zero, suc, Option, None, Some, is_some, ◌+◌, ◌<◌, ◌≤◌, ◌==◌, Bool, true, false, not, nat_eq, List, [], ◌∷◌, ◌++◌, length, map, filter, All, refl}
+use Rattle.std.specs.Prelude.{◌≡◌, ◌≢◌, ℕ, zero, suc, Option, None, Some, is_some, ◌+◌, ◌<◌, ◌≤◌, ◌==◌, Bool, true, false, not, nat_eq, nat_le, List, [], ◌∷◌, ◌++◌, length, map, filter, All, refl}
 use Rattle.std.proofs.Common.{arith, ap, sym, subst, cond, length-append, ◌∙◌}
 use Rattle.std.proofs.lemmas.List.{length-map}
 use Rattle.std.proofs.lemmas.List.Elements.{All-nil, All-cons, All-head, All-tail, All-weaker, All-filter, All-push, All-map}
@@ -13,22 +13,25 @@ use Rattle.vault_model.specs.declared.claims.Claim.{Claim}
 use Rattle.vault_model.specs.declared.claims.Owner.{Owner}
 use Rattle.vault_model.specs.declared.claims.Owner.TheVariants as owners
 use Rattle.vault_model.specs.declared.session.Session.{Session}
-use Rattle.vault_model.specs.Tree.{IsTree, parent_of, find_place}
+use Rattle.vault_model.specs.Tree.{IsTree, is_part, parent_of, find_place}
 use Rattle.vault_model.proofs.Walks.{depth-top}
 use Rattle.std.specs.List.{IsDistinct, AllByRecursion}
-use Rattle.vault_model.specs.Claims.{same_id, claim_of, without, without_session, is_session, is_short, put_first}
+use Rattle.vault_model.specs.Claims.{same_id, claim_of, without, without_session, without_short, is_session, is_short, put_first}
 use Rattle.vault_model.specs.Limits.{most_items, most_claims, most_sessions}
-use Rattle.vault_model.specs.Vault.{Vault, AreThere, IsGiven, Owns, IsClaim, AreSessions, IsVault, new_vault, durable, session_of, one_more, counted_in, CountsBelow}
+use Rattle.vault_model.specs.Vault.{Vault, weight_of, IsDraft, AreDrafts, AreThere, IsGiven, Owns, IsClaim, AreSessions, IsVault, new_vault, durable, session_of, one_more, counted_in, CountsBelow}
 use Rattle.vault_model.specs.declared.claims.PathItem.{PathItem}
 use Rattle.vault_model.specs.Step.{placed}
 use Rattle.std.specs.Option.{option_map, option_and_then}
+use Rattle.std.proofs.lemmas.List.Sums.{sum_by-cons}
+use Rattle.vault_model.specs.Limits.{deepest, most_drafts, most_weight}
+use Rattle.vault_model.specs.Shelf.{Draft, content_weight, drafts_weight, versions_of, shelved_all, is_shelvable}
+use Rattle.vault_model.specs.Drafts.{SavedDraft, saved_weight, with_draft, drafts_of, without_drafts, IsOrdered}
+use Rattle.vault_model.proofs.Growth.{depth-push, AreThere-push}
+use Rattle.vault_model.proofs.Shelves.{none_shelved, shelf_stays, weight-shelved_all, versions_of-shelved_all}
+use Rattle.vault_model.proofs.DraftsKept.{stands, drafts_grown, drafts_left, drafts_asked, drafts_saved, fewer_drafts}
 use Rattle.vault_model.proofs.Distinct.{IsDistinct-push, IsDistinct-filter}
 use Rattle.vault_model.proofs.Overlaps.{eq_from}
-use Rattle.vault_model.proofs.Stays.{ids, own_id, same_id_turned, claim_there}
-
--- items stay there as the tree grows
-pub AreThere-push : (tree : List Place) (x : Place) (items : List Item) → AreThere tree items → AreThere (tree ++ x ∷ []) items
-AreThere-push tree x items = All-weaker (λ (item : Item). item.place ≤ length tree) (λ (item : Item). item.place ≤ length (tree ++ x ∷ [])) (λ item h. let longer = length-append tree (x ∷ []) in omega arith) items
+use Rattle.vault_model.proofs.Stays.{ids, own_id, same_id_turned, kept_there, claim_there}
 
 -- what holds of members that pass a test
 pub All-kept : {X : Type 0} (P Q : X → Type 0) (keep : X → Bool) (xs : List X) → ((x : X) → P x → keep x ≡ true → Q x) → All P xs → All Q (filter keep xs)
@@ -129,29 +132,116 @@ without_none (x ∷ line) id = by_test (same_id x.id id) refl (without_none line
     by_test true e rest = rest
     by_test false e rest = (same_id_turned x.id id e, rest)
 
+-- fewer drafts weigh no more
+lighter_drafts : (keep : SavedDraft → Bool) (xs : List SavedDraft) → saved_weight (filter keep xs) ≤ saved_weight xs
+lighter_drafts keep [] = omega arith
+lighter_drafts keep (x ∷ xs) = by_test (keep x) (lighter_drafts keep xs)
+  where
+    split : saved_weight (x ∷ xs) ≡ content_weight x.draft.content + saved_weight xs
+    split = sum_by-cons (λ (d : Draft). content_weight d.content) x.draft (map (λ (y : SavedDraft). y.draft) xs)
+
+    split_kept : saved_weight (x ∷ filter keep xs) ≡ content_weight x.draft.content + saved_weight (filter keep xs)
+    split_kept = sum_by-cons (λ (d : Draft). content_weight d.content) x.draft (map (λ (y : SavedDraft). y.draft) (filter keep xs))
+
+    by_test : (b : Bool) → saved_weight (filter keep xs) ≤ saved_weight xs → saved_weight (cond b (x ∷ filter keep xs) (filter keep xs)) ≤ saved_weight (x ∷ xs)
+    by_test true h = rw (split, split_kept) (omega arith)
+    by_test false h = rw split (omega arith)
+
+-- the drafts of a check-out and those of the others weigh what all do
+split_weight : (number : ℕ) (xs : List SavedDraft) → drafts_weight (drafts_of xs number) + saved_weight (without_drafts xs number) ≡ saved_weight xs
+split_weight number [] = refl
+split_weight number (x ∷ xs) = by_test (x.claim == number) (split_weight number xs)
+  where
+    all : saved_weight (x ∷ xs) ≡ content_weight x.draft.content + saved_weight xs
+    all = sum_by-cons (λ (d : Draft). content_weight d.content) x.draft (map (λ (y : SavedDraft). y.draft) xs)
+
+    mine : drafts_weight (x.draft ∷ drafts_of xs number) ≡ content_weight x.draft.content + drafts_weight (drafts_of xs number)
+    mine = sum_by-cons (λ (d : Draft). content_weight d.content) x.draft (drafts_of xs number)
+
+    others : saved_weight (x ∷ without_drafts xs number) ≡ content_weight x.draft.content + saved_weight (without_drafts xs number)
+    others = sum_by-cons (λ (d : Draft). content_weight d.content) x.draft (map (λ (y : SavedDraft). y.draft) (without_drafts xs number))
+
+    by_test : (b : Bool) → drafts_weight (drafts_of xs number) + saved_weight (without_drafts xs number) ≡ saved_weight xs
+        → drafts_weight (map (λ (y : SavedDraft). y.draft) (cond b (x ∷ filter (λ (y : SavedDraft). y.claim == number) xs) (filter (λ (y : SavedDraft). y.claim == number) xs)))
+        + saved_weight (cond (not b) (x ∷ without_drafts xs number) (without_drafts xs number)) ≡ saved_weight (x ∷ xs)
+    by_test true h = rw (all, mine) (omega arith)
+    by_test false h = rw (all, others) (omega arith)
+
+-- a claim that is found and passes the test is found among those that do
+kept_found : (keep : Claim → Bool) (line : List Claim) (id : ClaimId) (c : Claim) → claim_of line id ≡ Some c → keep c ≡ true → is_some (claim_of (filter keep line) id) ≡ true
+kept_found keep [] id c found passes = cc
+kept_found keep (x ∷ line) id c found passes = by_tests (same_id x.id id) refl found (kept_found keep line id c)
+  where
+    by_tests : (b : Bool) → same_id x.id id ≡ b → cond b (Some x) (claim_of line id) ≡ Some c → (claim_of line id ≡ Some c → keep c ≡ true → is_some (claim_of (filter keep line) id) ≡ true) → is_some (claim_of (filter keep (x ∷ line)) id) ≡ true
+    by_tests true g h ih = let same : x ≡ c = cc in let good : keep x ≡ true = subst (λ d. keep d ≡ true) (sym same) passes in rw good (rw g refl)
+    by_tests false g h ih = by_keep (keep x)
+      where
+        by_keep : (k : Bool) → is_some (claim_of (cond k (x ∷ filter keep line) (filter keep line)) id) ≡ true
+        by_keep true = rw g (ih h passes)
+        by_keep false = ih h passes
+
 module _ (v : Vault) (kept : IsVault v) where
-  pub kept_made : (x : Place) → IsTree (v.tree ++ x ∷ []) → IsVault (record v { tree = v.tree ++ x ∷ [] })
-  kept_made x tree = record {
+  few_left : (keep : Claim → Bool) → length (filter keep v.line) ≤ most_claims
+  few_left keep = let same = length-filter keep v.line in let bound = count_by-le-length keep v.line in let few = kept.few_claims in omega arith
+
+  pub kept_made : (x : Place) → IsTree (v.tree ++ x ∷ []) → x.parent ≤ length v.tree → IsVault (record v { tree = v.tree ++ x ∷ [] })
+  kept_made x tree parent = record {
     tree = tree;
     few_claims = kept.few_claims;
     claims = All-weaker (IsClaim v.tree v.sessions v.last_long v.last_short) (IsClaim (v.tree ++ x ∷ []) v.sessions v.last_long v.last_short)
         (λ c h. record { given = h.given; owned = h.owned; some = h.some; few = h.few; there = AreThere-push v.tree x c.items h.there }) v.line kept.claims;
     apart = kept.apart;
     sessions = kept.sessions;
+    versions = record {
+      shelf_is = kept.versions.shelf_is;
+      parts = λ place some.
+          let old = kept.versions.parts place some in
+          let within = old.0 in
+          let longer = length-append v.tree (x ∷ []) in
+          (omega arith, ap (nat_le deepest) (depth-push v.tree x place kept.tree.parents old.0) ∙ old.1);
+    };
+    drafts = drafts_grown v.tree x kept.tree.parents parent v.line (All-weaker (IsClaim v.tree v.sessions v.last_long v.last_short) (λ (c : Claim). AreThere v.tree c.items) (λ c h. h.there) v.line kept.claims) v.drafts kept.drafts;
+    light = kept.light;
   }
 
-  -- some claims left alone
-  pub kept_left : (keep : Claim → Bool) → IsVault (record v { line = filter keep v.line })
-  kept_left keep = record {
+  -- some claims left alone, with some drafts of theirs
+  pub kept_left : (keep : Claim → Bool) (drafts : List SavedDraft) → AreDrafts v.tree (filter keep v.line) drafts → saved_weight drafts ≤ saved_weight v.drafts → IsVault (record v { line = filter keep v.line; drafts = drafts })
+  kept_left keep drafts are less = record {
     tree = kept.tree;
     few_claims = let same = length-filter keep v.line in let bound = count_by-le-length keep v.line in let few = kept.few_claims in omega arith;
     claims = All-filter keep (IsClaim v.tree v.sessions v.last_long v.last_short) v.line kept.claims;
     apart = IsDistinct-filter same_id (λ (c : Claim). c.id) keep v.line kept.apart;
     sessions = kept.sessions;
+    versions = kept.versions;
+    drafts = are;
+    light = let old = kept.light in omega arith;
   }
 
-  pub kept_without : (id : ClaimId) → IsVault (record v { line = without v.line id })
-  kept_without id = kept_left (λ c. not (same_id c.id id))
+  -- without a short claim, which has no drafts
+  pub kept_released : (number : ℕ) → IsVault (record v { line = without v.line (Short number) })
+  kept_released number =
+      kept_left (λ c. not (same_id c.id (Short number))) v.drafts
+      (drafts_left v.tree v.line (λ c. not (same_id c.id (Short number))) v.drafts kept.apart (still v.drafts kept.drafts.each) kept.drafts) (omega arith)
+    where
+      still : (xs : List SavedDraft) → All (IsDraft v.tree v.line) xs → All (λ (x : SavedDraft). is_some (claim_of (without v.line (Short number)) (Long x.claim)) ≡ true) xs
+      still [] all = All-nil (λ (x : SavedDraft). is_some (claim_of (without v.line (Short number)) (Long x.claim)) ≡ true)
+      still (x ∷ xs) all =
+          All-cons (λ (x : SavedDraft). is_some (claim_of (without v.line (Short number)) (Long x.claim)) ≡ true) x xs
+          (kept_there (λ c. not (same_id c.id (Short number))) v.line (Long x.claim) (λ c own. rw own refl) (stands v.tree v.line (Long x.claim) (All-head (IsDraft v.tree v.line) x xs all).held))
+          (still xs (All-tail (IsDraft v.tree v.line) x xs all))
+
+  -- without a check-out and its drafts
+  pub drafts_without : (number : ℕ) → AreDrafts v.tree (without v.line (Long number)) (without_drafts v.drafts number)
+  drafts_without number =
+      drafts_left v.tree v.line (λ c. not (same_id c.id (Long number))) (without_drafts v.drafts number) kept.apart (still v.drafts kept.drafts.each)
+      (fewer_drafts v.tree v.line (λ (x : SavedDraft). not (x.claim == number)) v.drafts kept.drafts)
+    where
+      still : (xs : List SavedDraft) → All (IsDraft v.tree v.line) xs → All (λ (x : SavedDraft). is_some (claim_of (without v.line (Long number)) (Long x.claim)) ≡ true) (without_drafts xs number)
+      still xs all = All-kept (IsDraft v.tree v.line) (λ (x : SavedDraft). is_some (claim_of (without v.line (Long number)) (Long x.claim)) ≡ true) (λ (x : SavedDraft). not (x.claim == number)) xs
+          (λ x h e. kept_there (λ c. not (same_id c.id (Long number))) v.line (Long x.claim) (λ c own. rw own e) (stands v.tree v.line (Long x.claim) h.held)) all
+
+  pub kept_without : (number : ℕ) → IsVault (record v { line = without v.line (Long number); drafts = without_drafts v.drafts number })
+  kept_without number = kept_left (λ c. not (same_id c.id (Long number))) (without_drafts v.drafts number) (drafts_without number) (lighter_drafts (λ (x : SavedDraft). not (x.claim == number)) v.drafts)
 
   pub kept_asked : (c : Claim) (m n : ℕ) → v.last_long ≤ m → v.last_short ≤ n → IsGiven m n c.id → ((id : ClaimId) → IsGiven v.last_long v.last_short id → same_id id c.id ≡ false) → Owns v.sessions c.owner c.id
       → length v.line < most_claims → 0 < length c.items → length c.items ≤ most_items → AreThere v.tree c.items → IsVault (record v { line = v.line ++ c ∷ []; last_long = m; last_short = n })
@@ -164,6 +254,9 @@ module _ (v : Vault) (kept : IsVault v) where
     apart = IsDistinct-push same_id (λ (d : Claim). d.id) v.line c kept.apart
         (All-weaker (IsClaim v.tree v.sessions v.last_long v.last_short) (λ (d : Claim). same_id d.id c.id ≡ false) (λ d h. fresh d.id h.given) v.line kept.claims);
     sessions = kept.sessions;
+    versions = kept.versions;
+    drafts = drafts_asked v.tree v.line c v.drafts kept.drafts;
+    light = kept.light;
   }
     where
       later : (id : ClaimId) → IsGiven v.last_long v.last_short id → IsGiven m n id
@@ -187,9 +280,9 @@ module _ (v : Vault) (kept : IsVault v) where
       fresh (Short n) h = let high = h.1 in grind (arith, nat_tests)
 
   -- a claim with other items, put first
-  pub kept_first : (id : ClaimId) (claim : Claim) (items : List Item) → claim_of v.line id ≡ Some claim → 0 < length items → length items ≤ most_items → AreThere v.tree items → IsVault (record v { line = put_first v.line id items })
+  pub kept_first : (id : ClaimId) (claim : Claim) (items : List Item) → claim_of v.line id ≡ Some claim → 0 < length items → length items ≤ most_items → AreThere v.tree items → AreDrafts v.tree (put_first v.line id items) v.drafts → IsVault (record v { line = put_first v.line id items })
   unfolding IsDistinct
-  kept_first id claim items found some few there = rw found (record {
+  kept_first id claim items found some few there drafts = rw found (record {
     tree = kept.tree;
     few_claims =
         let less = without_less v.line id (rw found refl) in
@@ -203,6 +296,9 @@ module _ (v : Vault) (kept : IsVault v) where
       IsDistinct-filter same_id (λ (c : Claim). c.id) (λ c. not (same_id c.id id)) v.line kept.apart,
     );
     sessions = kept.sessions;
+    versions = kept.versions;
+    drafts = rw found at drafts;
+    light = kept.light;
   })
 
   -- sessions that have those of the claims
@@ -213,6 +309,9 @@ module _ (v : Vault) (kept : IsVault v) where
     claims = All-weaker (IsClaim v.tree v.sessions v.last_long v.last_short) (IsClaim v.tree sessions v.last_long v.last_short) (λ c h. claim_with v.tree v.sessions sessions v.last_long v.last_short c more h) v.line kept.claims;
     apart = kept.apart;
     sessions = are;
+    versions = kept.versions;
+    drafts = kept.drafts;
+    light = kept.light;
   }
 
   pub kept_joined : (s : Session) → s.number ≡ v.last_session + 1 → length v.sessions < most_sessions → IsVault (record v { sessions = v.sessions ++ s ∷ []; last_session = v.last_session + 1 })
@@ -232,10 +331,13 @@ module _ (v : Vault) (kept : IsVault v) where
   pub kept_gone : (gone : ℕ) → IsVault (record v { line = without_session gone v.line; sessions = filter (λ (s : Session). not (s.number == gone)) v.sessions })
   kept_gone gone = record {
     tree = kept.tree;
-    few_claims = (kept_left (λ (c : Claim). not (is_session gone c.owner))).few_claims;
+    few_claims = few_left (λ (c : Claim). not (is_session gone c.owner));
     claims = All-kept (IsClaim v.tree v.sessions v.last_long v.last_short) (IsClaim v.tree (filter (λ (s : Session). not (s.number == gone)) v.sessions) v.last_long v.last_short) (λ (c : Claim). not (is_session gone c.owner)) v.line
         (λ c h e. record { given = h.given; owned = by_owner c.owner c.id e h.owned; some = h.some; few = h.few; there = h.there }) kept.claims;
-    apart = (kept_left (λ (c : Claim). not (is_session gone c.owner))).apart;
+    apart = IsDistinct-filter same_id (λ (c : Claim). c.id) (λ (c : Claim). not (is_session gone c.owner)) v.line kept.apart;
+    versions = kept.versions;
+    drafts = drafts_left v.tree v.line (λ (c : Claim). not (is_session gone c.owner)) v.drafts kept.apart (still v.drafts kept.drafts.each) kept.drafts;
+    light = kept.light;
     sessions = record {
       few = let same = length-filter (λ (s : Session). not (s.number == gone)) v.sessions in let bound = count_by-le-length (λ (s : Session). not (s.number == gone)) v.sessions in let few = kept.sessions.few in omega arith;
       numbers = All-filter (λ (s : Session). not (s.number == gone)) (λ (s : Session). (0 < s.number) × (s.number ≤ v.last_session)) v.sessions kept.sessions.numbers;
@@ -243,6 +345,24 @@ module _ (v : Vault) (kept : IsVault v) where
     };
   }
     where
+      designers : (owner : Owner) (number : ℕ) → Owns v.sessions owner (Long number) → not (is_session gone owner) ≡ true
+      designers (owners.Designer name) number owned = refl
+      designers (owners.Session other) number owned = absurd owned
+
+      of_claim : (number : ℕ) (o : Option Claim) → claim_of v.line (Long number) ≡ o → is_some o ≡ true → is_some (claim_of (without_session gone v.line) (Long number)) ≡ true
+      of_claim number None found e = cc
+      of_claim number (Some c) found e =
+          let h = claim_there (IsClaim v.tree v.sessions v.last_long v.last_short) v.line (Long number) kept.claims c found in
+          let owned : Owns v.sessions c.owner (Long number) = subst (λ k. Owns v.sessions c.owner k) (own_id v.line (Long number) c found) h.owned in
+          kept_found (λ (c : Claim). not (is_session gone c.owner)) v.line (Long number) c found (designers c.owner number owned)
+
+      still : (xs : List SavedDraft) → All (IsDraft v.tree v.line) xs → All (λ (x : SavedDraft). is_some (claim_of (without_session gone v.line) (Long x.claim)) ≡ true) xs
+      still [] all = All-nil (λ (x : SavedDraft). is_some (claim_of (without_session gone v.line) (Long x.claim)) ≡ true)
+      still (x ∷ xs) all =
+          All-cons (λ (x : SavedDraft). is_some (claim_of (without_session gone v.line) (Long x.claim)) ≡ true) x xs
+          (of_claim x.claim (claim_of v.line (Long x.claim)) refl (stands v.tree v.line (Long x.claim) (All-head (IsDraft v.tree v.line) x xs all).held))
+          (still xs (All-tail (IsDraft v.tree v.line) x xs all))
+
       turned : (b : Bool) → not b ≡ true → b ≡ false
       turned true e = cc
       turned false e = refl
@@ -257,13 +377,23 @@ module _ (v : Vault) (kept : IsVault v) where
   unfolding IsDistinct
   kept_durable = record {
     tree = kept.tree;
-    few_claims = (kept_left (λ (c : Claim). not (is_short c.id))).few_claims;
+    few_claims = few_left (λ (c : Claim). not (is_short c.id));
     claims = All-kept (IsClaim v.tree v.sessions v.last_long v.last_short) (IsClaim v.tree [] v.last_long 0) (λ (c : Claim). not (is_short c.id)) v.line
         (λ c h e. record { given = by_id c.id e h.given; owned = by_owner c.owner c.id e h.owned; some = h.some; few = h.few; there = h.there }) kept.claims;
-    apart = (kept_left (λ (c : Claim). not (is_short c.id))).apart;
+    apart = IsDistinct-filter same_id (λ (c : Claim). c.id) (λ (c : Claim). not (is_short c.id)) v.line kept.apart;
+    versions = kept.versions;
+    drafts = drafts_left v.tree v.line (λ (c : Claim). not (is_short c.id)) v.drafts kept.apart (still v.drafts kept.drafts.each) kept.drafts;
+    light = kept.light;
     sessions = record { few = omega arith; numbers = All-nil (λ (s : Session). (0 < s.number) × (s.number ≤ 0)); distinct = tt };
   }
     where
+      still : (xs : List SavedDraft) → All (IsDraft v.tree v.line) xs → All (λ (x : SavedDraft). is_some (claim_of (without_short v.line) (Long x.claim)) ≡ true) xs
+      still [] all = All-nil (λ (x : SavedDraft). is_some (claim_of (without_short v.line) (Long x.claim)) ≡ true)
+      still (x ∷ xs) all =
+          All-cons (λ (x : SavedDraft). is_some (claim_of (without_short v.line) (Long x.claim)) ≡ true) x xs
+          (kept_there (λ (c : Claim). not (is_short c.id)) v.line (Long x.claim) (λ c own. rw own refl) (stands v.tree v.line (Long x.claim) (All-head (IsDraft v.tree v.line) x xs all).held))
+          (still xs (All-tail (IsDraft v.tree v.line) x xs all))
+
       by_id : (id : ClaimId) → not (is_short id) ≡ true → IsGiven v.last_long v.last_short id → IsGiven v.last_long 0 id
       by_id (Long n) e h = h
       by_id (Short n) e h = cc
@@ -273,6 +403,64 @@ module _ (v : Vault) (kept : IsVault v) where
       by_owner (owners.Session number) (Short n) e owned = cc
       by_owner (owners.Designer name) (Short n) e owned = owned
       by_owner (owners.Session number) (Long n) e owned = owned
+
+  -- one draft more, or in place of another
+  pub kept_saved : (new : SavedDraft) → IsDraft v.tree v.line new → length (drafts_of (with_draft v.drafts new) new.claim) ≤ most_drafts → weight_of (record v { drafts = with_draft v.drafts new }) ≤ most_weight → IsVault (record v { drafts = with_draft v.drafts new })
+  kept_saved new fits few light = record {
+    tree = kept.tree;
+    few_claims = kept.few_claims;
+    claims = kept.claims;
+    apart = kept.apart;
+    sessions = kept.sessions;
+    versions = kept.versions;
+    drafts = drafts_saved v.tree v.line v.drafts new kept.drafts fits few;
+    light = light;
+  }
+
+  -- a place that has a draft is a part
+  drafted_part : (number place : ℕ) (xs : List SavedDraft) → All (IsDraft v.tree v.line) xs → map (λ (d : Draft). d.content) (filter (λ (d : Draft). d.place == place) (drafts_of xs number)) ≢ [] → (place ≤ length v.tree) × (is_part v.tree place ≡ true)
+  drafted_part number place [] all some = absurd (some refl)
+  drafted_part number place (x ∷ xs) all some = by_claim (x.claim == number) some (drafted_part number place xs (All-tail (IsDraft v.tree v.line) x xs all))
+    where
+      h : IsDraft v.tree v.line x
+      h = All-head (IsDraft v.tree v.line) x xs all
+
+      by_claim : (b : Bool) → map (λ (d : Draft). d.content) (filter (λ (d : Draft). d.place == place) (map (λ (y : SavedDraft). y.draft) (cond b (x ∷ filter (λ (y : SavedDraft). y.claim == number) xs) (filter (λ (y : SavedDraft). y.claim == number) xs)))) ≢ []
+          → (map (λ (d : Draft). d.content) (filter (λ (d : Draft). d.place == place) (drafts_of xs number)) ≢ [] → (place ≤ length v.tree) × (is_part v.tree place ≡ true)) → (place ≤ length v.tree) × (is_part v.tree place ≡ true)
+      by_claim false more rest = rest more
+      by_claim true more rest = by_place (x.draft.place == place) refl more
+        where
+          by_place : (b : Bool) → (x.draft.place == place) ≡ b → map (λ (d : Draft). d.content) (cond b (x.draft ∷ filter (λ (d : Draft). d.place == place) (drafts_of xs number)) (filter (λ (d : Draft). d.place == place) (drafts_of xs number))) ≢ [] → (place ≤ length v.tree) × (is_part v.tree place ≡ true)
+          by_place true e m = let same : x.draft.place ≡ place = eq_from x.draft.place place e in subst (λ p. (p ≤ length v.tree) × (is_part v.tree p ≡ true)) same (h.there, h.part)
+          by_place false e m = rest m
+
+  -- drafts become versions, and their check-out goes
+  pub kept_checked_in : (number : ℕ) → is_shelvable v.shelf (drafts_of v.drafts number) ≡ true
+      → IsVault (record v { shelf = shelved_all v.shelf (drafts_of v.drafts number); line = without v.line (Long number); drafts = without_drafts v.drafts number })
+  kept_checked_in number fits =
+      let left = kept_without number in
+      record {
+        tree = kept.tree;
+        few_claims = left.few_claims;
+        claims = left.claims;
+        apart = left.apart;
+        sessions = kept.sessions;
+        versions = record {
+          shelf_is = shelf_stays v.shelf (drafts_of v.drafts number) kept.versions.shelf_is fits;
+          parts = λ place some. by_old place (versions_of v.shelf place) refl (λ e. some (versions_of-shelved_all v.shelf (drafts_of v.drafts number) place ∙ e));
+        };
+        drafts = left.drafts;
+        light =
+            let grown = weight-shelved_all v.shelf (drafts_of v.drafts number) in
+            let split = split_weight number v.drafts in
+            let old = kept.light in
+            omega arith;
+      }
+    where
+      by_old : (place : ℕ) (old : List (List ℕ)) → versions_of v.shelf place ≡ old → (versions_of v.shelf place ++ map (λ (d : Draft). d.content) (filter (λ (d : Draft). d.place == place) (drafts_of v.drafts number)) ≢ [])
+          → (place ≤ length v.tree) × (is_part v.tree place ≡ true)
+      by_old place [] e some = drafted_part number place v.drafts kept.drafts.each (λ none. some (rw (e, none) refl))
+      by_old place (version ∷ more) e some = kept.versions.parts place (λ none. let clash : version ∷ more ≡ [] = sym e ∙ none in cc)
 
 numbers_stay : (n : ℕ) (sessions : List Session) → map (λ (s : Session). s.number) (counted_in n sessions) ≡ map (λ (s : Session). s.number) sessions
 numbers_stay n [] = refl
@@ -319,13 +507,16 @@ tree_new = record {
     nowhere p parent e = let none = no_parent p in cc
 
 pub kept_new : IsVault new_vault
-unfolding IsDistinct
+unfolding IsDistinct IsOrdered
 kept_new = record {
   tree = tree_new;
   few_claims = omega arith;
   claims = All-nil (IsClaim [] [] 0 0);
   apart = tt;
   sessions = record { few = omega arith; numbers = All-nil (λ (s : Session). (0 < s.number) × (s.number ≤ 0)); distinct = tt };
+  versions = record { shelf_is = none_shelved; parts = λ place some. absurd (some refl) };
+  drafts = record { each = All-nil (IsDraft [] []); few = λ number. omega arith; ordered = tt };
+  light = omega arith;
 }
 
 count_rises : (n bound : ℕ) (s : Session) → s.count < bound → (one_more n s).count < bound + 1

@@ -17,3 +17,5 @@ pub mod PathTexts
 pub mod Durable
 pub mod Shelves
 pub mod Counts
+pub mod DraftsKept
+pub mod Grown

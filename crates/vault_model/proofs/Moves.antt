@@ -18,7 +18,7 @@ use Rattle.vault_model.specs.declared.replies.Refusal.{Refusal}
 use Rattle.vault_model.specs.declared.replies.Refusal.TheVariants.{NoSession, Joined, NoPlace, NoClaim, NotYours, NotHeld}
 use Rattle.vault_model.specs.Claims.{same_id, claim_of, is_held, is_session, in_way_of, put_first}
 use Rattle.vault_model.specs.Vault.{Vault, session_of, counted, counted_in}
-use Rattle.vault_model.specs.Step.{Outcome, ◌>>=◌, chained, refuse_if, refuse_by, is_owned_by, usable, join, make, check_out, extend, abandon, hold, release, state, list, leave, at_door, in_session, decide, told, step}
+use Rattle.vault_model.specs.Step.{Outcome, ◌>>=◌, chained, refuse_if, refuse_by, is_owned_by, usable, join, make, check_out, extend, abandon, hold, release, state, list, leave, save, check_in, fetch, count, at_door, in_session, decide, told, step}
 
 -- the tree and the line stay, or one place more, one claim more at the end, some claims left alone, or one put first with
 -- more items
@@ -141,16 +141,36 @@ module _ (v : Vault) (n : ℕ) where
   leave_moves : (session : Session) → Keeps (Ok (leave v session))
   leave_moves session = counted_moves n v _ (loses (λ (c : Claim). not (is_session session.number c.owner)) refl refl)
 
+  save_moves : (session : Session) (number : ℕ) (path : List (List ℕ)) (content : List ℕ) → Keeps (save v session number path content)
+  unfolding save
+  save_moves session number path content = by_bind Keeps _ _ (λ _. by_bind Keeps _ _ (λ _. by_bind Keeps _ _ (λ _. by_bind Keeps _ _ (λ _. by_bind Keeps _ _ (λ _. counted_moves n v _ (stays refl refl)) refused) refused) refused) refused) refused
+
+  check_in_moves : (session : Session) (number : ℕ) → Keeps (check_in v session number)
+  unfolding check_in
+  check_in_moves session number = by_bind Keeps _ _ (λ _. by_bind Keeps _ _ (λ _. counted_moves n v _ (loses (λ (c : Claim). not (same_id c.id (Long number))) refl refl)) refused) refused
+
+  fetch_moves : (path : List (List ℕ)) (version : ℕ) → Keeps (fetch v path version)
+  unfolding fetch
+  fetch_moves path version = by_bind Keeps _ _ (λ _. by_bind Keeps _ _ (λ _. by_bind Keeps _ _ (λ _. counted_moves n v _ (stays refl refl)) refused) refused) refused
+
+  count_moves : (path : List (List ℕ)) → Keeps (count v path)
+  unfolding count
+  count_moves path = by_bind Keeps _ _ (λ _. by_bind Keeps _ _ (λ _. counted_moves n v _ (stays refl refl)) refused) refused
+
   session_moves : (session : Session) (command : Command) → Keeps (in_session v session command)
   session_moves session (commands.Join name) = refused Joined
   session_moves session (commands.Make path claim) = make_moves session path claim
   session_moves session (commands.CheckOut items) = check_out_moves session.name items
   session_moves session (commands.Extend id items) = extend_moves session id items
+  session_moves session (commands.Save number path content) = save_moves session number path content
+  session_moves session (commands.CheckIn number) = check_in_moves session number
   session_moves session (commands.Abandon number) = abandon_moves session.name number
   session_moves session (commands.Hold items) = hold_moves session items
   session_moves session (commands.Release number) = release_moves session number
   session_moves session (commands.State id) = state_moves id
   session_moves session (commands.List path) = list_moves path
+  session_moves session (commands.Fetch path version) = fetch_moves path version
+  session_moves session (commands.Count path) = count_moves path
   session_moves session commands.Leave = leave_moves session
 
   door_moves : (command : Command) → Keeps (at_door v command)
@@ -158,11 +178,15 @@ module _ (v : Vault) (n : ℕ) where
   door_moves (commands.Make path claim) = refused NoSession
   door_moves (commands.CheckOut items) = refused NoSession
   door_moves (commands.Extend id items) = refused NoSession
+  door_moves (commands.Save number path content) = refused NoSession
+  door_moves (commands.CheckIn number) = refused NoSession
   door_moves (commands.Abandon number) = refused NoSession
   door_moves (commands.Hold items) = refused NoSession
   door_moves (commands.Release number) = refused NoSession
   door_moves (commands.State id) = refused NoSession
   door_moves (commands.List path) = refused NoSession
+  door_moves (commands.Fetch path version) = refused NoSession
+  door_moves (commands.Count path) = refused NoSession
   door_moves commands.Leave = refused NoSession
 
   decide_moves : (command : Command) → Keeps (decide v n command)

@@ -1,8 +1,9 @@
 -- The conversations that were worked out by hand, computed.
 use Rattle.std.specs.Prelude.{refl}
 use Rattle.vault_model.specs.Claims.{overlap}
-use Rattle.vault_model.specs.Step.{step, decide, chained, join, make, permitted, usable, check_out, extend, abandon, hold, release, state, list}
-use Rattle.vault_model.specs.Rows.{replies_of, Rows, TwoDesigners, Siblings, LookAndChange, LineMovesUp, CoveredParent, Refusals, ClaimRefusals, RefusedExtension, GrantedExtension, MadeUnderAClaim, HoldsAndLeaving, ExtensionRefusals}
+use Rattle.vault_model.specs.Step.{step, decide, chained, join, make, permitted, usable, check_out, extend, abandon, hold, release, state, list, save, check_in, fetch, count}
+use Rattle.vault_model.specs.Shelf.{is_shelvable}
+use Rattle.vault_model.specs.Rows.{replies_of, Rows, TwoDesigners, Siblings, LookAndChange, LineMovesUp, CoveredParent, Refusals, ClaimRefusals, RefusedExtension, GrantedExtension, MadeUnderAClaim, HoldsAndLeaving, ExtensionRefusals, DraftsAndVersions, DraftRefusals}
 
 two_designers : TwoDesigners
 unfolding replies_of step decide chained join make permitted check_out overlap
@@ -52,6 +53,14 @@ extension_refusals : ExtensionRefusals
 unfolding replies_of step decide chained join make permitted usable check_out extend hold release list overlap
 extension_refusals = refl
 
+drafts_and_versions : DraftsAndVersions
+unfolding replies_of step decide chained join make permitted usable check_out save check_in state fetch count overlap is_shelvable
+drafts_and_versions = refl
+
+draft_refusals : DraftRefusals
+unfolding replies_of step decide chained join make permitted usable check_out save check_in abandon fetch count overlap is_shelvable
+draft_refusals = refl
+
 pub rows : Rows
 rows = record {
   two_designers = two_designers;
@@ -66,4 +75,6 @@ rows = record {
   made_under_a_claim = made_under_a_claim;
   holds_and_leaving = holds_and_leaving;
   extension_refusals = extension_refusals;
+  drafts_and_versions = drafts_and_versions;
+  draft_refusals = draft_refusals;
 }

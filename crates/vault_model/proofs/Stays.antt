@@ -21,7 +21,7 @@ take_while-cons p x xs = by_test (p x)
     by_test false = refl
 
 -- one more claim at the end changes nothing for those before it
-claim_of-push : (line : List Claim) (c : Claim) (id : ClaimId) → is_some (claim_of line id) ≡ true → claim_of (line ++ c ∷ []) id ≡ claim_of line id
+pub claim_of-push : (line : List Claim) (c : Claim) (id : ClaimId) → is_some (claim_of line id) ≡ true → claim_of (line ++ c ∷ []) id ≡ claim_of line id
 claim_of-push [] c id e = cc
 claim_of-push (x ∷ xs) c id e = by_test (same_id x.id id) e (claim_of-push xs c id)
   where

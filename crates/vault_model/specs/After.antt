@@ -1,7 +1,7 @@
 -- What an effect changes in a durable vault, where it may be made there. Claims are not judged again. This project's own.
 use Rattle.std.specs.Prelude.{◌≡◌, ℕ, ◌+◌, Bool, true, false, not, ◌&&◌, ◌==◌, nat_le, nat_lt, List, [], ◌∷◌, ◌++◌, length, Option, None, Some, is_some}
 use Rattle.std.specs.List.{list_all}
-use Rattle.std.specs.Option.{option_and_then}
+use Rattle.std.specs.Option.{option_and_then, option_map_or}
 use Rattle.vault_model.specs.Said.{Effect}
 use Rattle.vault_model.specs.declared.effects.Effect.TheVariants as effects
 use Rattle.vault_model.specs.declared.place.Place.{Place}
@@ -11,7 +11,10 @@ use Rattle.vault_model.specs.declared.claims.Owner.TheVariants as owners
 use Rattle.vault_model.specs.declared.ids.ClaimId.TheVariants.{Long}
 use Rattle.vault_model.specs.Limits.{most_items, most_claims}
 use Rattle.vault_model.specs.Tree.{child, is_part, is_full}
-use Rattle.vault_model.specs.Claims.{claim_of, without, is_held, put_first}
+use Rattle.vault_model.specs.Claims.{claim_of, without, is_held, change_set, put_first}
+use Rattle.vault_model.specs.Shelf.{shelved_all, is_shelvable}
+use Rattle.vault_model.specs.Drafts.{SavedDraft, with_draft, drafts_of, without_drafts}
+use Rattle.vault_model.specs.Step.{may_save}
 use Rattle.vault_model.specs.Vault.{Vault, durable}
 
 -- a vault, where a test holds
@@ -31,9 +34,14 @@ may_make w parent name = nat_le parent (length w.tree) && not (is_part w.tree pa
 abbrev pub may_ask : Vault → ℕ → List Item → Bool
 may_ask w number items = (number == w.last_long + 1) && not (length items == 0) && nat_le (length items) most_items && are_there w.tree items && nat_lt (length w.line) most_claims
 
--- a claim may be extended: it is held, has no more than the most items with these, and their places are there
+-- a claim may be extended: it is held, has no more than the most items with these, and their places are there; and afterwards
+-- no check-out with drafts is queued
 abbrev pub may_extend : Vault → Claim → List Item → Bool
 may_extend w claim items = is_held w.tree w.line claim && nat_le (length claim.items + length items) most_items && are_there w.tree items
+
+-- every draft's check-out is held
+abbrev pub drafts_held : List Place → List Claim → List SavedDraft → Bool
+drafts_held tree line drafts = list_all (λ (x : SavedDraft). option_map_or (λ c. is_held tree line c) (claim_of line (Long x.claim)) false) drafts
 
 unfoldable pub after_made : Vault → ℕ → List ℕ → Option Vault
 after_made w parent name = only_if (may_make w parent name) (record w { tree = w.tree ++ record { parent = parent; name = name } ∷ [] })
@@ -46,20 +54,39 @@ after_asked w number designer items =
 unfoldable pub after_extended : Vault → ℕ → List Item → Option Vault
 after_extended w number items =
     option_and_then
-    (λ (claim : Claim). only_if (may_extend w claim items) (record w { line = put_first w.line (Long number) (claim.items ++ items) }))
+    (λ (claim : Claim). only_if (may_extend w claim items && drafts_held w.tree (put_first w.line (Long number) (claim.items ++ items)) w.drafts) (record w { line = put_first w.line (Long number) (claim.items ++ items) }))
+    (claim_of w.line (Long number))
+
+-- a draft may be saved: the claim is held, the place is a part of its change set, and the limits hold
+unfoldable pub after_saved : Vault → ℕ → ℕ → List ℕ → Option Vault
+after_saved w number place content =
+    option_and_then
+    (λ (claim : Claim).
+    only_if
+    (is_held w.tree w.line claim && nat_le place (length w.tree) && is_part w.tree place && change_set w.tree claim.items place && may_save w (record { claim = number; draft = record { place = place; content = content } }))
+    (record w { drafts = with_draft w.drafts (record { claim = number; draft = record { place = place; content = content } }) }))
+    (claim_of w.line (Long number))
+
+-- drafts may become versions: the claim is held, and the shelf takes them
+unfoldable pub after_checked_in : Vault → ℕ → Option Vault
+after_checked_in w number =
+    option_and_then
+    (λ (claim : Claim).
+    only_if (is_held w.tree w.line claim && is_shelvable w.shelf (drafts_of w.drafts number))
+    (record w { shelf = shelved_all w.shelf (drafts_of w.drafts number); line = without w.line (Long number); drafts = without_drafts w.drafts number }))
     (claim_of w.line (Long number))
 
 -- one that stands may be given up
 unfoldable pub after_abandoned : Vault → ℕ → Option Vault
-after_abandoned w number = only_if (is_some (claim_of w.line (Long number))) (record w { line = without w.line (Long number) })
+after_abandoned w number = only_if (is_some (claim_of w.line (Long number))) (record w { line = without w.line (Long number); drafts = without_drafts w.drafts number })
 
 -- The durable vault after an effect, where that is applicable. No command of today saves drafts or checks in.
 unfoldable pub after : Vault → Effect → Option Vault
 after w (effects.Made parent name) = after_made w parent name
 after w (effects.Asked number designer items) = after_asked w number designer items
 after w (effects.Extended number items) = after_extended w number items
-after w (effects.Saved number place content) = None
-after w (effects.CheckedIn number) = None
+after w (effects.Saved number place content) = after_saved w number place content
+after w (effects.CheckedIn number) = after_checked_in w number
 after w (effects.Abandoned number) = after_abandoned w number
 
 -- a vault is a durable one: it has no sessions and no short claims, and counts nothing

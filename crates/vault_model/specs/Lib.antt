@@ -13,3 +13,4 @@ pub mod Pairs
 pub mod Laws
 pub mod Rows
 pub mod After
+pub mod Drafts

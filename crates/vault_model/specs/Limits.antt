@@ -48,3 +48,7 @@ most_weight = 16777216
 -- what a content weighs beside its bytes
 abbrev pub extra_weight : ℕ
 extra_weight = 8
+
+-- the most drafts of a check-out
+abbrev pub most_drafts : ℕ
+most_drafts = 64

@@ -1,9 +1,9 @@
 -- Conversations worked out by hand, which the definitions have to give.
 use Rattle.std.specs.Prelude.{◌≡◌, ℕ, List, [], ◌∷◌, ◌++◌, None, Some, codes, replicate}
 use Rattle.vault_model.specs.Said.{Command, Reply}
-use Rattle.vault_model.specs.declared.commands.Command.TheVariants.{Join, Make, CheckOut, Extend, Abandon, Hold, Release, State, List as Names, Leave}
-use Rattle.vault_model.specs.declared.replies.Reply.TheVariants.{Session, Place, Held, Queued, Abandoned, Released, Children, Left, Refused}
-use Rattle.vault_model.specs.declared.replies.Refusal.TheVariants.{NoSession, Joined, NoPlace, Exists, WrongKind, Covered, NoClaim, NotYours, NotHeld, Overlaps, NotCovered, ItemCount}
+use Rattle.vault_model.specs.declared.commands.Command.TheVariants.{Join, Make, CheckOut, Extend, Save, CheckIn, Abandon, Hold, Release, State, List as Names, Fetch, Count, Leave}
+use Rattle.vault_model.specs.declared.replies.Reply.TheVariants.{Session, Place, Held, Queued, Saved, CheckedIn, Abandoned, Released, Children, Content, Versions, Left, Refused}
+use Rattle.vault_model.specs.declared.replies.Refusal.TheVariants.{NoSession, Joined, NoPlace, Exists, WrongKind, Covered, NoClaim, NotYours, NotHeld, Overlaps, NotCovered, ItemCount, NoVersion, Limit}
 use Rattle.vault_model.specs.declared.claims.PathItem.{PathItem}
 use Rattle.vault_model.specs.declared.ids.ClaimId.TheVariants.{Long, Short}
 use Rattle.vault_model.specs.declared.ids.Intent.TheVariants.{Look, Change}
@@ -144,6 +144,23 @@ ExtensionRefusals =
     (Held (Long 1) ∷ Queued (Long 2) (Long 1) ∷ Refused NoClaim ∷ Refused NotYours ∷ Refused NotHeld ∷ Refused ItemCount ∷ Refused ItemCount ∷ Refused NoPlace ∷ Refused NoClaim ∷ Refused NotYours ∷ Refused NotHeld
     ∷ Refused ItemCount ∷ Refused NoPlace ∷ Refused NoClaim ∷ Refused NoPlace ∷ [])
 
+-- drafts become versions at check-in, and a second save replaces the first
+abbrev pub DraftsAndVersions : Type 0
+DraftsAndVersions =
+    Told
+    ((1, CheckOut (change path_b ∷ [])) ∷ (1, Save 1 path_p1 []) ∷ (1, Save 1 path_p1 (codes "ab")) ∷ (1, Save 1 path_p2 []) ∷ (1, CheckIn 1) ∷ (1, Fetch path_p1 0) ∷ (1, Fetch path_p1 1) ∷ (1, Fetch path_p1 2)
+    ∷ (1, Fetch path_p2 1) ∷ (1, State (Long 1)) ∷ (2, Count path_p1) ∷ (2, Count path_e) ∷ (2, Fetch path_b 1) ∷ (2, Fetch (codes "x" ∷ []) 1) ∷ [])
+    (Held (Long 1) ∷ Saved ∷ Saved ∷ Saved ∷ CheckedIn 2 ∷ Refused NoVersion ∷ Content (codes "ab") ∷ Refused NoVersion ∷ Content [] ∷ Refused NoClaim ∷ Versions 1 ∷ Refused WrongKind ∷ Refused WrongKind ∷ Refused NoPlace ∷ [])
+
+-- each refusal of drafts but the limits
+abbrev pub DraftRefusals : Type 0
+DraftRefusals =
+    Told
+    ((1, CheckOut (look path_b ∷ change path_p1 ∷ [])) ∷ (2, CheckOut (change path_p1 ∷ [])) ∷ (2, Save 1 path_p1 []) ∷ (2, Save 2 path_p1 []) ∷ (2, CheckIn 2) ∷ (1, Save 1 (path_p 51) []) ∷ (1, Save 1 path_b []) ∷ (1, Save 9 [] [])
+    ∷ (1, Save 1 path_p2 []) ∷ (1, Save 1 path_p1 (replicate 1025 0)) ∷ (1, Save 1 path_p1 []) ∷ (1, Abandon 1) ∷ (2, CheckIn 2) ∷ (1, Count path_p1) ∷ [])
+    (Held (Long 1) ∷ Queued (Long 2) (Long 1) ∷ Refused NotYours ∷ Refused NotHeld ∷ Refused NotHeld ∷ Refused NoPlace ∷ Refused WrongKind ∷ Refused NoClaim
+    ∷ Refused NotCovered ∷ Refused Limit ∷ Saved ∷ Abandoned ∷ CheckedIn 0 ∷ Versions 0 ∷ [])
+
 -- all of them
 pub record Rows : Type 0 where
   pub two_designers : TwoDesigners
@@ -158,3 +175,5 @@ pub record Rows : Type 0 where
   pub made_under_a_claim : MadeUnderAClaim
   pub holds_and_leaving : HoldsAndLeaving
   pub extension_refusals : ExtensionRefusals
+  pub drafts_and_versions : DraftsAndVersions
+  pub draft_refusals : DraftRefusals

@@ -7,11 +7,11 @@ use Rattle.vault_model.specs.declared.effects.Effect.{Effect as EffectOver}
 
 -- a command, with the list of what it asks for
 abbrev pub Command : Type 0
-Command = CommandOver (List PathItem)
+Command = CommandOver (List PathItem) (List ℕ)
 
 -- a reply
 abbrev pub Reply : Type 0
-Reply = ReplyOver (List (List ℕ))
+Reply = ReplyOver (List (List ℕ)) (List ℕ)
 
 -- an effect
 abbrev pub Effect : Type 0

@@ -1,13 +1,13 @@
 -- What each command does: its refusals in order, the first that applies, and else its reply, change and effect.
 -- This project's own.
-use Rattle.std.specs.Prelude.{ℕ, ◌+◌, Bool, true, false, not, ◌||◌, ◌==◌, nat_le, nat_lt, if◌then◌else◌, List, [], ◌∷◌, ◌++◌, length, filter, Option, None, Some, is_some, Result, Ok, Err}
+use Rattle.std.specs.Prelude.{ℕ, ◌+◌, Bool, true, false, not, ◌||◌, ◌&&◌, ◌==◌, nat_le, nat_lt, if◌then◌else◌, List, [], ◌∷◌, ◌++◌, length, filter, Option, None, Some, is_some, Result, Ok, Err}
 use Rattle.std.specs.Option.{option_map, option_and_then, ok_or}
 use Rattle.vault_model.specs.Said.{Command, Reply, Effect}
 use Rattle.vault_model.specs.declared.commands.Command.TheVariants as commands
 use Rattle.vault_model.specs.declared.effects.Effect.TheVariants as effects
 use Rattle.vault_model.specs.declared.replies.Reply.TheVariants as replies
 use Rattle.vault_model.specs.declared.replies.Refusal.{Refusal}
-use Rattle.vault_model.specs.declared.replies.Refusal.TheVariants.{NoSession, Joined, NoPlace, Exists, WrongKind, Covered, NoClaim, NotYours, NotHeld, Overlaps, NotCovered, ItemCount, Limit}
+use Rattle.vault_model.specs.declared.replies.Refusal.TheVariants.{NoSession, Joined, NoPlace, Exists, WrongKind, Covered, NoClaim, NotYours, NotHeld, Overlaps, NotCovered, ItemCount, NoVersion, Limit}
 use Rattle.vault_model.specs.declared.claims.Item.{Item}
 use Rattle.vault_model.specs.declared.claims.Claim.{Claim}
 use Rattle.vault_model.specs.declared.claims.PathItem.{PathItem}
@@ -21,10 +21,12 @@ use Rattle.vault_model.specs.declared.place.Place.{Place}
 use Rattle.vault_model.specs.declared.session.Session.{Session}
 use Rattle.std.specs.Str.{bytes_eq}
 use Rattle.vault_model.specs.Path.{front, last}
-use Rattle.vault_model.specs.Limits.{most_items, most_claims, most_sessions, last_number}
+use Rattle.vault_model.specs.Limits.{most_items, most_claims, most_sessions, last_number, longest_content, most_drafts, most_weight}
+use Rattle.vault_model.specs.Shelf.{versions_of, numbered, shelved_all, is_shelvable}
+use Rattle.vault_model.specs.Drafts.{SavedDraft, with_draft, drafts_of, without_drafts}
 use Rattle.vault_model.specs.Tree.{find_place, child, names_under, is_part, is_full}
 use Rattle.vault_model.specs.Claims.{claim_of, without, without_session, is_held, is_session, in_way_of, put_first, change_set, covering, standing_behind, standing_of}
-use Rattle.vault_model.specs.Vault.{Vault, session_of, counted}
+use Rattle.vault_model.specs.Vault.{Vault, weight_of, session_of, counted}
 
 -- a reply, the vault after it, and what has changed for good
 pub record Outcome : Type 0 where
@@ -143,6 +145,63 @@ extend v session id wanted = do
     effect = extension id items;
   })
 
+-- a draft may be saved: its content is short enough, and with it the check-out has not too many drafts, and all is not too heavy
+abbrev pub may_save : Vault → SavedDraft → Bool
+may_save v new =
+    nat_le (length new.draft.content) longest_content
+    && nat_le (length (drafts_of (with_draft v.drafts new) new.claim)) most_drafts
+    && nat_le (weight_of (record v { drafts = with_draft v.drafts new })) most_weight
+
+-- save
+unfoldable pub save : Vault → Session → ℕ → List (List ℕ) → List ℕ → Result Outcome Refusal
+save v session number path content = do
+  claim ← usable v session (Long number)
+  place ← ok_or (find_place v.tree path) NoPlace
+  _ ← refuse_if (not (is_part v.tree place)) WrongKind
+  _ ← refuse_if (not (change_set v.tree claim.items place)) NotCovered
+  let new : SavedDraft = record { claim = number; draft = record { place = place; content = content } }
+  _ ← refuse_if (not (may_save v new)) Limit
+  Ok (record {
+    reply = replies.Saved;
+    vault = record v { drafts = with_draft v.drafts new };
+    effect = Some (effects.Saved number place content);
+  })
+
+-- checkin
+unfoldable pub check_in : Vault → Session → ℕ → Result Outcome Refusal
+check_in v session number = do
+  claim ← usable v session (Long number)
+  let drafts = drafts_of v.drafts number
+  _ ← refuse_if (not (is_shelvable v.shelf drafts)) Limit
+  Ok (record {
+    reply = replies.CheckedIn (length drafts);
+    vault = record v { shelf = shelved_all v.shelf drafts; line = without v.line (Long number); drafts = without_drafts v.drafts number };
+    effect = Some (effects.CheckedIn number);
+  })
+
+-- fetch
+unfoldable pub fetch : Vault → List (List ℕ) → ℕ → Result Outcome Refusal
+fetch v path version = do
+  place ← ok_or (find_place v.tree path) NoPlace
+  _ ← refuse_if (not (is_part v.tree place)) WrongKind
+  content ← ok_or (numbered (versions_of v.shelf place) version) NoVersion
+  Ok (record {
+    reply = replies.Content content;
+    vault = v;
+    effect = None;
+  })
+
+-- count
+unfoldable pub count : Vault → List (List ℕ) → Result Outcome Refusal
+count v path = do
+  place ← ok_or (find_place v.tree path) NoPlace
+  _ ← refuse_if (not (is_part v.tree place)) WrongKind
+  Ok (record {
+    reply = replies.Versions (length (versions_of v.shelf place));
+    vault = v;
+    effect = None;
+  })
+
 -- abandon
 unfoldable pub abandon : Vault → List ℕ → ℕ → Result Outcome Refusal
 abandon v designer number = do
@@ -150,7 +209,7 @@ abandon v designer number = do
   _ ← refuse_if (not (is_designer designer claim.owner)) NotYours
   Ok (record {
     reply = replies.Abandoned;
-    vault = record v { line = without v.line (Long number) };
+    vault = record v { line = without v.line (Long number); drafts = without_drafts v.drafts number };
     effect = Some (effects.Abandoned number);
   })
 
@@ -212,11 +271,15 @@ at_door v (commands.Join name) = join v name
 at_door v (commands.Make path claim) = Err NoSession
 at_door v (commands.CheckOut items) = Err NoSession
 at_door v (commands.Extend id items) = Err NoSession
+at_door v (commands.Save number path content) = Err NoSession
+at_door v (commands.CheckIn number) = Err NoSession
 at_door v (commands.Abandon number) = Err NoSession
 at_door v (commands.Hold items) = Err NoSession
 at_door v (commands.Release number) = Err NoSession
 at_door v (commands.State id) = Err NoSession
 at_door v (commands.List path) = Err NoSession
+at_door v (commands.Fetch path version) = Err NoSession
+at_door v (commands.Count path) = Err NoSession
 at_door v commands.Leave = Err NoSession
 
 -- a command of a session that stands
@@ -225,11 +288,15 @@ in_session v session (commands.Join name) = Err Joined
 in_session v session (commands.Make path claim) = make v session path claim
 in_session v session (commands.CheckOut items) = check_out v session.name items
 in_session v session (commands.Extend id items) = extend v session id items
+in_session v session (commands.Save number path content) = save v session number path content
+in_session v session (commands.CheckIn number) = check_in v session number
 in_session v session (commands.Abandon number) = abandon v session.name number
 in_session v session (commands.Hold items) = hold v session items
 in_session v session (commands.Release number) = release v session number
 in_session v session (commands.State id) = state v id
 in_session v session (commands.List path) = list v path
+in_session v session (commands.Fetch path version) = fetch v path version
+in_session v session (commands.Count path) = count v path
 in_session v session commands.Leave = Ok (leave v session)
 
 -- what a command does, before it is counted; a number without a standing session is no session

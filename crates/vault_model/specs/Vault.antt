@@ -1,5 +1,5 @@
 -- The vault as commands see it. This project's own.
-use Rattle.std.specs.Prelude.{◌<◌, ◌≤◌, length, All, nat_eq, ℕ, ◌+◌, ◌==◌, if◌then◌else◌, List, [], map, Option, find, true, ◌≡◌, is_some}
+use Rattle.std.specs.Prelude.{◌<◌, ◌≤◌, length, All, nat_eq, ℕ, ◌+◌, ◌==◌, if◌then◌else◌, List, [], map, Option, find, true, ◌≡◌, ◌≢◌, Some, is_some}
 use Rattle.vault_model.specs.declared.place.Place.{Place}
 use Rattle.vault_model.specs.declared.claims.Claim.{Claim}
 use Rattle.vault_model.specs.declared.claims.Item.{Item}
@@ -7,9 +7,12 @@ use Rattle.vault_model.specs.declared.ids.ClaimId.{ClaimId}
 use Rattle.vault_model.specs.declared.ids.ClaimId.TheVariants.{Long, Short}
 use Rattle.vault_model.specs.declared.session.Session.{Session}
 use Rattle.std.specs.List.{IsDistinct}
-use Rattle.vault_model.specs.Tree.{IsTree}
-use Rattle.vault_model.specs.Claims.{same_id, without_short}
-use Rattle.vault_model.specs.Limits.{most_items, most_claims, most_sessions}
+use Rattle.vault_model.specs.Tree.{IsTree, is_part}
+use Rattle.vault_model.specs.Shelf.{weight, versions_of, IsShelf}
+use Rattle.vault_model.specs.Drafts.{SavedDraft, saved_weight, drafts_of, IsOrdered}
+use Rattle.vault_model.specs.Claims.{same_id, without_short, claim_of, change_set, standing_of}
+use Rattle.vault_model.specs.Limits.{most_items, most_claims, most_sessions, most_drafts, most_weight, longest_content}
+use Rattle.vault_model.specs.declared.claims.Standing.TheVariants.{Held}
 use Rattle.vault_model.specs.declared.claims.Owner.{Owner}
 use Rattle.vault_model.specs.declared.claims.Owner.TheVariants as owners
 
@@ -17,7 +20,9 @@ use Rattle.vault_model.specs.declared.claims.Owner.TheVariants as owners
 -- a short one, and how many commands were given at the door, which is session 0
 pub record Vault : Type 0 where
   pub tree : List Place
+  pub shelf : List (List (List ℕ))
   pub line : List Claim
+  pub drafts : List SavedDraft
   pub sessions : List Session
   pub last_session : ℕ
   pub last_long : ℕ
@@ -26,7 +31,7 @@ pub record Vault : Type 0 where
 
 -- the library alone
 abbrev pub new_vault : Vault
-new_vault = record { tree = []; line = []; sessions = []; last_session = 0; last_long = 0; last_short = 0; door_count = 0 }
+new_vault = record { tree = []; shelf = []; line = []; drafts = []; sessions = []; last_session = 0; last_long = 0; last_short = 0; door_count = 0 }
 
 -- the standing session of this number
 abbrev pub session_of : List Session → ℕ → Option Session
@@ -43,6 +48,10 @@ counted_in number sessions = map (one_more number) sessions
 -- a vault with one more command counted: at the door, or of a session that stands
 abbrev pub counted : ℕ → Vault → Vault
 counted number v = if number == 0 then record v { door_count = v.door_count + 1 } else record v { sessions = counted_in number v.sessions }
+
+-- what all versions and drafts weigh
+abbrev pub weight_of : Vault → ℕ
+weight_of v = weight v.shelf + saved_weight v.drafts
 
 -- each command count is below a bound
 pub record CountsBelow (bound : ℕ) (v : Vault) : Type 0 where
@@ -79,6 +88,25 @@ pub record AreSessions (last_session : ℕ) (sessions : List Session) : Type 0 w
   pub numbers : All (λ (s : Session). (0 < s.number) × (s.number ≤ last_session)) sessions
   pub distinct : IsDistinct nat_eq (map (λ (s : Session). s.number) sessions)
 
+-- what every draft keeps: its check-out is held and changes its place, which is a part; its content is short
+pub record IsDraft (tree : List Place) (line : List Claim) (x : SavedDraft) : Type 0 where
+  pub held : standing_of tree line (Long x.claim) ≡ Some Held
+  pub changed : (c : Claim) → claim_of line (Long x.claim) ≡ Some c → change_set tree c.items x.draft.place ≡ true
+  pub there : x.draft.place ≤ length tree
+  pub part : is_part tree x.draft.place ≡ true
+  pub short : length x.draft.content ≤ longest_content
+
+-- what all drafts keep
+pub record AreDrafts (tree : List Place) (line : List Claim) (drafts : List SavedDraft) : Type 0 where
+  pub each : All (IsDraft tree line) drafts
+  pub few : (number : ℕ) → length (drafts_of drafts number) ≤ most_drafts
+  pub ordered : IsOrdered drafts
+
+-- what the versions keep: they are of parts
+pub record AreVersions (tree : List Place) (shelf : List (List (List ℕ))) : Type 0 where
+  pub shelf_is : IsShelf shelf
+  pub parts : (place : ℕ) → versions_of shelf place ≢ [] → (place ≤ length tree) × (is_part tree place ≡ true)
+
 -- What every vault keeps.
 pub record IsVault (v : Vault) : Type 0 where
   pub tree : IsTree v.tree
@@ -86,6 +114,9 @@ pub record IsVault (v : Vault) : Type 0 where
   pub claims : All (IsClaim v.tree v.sessions v.last_long v.last_short) v.line
   pub apart : IsDistinct same_id (map (λ (c : Claim). c.id) v.line)
   pub sessions : AreSessions v.last_session v.sessions
+  pub versions : AreVersions v.tree v.shelf
+  pub drafts : AreDrafts v.tree v.line v.drafts
+  pub light : weight_of v ≤ most_weight
 
 -- The durable vault: without sessions and short claims, and with nothing counted. A restart leaves it.
 abbrev pub durable : Vault → Vault

@@ -6,7 +6,7 @@ use std::alloc::{Allocator, Global};
 
 /// A command of a session, over how its lists of items are kept.
 #[derive(Debug, PartialEq, Eq, Drop)]
-pub enum Command<Wanted = Listing<PathItem, Global>> {
+pub enum Command<Wanted = Listing<PathItem, Global>, Content = Listing<u8, Global>> {
     /// Opens a session in a designer's name.
     Join(Name),
     /// Makes a place, in the name of the long claim of this number, if there is one.
@@ -15,6 +15,10 @@ pub enum Command<Wanted = Listing<PathItem, Global>> {
     CheckOut(Wanted),
     /// Asks for more items for a held claim.
     Extend(ClaimId, Wanted),
+    /// Saves a draft of a part for the long claim of this number.
+    Save(u32, Path, Content),
+    /// Makes versions of the drafts of the long claim of this number, and gives it up.
+    CheckIn(u32),
     /// Gives up the long claim of this number.
     Abandon(u32),
     /// Asks for a short claim on these items.
@@ -25,12 +29,16 @@ pub enum Command<Wanted = Listing<PathItem, Global>> {
     State(ClaimId),
     /// Asks for the names of the places right under a place.
     List(Path),
+    /// Asks for the content of a part's version.
+    Fetch(Path, u32),
+    /// Asks how many versions a part has.
+    Count(Path),
     /// Closes the session.
     Leave,
 }
 
 /// A command in an allocator's memory.
-pub type CommandIn<A> = Command<Listing<PathItem, A>>;
+pub type CommandIn<A> = Command<Listing<PathItem, A>, Listing<u8, A>>;
 
 impl<A: Allocator> CommandIn<A> {
     /// The same command in memory of this or another kind.
@@ -42,11 +50,17 @@ impl<A: Allocator> CommandIn<A> {
             Command::Make(path, claim) => Command::Make(*path, *claim),
             Command::CheckOut(wanted) => Command::CheckOut(wanted.copy(alloc)?),
             Command::Extend(id, wanted) => Command::Extend(*id, wanted.copy(alloc)?),
+            Command::Save(number, path, content) => {
+                Command::Save(*number, *path, content.copy(alloc)?)
+            }
+            Command::CheckIn(number) => Command::CheckIn(*number),
             Command::Abandon(number) => Command::Abandon(*number),
             Command::Hold(wanted) => Command::Hold(wanted.copy(alloc)?),
             Command::Release(number) => Command::Release(*number),
             Command::State(id) => Command::State(*id),
             Command::List(path) => Command::List(*path),
+            Command::Fetch(path, version) => Command::Fetch(*path, *version),
+            Command::Count(path) => Command::Count(*path),
             Command::Leave => Command::Leave,
         })
     }

@@ -27,7 +27,7 @@ pub use ids::{ClaimId, Intent, PlaceId};
 pub use items::Items;
 pub use limits::{
     DEEPEST, EXTRA_WEIGHT, LAST_NUMBER, LONGEST_CONTENT, LONGEST_NAME, MOST_CHILDREN, MOST_CLAIMS,
-    MOST_ITEMS, MOST_PLACES, MOST_SESSIONS, MOST_VERSIONS, MOST_WEIGHT,
+    MOST_DRAFTS, MOST_ITEMS, MOST_PLACES, MOST_SESSIONS, MOST_VERSIONS, MOST_WEIGHT,
 };
 pub use listing::Listing;
 pub use name::Name;

@@ -30,6 +30,9 @@ pub const LONGEST_CONTENT: usize = 1024;
 /// The most versions of a part.
 pub const MOST_VERSIONS: usize = 65_535;
 
+/// How many drafts a check-out may have.
+pub const MOST_DRAFTS: usize = 64;
+
 /// The most that all contents weigh together.
 pub const MOST_WEIGHT: usize = 16_777_216;
 

@@ -32,6 +32,8 @@ pub enum Refusal {
     NotCovered,
     #[error("no item, or too many")]
     ItemCount,
+    #[error("no such version")]
+    NoVersion,
     #[error("a limit is reached")]
     Limit,
 }
@@ -43,11 +45,15 @@ pub enum Outside {
     BadLine,
     #[error("too many commands are under way")]
     Busy,
+    #[error("want of memory")]
+    NoMemory,
+    #[error("a device call failed; the vault has to be opened again")]
+    Broken,
 }
 
 /// The reply to a command, over how its list of names is kept.
 #[derive(Debug, PartialEq, Eq, Drop)]
-pub enum Reply<Names = Listing<Name, Global>> {
+pub enum Reply<Names = Listing<Name, Global>, Content = Listing<u8, Global>> {
     /// The session of this number was opened.
     Session(u32),
     /// The place of this number was made.
@@ -56,12 +62,20 @@ pub enum Reply<Names = Listing<Name, Global>> {
     Held(ClaimId),
     /// The first claim is queued behind the second.
     Queued(ClaimId, ClaimId),
+    /// The draft was saved.
+    Saved,
+    /// So many drafts became versions, and the claim was given up.
+    CheckedIn(u32),
     /// The claim was given up.
     Abandoned,
     /// The short claim was given up.
     Released,
     /// The names of the places right under one, by their numbers.
     Children(Names),
+    /// The content of a version.
+    Content(Content),
+    /// How many versions a part has.
+    Versions(u32),
     /// The session was closed.
     Left,
     /// The command was refused, and changed nothing.
@@ -69,7 +83,7 @@ pub enum Reply<Names = Listing<Name, Global>> {
 }
 
 /// A reply in an allocator's memory.
-pub type ReplyIn<A> = Reply<Listing<Name, A>>;
+pub type ReplyIn<A> = Reply<Listing<Name, A>, Listing<u8, A>>;
 
 impl<A: Allocator> ReplyIn<A> {
     /// The same reply in memory of this or another kind.
@@ -81,9 +95,13 @@ impl<A: Allocator> ReplyIn<A> {
             Reply::Place(number) => Reply::Place(*number),
             Reply::Held(id) => Reply::Held(*id),
             Reply::Queued(id, behind) => Reply::Queued(*id, *behind),
+            Reply::Saved => Reply::Saved,
+            Reply::CheckedIn(number) => Reply::CheckedIn(*number),
             Reply::Abandoned => Reply::Abandoned,
             Reply::Released => Reply::Released,
             Reply::Children(names) => Reply::Children(names.copy(alloc)?),
+            Reply::Content(content) => Reply::Content(content.copy(alloc)?),
+            Reply::Versions(number) => Reply::Versions(*number),
             Reply::Left => Reply::Left,
             Reply::Refused(refusal) => Reply::Refused(*refusal),
         })

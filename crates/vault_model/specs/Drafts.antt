@@ -1,0 +1,33 @@
+-- The drafts that check-outs saved: at most one of each part in a check-out. This project's own.
+use Rattle.std.specs.Prelude.{◌≡◌, ℕ, true, Bool, ◌&&◌, ◌||◌, ◌==◌, not, nat_lt, List, [], ◌∷◌, ◌++◌, map, filter}
+use Rattle.std.specs.List.{AllByRecursion}
+use Rattle.vault_model.specs.Shelf.{Draft, drafts_weight}
+
+-- a draft, with the number of the check-out that saved it
+pub record SavedDraft : Type 0 where
+  pub claim : ℕ
+  pub draft : Draft
+
+-- drafts stand in the order of their check-outs' numbers, and of places in each check-out
+abbrev pub comes_before : SavedDraft → SavedDraft → Bool
+comes_before x y = nat_lt x.claim y.claim || ((x.claim == y.claim) && nat_lt x.draft.place y.draft.place)
+
+-- the drafts with this one, which stands in for one of the same check-out and place
+abbrev pub with_draft : List SavedDraft → SavedDraft → List SavedDraft
+with_draft drafts new = filter (λ x. comes_before x new) drafts ++ new ∷ filter (λ x. comes_before new x) drafts
+
+-- the drafts of a check-out, by rising place; and those of the others
+abbrev pub drafts_of : List SavedDraft → ℕ → List Draft
+drafts_of drafts number = map (λ (x : SavedDraft). x.draft) (filter (λ (x : SavedDraft). x.claim == number) drafts)
+
+abbrev pub without_drafts : List SavedDraft → ℕ → List SavedDraft
+without_drafts drafts number = filter (λ (x : SavedDraft). not (x.claim == number)) drafts
+
+-- what all drafts weigh
+abbrev pub saved_weight : List SavedDraft → ℕ
+saved_weight drafts = drafts_weight (map (λ (x : SavedDraft). x.draft) drafts)
+
+-- each draft stands before those behind it
+unfoldable pub IsOrdered : List SavedDraft → Type 0
+IsOrdered [] = Unit {0}
+IsOrdered (x ∷ drafts) = AllByRecursion (λ y. comes_before x y ≡ true) drafts × IsOrdered drafts
