@@ -176,6 +176,37 @@ fn children_are_refused_each_request_in_turn(rt: HostRuntime) -> Result<(), Fail
 }
 
 #[test]
+fn copies_are_refused_each_request_in_turn(rt: HostRuntime) -> Result<(), Fail> {
+    let memory = Refusing::new(rt.alloc());
+    let tree = small_tree(&memory)?;
+    let ample = small_tree(rt.alloc())?;
+    let mut refused = 0;
+    for number in 1..10u64 {
+        memory.refuse(number);
+        let copy = tree.copy();
+        let is_waiting = memory.is_waiting();
+        memory.refuse(0);
+        assert!(rt; is_same(&tree, &ample)?);
+        match copy {
+            Ok(copy) => {
+                assert!(rt; is_waiting && is_same(&copy, &ample)?);
+                break;
+            }
+            Err(NoMemory) => {
+                assert!(rt; !is_waiting);
+                refused = number;
+            }
+        }
+    }
+    assert_eq!(rt;
+        refused,
+        5,
+        "the places, the lists, and three that have children"
+    );
+    Ok(())
+}
+
+#[test]
 fn additions_are_refused_each_request_in_turn(rt: HostRuntime) -> Result<(), Fail> {
     let memory = Refusing::new(rt.alloc());
     let mut tree = Tree::new(&memory)?;

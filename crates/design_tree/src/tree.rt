@@ -177,6 +177,18 @@ impl<A: Allocator + Copy> Tree<A> {
         })
     }
 
+    /// The same tree once more, in its own allocator's memory, of which it takes what the places and
+    /// the lists of children fill.
+    pub fn copy(&self) -> Result<Tree<A>, NoMemory>
+        ensures { IfOk result (λ copy. copy ≡ self.now) }
+    {
+        let alloc = *self.places.allocator();
+        Ok(Tree {
+            places: Vec::from_slice(alloc, &self.places)?,
+            children: Vec::from_clones(alloc, &self.children)?,
+        })
+    }
+
     /// The children of a place by number, in the tree's own allocator.
     pub fn children(&self, parent: PlaceId) -> Result<Vec<PlaceId, A>, NoMemory>
         requires { parent ≤ length self.now }

@@ -124,6 +124,19 @@ fn put_first<A: Allocator>(
     Ok(())
 }
 
+impl<A: Allocator + Copy> Table<A> {
+    /// The same table once more, in its own allocator's memory, of which it takes what the entries
+    /// fill.
+    pub fn copy(&self) -> Result<Table<A>, NoMemory>
+        ensures { IfOk result (λ copy. copy ≡ self.now) }
+    {
+        let alloc = *self.entries.allocator();
+        Ok(Table {
+            entries: Vec::from_clones(alloc, &self.entries)?,
+        })
+    }
+}
+
 impl<A: Allocator> Table<A> {
     /// A table of no claims.
     pub fn new(alloc: A) -> Result<Table<A>, NoMemory>

@@ -349,6 +349,30 @@ fn each_request_of_memory_is_refused(rt: HostRuntime) {
     assert_eq!(rt; answer.expect(&rt, "memory"), Extension::Done);
 }
 
+#[test]
+fn a_copy_is_refused_its_memory(rt: HostRuntime) {
+    let memory = Refusing::new(rt.alloc());
+    let tree = small_tree(&rt, rt.alloc());
+    let mut table = Table::new(&memory).expect(&rt, "memory");
+    for (id, item) in [(C1, look(1)), (C2, change(2)), (C3, look(2))] {
+        let locks = locks_of(&rt, &tree, &[item]);
+        assert!(rt; ask(&rt, &mut table, id, locks).is_ok());
+    }
+    memory.refuse(1);
+    assert!(rt; table.copy().is_err() && !memory.is_waiting());
+    memory.refuse(2);
+    let mut copy = table.copy().expect(&rt, "memory");
+    assert!(rt; memory.is_waiting(), "one request, for the entries");
+    for table in [&table, &copy] {
+        assert_eq!(rt; table.standing(C1), Some(Standing::Held));
+        assert_eq!(rt; table.standing(C2), Some(Standing::Queued(C1)));
+        assert_eq!(rt; table.standing(C3), Some(Standing::Queued(C2)));
+    }
+    copy.release(C1);
+    assert_eq!(rt; copy.standing(C2), Some(Standing::Held));
+    assert_eq!(rt; table.standing(C2), Some(Standing::Queued(C1)));
+}
+
 fn item_of(seed: u32) -> Item {
     let place = (seed >> 20) % 5;
     if seed >> 30 == 0 {

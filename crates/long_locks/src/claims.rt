@@ -1,5 +1,5 @@
 //! Claims by their ids, in line order.
-ghost use Rattle.std.specs.Prelude.{◌≡◌, ◌<◌, ◌++◌, ◌∷◌, [], true, is_some, length, slice_get, find, None, IsOk, OnOk};
+ghost use Rattle.std.specs.Prelude.{◌≡◌, ◌<◌, ◌++◌, ◌∷◌, [], true, is_some, length, slice_get, find, None, IsOk, IfOk, OnOk};
 ghost use Rattle.std.specs.Option.{option_map, option_copied};
 ghost use Rattle.vault_model.specs.declared.claims.Claim.{Claim};
 ghost use Rattle.vault_model.specs.Claims.{claim_of, without};
@@ -38,6 +38,15 @@ impl<A: Allocator + Copy> Claims<A> {
         Claims {
             by_id: IndexMap::new(alloc),
         }
+    }
+
+    /// The same claims once more, each found by its id.
+    pub(crate) fn copy(&self) -> Result<Claims<A>, NoMemory>
+        ensures { IfOk result (λ copy. copy.claims ≡ self.now.claims) }
+    {
+        Ok(Claims {
+            by_id: self.by_id.clone()?,
+        })
     }
 }
 

@@ -13,22 +13,22 @@ ghost use Rattle.long_locks.specs.Lines.{left_by, without_session, without_short
 
 use crate::claims::Claims;
 use crate::ending::Ending;
+use crate::remembered::Remembered;
 use design_tree::Tree;
 use lock_table::{Extension, Table, lock_set};
 use std::alloc::{Allocator, Global};
 use std::marker::Model;
-use std::snapshot::Snapshot;
 use vault_model::{Claim, ClaimId, Items, Name, NoMemory, Owner, PlaceId, Standing};
 
 /// The claims of a vault in order of arrival. Contracts see them as a list, with the last number
 /// that was given to a claim of each kind, and the tree over which a claim was weighed last.
 #[derive(Drop)]
 pub struct Line<A: Allocator = Global> {
-    claims: Claims<A>,
-    table: Table<A>,
-    tree: Snapshot<Tree<A>>,
-    last_long: u32,
-    last_short: u32,
+    pub(crate) claims: Claims<A>,
+    pub(crate) table: Table<A>,
+    pub(crate) tree: Remembered<Tree<A>>,
+    pub(crate) last_long: u32,
+    pub(crate) last_short: u32,
 }
 
 impl<A: Allocator> Model for Line<A> {
@@ -51,13 +51,13 @@ impl<A: Allocator> Model for Line<A> {
     }) l.table };
 }
 
-fn see_whole<A: Allocator>(tree: &Tree<A>)
+pub(crate) fn see_whole<A: Allocator>(tree: &Tree<A>)
     ensures { IsTree tree.now }
 {
     let _ = tree.parent(PlaceId(0));
 }
 
-fn put_last<A: Allocator>(
+pub(crate) fn put_last<A: Allocator>(
     claims: &mut Claims<A>,
     table: &mut Table<A>,
     tree: &Tree<A>,
@@ -137,9 +137,22 @@ impl<A: Allocator + Copy> Line<A> {
         Ok(Line {
             claims: Claims::new(alloc),
             table: Table::new(alloc)?,
-            tree: Snapshot::of(&tree),
+            tree: Remembered::of(&tree),
             last_long: 0,
             last_short: 0,
+        })
+    }
+
+    /// The same line once more, in its own allocator's memory, of which it takes no more than this one.
+    pub fn copy(&self) -> Result<Line<A>, NoMemory>
+        ensures { IfOk result (λ copy. copy ≡ self.now) }
+    {
+        Ok(Line {
+            claims: self.claims.copy()?,
+            table: self.table.copy()?,
+            tree: self.tree.again(),
+            last_long: self.last_long,
+            last_short: self.last_short,
         })
     }
 }
@@ -221,7 +234,7 @@ impl<A: Allocator> Line<A> {
         };
         let standing = put_last(&mut self.claims, &mut self.table, tree, claim)?;
         self.last_long += 1;
-        self.tree = Snapshot::of(tree);
+        self.tree = Remembered::of(tree);
         Ok(standing)
     }
 
@@ -248,7 +261,7 @@ impl<A: Allocator> Line<A> {
         };
         let standing = put_last(&mut self.claims, &mut self.table, tree, claim)?;
         self.last_short += 1;
-        self.tree = Snapshot::of(tree);
+        self.tree = Remembered::of(tree);
         Ok(standing)
     }
 
@@ -275,7 +288,7 @@ impl<A: Allocator> Line<A> {
     {
         see_whole(tree);
         let extension = extend(&mut self.claims, &mut self.table, tree, id, items)?;
-        self.tree = Snapshot::of(tree);
+        self.tree = Remembered::of(tree);
         Ok(extension)
     }
 
@@ -291,7 +304,7 @@ impl<A: Allocator> Line<A> {
         see_whole(tree);
         self.table.put_first(id, lock_set(tree, items.as_slice()))?;
         self.claims.put_first(id, items);
-        self.tree = Snapshot::of(tree);
+        self.tree = Remembered::of(tree);
         Ok(())
     }
 

@@ -1,9 +1,10 @@
-ghost use Rattle.std.specs.Prelude.{◌↔◌, IsTrue, List};
+ghost use Rattle.std.specs.Prelude.{List};
 ghost use Rattle.vault_model.specs.declared.place.Place.{Place};
 ghost use Rattle.vault_model.specs.Vault.{AreThere};
 ghost use Rattle.long_locks.specs.Lines.{IsGrownFrom};
 
 use super::*;
+use crate::from_claims::are_there;
 use design_tree::Tree;
 use lock_table::Extension;
 use std::alloc::Allocator;
@@ -19,14 +20,14 @@ const C3: ClaimId = ClaimId::Long(3);
 
 const H1: ClaimId = ClaimId::Short(1);
 
-fn look(place: u32) -> Item {
+pub(crate) fn look(place: u32) -> Item {
     Item {
         intent: Intent::Look,
         place: PlaceId(place),
     }
 }
 
-fn change(place: u32) -> Item {
+pub(crate) fn change(place: u32) -> Item {
     Item {
         intent: Intent::Change,
         place: PlaceId(place),
@@ -49,22 +50,13 @@ pub(crate) fn make<A: Allocator + Copy>(
 }
 
 // The library, a project, an assembly in it, and two parts.
-fn small_tree<A: Allocator + Copy>(rt: &impl Abort, alloc: A) -> Tree<A> {
+pub(crate) fn small_tree<A: Allocator + Copy>(rt: &impl Abort, alloc: A) -> Tree<A> {
     let mut tree = Tree::new(alloc).expect(rt, "memory");
     make(rt, &mut tree, 0, "e");
     make(rt, &mut tree, 1, "b");
     make(rt, &mut tree, 2, "p1");
     make(rt, &mut tree, 2, "p2");
     tree
-}
-
-fn are_there<A: Allocator>(tree: &Tree<A>, items: &[Item]) -> bool
-    ensures { IsTrue result ↔ AreThere tree.now items.now }
-{
-    let count = tree.len();
-    items
-        .iter()
-        .all(|item| (item.place.number() as usize) < count)
 }
 
 fn items_of<A: Allocator>(rt: &impl Abort, tree: &Tree<A>, wanted: &[Item]) -> Items

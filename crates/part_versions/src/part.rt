@@ -61,6 +61,18 @@ impl<A: Allocator + Copy> Part<A> {
     }
 }
 
+impl<A: Allocator + Copy> Clone for Part<A> {
+    ghost is_clone = { λ part copy. copy ≡ part };
+
+    fn clone(&self) -> Result<Part<A>, AllocError> {
+        let alloc = *self.bytes.allocator();
+        Ok(Part {
+            bytes: Vec::from_slice(alloc, &self.bytes)?,
+            ends: Vec::from_slice(alloc, &self.ends)?,
+        })
+    }
+}
+
 impl<A: Allocator> Part<A> {
     /// How many versions there are.
     pub(crate) fn len(&self) -> usize

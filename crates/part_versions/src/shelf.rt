@@ -1,5 +1,5 @@
 //! The shelf.
-ghost use Rattle.std.specs.Prelude.{◌≡◌, ℕ, true, None, List, [], length, OnOk, OnErr, IfErr};
+ghost use Rattle.std.specs.Prelude.{◌≡◌, ℕ, true, None, List, [], length, OnOk, OnErr, IfOk, IfErr};
 ghost use Rattle.std.specs.Option.{option_copied};
 ghost use Rattle.vault_model.specs.Shelf.{versions_of, numbered, weight, shelved_all, is_shelvable, IsShelf};
 ghost use Rattle.part_versions.specs.Appended.{IsRefusalOf};
@@ -10,7 +10,7 @@ use crate::part::Part;
 use std::alloc::{Allocator, Global};
 use std::marker::Model;
 use thiserror::Error;
-use vault_model::{Drafts, PlaceId};
+use vault_model::{Drafts, NoMemory, PlaceId};
 
 /// The versions of all parts, which contracts see as a list with the contents of each place.
 #[derive(Drop)]
@@ -77,6 +77,18 @@ impl<A: Allocator> Shelf<A> {
 }
 
 impl<A: Allocator + Copy> Shelf<A> {
+    /// The same shelf once more, in its own allocator's memory, of which it takes what the versions
+    /// fill.
+    pub fn copy(&self) -> Result<Shelf<A>, NoMemory>
+        ensures { IfOk result (λ copy. copy ≡ self.now) }
+    {
+        let alloc = *self.parts.allocator();
+        Ok(Shelf {
+            parts: Vec::from_clones(alloc, &self.parts)?,
+            weight: self.weight,
+        })
+    }
+
     /// Appends all drafts, each as one more version of its place, or gives the very drafts back. The
     /// limits are tried first, then memory is asked for.
     ///

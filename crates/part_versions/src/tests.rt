@@ -2,7 +2,7 @@ use super::*;
 use std::alloc::{Allocator, Global};
 use std::test::Fail;
 use test_memory::Refusing;
-use vault_model::{Draft, Drafts, Listing, PlaceId};
+use vault_model::{Draft, Drafts, Listing, NoMemory, PlaceId};
 
 // Drafts of these places, with these contents.
 fn drafts_of(alloc: Global, rows: &[(u32, &[u8])]) -> Result<Drafts<Global>, Fail> {
@@ -223,6 +223,41 @@ fn appends_are_refused_each_request_in_turn(rt: HostRuntime) -> Result<(), Fail>
     // The bytes of place 3 grow twice, those of 5 and 7 begin, so do the ends of 5, 0 and 7, and the
     // list of parts grows.
     assert!(rt; refused >= 8 && refused < 99);
+    Ok(())
+}
+
+#[test]
+fn copies_are_refused_each_request_in_turn(rt: HostRuntime) -> Result<(), Fail> {
+    let alloc = rt.alloc();
+    let rows: [(u32, &[u8]); 3] = [(3, b"ab"), (1, b""), (3, b"c")];
+    let memory = Refusing::new(alloc);
+    let mut shelf = Shelf::new(&memory);
+    let mut ample = Shelf::new(alloc);
+    assert!(rt; is_appended(&mut shelf, drafts_of(alloc, &rows)?));
+    assert!(rt; is_appended(&mut ample, drafts_of(alloc, &rows)?));
+    let mut refused = 0;
+    for number in 1..10u64 {
+        memory.refuse(number);
+        let copy = shelf.copy();
+        let is_waiting = memory.is_waiting();
+        memory.refuse(0);
+        assert!(rt; is_same(&shelf, &ample));
+        match copy {
+            Ok(copy) => {
+                assert!(rt; is_waiting && is_same(&copy, &ample));
+                break;
+            }
+            Err(NoMemory) => {
+                assert!(rt; !is_waiting);
+                refused = number;
+            }
+        }
+    }
+    assert_eq!(rt;
+        refused,
+        4,
+        "the parts, the end of place 1, the bytes and the ends of place 3"
+    );
     Ok(())
 }
 

@@ -15,5 +15,5 @@ pub invariant_of-self-2 : goal.invariant_of-self-2
 invariant_of-self-2 g c =
     let grown = subst (λ (l : LineSeen). IsGrownFrom l.tree c.args.tree.now) (sym c.self.view_is) c.requires.grown in
     let zip = rw c.in_ok-standing.ensures.asked at c.in_ok-standing.ensures.table in
-    rw (c.in_ok-standing.ensures.asked, c.of.ensures)
+    rw (c.in_ok-standing.ensures.asked, c.of-self-inside.ensures)
     (line_long _ c.self.inside.table c.self.invariant c.args.tree.now c.see_whole.ensures grown c.args.items c.requires.items c.put_last.new.table c.args.owner zip)

@@ -18,6 +18,6 @@ invariant_of-self-2 g c =
     let stands : is_some (claim_of c.self.inside.claims.claims c.args.id) ≡ true = subst (λ (l : LineSeen). is_some (claim_of l.claims c.args.id) ≡ true) (sym c.self.view_is) c.requires.there in
     let are : AreLocksOf c.args.tree.now c.args.items c.lock_set.result = record { apart = c.lock_set.ensures.apart; modes = rw c.as_slice.ensures.items at c.lock_set.ensures.modes } in
     let weighed = weighed_grown _ c.self.inside.table c.self.invariant c.args.tree.now grown in
-    rw (c.put_first-2.ensures, c.of.ensures, c.in_ok-put_first.ensures.put)
+    rw (c.put_first-2.ensures, c.of-self-inside.ensures, c.in_ok-put_first.ensures.put)
     (line_extended _ c.self.inside.table c.self.invariant c.args.tree.now c.see_whole.ensures grown c.args.id c.args.items c.requires.items None _
     (zip_first c.args.tree.now c.self.inside.claims.claims c.self.inside.table weighed c.args.id c.args.items c.lock_set.result are stands))
