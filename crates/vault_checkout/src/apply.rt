@@ -1,12 +1,17 @@
 //! Effects, made on a book as the journal tells them.
-ghost use Rattle.std.specs.Prelude.{◌≡◌, ℕ, ◌+◌, ◌≤◌, ◌==◌, ◌&&◌, not, nat_le, nat_lt, length, List, Some, None, is_some};
-ghost use Rattle.vault_model.specs.After.{may_make, may_ask, may_extend, are_there, after_made, after_asked, after_extended, after_abandoned, after};
-ghost use Rattle.vault_model.specs.Claims.{claim_of};
+ghost use Rattle.std.specs.Prelude.{◌≡◌, ◌+◌, ◌==◌, ◌&&◌, not, nat_le, length, Some};
+ghost use Rattle.vault_model.specs.After.{may_make, may_ask, are_there, after_made, after_asked, after_extended, after_saved, after_checked_in, after_abandoned, after};
+ghost use Rattle.vault_model.specs.Tree.{is_part};
+ghost use Rattle.vault_model.specs.Claims.{change_set};
+ghost use Rattle.vault_model.specs.Limits.{most_items};
+ghost use Rattle.vault_model.specs.Vault.{new_vault};
 ghost use Rattle.vault_checkout.specs.Applied.{Applies};
 
 use crate::book::Book;
-use crate::places::joined;
+use crate::done::Stop;
+use crate::places::{is_changed_by, joined};
 use design_tree::Tree;
+use long_locks::Line;
 use std::alloc::Allocator;
 use thiserror::Error;
 use vault_model::{
@@ -49,55 +54,120 @@ fn are_there<A: Allocator>(tree: &Tree<A>, items: &[Item]) -> bool
     true
 }
 
+/// Whether a place may be made: its parent is there and no part, has no child of the name, and there
+/// is room.
+fn may_make<A: Allocator>(tree: &Tree<A>, parent: PlaceId, name: &Name) -> bool
+    ensures { result ≡ may_make (record new_vault { tree = tree.now }) parent name.now }
+{
+    (parent.number() as usize) < tree.len()
+        && !tree.is_part(parent)
+        && tree.child(parent, name).is_none()
+        && !tree.is_full(parent)
+}
+
+/// Whether a claim of these items may get more: it has not too many then, and their places are there.
+fn may_grow<A: Allocator>(tree: &Tree<A>, own: &Items, items: &Items) -> bool
+    ensures { result ≡ (nat_le (length own.now + length items.now) most_items && are_there tree.now items.now) }
+{
+    items.len() <= MOST_ITEMS - own.len() && are_there(tree, items.as_slice())
+}
+
+/// Whether a place is a part that these items change.
+fn may_change<A: Allocator>(tree: &Tree<A>, items: &Items, place: PlaceId) -> bool
+    ensures { result ≡ (nat_le place (length tree.now) && is_part tree.now place && change_set tree.now items.now place) }
+{
+    (place.number() as usize) < tree.len()
+        && tree.is_part(place)
+        && is_changed_by(tree, items.as_slice(), place)
+}
+
+/// Whether a check-out may be asked for: it has the next number, its places are there, and there is
+/// room.
+fn may_ask<A: Allocator>(tree: &Tree<A>, line: &Line<A>, number: u32, items: &Items) -> bool
+    ensures { result ≡ may_ask (record new_vault { tree = tree.now; line = line.now.claims; last_long = line.now.last_long }) number items.now }
+{
+    number > 0
+        && number - 1 == line.last_long()
+        && items.len() > 0
+        && are_there(tree, items.as_slice())
+        && line.len() < MOST_CLAIMS
+}
+
 impl<A: Allocator + Copy> Book<A> {
     #[tactic(auto, unfolding(vault_model::specs::After::after_made))]
     fn apply_made(&mut self, parent: PlaceId, name: Name) -> Result<(), ApplyError>
         ensures { Applies self.old result self.new (after_made self.old parent name) }
     {
-        if parent.number() as usize >= self.tree.len()
-            || self.tree.is_part(parent)
-            || self.tree.child(parent, &name).is_some()
-            || self.tree.is_full(parent)
-        {
+        if !may_make(&self.tree, parent, &name) {
             return Err(ApplyError::NotApplicable);
         }
-        self.tree.push(parent, name)?;
-        Ok(())
+        match self.add_place(parent, name) {
+            Ok(_) => Ok(()),
+            Err(NoMemory) => Err(ApplyError::NoMemory),
+        }
     }
 
     #[tactic(auto, unfolding(vault_model::specs::After::after_asked))]
     fn apply_asked(&mut self, number: u32, designer: Name, items: &Items) -> Result<(), ApplyError>
         ensures { Applies self.old result self.new (after_asked self.old number designer items.now) }
     {
-        if number == 0
-            || number - 1 != self.line.last_long()
-            || items.len() == 0
-            || !are_there(&self.tree, items.as_slice())
-            || self.line.len() >= MOST_CLAIMS
-        {
+        if !may_ask(&self.tree, &self.line, number, items) {
             return Err(ApplyError::NotApplicable);
         }
-        self.line.ask_long(&self.tree, designer, *items)?;
-        Ok(())
+        match self.ask(designer, items) {
+            Ok(_) => Ok(()),
+            Err(NoMemory) => Err(ApplyError::NoMemory),
+        }
     }
 
-    #[tactic(auto, unfolding(vault_model::specs::After::after_extended))]
     fn apply_extended(&mut self, number: u32, items: &Items) -> Result<(), ApplyError>
         ensures { Applies self.old result self.new (after_extended self.old number items.now) }
     {
-        let id = ClaimId::Long(number);
-        let Some(claim) = self.line.get(id) else {
+        let Some(claim) = self.held(number) else {
             return Err(ApplyError::NotApplicable);
         };
-        let own = claim.items;
-        if !self.is_held(claim)
-            || items.len() > MOST_ITEMS - own.len()
-            || !are_there(&self.tree, items.as_slice())
-        {
+        if !may_grow(&self.tree, &claim.items, items) {
             return Err(ApplyError::NotApplicable);
         }
-        self.line.put_first(&self.tree, id, joined(own, items))?;
-        Ok(())
+        let all = joined(claim.items, items);
+        if !self.stay_held(number, &all) {
+            return Err(ApplyError::NotApplicable);
+        }
+        match self.put_first(number, &all) {
+            Ok(()) => Ok(()),
+            Err(NoMemory) => Err(ApplyError::NoMemory),
+        }
+    }
+
+    fn apply_saved(&mut self, number: u32, place: PlaceId, content: &[u8]) -> Result<(), ApplyError>
+        ensures { Applies self.old result self.new (after_saved self.old number place content.now) }
+    {
+        let Some(claim) = self.held(number) else {
+            return Err(ApplyError::NotApplicable);
+        };
+        if !may_change(&self.tree, &claim.items, place) {
+            return Err(ApplyError::NotApplicable);
+        }
+        if !self.may_save(number, place, content) {
+            return Err(ApplyError::NotApplicable);
+        }
+        match self.save_draft(number, place, content) {
+            Ok(()) => Ok(()),
+            Err(NoMemory) => Err(ApplyError::NoMemory),
+        }
+    }
+
+    fn apply_checked_in(&mut self, number: u32) -> Result<(), ApplyError>
+        ensures { Applies self.old result self.new (after_checked_in self.old number) }
+    {
+        let Some(_) = self.held(number) else {
+            return Err(ApplyError::NotApplicable);
+        };
+        match self.close(number) {
+            Ok(_) => Ok(()),
+            Err(Stop::Refused(_)) => Err(ApplyError::NotApplicable),
+            Err(Stop::OutOfMemory) => Err(ApplyError::NoMemory),
+        }
     }
 
     #[tactic(auto, unfolding(vault_model::specs::After::after_abandoned))]
@@ -108,7 +178,7 @@ impl<A: Allocator + Copy> Book<A> {
         if self.line.get(id).is_none() {
             return Err(ApplyError::NotApplicable);
         }
-        self.line.drop_claim(id);
+        self.withdraw(number);
         Ok(())
     }
 
@@ -125,7 +195,10 @@ impl<A: Allocator + Copy> Book<A> {
             Effect::Made(parent, name) => self.apply_made(*parent, *name),
             Effect::Asked(number, designer, items) => self.apply_asked(*number, *designer, items),
             Effect::Extended(number, items) => self.apply_extended(*number, items),
-            Effect::Saved(_, _, _) | Effect::CheckedIn(_) => Err(ApplyError::NotApplicable),
+            Effect::Saved(number, place, content) => {
+                self.apply_saved(*number, *place, content.as_slice())
+            }
+            Effect::CheckedIn(number) => self.apply_checked_in(*number),
             Effect::Abandoned(number) => self.apply_abandoned(*number),
         }
     }

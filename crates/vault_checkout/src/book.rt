@@ -1,35 +1,41 @@
 //! The book: a vault, and what each command does to it.
-ghost use Rattle.std.specs.Prelude.{◌≡◌, ℕ, ◌+◌, ◌-◌, ◌<◌, ◌≤◌, ◌==◌, ◌^◌, ◌||◌, List, [], ◌∷◌, ◌++◌, length, Option, Ok, IsOk, IfOk, OnOk, OnErr, Some, All, is_some, find, filter, not, true};
-ghost use Rattle.std.specs.Option.{option_map, option_copied};
-ghost use Rattle.vault_model.specs.Tree.{IsTree};
-ghost use Rattle.vault_model.specs.Vault.{Vault, AreThere, CountsBelow, session_of, one_more, counted, counted_in, new_vault, durable};
-ghost use Rattle.vault_model.specs.Claims.{claim_of, is_held, is_session};
-ghost use Rattle.vault_model.specs.Step.{Outcome, usable, permitted, join, make, check_out, extend, abandon, hold, release, state, list, leave, asked, extension, placed, is_designer, is_owned_by, at_door, in_session, decide, step};
+ghost use Rattle.std.specs.Prelude.{◌≡◌, ℕ, ◌+◌, ◌-◌, ◌<◌, ◌≤◌, ◌==◌, ◌^◌, ◌||◌, List, length, Option, Ok, IsOk, IfOk, OnOk, OnErr, Some, All, is_some, find, filter, not, true};
+ghost use Rattle.std.specs.Option.{option_copied};
+ghost use Rattle.vault_model.specs.Vault.{Vault, CountsBelow, session_of, one_more, counted, counted_in, new_vault, durable};
+ghost use Rattle.vault_model.specs.Claims.{claim_of, standing_of, is_held};
+ghost use Rattle.vault_model.specs.Drafts.{drafts_of};
+ghost use Rattle.vault_model.specs.Step.{usable, permitted, join, make, check_out, extend, abandon, hold, release, state, list, leave, asked, extension, is_designer, is_owned_by, decide, step};
 ghost use Rattle.vault_model.specs.declared.session.Session.{Session};
+ghost use Rattle.vault_model.specs.declared.claims.Standing.TheVariants as standings;
 ghost use Rattle.long_locks.specs.Lines.{IsGrownFrom};
 ghost use Rattle.vault_checkout.specs.Done.{Follows};
 
+use crate::check_outs::{AnyCheckOut, drafts_at, grant_held};
 use crate::done::{Done, Stop};
 use crate::places::{is_changed_by, joined, places_of};
 use design_tree::Tree;
 use lock_table::Extension;
 use long_locks::Line;
+use part_versions::Shelf;
 use std::alloc::{Allocator, Global};
 use std::marker::Model;
 use vault_model::{
-    Claim, ClaimId, Command, CommandIn, Effect, EffectIn, Items, LAST_NUMBER, MOST_CLAIMS,
+    Claim, ClaimId, Command, CommandIn, DraftIn, Effect, EffectIn, Items, LAST_NUMBER, MOST_CLAIMS,
     MOST_ITEMS, MOST_SESSIONS, Name, NoMemory, Owner, Path, PathItem, PlaceId, Refusal, Reply,
     ReplyIn, Session, Standing,
 };
 
-/// A vault: its tree, its line of claims and its sessions.
+/// A vault: its tree, the shelf of versions, the line of claims, the check-outs with their drafts, and
+/// the sessions.
 #[derive(Drop)]
 pub struct Book<A: Allocator = Global> {
     pub(crate) tree: Tree<A>,
+    pub(crate) shelf: Shelf<A>,
     pub(crate) line: Line<A>,
-    sessions: Vec<Session, A>,
-    last_session: u32,
-    door_count: u64,
+    pub(crate) check_outs: Vec<AnyCheckOut<A>, A>,
+    pub(crate) sessions: Vec<Session, A>,
+    pub(crate) last_session: u32,
+    pub(crate) door_count: u64,
 }
 
 impl<A: Allocator> Model for Book<A> {
@@ -114,12 +120,15 @@ fn count_in<A: Allocator>(sessions: &mut Vec<Session, A>, number: u32)
 impl<A: Allocator + Copy> Book<A> {
     /// The book of a new vault.
     pub fn new(alloc: A) -> Result<Book<A>, NoMemory>
-        ensures { IfOk result (λ book. book ≡ new_vault) }
+        ensures new { IfOk result (λ book. book ≡ new_vault) }
+        ensures counts { IfOk result (λ book. CountsBelow 1 book) }
     {
         let tree = Tree::new(alloc)?;
         Ok(Book {
             tree,
+            shelf: Shelf::new(alloc),
             line: Line::new(alloc)?,
+            check_outs: Vec::new(alloc),
             sessions: Vec::new(alloc),
             last_session: 0,
             door_count: 0,
@@ -131,6 +140,21 @@ impl<A: Allocator + Copy> Book<A> {
         ensures { result.now ≡ self.now.tree }
     {
         &self.tree
+    }
+
+    /// The shelf of versions.
+    pub fn shelf(&self) -> &Shelf<A>
+        ensures { result.now ≡ self.now.shelf }
+    {
+        &self.shelf
+    }
+
+    /// The drafts of the check-out of this number, by rising place; none where it has none, or is
+    /// not there.
+    pub fn drafts(&self, number: u32) -> &[DraftIn<A>]
+        ensures { result.now ≡ drafts_of self.now.drafts number }
+    {
+        drafts_at(&self.check_outs, number)
     }
 
     /// The line of claims.
@@ -148,6 +172,7 @@ impl<A: Allocator + Copy> Book<A> {
         ensures { self.new ≡ durable self.old }
     {
         self.line.restart();
+        grant_held(&mut self.check_outs, &self.line);
         self.sessions.clear();
         self.last_session = 0;
         self.door_count = 0;
@@ -158,7 +183,10 @@ impl<A: Allocator + Copy> Book<A> {
         ensures told { Follows self.old result self.new (join self.old name) }
         ensures counts { (bound : ℕ) → CountsBelow bound self.old → CountsBelow bound self.new }
     {
-        if self.sessions.len() >= MOST_SESSIONS || self.last_session == LAST_NUMBER {
+        if self.sessions.len() >= MOST_SESSIONS {
+            return Err(Stop::Refused(Refusal::Limit));
+        }
+        if self.last_session == LAST_NUMBER {
             return Err(Stop::Refused(Refusal::Limit));
         }
         let number = self.last_session + 1;
@@ -184,8 +212,10 @@ impl<A: Allocator + Copy> Book<A> {
 
     /// The held claim of this id, for one who owns it.
     #[tactic(auto, unfolding(vault_model::specs::Step::usable, vault_model::specs::Step::chained))]
-    fn usable(&self, session: &Session, id: ClaimId) -> Result<Claim, Refusal>
-        ensures { result ≡ usable self.now session.now id }
+    pub(crate) fn usable(&self, session: &Session, id: ClaimId) -> Result<Claim, Refusal>
+        ensures decided { result ≡ usable self.now session.now id }
+        ensures found { IfOk result (λ claim. claim_of self.now.line id ≡ Some claim) }
+        ensures held { OnOk result (standing_of self.now.tree self.now.line id ≡ Some standings.Held) }
     {
         let Some(claim) = self.line.get(id) else {
             return Err(Refusal::NoClaim);
@@ -240,7 +270,7 @@ impl<A: Allocator + Copy> Book<A> {
         if self.tree.is_full(parent) {
             return Err(Stop::Refused(Refusal::Limit));
         }
-        let place = self.tree.push(parent, name)?;
+        let place = self.add_place(parent, name)?;
         Ok(Done {
             reply: Reply::Place(place.number()),
             effect: Some(Effect::Made(parent, name)),
@@ -259,7 +289,7 @@ impl<A: Allocator + Copy> Book<A> {
         if !is_designer(&claim.owner, &designer) {
             return Err(Stop::Refused(Refusal::NotYours));
         }
-        self.line.drop_claim(id);
+        self.withdraw(number);
         Ok(Done {
             reply: Reply::Abandoned,
             effect: Some(Effect::Abandoned(number)),
@@ -293,7 +323,7 @@ impl<A: Allocator + Copy> Book<A> {
         if self.line.len() >= MOST_CLAIMS || self.line.last_long() == LAST_NUMBER {
             return Err(Stop::Refused(Refusal::Limit));
         }
-        let standing = self.line.ask_long(&self.tree, designer, items)?;
+        let standing = self.ask(designer, &items)?;
         let number = self.line.last_long();
         Ok(Done {
             reply: reply_of(ClaimId::Long(number), standing),
@@ -318,15 +348,13 @@ impl<A: Allocator + Copy> Book<A> {
         let Some(items) = places_of(&self.tree, wanted) else {
             return Err(Stop::Refused(Refusal::NoPlace));
         };
-        match self
-            .line
-            .extend(&self.tree, id, joined(claim.items, &items))?
-        {
-            Extension::Done => Ok(Done {
+        match self.move_first(id, joined(claim.items, &items)) {
+            Ok(Extension::Done) => Ok(Done {
                 reply: Reply::Held(id),
                 effect: effect_of(id, items),
             }),
-            Extension::InTheWay(other) => Err(Stop::Refused(Refusal::Overlaps(other))),
+            Ok(Extension::InTheWay(other)) => Err(Stop::Refused(Refusal::Overlaps(other))),
+            Err(NoMemory) => Err(Stop::OutOfMemory),
         }
     }
 
@@ -364,7 +392,7 @@ impl<A: Allocator + Copy> Book<A> {
         if !is_owned_by(&claim.owner, session) {
             return Err(Stop::Refused(Refusal::NotYours));
         }
-        self.line.drop_claim(id);
+        self.drop_hold(number);
         Ok(Done {
             reply: Reply::Released,
             effect: None,
@@ -389,6 +417,7 @@ impl<A: Allocator + Copy> Book<A> {
         ensures counts { (bound : ℕ) → CountsBelow bound self.old → CountsBelow bound self.new }
     {
         self.line.drop_session(session.number);
+        grant_held(&mut self.check_outs, &self.line);
         drop_session(&mut self.sessions, session.number);
         Done {
             reply: Reply::Left,
@@ -416,11 +445,17 @@ impl<A: Allocator + Copy> Book<A> {
             Command::Make(path, claim) => self.make(&session, path, *claim),
             Command::CheckOut(wanted) => self.check_out(session.name, wanted.as_slice()),
             Command::Extend(id, wanted) => self.extend(&session, *id, wanted.as_slice()),
+            Command::Save(claim, path, content) => {
+                self.save(&session, *claim, path, content.as_slice())
+            }
+            Command::CheckIn(claim) => self.check_in(&session, *claim),
             Command::Abandon(claim) => self.abandon(session.name, *claim),
             Command::Hold(wanted) => self.hold(&session, wanted.as_slice()),
             Command::Release(claim) => self.release(&session, *claim),
             Command::State(id) => self.state(*id),
             Command::List(path) => self.list(path),
+            Command::Fetch(path, version) => self.fetch(path, *version),
+            Command::Count(path) => self.count_versions(path),
             Command::Leave => Ok(self.leave(&session)),
         }
     }

@@ -1,12 +1,21 @@
-//! The book of a vault: its tree, line and sessions, and what each command does to them.
+//! The book of a vault: its tree, shelf, line, check-outs and sessions, and what each command does
+//! to them.
 #![tactic(auto)]
 
 mod apply;
 mod book;
+mod changes;
+mod check_out;
+mod check_outs;
+mod closing;
+mod copy;
 mod done;
+mod drafting;
 mod places;
 #[cfg(test)]
 mod tests;
+mod weights;
 
 pub use apply::ApplyError;
 pub use book::Book;
+pub use check_out::{CheckOut, Held, Waiting};

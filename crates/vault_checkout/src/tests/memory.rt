@@ -1,146 +1,139 @@
 //! Each request for memory refused in turn: the book is then as it was.
 
-use super::{C1, C2, C3, H1, Said, Says, Talk, command, is_reply};
+use super::{Talk, content, item, name, path};
 use crate::Book;
-use Says::{Abandon, CheckOut, Extend, Hold, Join, Leave, List, Make, MakeFor, Release, State};
-use design_tree::Tree;
-use long_locks::Line;
+use Command::{
+    Abandon, CheckIn, CheckOut, Count, Extend, Fetch, Hold, Join, Leave, List, Make, Release, Save,
+    State,
+};
 use std::alloc::{Allocator, Global};
 use std::process::Abort;
-use std::slice;
 use test_memory::Refusing;
-use vault_model::Refusal::NoPlace;
-use vault_model::Reply::{
-    Abandoned, Children, Held, Left, Place, Queued, Refused, Released, Session,
-};
-use vault_model::{ClaimId, NoMemory, PlaceId};
+use vault_model::ClaimId::{Long, Short};
+use vault_model::Intent::{Change, Look};
+use vault_model::{Command, NoMemory, PlaceId, Reply};
 
-fn are_trees<A: Allocator, B: Allocator>(tree: &Tree<A>, other: &Tree<B>) -> bool {
-    for number in 0..4096u32 {
-        let place = number as usize;
-        if place >= tree.len() || place >= other.len() {
-            break;
+fn are_alike<A: Allocator + Copy>(rt: &impl Abort, book: &Book<A>, other: &Book<A>) -> bool {
+    for text in ["/e", "/e/b", "/e/b/p", "/e/f", "/f"] {
+        let place = path(rt, text);
+        if book.tree().find(&place) != other.tree().find(&place) {
+            return false;
         }
-        let place = PlaceId(number);
-        if tree.name_of(place) != other.name_of(place)
-            || tree.parent(place) != other.parent(place)
+    }
+    let (line, other_line) = (book.line(), other.line());
+    let (shelf, other_shelf) = (book.shelf(), other.shelf());
+    for number in 0..8u32 {
+        let (place, position) = (PlaceId(number), number as usize);
+        if line.at(position) != other_line.at(position)
+            || line.standing(Long(number)) != other_line.standing(Long(number))
+            || line.standing(Short(number)) != other_line.standing(Short(number))
+            || book.drafts(number) != other.drafts(number)
+            || shelf.fetch(place, 1) != other_shelf.fetch(place, 1)
+            || shelf.fetch(place, 2) != other_shelf.fetch(place, 2)
         {
             return false;
         }
     }
-    tree.len() == other.len()
+    book.tree().len() == other.tree().len()
+        && line.len() == other_line.len()
+        && line.last_long() == other_line.last_long()
+        && line.last_short() == other_line.last_short()
+        && shelf.weight() == other_shelf.weight()
 }
 
-fn are_lines<A: Allocator, B: Allocator>(line: &Line<A>, other: &Line<B>) -> bool {
-    for position in 0..line.len() {
-        let (Some(claim), Some(twin)) = (line.at(position), other.at(position)) else {
-            return false;
-        };
-        if claim != twin || line.standing(claim.id) != other.standing(claim.id) {
-            return false;
-        }
-    }
-    line.len() == other.len()
-        && line.last_long() == other.last_long()
-        && line.last_short() == other.last_short()
-}
-
-fn are_alike<A: Allocator + Copy, B: Allocator + Copy>(book: &Book<A>, other: &Book<B>) -> bool {
-    are_trees(book.tree(), other.tree()) && are_lines(book.line(), other.line())
-}
-
-/// How many requests of memory a line makes after others, if it ends. Each is refused in turn: the
-/// book is then as one that only heard the others, and the line has its reply once memory is there.
-fn requests(rt: &impl Abort, memory: Global, before: &[Said<'_>], last: &Said<'_>) -> Option<u64> {
+/// How many requests of memory a command makes after others, if it ends. Each is refused in turn: the
+/// book is then as one that only heard the others, and the command is heard once memory is there.
+fn requests(
+    rt: &impl Abort,
+    memory: Global,
+    before: &[(u32, Command)],
+    session: u32,
+    command: &Command,
+) -> Option<u64> {
+    let ample = Refusing::new(memory);
     let refusing = Refusing::new(memory);
-    let mut twin = Talk::new(rt, memory, memory);
+    let mut twin = Talk::new(rt, &ample);
     twin.hear(rt, before);
-    let (session, says, want) = last;
     for number in 1..20u64 {
-        let mut talk = Talk::new(rt, &refusing, memory);
+        let mut talk = Talk::new(rt, &refusing);
         talk.hear(rt, before);
-        let command = command(rt, memory, *says);
         refusing.refuse(number);
-        let told = talk.tell(*session, &command);
+        let told = talk.tell(session, command);
         let waits = refusing.is_waiting();
         refusing.refuse(0);
         match told {
             Ok((reply, _)) => {
-                assert!(rt; waits && is_reply(&reply, want));
+                assert!(rt; waits && !matches!(reply, Reply::Refused(_)));
+                assert!(rt; reply == twin.say(rt, session, command));
+                assert!(rt; are_alike(rt, &talk.book, &twin.book));
                 return Some(number - 1);
             }
             Err(NoMemory) => {
-                assert!(rt; !waits && are_alike(&talk.book, &twin.book));
-                talk.hear(rt, slice::from_ref(last));
+                assert!(rt; !waits && are_alike(rt, &talk.book, &twin.book));
+                let _ = talk.say(rt, session, command);
             }
         }
     }
     None
 }
 
-#[test]
-fn each_request_of_memory_is_refused(rt: HostRuntime) {
-    let joined = (0, Join("anna"), Session(1));
-    assert!(rt; matches!(requests(&rt, rt.alloc(), &[], &joined), Some(1..)));
-    let before = [
-        (0, Join("anna"), Session(1)),
-        (1, Make("/e"), Place(1)),
-        (1, Make("/f"), Place(2)),
-        (1, CheckOut("w:/e"), Held(C1)),
-        (1, CheckOut("r:/"), Queued(C2, C1)),
-        (1, CheckOut("r:/"), Queued(C3, C1)),
-        (1, CheckOut("r:/"), Queued(ClaimId::Long(4), C1)),
-    ];
-    let lines = [
-        (1, Make("/f/a"), Place(3)),
-        (1, MakeFor(1, "/e/a"), Place(3)),
-        (1, CheckOut("r:/"), Queued(ClaimId::Long(5), C1)),
-        (1, Extend(C1, "r:/ w:/f"), Held(C1)),
-        (1, Hold("r:/"), Queued(H1, C1)),
-        (1, List("/"), Children("e f")),
-    ];
-    for last in &lines {
-        assert!(rt; matches!(requests(&rt, rt.alloc(), &before, last), Some(1..)));
-    }
+fn save(rt: &impl Abort, memory: Global, claim: u32, text: &str) -> Command {
+    Save(claim, path(rt, "/e/b/p"), content(rt, memory, text))
 }
 
 #[test]
-fn endings_and_questions_take_no_memory(rt: HostRuntime) {
+fn each_request_of_memory_is_refused(rt: HostRuntime) {
+    let memory = rt.alloc();
     let before = [
-        (0, Join("anna"), Session(1)),
-        (1, CheckOut("w:/"), Held(C1)),
-        (1, Hold("r:/"), Queued(H1, C1)),
+        (0, Join(name(&rt, "anna"))),
+        (1, Make(path(&rt, "/e"), None)),
+        (1, Make(path(&rt, "/e/b"), None)),
+        (1, Make(path(&rt, "/e/b/p"), None)),
+        (1, CheckOut(item(&rt, memory, Change, "/e"))),
+        (1, save(&rt, memory, 1, "first")),
+        (1, CheckIn(1)),
+        (1, CheckOut(item(&rt, memory, Change, "/e"))),
+        (1, save(&rt, memory, 2, "second")),
+        (1, Hold(item(&rt, memory, Look, "/"))),
+        (1, CheckOut(item(&rt, memory, Look, "/"))),
+        (1, CheckOut(item(&rt, memory, Look, "/"))),
     ];
     let lines = [
-        (1, Abandon(1), Abandoned),
-        (1, Release(1), Released),
-        (1, State(H1), Queued(H1, C1)),
-        (1, Leave, Left),
-        (1, List("/x"), Refused(NoPlace)),
+        Make(path(&rt, "/f"), None),
+        Make(path(&rt, "/e/f"), Some(2)),
+        CheckOut(item(&rt, memory, Look, "/")),
+        Extend(Long(2), item(&rt, memory, Change, "/")),
+        save(&rt, memory, 2, "third"),
+        CheckIn(2),
+        Hold(item(&rt, memory, Look, "/")),
+        List(path(&rt, "/")),
+        Fetch(path(&rt, "/e/b/p"), 1),
     ];
     for last in &lines {
-        assert_eq!(rt; requests(&rt, rt.alloc(), &before, last), Some(0));
+        assert!(rt; matches!(requests(&rt, memory, &before, 1, last), Some(1..)));
     }
+    let lines = [
+        Abandon(2),
+        Release(1),
+        State(Short(1)),
+        Count(path(&rt, "/e/b/p")),
+        Leave,
+    ];
+    for last in &lines {
+        assert_eq!(rt; requests(&rt, memory, &before, 1, last), Some(0));
+    }
+    let join = Join(name(&rt, "anna"));
+    assert!(rt; matches!(requests(&rt, memory, &[], 0, &join), Some(1..)));
 }
 
 #[test]
 fn a_new_book_is_refused_its_memory(rt: HostRuntime) {
     let memory = Refusing::new(rt.alloc());
-    let mut refusals = 0;
+    memory.refuse(1);
+    assert!(rt; Book::new(&memory).is_err());
     for number in 1..20u64 {
         memory.refuse(number);
-        match Book::new(&memory) {
-            Ok(book) => {
-                assert!(rt; memory.is_waiting());
-                assert_eq!(rt; book.tree().len(), 1);
-                break;
-            }
-            Err(NoMemory) => {
-                assert!(rt; !memory.is_waiting());
-                refusals = number;
-            }
-        }
+        let book = Book::new(&memory);
+        assert_eq!(rt; book.is_err(), !memory.is_waiting());
     }
-    memory.refuse(0);
-    assert!(rt; 0 < refusals && refusals < 19);
 }

@@ -1,17 +1,18 @@
-use Rattle.std.proofs.Common.{◌≡◌, ◌<◌, ◌≤◌, true, rules, length}
-use Rattle.vault_model.specs.Limits.{most_items, most_claims}
-use Rattle.vault_model.specs.After.{are_there}
-use Rattle.vault_model.proofs.Durable.{there_all}
-use Rattle.vault_model.proofs.Kept.{kept_asked_long}
-use Rattle.long_locks.proofs.Grown.{grown_itself}
+use Rattle.std.proofs.Common.{◌≡◌, ◌∙◌, true, refl, sym}
+use Rattle.vault_model.specs.After.{may_ask, after_asked}
 use Rattle.vault_checkout.specs.Seen.{vault_of}
+use Rattle.vault_checkout.proofs.Applying.{may_ask_is}
 use Rattle.vault_checkout.proofs.book.Book.apply_asked.Goals as goal
 
-pub invariant_of-self-2 : goal.invariant_of-self-2
-invariant_of-self-2 g c =
-    let room : length c.self.inside.line.claims < most_claims = search rules in
-    let some : 0 < length c.args.items.now = search rules in
-    let few : length c.args.items.now ≤ most_items = search rules in
-    let there : are_there c.self.inside.tree c.args.items.now ≡ true = search rules in
-    rw c.in_ok-ask_long.ensures.asked
-    (kept_asked_long (vault_of c.self.inside) c.self.invariant.0 c.args.designer c.args.items.now room some few (there_all c.self.inside.tree c.args.items.now there), grown_itself c.self.inside.tree)
+pub ask-requires-clause-room : goal.ask-requires-clause-room
+ask-requires-clause-room g c = rw (← c.self.view_is) (may_ask_is (vault_of c.self.inside) c.args.number c.args.items.now (sym c.may_ask.ensures ∙ c.if-not-may_ask.false)).room
+
+pub ask-requires-clause-there : goal.ask-requires-clause-there
+ask-requires-clause-there g c = rw (← c.self.view_is) (may_ask_is (vault_of c.self.inside) c.args.number c.args.items.now (sym c.may_ask.ensures ∙ c.if-not-may_ask.false)).there
+
+pub returns-in-Ok : goal.returns-in-Ok
+unfolding after_asked
+returns-in-Ok g c =
+    let yes : may_ask (vault_of c.self.inside) c.args.number c.args.items.now ≡ true = sym c.may_ask.ensures ∙ c.if-not-may_ask.false in
+    let next = (may_ask_is (vault_of c.self.inside) c.args.number c.args.items.now yes).next in
+    rw (c.in-Ok.ensures.asked, ← c.self.view_is, yes, next) refl

@@ -1,43 +1,63 @@
-use Rattle.std.proofs.Common.{◌≡◌, ◌+◌, ◌-◌, ◌<◌, ◌≤◌, ◌++◌, true, Some, rules, sym, subst, length, length-append, arith}
+use Rattle.std.proofs.Common.{◌∙◌, ◌≤◌, ◌++◌, ◌+◌, true, false, length, sym, subst, refl}
+use Rattle.std.specs.Prelude.{nat_le, IsSome}
 use Rattle.std.proofs.lemmas.List.Elements.{All-append}
 use Rattle.vault_model.specs.declared.claims.Item.{Item}
 use Rattle.vault_model.specs.declared.ids.ClaimId.TheVariants.{Long}
 use Rattle.vault_model.specs.Limits.{most_items}
-use Rattle.vault_model.specs.Claims.{claim_of}
+use Rattle.vault_model.specs.Claims.{put_first}
 use Rattle.vault_model.specs.Vault.{IsClaim}
-use Rattle.vault_model.specs.After.{are_there}
+use Rattle.vault_model.specs.After.{are_there, drafts_held}
+use Rattle.vault_model.proofs.Overlaps.{and_both}
 use Rattle.vault_model.proofs.Durable.{there_all}
-use Rattle.vault_model.proofs.Kept.{kept_first}
-use Rattle.vault_model.proofs.Stays.{own_id, claim_there}
-use Rattle.long_locks.proofs.Grown.{grown_itself}
-use Rattle.vault_checkout.specs.Seen.{vault_of}
+use Rattle.vault_model.proofs.Stays.{claim_there}
+use Rattle.vault_checkout.proofs.Applying.{extended_none, extended_as, held_is_held}
 use Rattle.vault_checkout.proofs.book.Book.apply_extended.Goals as goal
 
-pub is_held-requires : goal.is_held-requires
-is_held-requires g c =
-    let found : claim_of c.self.inside.line.claims (Long c.args.number) ≡ Some c.in-Some.claim.now = search rules in
-    rw (← c.self.view_is) (subst (λ k. claim_of c.self.inside.line.claims k ≡ Some c.in-Some.claim.now) (sym (own_id c.self.inside.line.claims (Long c.args.number) c.in-Some.claim.now found)) found)
+pub returns-in_default : goal.returns-in_default
+returns-in_default g c = (extended_none c.args.self.now c.args.number (sym c.held.ensures.is ∙ c.in_default.is) c.args.items.now, refl)
 
-pub put_first-requires-clause-items : goal.put_first-requires-clause-items
-put_first-requires-clause-items g c =
-    let found : claim_of c.self.inside.line.claims (Long c.args.number) ≡ Some c.in-Some.claim.now = search rules in
-    let own = claim_there (IsClaim c.self.inside.tree c.self.inside.sessions.items c.self.inside.line.last_long c.self.inside.line.last_short) c.self.inside.line.claims (Long c.args.number) c.self.invariant.0.claims c.in-Some.claim.now found in
-    let there : are_there c.self.inside.tree c.args.items.now ≡ true = search rules in
-    rw c.joined.ensures (All-append (λ (item : Item). item.place ≤ length c.self.inside.tree) c.in-Some.claim.now.items c.args.items.now own.there (there_all c.self.inside.tree c.args.items.now there))
+pub returns-then-not-may_grow : goal.returns-then-not-may_grow
+returns-then-not-may_grow g c =
+    let claim = held_is_held c.args.self.now c.args.number c.in-Some.claim (sym c.held.ensures.is ∙ c.in-Some.is) in (
+      extended_as c.args.self.now c.args.number c.in-Some.claim claim.0 claim.1 c.args.items.now false
+          (drafts_held c.args.self.now.tree (put_first c.args.self.now.line (Long c.args.number) (c.in-Some.claim.items ++ c.args.items.now)) c.args.self.now.drafts)
+          (rw (← c.self.view_is) (sym c.may_grow.ensures ∙ c.if-not-may_grow.true)) refl,
+      refl,
+    )
 
-pub invariant_of-self-2 : goal.invariant_of-self-2
-invariant_of-self-2 g c =
-    let found : claim_of c.self.inside.line.claims (Long c.args.number) ≡ Some c.in-Some.claim.now = search rules in
-    let own = claim_there (IsClaim c.self.inside.tree c.self.inside.sessions.items c.self.inside.line.last_long c.self.inside.line.last_short) c.self.inside.line.claims (Long c.args.number) c.self.invariant.0.claims c.in-Some.claim.now found in
-    let there : are_there c.self.inside.tree c.args.items.now ≡ true = search rules in
-    let room : length c.args.items.now ≤ most_items - length c.in-Some.claim.now.items = search rules in
-    let longer = length-append c.in-Some.claim.now.items c.args.items.now in
-    let before = own.some in
-    let most = own.few in
-    let some : 0 < length (c.in-Some.claim.now.items ++ c.args.items.now) = omega arith in
-    let few : length (c.in-Some.claim.now.items ++ c.args.items.now) ≤ most_items = omega arith in
-    rw (c.in_ok-put_first.ensures.put, c.joined.ensures) (
-      kept_first (vault_of c.self.inside) c.self.invariant.0 (Long c.args.number) c.in-Some.claim.now (c.in-Some.claim.now.items ++ c.args.items.now) found some few
-          (All-append (λ (item : Item). item.place ≤ length c.self.inside.tree) c.in-Some.claim.now.items c.args.items.now own.there (there_all c.self.inside.tree c.args.items.now there)),
-      grown_itself c.self.inside.tree,
+pub stay_held-requires-clause-there : goal.stay_held-requires-clause-there
+stay_held-requires-clause-there g c =
+    let claim = rw (← c.self.view_is) at (held_is_held c.args.self.now c.args.number c.in-Some.claim (sym c.held.ensures.is ∙ c.in-Some.is)) in
+    let own = claim_there (IsClaim c.self.inside.tree c.self.inside.sessions.items c.self.inside.line.last_long c.self.inside.line.last_short) c.self.inside.line.claims (Long c.args.number) c.self.invariant.0.claims c.in-Some.claim claim.0 in
+    let tests = and_both (nat_le (length c.in-Some.claim.items + length c.args.items.now) most_items) (are_there c.self.inside.tree c.args.items.now) (sym c.may_grow.ensures ∙ c.if-not-may_grow.false) in
+    rw (← c.self.view_is, c.joined-all.ensures) (All-append (λ (item : Item). item.place ≤ length c.self.inside.tree) c.in-Some.claim.items c.args.items.now own.there (there_all c.self.inside.tree c.args.items.now tests.1))
+
+pub returns-then-not-stay_held : goal.returns-then-not-stay_held
+returns-then-not-stay_held g c =
+    let claim = held_is_held c.args.self.now c.args.number c.in-Some.claim (sym c.held.ensures.is ∙ c.in-Some.is) in (
+      extended_as c.args.self.now c.args.number c.in-Some.claim claim.0 claim.1 c.args.items.now true false
+          (rw (← c.self.view_is) (sym c.may_grow.ensures ∙ c.if-not-may_grow.false)) (rw c.joined-all.ensures at (sym c.stay_held.ensures ∙ c.if-not-stay_held.true)),
+      refl,
+    )
+
+pub put_first-requires-clause-there : goal.put_first-requires-clause-there
+put_first-requires-clause-there g c =
+    let claim = rw (← c.self.view_is) at (held_is_held c.args.self.now c.args.number c.in-Some.claim (sym c.held.ensures.is ∙ c.in-Some.is)) in
+    let own = claim_there (IsClaim c.self.inside.tree c.self.inside.sessions.items c.self.inside.line.last_long c.self.inside.line.last_short) c.self.inside.line.claims (Long c.args.number) c.self.invariant.0.claims c.in-Some.claim claim.0 in
+    let tests = and_both (nat_le (length c.in-Some.claim.items + length c.args.items.now) most_items) (are_there c.self.inside.tree c.args.items.now) (sym c.may_grow.ensures ∙ c.if-not-may_grow.false) in
+    rw (← c.self.view_is, c.joined-all.ensures) (All-append (λ (item : Item). item.place ≤ length c.self.inside.tree) c.in-Some.claim.items c.args.items.now own.there (there_all c.self.inside.tree c.args.items.now tests.1))
+
+pub returns-in-Ok : goal.returns-in-Ok
+returns-in-Ok g c =
+    let claim = held_is_held c.args.self.now c.args.number c.in-Some.claim (sym c.held.ensures.is ∙ c.in-Some.is) in
+    rw (c.in-Ok.ensures.put, c.joined-all.ensures)
+    (extended_as c.args.self.now c.args.number c.in-Some.claim claim.0 claim.1 c.args.items.now true true
+    (rw (← c.self.view_is) (sym c.may_grow.ensures ∙ c.if-not-may_grow.false)) (rw c.joined-all.ensures at (sym c.stay_held.ensures ∙ c.if-not-stay_held.false)))
+
+pub returns-in-Err : goal.returns-in-Err
+returns-in-Err g c =
+    let claim = held_is_held c.args.self.now c.args.number c.in-Some.claim (sym c.held.ensures.is ∙ c.in-Some.is) in (
+      subst IsSome (sym (extended_as c.args.self.now c.args.number c.in-Some.claim claim.0 claim.1 c.args.items.now true true
+          (rw (← c.self.view_is) (sym c.may_grow.ensures ∙ c.if-not-may_grow.false)) (rw c.joined-all.ensures at (sym c.stay_held.ensures ∙ c.if-not-stay_held.false)))) refl,
+      c.in-Err.ensures.unchanged,
     )

@@ -1,15 +1,25 @@
-use Rattle.std.proofs.Common.{◌≡◌, ◌<◌, ◌≤◌, rules, length, arith, sym}
-use Rattle.vault_model.specs.Limits.{most_items, most_claims}
-use Rattle.vault_model.proofs.Kept.{kept_asked_long, length-placed}
-use Rattle.long_locks.proofs.Grown.{grown_itself}
-use Rattle.vault_checkout.specs.Seen.{vault_of}
+use Rattle.std.proofs.Common.{◌≡◌, ◌<◌, length, arith, sym, subst}
+use Rattle.std.proofs.lemmas.Bool.Decides.{nat_tests}
+use Rattle.vault_model.specs.Vault.{CountsBelow}
+use Rattle.vault_model.proofs.Kept.{length-placed}
 use Rattle.vault_checkout.proofs.book.Book.check_out.Goals as goal
 
-pub invariant_of-self-2 : goal.invariant_of-self-2
-invariant_of-self-2 g c =
-    let room : length c.self.inside.line.claims < most_claims = search rules in
-    let some : 0 < length c.args.wanted.now = search rules in
-    let few : length c.args.wanted.now ≤ most_items = search rules in
+pub ask-requires-clause-some : goal.ask-requires-clause-some
+ask-requires-clause-some g c =
+    let empty = c.is_empty.ensures in
+    let not_empty = c.if-is_empty.false in
+    let some : 0 < length c.args.wanted.now = grind (arith, nat_tests, empty, not_empty) in
     let same : length c.in-Some.items ≡ length c.args.wanted.now = length-placed c.self.inside.tree c.args.wanted.now c.in-Some.items (sym c.in-Some.ensures.placed) in
-    rw c.in_ok-standing.ensures.asked
-    (kept_asked_long (vault_of c.self.inside) c.self.invariant.0 c.args.designer c.in-Some.items room (omega arith) (omega arith) c.in-Some.ensures.there, grown_itself c.self.inside.tree)
+    omega arith
+
+pub ask-requires-clause-few : goal.ask-requires-clause-few
+ask-requires-clause-few g c =
+    let few = c.if-wanted-gt-MOST_ITEMS.false in
+    let same : length c.in-Some.items ≡ length c.args.wanted.now = length-placed c.self.inside.tree c.args.wanted.now c.in-Some.items (sym c.in-Some.ensures.placed) in
+    omega arith
+
+pub ask-requires-clause-there : goal.ask-requires-clause-there
+ask-requires-clause-there g c = rw (← c.self.view_is) c.in-Some.ensures.there
+
+pub returns-clause-counts : goal.returns-clause-counts
+returns-clause-counts g c = λ bound h. subst (CountsBelow bound) (sym c.in_ok-standing.ensures.asked) (record { door = h.door; each = h.each })
