@@ -1,6 +1,7 @@
 pub mod Numbers
 pub mod Each
 pub mod Steps
+pub mod Contents
 pub mod WordsFound
 pub mod WordsAgain
 pub mod Written

@@ -2,8 +2,10 @@
 use Rattle.std.specs.Prelude.{refl}
 use Rattle.std.specs.Fmt.{digits}
 use Rattle.vault_model.specs.Claims.{overlap}
-use Rattle.vault_model.specs.Step.{step, decide, chained, join, make, permitted, usable, check_out, extend, abandon, hold, release, state, list}
-use Rattle.vault_protocol.specs.Rows.{Rows, Empty, OneLine, TwoDesigners, Siblings, LookAboveChange, LineMovesUp, CoveredParent, ExtensionRefused, ExtensionToFront, MakeUnderClaims, HoldFirst, Holds, Lists, Refusals, BadLines}
+use Rattle.vault_model.specs.Shelf.{is_shelvable}
+use Rattle.hex.specs.Hex.{decode_pairs, encode_with}
+use Rattle.vault_model.specs.Step.{step, decide, chained, join, make, permitted, usable, check_out, extend, save, check_in, abandon, hold, release, state, list, fetch, count}
+use Rattle.vault_protocol.specs.Rows.{Rows, Empty, OneLine, TwoDesigners, Siblings, LookAboveChange, LineMovesUp, CoveredParent, ExtensionRefused, ExtensionToFront, MakeUnderClaims, HoldFirst, Holds, Lists, Versions, DraftRefusals, CoveredForChange, BadContents, Refusals, BadLines}
 
 empty : Empty
 empty = refl
@@ -56,6 +58,22 @@ lists : Lists
 unfolding digits step decide chained join make permitted list overlap
 lists = refl
 
+versions : Versions
+unfolding digits decode_pairs encode_with step decide chained join make permitted usable check_out save check_in state fetch overlap is_shelvable
+versions = refl
+
+draft_refusals : DraftRefusals
+unfolding digits decode_pairs step decide chained join make permitted usable check_out extend save check_in abandon overlap is_shelvable
+draft_refusals = refl
+
+covered_for_change : CoveredForChange
+unfolding digits decode_pairs encode_with step decide chained join make permitted usable check_out save check_in fetch count overlap is_shelvable
+covered_for_change = refl
+
+bad_contents : BadContents
+unfolding digits decode_pairs step decide chained
+bad_contents = refl
+
 refusals : Refusals
 unfolding digits step decide chained join make permitted state list overlap
 refusals = refl
@@ -79,6 +97,10 @@ rows = record {
   hold_first = hold_first;
   holds = holds;
   lists = lists;
+  versions = versions;
+  draft_refusals = draft_refusals;
+  covered_for_change = covered_for_change;
+  bad_contents = bad_contents;
   refusals = refusals;
   bad_lines = bad_lines;
 }

@@ -21,12 +21,13 @@ use Rattle.vault_model.specs.declared.commands.Command.TheVariants as commands
 use Rattle.vault_model.proofs.Joined.{IsFree, split_joined}
 use Rattle.vault_model.proofs.PathTexts.{path_is_its_text}
 use Rattle.vault_protocol.specs.Reading.{◌>>=◌, each_in}
-use Rattle.vault_protocol.specs.Words.{positive_in, claim_in}
+use Rattle.vault_protocol.specs.Words.{number_in, positive_in, claim_in, content_in}
 use Rattle.vault_protocol.specs.Items.{intent_in, item_in, items_in}
 use Rattle.vault_protocol.specs.Grammar.{words_in, command_of}
 use Rattle.vault_protocol.specs.Texts.{claim_text}
 use Rattle.vault_protocol.specs.Spelling.{IsClaimNumber, IsClaimId, AreItems, intent_letter, item_text, Spells, LineSpells, OneCommand}
 use Rattle.vault_protocol.proofs.Numbers.{number_is}
+use Rattle.vault_protocol.proofs.Contents.{content_again, in_content}
 use Rattle.vault_protocol.proofs.Steps.{along}
 
 -- Reading.
@@ -77,11 +78,22 @@ words_again words (commands.Extend claim items) h =
     ap words_in h.2
     ∙ ap (λ named. named >>= λ c. items_in (map item_text items) >>= λ is. Some (commands.Extend c is)) (claim_again claim h.0)
     ∙ ap (λ items. items >>= λ is. Some (commands.Extend claim is)) (items_again items h.1)
+words_again words (commands.Save number path content) h =
+    ap words_in h.2.2
+    ∙ ap (λ named. named >>= λ n. path_in (path_text path) >>= λ p. content_in h.2.0 >>= λ c. Some (commands.Save n p c)) (positive_again number h.0)
+    ∙ ap (λ place. place >>= λ p. content_in h.2.0 >>= λ c. Some (commands.Save number p c)) (path_again path h.1)
+    ∙ ap (λ bytes. bytes >>= λ c. Some (commands.Save number path c)) (content_again h.2.0 content h.2.1)
+words_again words (commands.CheckIn number) h = ap words_in h.1 ∙ ap (λ claim. claim >>= λ n. Some (commands.CheckIn n)) (positive_again number h.0)
 words_again words (commands.Abandon number) h = ap words_in h.1 ∙ ap (λ claim. claim >>= λ n. Some (commands.Abandon n)) (positive_again number h.0)
 words_again words (commands.Hold items) h = ap words_in h.1 ∙ ap (λ items. items >>= λ is. Some (commands.Hold is)) (items_again items h.0)
 words_again words (commands.Release number) h = ap words_in h.1 ∙ ap (λ claim. claim >>= λ n. Some (commands.Release n)) (positive_again number h.0)
 words_again words (commands.State claim) h = ap words_in h.1 ∙ ap (λ claim. claim >>= λ c. Some (commands.State c)) (claim_again claim h.0)
 words_again words (commands.List path) h = ap words_in h.1 ∙ ap (λ path. path >>= λ p. Some (commands.List p)) (path_again path h.0)
+words_again words (commands.Fetch path version) h =
+    ap words_in h.2
+    ∙ ap (λ place. place >>= λ p. number_in (decimal version) >>= λ n. Some (commands.Fetch p n)) (path_again path h.0)
+    ∙ ap (λ number. number >>= λ n. Some (commands.Fetch path n)) (number_is (decimal version) version h.1 refl)
+words_again words (commands.Count path) h = ap words_in h.1 ∙ ap (λ path. path >>= λ p. Some (commands.Count p)) (path_again path h.0)
 words_again words commands.Leave h = ap words_in h
 
 -- No word has a space.
@@ -168,6 +180,14 @@ words_of words (commands.Extend claim items) h = record {
   all = h.2;
   apart = (by_looking (codes "extend") refl, (in_claim claim h.0, in_items items h.1.1));
 }
+words_of words (commands.Save number path content) h = record {
+  first = codes "save";
+  others = claim_text (Long number) ∷ path_text path ∷ h.2.0 ∷ [];
+  all = h.2.2;
+  apart = (by_looking (codes "save") refl, (in_claim (Long number) h.0, (in_path path h.1, (in_content h.2.0 content h.2.1, tt))));
+}
+words_of words (commands.CheckIn number) h =
+    record { first = codes "checkin"; others = claim_text (Long number) ∷ []; all = h.1; apart = (by_looking (codes "checkin") refl, (in_claim (Long number) h.0, tt)) }
 words_of words (commands.Abandon number) h =
     record { first = codes "abandon"; others = claim_text (Long number) ∷ []; all = h.1; apart = (by_looking (codes "abandon") refl, (in_claim (Long number) h.0, tt)) }
 words_of words (commands.Hold items) h =
@@ -178,6 +198,14 @@ words_of words (commands.State claim) h =
     record { first = codes "state"; others = claim_text claim ∷ []; all = h.1; apart = (by_looking (codes "state") refl, (in_claim claim h.0, tt)) }
 words_of words (commands.List path) h =
     record { first = codes "list"; others = path_text path ∷ []; all = h.1; apart = (by_looking (codes "list") refl, (in_path path h.0, tt)) }
+words_of words (commands.Fetch path version) h = record {
+  first = codes "fetch";
+  others = path_text path ∷ decimal version ∷ [];
+  all = h.2;
+  apart = (by_looking (codes "fetch") refl, (in_path path h.0, (in_number version h.1, tt)));
+}
+words_of words (commands.Count path) h =
+    record { first = codes "count"; others = path_text path ∷ []; all = h.1; apart = (by_looking (codes "count") refl, (in_path path h.0, tt)) }
 words_of words commands.Leave h =
     record { first = codes "quit"; others = []; all = h; apart = (by_looking (codes "quit") refl, tt) }
 

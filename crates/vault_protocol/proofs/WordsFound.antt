@@ -19,7 +19,7 @@ use Rattle.vault_model.specs.declared.ids.ClaimId.TheVariants.{Long, Short}
 use Rattle.vault_model.specs.declared.claims.PathItem.{PathItem}
 use Rattle.vault_model.proofs.PathTexts.{path_is_its_text}
 use Rattle.vault_protocol.specs.Reading.{each_in}
-use Rattle.vault_protocol.specs.Words.{number_in, positive_in, long_in, short_in, claim_in}
+use Rattle.vault_protocol.specs.Words.{number_in, positive_in, long_in, short_in, claim_in, content_in}
 use Rattle.vault_protocol.specs.Items.{intent_in, item_in, items_in}
 use Rattle.vault_protocol.specs.Keywords.{keyword_in, keyword_text, all_keywords}
 use Rattle.vault_protocol.specs.Grammar.{arguments_in, words_in, command_of}
@@ -27,6 +27,7 @@ use Rattle.vault_protocol.specs.Texts.{claim_text}
 use Rattle.vault_protocol.specs.Spelling.{IsClaimNumber, IsClaimId, AreItems, intent_letter, item_text, Spells, LineSpells}
 use Rattle.vault_protocol.specs.declared.keyword.Keyword.{Keyword}
 use Rattle.vault_protocol.specs.declared.keyword.Keyword.TheVariants as keywords
+use Rattle.vault_protocol.proofs.Contents.{content_found}
 use Rattle.vault_protocol.proofs.Steps.{along, bind_some, and_then_some, map_some, chosen, find_passes}
 
 name_found : (word name : List ℕ) → name_in word ≡ Some name → IsName name × (word ≡ name)
@@ -186,6 +187,36 @@ extend_found (word ∷ words) command e =
     along (λ c. Spells (codes "extend" ∷ word ∷ words) c) (same_Some _ _ items.2)
     (named.0, found.0, ap (λ w. codes "extend" ∷ w ∷ words) named.1 ∙ ap (λ ws. codes "extend" ∷ claim_text claim.0 ∷ ws) found.1)
 
+save_found : (words : List (List ℕ)) (command : Command) → arguments_in keywords.Save words ≡ Some command → Spells (codes "save" ∷ words) command
+save_found [] command e = cc e
+save_found (claim ∷ []) command e = cc e
+save_found (claim ∷ place ∷ []) command e = cc e
+save_found (claim ∷ place ∷ digits ∷ []) command e =
+    let number = bind_some (long_in claim) _ command e in
+    let path = bind_some (path_in place) _ command number.2 in
+    let content = bind_some (content_in digits) _ command path.2 in
+    let named = long_found claim number.0 number.1 in
+    let found = path_found place path.0 path.1 in
+    along (λ c. Spells (codes "save" ∷ claim ∷ place ∷ digits ∷ []) c) (same_Some _ _ content.2) (
+      named.0,
+      found.0,
+      (
+        digits,
+        content_found digits content.0 content.1,
+        ap (λ w. codes "save" ∷ w ∷ place ∷ digits ∷ []) named.1
+            ∙ ap (λ w. codes "save" ∷ claim_text (Long number.0) ∷ w ∷ digits ∷ []) found.1,
+      ),
+    )
+save_found (claim ∷ place ∷ digits ∷ other ∷ words) command e = cc e
+
+check_in_found : (words : List (List ℕ)) (command : Command) → arguments_in keywords.CheckIn words ≡ Some command → Spells (codes "checkin" ∷ words) command
+check_in_found [] command e = cc e
+check_in_found (word ∷ []) command e =
+    let claim = bind_some (long_in word) _ command e in
+    let found = long_found word claim.0 claim.1 in
+    along (λ c. Spells (codes "checkin" ∷ word ∷ []) c) (same_Some _ _ claim.2) (found.0, ap (λ w. codes "checkin" ∷ w ∷ []) found.1)
+check_in_found (word ∷ other ∷ words) command e = cc e
+
 abandon_found : (words : List (List ℕ)) (command : Command) → arguments_in keywords.Abandon words ≡ Some command → Spells (codes "abandon" ∷ words) command
 abandon_found [] command e = cc e
 abandon_found (word ∷ []) command e =
@@ -224,6 +255,26 @@ list_found (word ∷ []) command e =
     along (λ c. Spells (codes "list" ∷ word ∷ []) c) (same_Some _ _ path.2) (found.0, ap (λ w. codes "list" ∷ w ∷ []) found.1)
 list_found (word ∷ other ∷ words) command e = cc e
 
+fetch_found : (words : List (List ℕ)) (command : Command) → arguments_in keywords.Fetch words ≡ Some command → Spells (codes "fetch" ∷ words) command
+fetch_found [] command e = cc e
+fetch_found (word ∷ []) command e = cc e
+fetch_found (word ∷ other ∷ []) command e =
+    let path = bind_some (path_in word) _ command e in
+    let version = bind_some (number_in other) _ command path.2 in
+    let found = path_found word path.0 path.1 in
+    let number = number_found other version.0 version.1 in
+    along (λ c. Spells (codes "fetch" ∷ word ∷ other ∷ []) c) (same_Some _ _ version.2)
+    (found.0, number.0, ap (λ w. codes "fetch" ∷ w ∷ other ∷ []) found.1 ∙ ap (λ w. codes "fetch" ∷ path_text path.0 ∷ w ∷ []) number.1)
+fetch_found (word ∷ other ∷ another ∷ words) command e = cc e
+
+count_found : (words : List (List ℕ)) (command : Command) → arguments_in keywords.Count words ≡ Some command → Spells (codes "count" ∷ words) command
+count_found [] command e = cc e
+count_found (word ∷ []) command e =
+    let path = bind_some (path_in word) _ command e in
+    let found = path_found word path.0 path.1 in
+    along (λ c. Spells (codes "count" ∷ word ∷ []) c) (same_Some _ _ path.2) (found.0, ap (λ w. codes "count" ∷ w ∷ []) found.1)
+count_found (word ∷ other ∷ words) command e = cc e
+
 quit_found : (words : List (List ℕ)) (command : Command) → arguments_in keywords.Quit words ≡ Some command → Spells (codes "quit" ∷ words) command
 quit_found [] command e = along (λ c. Spells (codes "quit" ∷ []) c) (same_Some _ _ e) refl
 quit_found (word ∷ words) command e = cc e
@@ -234,11 +285,15 @@ arguments_found keywords.Hello words command e = hello_found words command e
 arguments_found keywords.Make words command e = make_found words command e
 arguments_found keywords.CheckOut words command e = check_out_found words command e
 arguments_found keywords.Extend words command e = extend_found words command e
+arguments_found keywords.Save words command e = save_found words command e
+arguments_found keywords.CheckIn words command e = check_in_found words command e
 arguments_found keywords.Abandon words command e = abandon_found words command e
 arguments_found keywords.Hold words command e = hold_found words command e
 arguments_found keywords.Release words command e = release_found words command e
 arguments_found keywords.State words command e = state_found words command e
 arguments_found keywords.List words command e = list_found words command e
+arguments_found keywords.Fetch words command e = fetch_found words command e
+arguments_found keywords.Count words command e = count_found words command e
 arguments_found keywords.Quit words command e = quit_found words command e
 
 words_found : (words : List (List ℕ)) (command : Command) → words_in words ≡ Some command → Spells words command

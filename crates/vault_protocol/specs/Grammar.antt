@@ -9,7 +9,7 @@ use Rattle.vault_model.specs.declared.commands.Command.TheVariants as commands
 use Rattle.vault_protocol.specs.Limits.{longest_line}
 use Rattle.vault_protocol.specs.Reading.{◌>>=◌}
 use Rattle.vault_protocol.specs.Keywords.{keyword_in}
-use Rattle.vault_protocol.specs.Words.{long_in, short_in, claim_in}
+use Rattle.vault_protocol.specs.Words.{number_in, long_in, short_in, claim_in, content_in}
 use Rattle.vault_protocol.specs.Items.{items_in}
 use Rattle.vault_protocol.specs.declared.keyword.Keyword.{Keyword}
 use Rattle.vault_protocol.specs.declared.keyword.Keyword.TheVariants as keywords
@@ -33,6 +33,14 @@ arguments_in keywords.Extend (claim ∷ items) = do
   claim ← claim_in claim
   items ← items_in items
   Some (commands.Extend claim items)
+arguments_in keywords.Save (claim ∷ path ∷ content ∷ []) = do
+  claim ← long_in claim
+  path ← path_in path
+  content ← content_in content
+  Some (commands.Save claim path content)
+arguments_in keywords.CheckIn (claim ∷ []) = do
+  claim ← long_in claim
+  Some (commands.CheckIn claim)
 arguments_in keywords.Abandon (claim ∷ []) = do
   claim ← long_in claim
   Some (commands.Abandon claim)
@@ -48,6 +56,13 @@ arguments_in keywords.State (claim ∷ []) = do
 arguments_in keywords.List (path ∷ []) = do
   path ← path_in path
   Some (commands.List path)
+arguments_in keywords.Fetch (path ∷ version ∷ []) = do
+  path ← path_in path
+  version ← number_in version
+  Some (commands.Fetch path version)
+arguments_in keywords.Count (path ∷ []) = do
+  path ← path_in path
+  Some (commands.Count path)
 arguments_in keywords.Quit [] = Some commands.Leave
 arguments_in keyword words = None
 
@@ -59,6 +74,6 @@ words_in (word ∷ words) = do
   arguments_in keyword words
 
 -- The command that a line spells, if it spells one: its words stand between single spaces.
--- An empty word is no keyword, name, path, number or item, so nothing stands before the first or after the last.
+-- An empty word is no keyword, name, path, number, content or item, so nothing stands before the first or after the last.
 abbrev pub command_of : List ℕ → Option Command
 command_of line = if nat_le (length line) longest_line then words_in (slice_split (λ b. b == 32) line) else None

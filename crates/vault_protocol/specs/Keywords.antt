@@ -10,18 +10,22 @@ keyword_text keywords.Hello = codes "hello"
 keyword_text keywords.Make = codes "make"
 keyword_text keywords.CheckOut = codes "checkout"
 keyword_text keywords.Extend = codes "extend"
+keyword_text keywords.Save = codes "save"
+keyword_text keywords.CheckIn = codes "checkin"
 keyword_text keywords.Abandon = codes "abandon"
 keyword_text keywords.Hold = codes "hold"
 keyword_text keywords.Release = codes "release"
 keyword_text keywords.State = codes "state"
 keyword_text keywords.List = codes "list"
+keyword_text keywords.Fetch = codes "fetch"
+keyword_text keywords.Count = codes "count"
 keyword_text keywords.Quit = codes "quit"
 
 -- every keyword
 abbrev pub all_keywords : List Keyword
 all_keywords =
-    keywords.Hello ∷ keywords.Make ∷ keywords.CheckOut ∷ keywords.Extend ∷ keywords.Abandon
-    ∷ keywords.Hold ∷ keywords.Release ∷ keywords.State ∷ keywords.List ∷ keywords.Quit ∷ []
+    keywords.Hello ∷ keywords.Make ∷ keywords.CheckOut ∷ keywords.Extend ∷ keywords.Save ∷ keywords.CheckIn ∷ keywords.Abandon
+    ∷ keywords.Hold ∷ keywords.Release ∷ keywords.State ∷ keywords.List ∷ keywords.Fetch ∷ keywords.Count ∷ keywords.Quit ∷ []
 
 -- the keyword that the word is
 abbrev pub keyword_in : List ℕ → Option Keyword

@@ -1,5 +1,5 @@
 -- Scripts that were worked out by hand, and what the definitions have to print for them.
-use Rattle.std.specs.Prelude.{◌≡◌, List, ℕ, ◌++◌, codes}
+use Rattle.std.specs.Prelude.{◌≡◌, ◌*◌, List, ℕ, ◌++◌, codes, replicate}
 use Rattle.vault_protocol.specs.Script.{output}
 
 -- a script of no bytes prints nothing
@@ -96,6 +96,38 @@ BadLines =
     output (codes "\n# @1 hello anna\n@1 \n@1\n@01 hello anna\n@0 hello anna\n@65 hello anna\n@64  hello anna\n!pump\n!crash old\n @1 hello anna\n@2 hello ben\r\n\n")
     ≡ codes "@1 ERR 10\n! ERR 10\n! ERR 10\n! ERR 10\n! ERR 10\n@64 ERR 10\n! ERR 10\n! ERR 10\n! ERR 10\n@2 ERR 10\n"
 
+-- so many bytes 0, in digits
+abbrev pub zeros : ℕ → List ℕ
+zeros count = replicate (2 * count) 48
+
+-- drafts of at most 1,024 bytes become versions at check-in, the last of each part
+abbrev pub Versions : Type 0
+Versions =
+    output
+    (begun ++ codes "@1 checkout w:/e/b\n@1 save c1 /e/b/p1 " ++ zeros 1024 ++ codes "\n@1 save c1 /e/b/p1 " ++ zeros 1025
+    ++ codes "\n@1 save c1 /e/b/p1 -\n@1 save c1 /e/b/p1 6162\n@1 save c1 /e/b/p2 -\n@1 checkin c1\n@1 fetch /e/b/p1 0\n@1 fetch /e/b/p1 1\n@1 fetch /e/b/p1 2\n@1 fetch /e/b/p2 1\n@1 state c1\n")
+    ≡ begun_output ++ codes "@1 OK held c1\n@1 OK saved\n@1 ERR 50\n@1 OK saved\n@1 OK saved\n@1 OK saved\n@1 OK checked in 2\n@1 ERR 40\n@1 OK content 6162\n@1 ERR 40\n@1 OK content -\n@1 ERR 30\n"
+
+-- drafts are refused as other commands with a claim are, and of a place that is no part
+abbrev pub DraftRefusals : Type 0
+DraftRefusals =
+    output
+    (begun ++ codes "@1 checkout w:/e/b\n@2 checkout w:/e/b/p1\n@2 save c1 /e/b/p1 00\n@2 save c2 /e/b/p1 00\n@2 checkin c2\n@2 extend c2 r:/e\n@1 save c1 /e/b/p3 00\n@1 save c1 /e/b 00\n@1 save c9 / 00\n@2 abandon c2\n"
+    ++ codes "@1 extend c1 r:/e r:/e r:/e r:/e r:/e r:/e r:/e r:/e\n@1 checkout r:/x r:/x r:/x r:/x r:/x r:/x r:/x r:/x r:/x\n")
+    ≡ begun_output ++ codes "@1 OK held c1\n@2 OK queued c2 behind c1\n@2 ERR 31\n@2 ERR 32\n@2 ERR 32\n@2 ERR 32\n@1 ERR 20\n@1 ERR 22\n@1 ERR 30\n@2 OK abandoned\n@1 ERR 36\n@1 ERR 36\n"
+
+-- a draft is saved of a part that the check-out changes; digits are read in either case, and told in lower case
+abbrev pub CoveredForChange : Type 0
+CoveredForChange =
+    output (begun ++ codes "@1 checkout r:/e/b w:/e/b/p1\n@1 save c1 /e/b/p2 00\n@1 save c1 /e/b/p1 0A\n@1 checkin c1\n@2 fetch /e/b/p1 1\n@2 count /e/b/p1\n@2 count /e\n")
+    ≡ begun_output ++ codes "@1 OK held c1\n@1 ERR 34\n@1 OK saved\n@1 OK checked in 1\n@2 OK content 0a\n@2 OK versions 1\n@2 ERR 22\n"
+
+-- what spells no content, and what spells no version
+abbrev pub BadContents : Type 0
+BadContents =
+    output (codes "@1 save c1 /e\n@1 save c1 /e 0\n@1 save c1 /e 000\n@1 save c1 /e 0g\n@1 save c1 /e --\n@1 save c1 /e \n@1 save h1 /e 00\n@1 checkin h1\n@1 fetch /e 01\n@1 fetch /e -1\n@1 fetch /e 4294967296\n@1 fetch /e\n@1 count /e 1\n@1 fetch /e 4294967295\n")
+    ≡ codes "@1 ERR 10\n@1 ERR 10\n@1 ERR 10\n@1 ERR 10\n@1 ERR 10\n@1 ERR 10\n@1 ERR 10\n@1 ERR 10\n@1 ERR 10\n@1 ERR 10\n@1 ERR 10\n@1 ERR 10\n@1 ERR 10\n@1 ERR 11\n"
+
 -- each of these scripts prints what was worked out
 pub record Rows : Type 0 where
   pub empty : Empty
@@ -111,5 +143,9 @@ pub record Rows : Type 0 where
   pub hold_first : HoldFirst
   pub holds : Holds
   pub lists : Lists
+  pub versions : Versions
+  pub draft_refusals : DraftRefusals
+  pub covered_for_change : CoveredForChange
+  pub bad_contents : BadContents
   pub refusals : Refusals
   pub bad_lines : BadLines

@@ -1,10 +1,11 @@
 -- The texts of replies and of outside refusals. This project's own.
 use Rattle.std.specs.Prelude.{ℕ, List, [], ◌∷◌, ◌++◌, codes, decimal, length}
 use Rattle.std.specs.List.{flat_map}
+use Rattle.hex.specs.Hex.{encode_lower}
 use Rattle.vault_model.specs.Said.{Reply}
 use Rattle.vault_model.specs.declared.ids.ClaimId.{ClaimId}
 use Rattle.vault_model.specs.declared.ids.ClaimId.TheVariants.{Long, Short}
-use Rattle.vault_model.specs.declared.replies.Reply.TheVariants.{Session, Place, Held, Queued, Abandoned, Released, Children, Left, Refused}
+use Rattle.vault_model.specs.declared.replies.Reply.TheVariants.{Session, Place, Held, Queued, Saved, CheckedIn, Abandoned, Released, Children, Content, Versions, Left, Refused}
 use Rattle.vault_model.specs.declared.replies.Refusal.{Refusal}
 use Rattle.vault_model.specs.declared.replies.Refusal.TheVariants as refusals
 use Rattle.vault_model.specs.declared.replies.Outside.{Outside}
@@ -33,6 +34,7 @@ refusal_text refusals.NotHeld = codes "ERR 32"
 refusal_text (refusals.Overlaps claim) = codes "ERR 33 " ++ claim_text claim
 refusal_text refusals.NotCovered = codes "ERR 34"
 refusal_text refusals.ItemCount = codes "ERR 36"
+refusal_text refusals.NoVersion = codes "ERR 40"
 refusal_text refusals.Limit = codes "ERR 50"
 
 -- a claim, and the one that it waits behind
@@ -43,15 +45,24 @@ queued_text claim before = codes "OK queued " ++ claim_text claim ++ (codes " be
 abbrev pub children_text : List (List ℕ) → List ℕ
 children_text names = codes "OK list " ++ decimal (length names) ++ flat_map (λ name. 32 ∷ name) names ++ newline
 
+-- a content: two lower case hexadecimal digits a byte, or `-` for no bytes
+abbrev pub content_text : List ℕ → List ℕ
+content_text [] = codes "-"
+content_text (byte ∷ bytes) = encode_lower (byte ∷ bytes)
+
 -- the line that a reply is told as
 abbrev pub reply_text : Reply → List ℕ
 reply_text (Session number) = codes "OK session " ++ decimal number ++ newline
 reply_text (Place number) = codes "OK place " ++ decimal number ++ newline
 reply_text (Held claim) = codes "OK held " ++ claim_text claim ++ newline
 reply_text (Queued claim before) = queued_text claim before
+reply_text Saved = codes "OK saved\n"
+reply_text (CheckedIn count) = codes "OK checked in " ++ decimal count ++ newline
 reply_text Abandoned = codes "OK abandoned\n"
 reply_text Released = codes "OK released\n"
 reply_text (Children names) = children_text names
+reply_text (Content content) = codes "OK content " ++ content_text content ++ newline
+reply_text (Versions count) = codes "OK versions " ++ decimal count ++ newline
 reply_text Left = codes "OK left\n"
 reply_text (Refused refusal) = refusal_text refusal ++ newline
 
@@ -59,3 +70,5 @@ reply_text (Refused refusal) = refusal_text refusal ++ newline
 abbrev pub outside_text : Outside → List ℕ
 outside_text outsides.BadLine = codes "ERR 10\n"
 outside_text outsides.Busy = codes "ERR 80\n"
+outside_text outsides.NoMemory = codes "ERR 81\n"
+outside_text outsides.Broken = codes "ERR 82\n"

@@ -1,9 +1,11 @@
--- What single words of a line say: numbers and claims. Names and paths are read as the vault's own.
+-- What single words of a line say: numbers, claims and contents. Names and paths are read as the vault's own.
 -- This project's own.
-use Rattle.std.specs.Prelude.{ℕ, ◌^◌, ◌&&◌, ◌==◌, nat_lt, List, [], ◌∷◌, Option, Some, None, if◌then◌else◌, decimal}
+use Rattle.std.specs.Prelude.{ℕ, ◌^◌, ◌&&◌, ◌==◌, nat_lt, List, [], ◌∷◌, length, Option, Some, None, if◌then◌else◌, codes, decimal}
 use Rattle.std.specs.Option.{option_map, option_and_then}
+use Rattle.std.specs.Result.{result_ok}
 use Rattle.std.specs.Str.{bytes_eq}
 use Rattle.std.specs.Str.Parse.{digits_value}
+use Rattle.hex.specs.Hex.{decode_of}
 use Rattle.vault_model.specs.declared.ids.ClaimId.{ClaimId}
 use Rattle.vault_model.specs.declared.ids.ClaimId.TheVariants.{Long, Short}
 
@@ -34,3 +36,10 @@ claim_in (letter ∷ digits) =
     if letter == 99 then option_map Long (positive_in digits)
     else if letter == 104 then option_map Short (positive_in digits)
     else None
+
+-- a content: the bytes that hexadecimal digits of either case spell, two digits a byte; `-` for no bytes
+abbrev pub content_in : List ℕ → Option (List ℕ)
+content_in word =
+    if bytes_eq word (codes "-") then Some []
+    else if length word == 0 then None
+    else result_ok (decode_of word)

@@ -10,26 +10,34 @@ pub(crate) enum Keyword {
     Make,
     CheckOut,
     Extend,
+    Save,
+    CheckIn,
     Abandon,
     Hold,
     Release,
     State,
     List,
+    Fetch,
+    Count,
     Quit,
 }
 
 impl Keyword {
     /// Every keyword.
-    const ALL: [Keyword; 10] = [
+    const ALL: [Keyword; 14] = [
         Keyword::Hello,
         Keyword::Make,
         Keyword::CheckOut,
         Keyword::Extend,
+        Keyword::Save,
+        Keyword::CheckIn,
         Keyword::Abandon,
         Keyword::Hold,
         Keyword::Release,
         Keyword::State,
         Keyword::List,
+        Keyword::Fetch,
+        Keyword::Count,
         Keyword::Quit,
     ];
 
@@ -42,11 +50,15 @@ impl Keyword {
             Keyword::Make => b"make",
             Keyword::CheckOut => b"checkout",
             Keyword::Extend => b"extend",
+            Keyword::Save => b"save",
+            Keyword::CheckIn => b"checkin",
             Keyword::Abandon => b"abandon",
             Keyword::Hold => b"hold",
             Keyword::Release => b"release",
             Keyword::State => b"state",
             Keyword::List => b"list",
+            Keyword::Fetch => b"fetch",
+            Keyword::Count => b"count",
             Keyword::Quit => b"quit",
         }
     }

@@ -1,7 +1,7 @@
 //! Laws of the grammar of lines.
 
 ghost use Rattle.vault_protocol.specs.Rows.{Rows};
-ghost use Rattle.vault_protocol.specs.Spelling.{ConnectionAsSpelled, OneCommand, ReadAsSpelled};
+ghost use Rattle.vault_protocol.specs.Spelling.{ConnectionAsSpelled, OneCommand, ReadAsSpelled, ToldAsSpelled};
 
 /// A line that reads as a command is its words joined by single spaces, each a spelling of its part, and each such line is read.
 pub fn read_as_spelled()
@@ -11,6 +11,11 @@ pub fn read_as_spelled()
 /// A line spells at most one command.
 pub fn one_command()
     ensures { OneCommand }
+{}
+
+/// What is told of a content spells that content, so that a later line may save it as it was told.
+pub fn told_as_spelled()
+    ensures { ToldAsSpelled }
 {}
 
 /// The definitions print what was worked out by hand for these scripts.

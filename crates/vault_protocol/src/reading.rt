@@ -9,7 +9,7 @@ use crate::error::LineError;
 use crate::keyword::Keyword;
 use crate::limits::LONGEST_LINE;
 use crate::split::words_of;
-use crate::words::{read_claim, read_items, read_long, read_short};
+use crate::words::{read_claim, read_content, read_items, read_long, read_number, read_short};
 use std::alloc::Allocator;
 use vault_model::{Command, CommandIn, Name, Path};
 
@@ -53,6 +53,30 @@ fn extend<A: Allocator>(alloc: A, arguments: &[&[u8]]) -> Result<CommandIn<A>, L
     };
     let claim = read_claim(claim).ok_or(LineError::BadLine)?;
     Ok(Command::Extend(claim, read_items(alloc, items)?))
+}
+
+/// `save CNUM PATH HEX`
+fn save<A: Allocator>(alloc: A, arguments: &[&[u8]]) -> Result<CommandIn<A>, LineError>
+    ensures { Gives result (arguments_in keywords.Save (map (λ word. word.now) arguments.now)) }
+{
+    let [claim, path, content] = arguments else {
+        return Err(LineError::BadLine);
+    };
+    let claim = read_long(claim).ok_or(LineError::BadLine)?;
+    let path = Path::read(path).ok_or(LineError::BadLine)?;
+    let content = read_content(alloc, content)?;
+    Ok(Command::Save(claim, path, content))
+}
+
+/// `checkin CNUM`
+fn check_in<A: Allocator>(arguments: &[&[u8]]) -> Result<CommandIn<A>, LineError>
+    ensures { Gives result (arguments_in keywords.CheckIn (map (λ word. word.now) arguments.now)) }
+{
+    let [claim] = arguments else {
+        return Err(LineError::BadLine);
+    };
+    let claim = read_long(claim).ok_or(LineError::BadLine)?;
+    Ok(Command::CheckIn(claim))
 }
 
 /// `abandon CNUM`
@@ -106,6 +130,29 @@ fn list<A: Allocator>(arguments: &[&[u8]]) -> Result<CommandIn<A>, LineError>
     Ok(Command::List(path))
 }
 
+/// `fetch PATH VERSION`
+fn fetch<A: Allocator>(arguments: &[&[u8]]) -> Result<CommandIn<A>, LineError>
+    ensures { Gives result (arguments_in keywords.Fetch (map (λ word. word.now) arguments.now)) }
+{
+    let [path, version] = arguments else {
+        return Err(LineError::BadLine);
+    };
+    let path = Path::read(path).ok_or(LineError::BadLine)?;
+    let version = read_number(version).ok_or(LineError::BadLine)?;
+    Ok(Command::Fetch(path, version))
+}
+
+/// `count PATH`
+fn count<A: Allocator>(arguments: &[&[u8]]) -> Result<CommandIn<A>, LineError>
+    ensures { Gives result (arguments_in keywords.Count (map (λ word. word.now) arguments.now)) }
+{
+    let [part] = arguments else {
+        return Err(LineError::BadLine);
+    };
+    let part = Path::read(part).ok_or(LineError::BadLine)?;
+    Ok(Command::Count(part))
+}
+
 /// `quit`
 fn quit<A: Allocator>(arguments: &[&[u8]]) -> Result<CommandIn<A>, LineError>
     ensures { Gives result (arguments_in keywords.Quit (map (λ word. word.now) arguments.now)) }
@@ -130,11 +177,15 @@ fn read_arguments<A: Allocator>(
         Keyword::Make => make(arguments),
         Keyword::CheckOut => check_out(alloc, arguments),
         Keyword::Extend => extend(alloc, arguments),
+        Keyword::Save => save(alloc, arguments),
+        Keyword::CheckIn => check_in(arguments),
         Keyword::Abandon => abandon(arguments),
         Keyword::Hold => hold(alloc, arguments),
         Keyword::Release => release(arguments),
         Keyword::State => state(arguments),
         Keyword::List => list(arguments),
+        Keyword::Fetch => fetch(arguments),
+        Keyword::Count => count(arguments),
         Keyword::Quit => quit(arguments),
     }
 }
@@ -151,7 +202,8 @@ fn read_words<A: Allocator>(alloc: A, words: &[&[u8]]) -> Result<CommandIn<A>, L
 }
 
 /// The command that the line spells. The line comes without the line feed at its end.
-/// Memory goes to the list of its words, and to the items of a check-out, an extension or a hold.
+/// Memory goes to the list of its words, to the items of a check-out, an extension or a hold, and to a draft's content,
+/// which may have any number of bytes here.
 pub fn read_line_of<A: Allocator + Copy>(alloc: A, line: &[u8]) -> Result<CommandIn<A>, LineError>
     ensures { Gives result (command_of line.now) }
 {

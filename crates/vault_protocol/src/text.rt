@@ -1,7 +1,7 @@
 //! The texts of replies.
 
-ghost use Rattle.std.specs.Prelude.{◌≡◌, Some, IfOk};
-ghost use Rattle.vault_protocol.specs.Texts.{children_text, claim_text, outside_text, queued_text, refusal_text, reply_text};
+ghost use Rattle.std.specs.Prelude.{◌≡◌, ◌++◌, codes, Some, IfOk};
+ghost use Rattle.vault_protocol.specs.Texts.{children_text, claim_text, content_text, newline, outside_text, queued_text, refusal_text, reply_text};
 
 use std::alloc::{AllocError, Allocator};
 use std::fmt;
@@ -43,6 +43,7 @@ impl fmt::Display for RefusalText {
             Refusal::Overlaps(claim) => write!(f, "ERR 33 {}", ClaimText(claim)),
             Refusal::NotCovered => write!(f, "ERR 34"),
             Refusal::ItemCount => write!(f, "ERR 36"),
+            Refusal::NoVersion => write!(f, "ERR 40"),
             Refusal::Limit => write!(f, "ERR 50"),
         }
     }
@@ -75,6 +76,17 @@ fn text_of_children<A: Allocator + Copy>(alloc: A, names: &[Name]) -> Result<Vec
     Ok(text)
 }
 
+/// The text of a content.
+fn text_of_content<A: Allocator + Copy>(alloc: A, content: &[u8]) -> Result<Vec<u8, A>, AllocError>
+    ensures { IfOk result (λ text. text.items ≡ codes "OK content " ++ content_text content.now ++ newline) }
+{
+    if content.is_empty() {
+        return Vec::from_slice(alloc, b"OK content -\n");
+    }
+    let digits = hex::encode(alloc, content)?;
+    Ok(format!(in alloc; "OK content {digits}\n")?.into_bytes())
+}
+
 /// The text of a reply, where memory is there.
 fn reply_text_of<A: Allocator + Copy, B: Allocator>(
     alloc: A,
@@ -90,9 +102,13 @@ fn reply_text_of<A: Allocator + Copy, B: Allocator>(
             ClaimText(*claim)
         )?.into_bytes()),
         Reply::Queued(claim, before) => text_of_queued(alloc, *claim, *before),
+        Reply::Saved => Ok(format!(in alloc; "OK saved\n")?.into_bytes()),
+        Reply::CheckedIn(count) => Ok(format!(in alloc; "OK checked in {count}\n")?.into_bytes()),
         Reply::Abandoned => Ok(format!(in alloc; "OK abandoned\n")?.into_bytes()),
         Reply::Released => Ok(format!(in alloc; "OK released\n")?.into_bytes()),
         Reply::Children(names) => text_of_children(alloc, names.as_slice()),
+        Reply::Content(content) => text_of_content(alloc, content.as_slice()),
+        Reply::Versions(count) => Ok(format!(in alloc; "OK versions {count}\n")?.into_bytes()),
         Reply::Left => Ok(format!(in alloc; "OK left\n")?.into_bytes()),
         Reply::Refused(refusal) => {
             Ok(format!(in alloc; "{}\n", RefusalText(*refusal))?.into_bytes())
@@ -117,6 +133,8 @@ pub fn outside_text<A: Allocator>(alloc: A, outside: Outside) -> Result<Vec<u8, 
     let text = match outside {
         Outside::BadLine => b"ERR 10\n",
         Outside::Busy => b"ERR 80\n",
+        Outside::NoMemory => b"ERR 81\n",
+        Outside::Broken => b"ERR 82\n",
     };
     Vec::from_slice(alloc, text).or(Err(NoMemory))
 }

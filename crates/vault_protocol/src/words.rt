@@ -1,11 +1,12 @@
 //! Single words of a line.
 
 ghost use Rattle.std.specs.Prelude.{◌≡◌, List, map};
-ghost use Rattle.vault_protocol.specs.Words.{claim_in, long_in, number_in, positive_in, short_in};
+ghost use Rattle.vault_protocol.specs.Words.{claim_in, content_in, long_in, number_in, positive_in, short_in};
 ghost use Rattle.vault_protocol.specs.Items.{item_in, items_in};
 ghost use Rattle.vault_protocol.specs.Reading.{Gives};
 
 use crate::error::LineError;
+use hex::FromHexError;
 use itoa::Buffer;
 use std::alloc::Allocator;
 use vault_model::{ClaimId, Intent, Listing, Path, PathItem};
@@ -99,4 +100,21 @@ pub(crate) fn read_items<A: Allocator>(
         items.push(item)?;
     }
     Ok(Listing::from_vec(items))
+}
+
+/// The content that the word spells in hexadecimal digits of either case, `-` for no bytes.
+pub(crate) fn read_content<A: Allocator>(alloc: A, word: &[u8]) -> Result<Listing<u8, A>, LineError>
+    ensures { Gives result (content_in word.now) }
+{
+    if word == b"-".as_slice() {
+        return Ok(Listing::from_vec(Vec::new(alloc)));
+    }
+    if word.is_empty() {
+        return Err(LineError::BadLine);
+    }
+    match hex::decode(alloc, word) {
+        Ok(bytes) => Ok(Listing::from_vec(bytes)),
+        Err(FromHexError::OutOfMemory) => Err(LineError::NoMemory),
+        Err(_) => Err(LineError::BadLine),
+    }
 }

@@ -1,6 +1,9 @@
-//! Tests that cross crates: scripts worked out by hand, run whole, and readers, writers and memory that misbehave.
+//! Tests that cross crates: scripts worked out by hand, run whole; the book, told line by line; and readers, writers and
+//! memory that misbehave.
 #![tactic(auto)]
 
+#[cfg(test)]
+mod book;
 #[cfg(test)]
 mod lines;
 #[cfg(test)]

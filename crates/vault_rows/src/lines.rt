@@ -11,15 +11,19 @@ use vault_protocol::{LONGEST_LINE, LineError, outside_text, read_line_of, text_o
 fn lines_that_spell_a_command(rt: HostRuntime) -> Result<(), Fail> {
     let anna = Name::read(b"anna").ok_or("a name")?;
     let path = Path::read(b"/e/b").ok_or("a path")?;
-    let rows: [(&[u8], CommandIn<Global>); 9] = [
+    let rows: [(&[u8], CommandIn<Global>); 13] = [
         (b"hello anna", Command::Join(anna)),
         (b"make /e/b", Command::Make(path, None)),
         (b"make /e/b c7", Command::Make(path, Some(7))),
+        (b"checkin c7", Command::CheckIn(7)),
         (b"abandon c4294967295", Command::Abandon(4294967295)),
         (b"state c1", Command::State(ClaimId::Long(1))),
         (b"state h20", Command::State(ClaimId::Short(20))),
         (b"release h20", Command::Release(20)),
         (b"list /e/b", Command::List(path)),
+        (b"fetch /e/b 0", Command::Fetch(path, 0)),
+        (b"fetch /e/b 4294967295", Command::Fetch(path, 4294967295)),
+        (b"count /e/b", Command::Count(path)),
         (b"quit", Command::Leave),
     ];
     for (line, want) in rows {
@@ -53,6 +57,54 @@ fn lines_of_items(rt: HostRuntime) -> Result<(), Fail> {
     ];
     for (line, want) in rows {
         assert!(rt; read_line_of(rt.alloc(), line)? == want);
+    }
+    Ok(())
+}
+
+#[test]
+fn lines_of_contents(rt: HostRuntime) -> Result<(), Fail> {
+    let path = Path::read(b"/e/b/p1").ok_or("a path")?;
+    let rows: [(&[u8], &[u8]); 4] = [
+        (b"save c7 /e/b/p1 -", b""),
+        (b"save c7 /e/b/p1 00", b"\0"),
+        (b"save c7 /e/b/p1 0aFf", b"\x0a\xff"),
+        (b"save c7 /e/b/p1 0AfFdEaD", b"\x0a\xff\xde\xad"),
+    ];
+    for (line, bytes) in rows {
+        let content = Listing::from_vec(Vec::from_slice(rt.alloc(), bytes)?);
+        let read: CommandIn<Global> = read_line_of(rt.alloc(), line)?;
+        assert!(rt; read == Command::Save(7, path, content));
+    }
+    Ok(())
+}
+
+#[test]
+fn lines_that_spell_no_content_or_version(rt: HostRuntime) -> Result<(), Fail> {
+    let rows: [&[u8]; 20] = [
+        b"save c7 /e/b/p1",
+        b"save c7 /e/b/p1 ",
+        b"save c7 /e/b/p1 0",
+        b"save c7 /e/b/p1 000",
+        b"save c7 /e/b/p1 0g",
+        b"save c7 /e/b/p1 --",
+        b"save c7 /e/b/p1 -0",
+        b"save c7 /e/b/p1 00 00",
+        b"save h7 /e/b/p1 00",
+        b"save /e/b/p1 00",
+        b"checkin",
+        b"checkin h1",
+        b"checkin c1 c2",
+        b"fetch /e",
+        b"fetch /e 01",
+        b"fetch /e -1",
+        b"fetch /e 4294967296",
+        b"fetch /e 1 2",
+        b"count",
+        b"count /e 1",
+    ];
+    for line in rows {
+        let read: Result<CommandIn<Global>, LineError> = read_line_of(rt.alloc(), line);
+        assert!(rt; read == Err(LineError::BadLine));
     }
     Ok(())
 }
@@ -142,7 +194,7 @@ fn longest_line(rt: HostRuntime) -> Result<(), Fail> {
 
 #[test]
 fn texts_of_replies(rt: HostRuntime) -> Result<(), Fail> {
-    let rows: [(Reply, &[u8]); 13] = [
+    let rows: [(Reply, &[u8]); 17] = [
         (Reply::Session(64), b"OK session 64\n"),
         (Reply::Place(4095), b"OK place 4095\n"),
         (Reply::Held(ClaimId::Long(1)), b"OK held c1\n"),
@@ -150,8 +202,11 @@ fn texts_of_replies(rt: HostRuntime) -> Result<(), Fail> {
             Reply::Queued(ClaimId::Short(2), ClaimId::Long(1)),
             b"OK queued h2 behind c1\n",
         ),
+        (Reply::Saved, b"OK saved\n"),
+        (Reply::CheckedIn(0), b"OK checked in 0\n"),
         (Reply::Abandoned, b"OK abandoned\n"),
         (Reply::Released, b"OK released\n"),
+        (Reply::Versions(65535), b"OK versions 65535\n"),
         (Reply::Left, b"OK left\n"),
         (Reply::Refused(Refusal::NoSession), b"ERR 11\n"),
         (
@@ -164,19 +219,21 @@ fn texts_of_replies(rt: HostRuntime) -> Result<(), Fail> {
             b"ERR 33 h12\n",
         ),
         (Reply::Refused(Refusal::NotCovered), b"ERR 34\n"),
+        (Reply::Refused(Refusal::NoVersion), b"ERR 40\n"),
         (Reply::Refused(Refusal::Limit), b"ERR 50\n"),
     ];
     for (reply, want) in rows {
         assert_eq!(rt; text_of(rt.alloc(), &reply)?.as_slice(), want);
     }
-    assert_eq!(rt;
-        outside_text(rt.alloc(), Outside::BadLine)?.as_slice(),
-        b"ERR 10\n".as_slice()
-    );
-    assert_eq!(rt;
-        outside_text(rt.alloc(), Outside::Busy)?.as_slice(),
-        b"ERR 80\n".as_slice()
-    );
+    let refusals: [(Outside, &[u8]); 4] = [
+        (Outside::BadLine, b"ERR 10\n"),
+        (Outside::Busy, b"ERR 80\n"),
+        (Outside::NoMemory, b"ERR 81\n"),
+        (Outside::Broken, b"ERR 82\n"),
+    ];
+    for (outside, want) in refusals {
+        assert_eq!(rt; outside_text(rt.alloc(), outside)?.as_slice(), want);
+    }
     Ok(())
 }
 
@@ -193,6 +250,20 @@ fn texts_of_names(rt: HostRuntime) -> Result<(), Fail> {
     ];
     for (names, want) in rows {
         let reply: Reply = Reply::Children(Listing::from_vec(Vec::from_slice(rt.alloc(), names)?));
+        assert_eq!(rt; text_of(rt.alloc(), &reply)?.as_slice(), want);
+    }
+    Ok(())
+}
+
+#[test]
+fn texts_of_contents(rt: HostRuntime) -> Result<(), Fail> {
+    let rows: [(&[u8], &[u8]); 3] = [
+        (b"", b"OK content -\n"),
+        (b"ab", b"OK content 6162\n"),
+        (b"\0\x0a\xff", b"OK content 000aff\n"),
+    ];
+    for (bytes, want) in rows {
+        let reply: Reply = Reply::Content(Listing::from_vec(Vec::from_slice(rt.alloc(), bytes)?));
         assert_eq!(rt; text_of(rt.alloc(), &reply)?.as_slice(), want);
     }
     Ok(())

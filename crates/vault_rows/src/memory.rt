@@ -63,24 +63,26 @@ fn scripts_of_claims_refused_memory(rt: HostRuntime) -> Result<(), Fail> {
     Ok(())
 }
 
-/// How many items a command asks for.
-fn item_count<A: Allocator>(command: &CommandIn<A>) -> usize {
+/// How many items a command asks for, or bytes it saves.
+fn length_of<A: Allocator>(command: &CommandIn<A>) -> usize {
     match command {
         Command::CheckOut(items) | Command::Extend(_, items) | Command::Hold(items) => {
             items.as_slice().len()
         }
+        Command::Save(_, _, content) => content.as_slice().len(),
         _ => 0,
     }
 }
 
-/// How many requests for memory a line of two items makes, where each is refused in turn, and the line is read at the end.
+/// How many requests for memory a line of two items or bytes makes, where each is refused in turn, and the line is read
+/// at the end.
 fn requests_of(memory: &Refusing<Global>, line: &[u8]) -> Option<u64> {
     let mut refusals = 0u64;
     for number in 1..20u64 {
         memory.refuse(number);
         match read_line_of(memory, line) {
             Ok(command) => {
-                let whole = memory.is_waiting() && item_count(&command) == 2;
+                let whole = memory.is_waiting() && length_of(&command) == 2;
                 return whole.then_some(refusals);
             }
             Err(LineError::NoMemory) if !memory.is_waiting() => refusals = number,
@@ -96,29 +98,33 @@ fn lines_refused_memory(rt: HostRuntime) -> Result<(), Fail> {
     assert_eq!(rt; requests_of(&memory, b"checkout r:/e w:/"), Some(2));
     assert_eq!(rt; requests_of(&memory, b"hold r:/e w:/"), Some(2));
     assert_eq!(rt; requests_of(&memory, b"extend c1 r:/e w:/"), Some(2));
+    assert_eq!(rt; requests_of(&memory, b"save c1 /e 6162"), Some(2));
     Ok(())
+}
+
+/// How many requests for memory a reply's text makes, where each is refused in turn, and the text is this at the end.
+fn requests_of_text(memory: &Refusing<Global>, reply: &Reply, want: &[u8]) -> Option<u64> {
+    let mut refusals = 0u64;
+    for number in 1..20u64 {
+        memory.refuse(number);
+        match text_of(memory, reply) {
+            Ok(text) => {
+                let whole = memory.is_waiting() && text.as_slice() == want;
+                return whole.then_some(refusals);
+            }
+            Err(NoMemory) if !memory.is_waiting() => refusals = number,
+            Err(NoMemory) => return None,
+        }
+    }
+    None
 }
 
 #[test]
 fn texts_refused_memory(rt: HostRuntime) -> Result<(), Fail> {
     let memory = Refusing::new(rt.alloc());
     let queued: Reply = Reply::Queued(ClaimId::Long(2), ClaimId::Long(1));
-    let mut refusals = 0u64;
-    for number in 1..20u64 {
-        memory.refuse(number);
-        match text_of(&memory, &queued) {
-            Ok(text) => {
-                assert!(rt; memory.is_waiting());
-                assert_eq!(rt; text.as_slice(), b"OK queued c2 behind c1\n".as_slice());
-                break;
-            }
-            Err(NoMemory) => {
-                assert!(rt; !memory.is_waiting());
-                refusals = number;
-            }
-        }
-    }
-    assert!(rt; 0 < refusals && refusals < 19);
+    let requests = requests_of_text(&memory, &queued, b"OK queued c2 behind c1\n");
+    assert!(rt; matches!(requests, Some(1..)));
     memory.refuse(1);
     assert!(rt; outside_text(&memory, Outside::Busy).is_err());
     memory.refuse(2);
@@ -127,26 +133,15 @@ fn texts_refused_memory(rt: HostRuntime) -> Result<(), Fail> {
 }
 
 #[test]
-fn names_refused_memory(rt: HostRuntime) -> Result<(), Fail> {
+fn texts_of_lists_refused_memory(rt: HostRuntime) -> Result<(), Fail> {
     let memory = Refusing::new(rt.alloc());
     let names = [Name::read(b"aaaaaaaaaaaaaaaaaaaaaaaaaaaaaaaa").ok_or("a name")?; 3];
-    let reply: Reply = Reply::Children(Listing::from_vec(Vec::from_slice(rt.alloc(), &names)?));
-    let want = text_of(rt.alloc(), &reply)?;
-    let mut refusals = 0u64;
-    for number in 1..20u64 {
-        memory.refuse(number);
-        match text_of(&memory, &reply) {
-            Ok(text) => {
-                assert!(rt; memory.is_waiting());
-                assert_eq!(rt; text.as_slice(), want.as_slice());
-                break;
-            }
-            Err(NoMemory) => {
-                assert!(rt; !memory.is_waiting());
-                refusals = number;
-            }
-        }
+    let names = Listing::from_vec(Vec::from_slice(rt.alloc(), &names)?);
+    let content = Listing::from_vec(Vec::from_slice(rt.alloc(), b"ab")?);
+    let replies: [Reply; 2] = [Reply::Children(names), Reply::Content(content)];
+    for reply in &replies {
+        let want = text_of(rt.alloc(), reply)?;
+        assert!(rt; matches!(requests_of_text(&memory, reply, &want), Some(2..)));
     }
-    assert!(rt; 1 < refusals && refusals < 19);
     Ok(())
 }

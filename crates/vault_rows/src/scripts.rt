@@ -142,3 +142,56 @@ fn busy_behind_the_last_command(rt: HostRuntime) -> Result<(), Fail> {
     assert!(rt; held == want);
     Ok(())
 }
+
+#[test]
+fn scripts_of_drafts_and_versions(rt: HostRuntime) -> Result<(), Fail> {
+    let rows: [(&[u8], &[u8]); 2] = [
+        (
+            b"@1 checkout w:/e/b\n@2 checkout w:/e/b/p1\n@2 save c1 /e/b/p1 00\n@2 save c2 /e/b/p1 00\n@2 checkin c2\n@2 extend c2 r:/e\n@1 save c1 /e/b/p3 00\n@1 save c1 /e/b 00\n@1 save c9 / 00\n@2 abandon c2\n@1 extend c1 r:/e r:/e r:/e r:/e r:/e r:/e r:/e r:/e\n@1 checkout r:/x r:/x r:/x r:/x r:/x r:/x r:/x r:/x r:/x\n",
+            b"@1 OK held c1\n@2 OK queued c2 behind c1\n@2 ERR 31\n@2 ERR 32\n@2 ERR 32\n@2 ERR 32\n@1 ERR 20\n@1 ERR 22\n@1 ERR 30\n@2 OK abandoned\n@1 ERR 36\n@1 ERR 36\n",
+        ),
+        (
+            b"@1 checkout r:/e/b w:/e/b/p1\n@1 save c1 /e/b/p2 00\n@1 save c1 /e/b/p1 0A\n@1 checkin c1\n@2 fetch /e/b/p1 1\n@2 count /e/b/p1\n@2 count /e\n",
+            b"@1 OK held c1\n@1 ERR 34\n@1 OK saved\n@1 OK checked in 1\n@2 OK content 0a\n@2 OK versions 1\n@2 ERR 22\n",
+        ),
+    ];
+    for (script, want) in rows {
+        let script = joined(rt.alloc(), BEGUN, script)?;
+        let mut reader = script.as_slice();
+        let mut held = Vec::new(rt.alloc());
+        run_script(rt.alloc(), &mut reader, &mut held)?;
+        assert_eq!(rt;
+            held.as_slice(),
+            joined(rt.alloc(), BEGUN_OUTPUT, want)?.as_slice()
+        );
+    }
+    Ok(())
+}
+
+#[test]
+fn drafts_of_1024_bytes_at_most(rt: HostRuntime) -> Result<(), Fail> {
+    let mut script = joined(rt.alloc(), BEGUN, b"@1 checkout w:/e/b\n")?;
+    for count in [1024, 1025] {
+        script.extend_from_slice(b"@1 save c1 /e/b/p1 ")?;
+        for _ in 0..count {
+            script.extend_from_slice(b"00")?;
+        }
+        script.push(b'\n')?;
+    }
+    script.extend_from_slice(
+        b"@1 save c1 /e/b/p1 -\n@1 save c1 /e/b/p1 6162\n@1 save c1 /e/b/p2 -\n@1 checkin c1\n",
+    )?;
+    script.extend_from_slice(
+        b"@1 fetch /e/b/p1 0\n@1 fetch /e/b/p1 1\n@1 fetch /e/b/p1 2\n@1 fetch /e/b/p2 1\n@1 state c1\n",
+    )?;
+    let want = joined(
+        rt.alloc(),
+        BEGUN_OUTPUT,
+        b"@1 OK held c1\n@1 OK saved\n@1 ERR 50\n@1 OK saved\n@1 OK saved\n@1 OK saved\n@1 OK checked in 2\n@1 ERR 40\n@1 OK content 6162\n@1 ERR 40\n@1 OK content -\n@1 ERR 30\n",
+    )?;
+    let mut reader = script.as_slice();
+    let mut held = Vec::new(rt.alloc());
+    run_script(rt.alloc(), &mut reader, &mut held)?;
+    assert_eq!(rt; held.as_slice(), want.as_slice());
+    Ok(())
+}

@@ -23,10 +23,14 @@ A line is '@K LINE' for a connection K of 1 to 64, and LINE is one of:
   list PATH             lists the places right under one
   checkout ITEM ..      asks for a claim on 1 to 8 items, as r:/engine to look or w:/engine to change
   extend CLAIM ITEM ..  asks for more items for a held claim, as c1
+  save CLAIM PART HEX   saves a draft of a part for a held check-out: its bytes in hexadecimal, or - for none
+  checkin CLAIM         makes versions of a check-out's drafts, and gives it up
   abandon CLAIM         gives up a check-out, as c1
   hold ITEM ..          asks for a claim that ends with the session
   release CLAIM         gives up such a claim, as h1
   state CLAIM           says whether a claim is held, or behind which one it is queued
+  fetch PART VERSION    shows a version of a part, from 1 on
+  count PART            says how many versions a part has
   quit                  closes the session
 Empty lines and lines that begin with '#' are skipped.";
 
