@@ -1,7 +1,7 @@
 //! A commit's first two device calls: the frame's body, written and settled behind its gate.
 ghost use Rattle.std.specs.Prelude.{◌<◌, ◌+◌, ◌^◌, List, ℕ, IsTrue};
 ghost use Rattle.vault_device.specs.Disk.{IsOneCall, IsWrite, IsSync, LeavesSince};
-ghost use Rattle.vault_journal.specs.Gate.{body_of, StaysClosed, IsBehind};
+ghost use Rattle.vault_journal.specs.Gate.{body_of, frame_room, StaysClosed, IsBehind};
 
 use crate::Frame;
 use std::alloc::Allocator;
@@ -14,7 +14,7 @@ pub fn write_body<D: Device, A: Allocator>(
     gate: u64,
     frame: &Frame<A>,
 ) -> Result<(), Fault>
-    requires end { gate < 2 ^ 62 }
+    requires end { gate + 1 + frame_room < 2 ^ 63 }
     requires closed { IsTrue (D.disk device.old).honest → StaysClosed gate (D.disk device.old) }
     ensures one_call { IsOneCall (D.disk device.old) (D.disk device.new) result }
     ensures write { IsTrue (D.disk device.old).honest → IsWrite (gate + 1) (body_of frame.now) result (D.disk device.old) (D.disk device.new) }

@@ -1,5 +1,5 @@
 //! A commit's last two device calls: the gate, opened and settled.
-ghost use Rattle.std.specs.Prelude.{◌≡◌, ◌<◌, ◌^◌, [], ◌∷◌, List, ℕ, IsTrue, OnOk, length, slice_set};
+ghost use Rattle.std.specs.Prelude.{◌≡◌, ◌<◌, ◌+◌, ◌^◌, [], ◌∷◌, List, ℕ, IsTrue, OnOk, length, slice_set};
 ghost use Rattle.vault_device.specs.Disk.{IsOneCall, IsWrite, IsSync, LeavesOnly, LeavesSince};
 ghost use Rattle.vault_journal.specs.Gate.{IsOpening, SameBut};
 
@@ -7,7 +7,7 @@ use vault_device::{Device, Fault};
 
 /// Writes 1 into the gate, where all that stands on the disk is settled. One device call.
 pub fn open_gate<D: Device>(device: &mut D, gate: u64) -> Result<(), Fault>
-    requires end { gate < 2 ^ 62 }
+    requires end { gate + 1 < 2 ^ 63 }
     requires stands { IsTrue (D.disk device.old).honest → gate < length (D.disk device.old).shown }
     requires settled { IsTrue (D.disk device.old).honest → LeavesOnly (D.disk device.old) (D.disk device.old).shown }
     ensures one_call { IsOneCall (D.disk device.old) (D.disk device.new) result }

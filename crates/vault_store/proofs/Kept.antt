@@ -1,0 +1,132 @@
+-- What a store keeps, from step to step.
+use Rattle.std.proofs.Common.{◌≡◌, ◌≢◌, ℕ, ◌+◌, ◌≤◌, IsTrue, Bool, false, List, [], ◌++◌, length, Some, refl, sym, ◌∙◌, ap, subst, arith}
+use Rattle.std.proofs.lemmas.Bool.{false≢true}
+use Rattle.vault_model.specs.Said.{Effect}
+use Rattle.vault_model.specs.Vault.{Vault, IsVault}
+use Rattle.vault_model.specs.After.{after, IsDurable}
+use Rattle.vault_device.specs.Disk.{Disk}
+use Rattle.vault_journal.specs.Spelling.{record_of, records_of, HasRecord}
+use Rattle.vault_store.specs.declared.phase.Phase.{Phase}
+use Rattle.vault_store.specs.declared.phase.Phase.TheVariants.{Idle, Written, Opening}
+use Rattle.vault_store.specs.Files.{most_records, frame_bytes, IsFrame, applied}
+use Rattle.vault_store.specs.Phases.{is_idle}
+use Rattle.vault_store.specs.State.{StoreState, with_effect}
+use Rattle.vault_store.specs.OnDisk.{IsOnDisk}
+use Rattle.vault_store.specs.Seen.{Seen, Keeps, settled_reading}
+use Rattle.vault_store.proofs.Frames.{applied_more, applied_stays, records_more, longer_front}
+
+pub note_kept : {D : Type 0} (disk : D → Disk) (store : Seen D) (s : StoreState) (effect : Effect) (next : Vault) → HasRecord effect → Keeps disk store s → after s.noted effect ≡ Some next
+    → Keeps disk (record store { buffer = store.buffer ++ record_of effect }) (with_effect s effect next)
+note_kept disk store s effect next has keeps e = record {
+  phase = keeps.phase;
+  broken = keeps.broken;
+  well_formed = keeps.well_formed;
+  durable = keeps.durable;
+  sealing = keeps.sealing;
+  few = keeps.few;
+  sealed_bytes = keeps.sealed_bytes;
+  under_way = keeps.under_way;
+  none = keeps.none;
+  sealed = keeps.sealed;
+  buffer = records_more s.buffer effect store.buffer keeps.buffer has;
+  noted = applied_more s.sealed s.noted next s.buffer effect keeps.noted e;
+  files = keeps.files;
+}
+
+-- what a disk in one phase gives in another, whatever the front and the records
+abbrev pub IsMove : Disk → Disk → ℕ → ℕ → Phase → Phase → Bool → Type 0
+IsMove old new tail sealed p q broken = (front records : List ℕ) → length front ≡ tail → length records ≡ sealed → IsOnDisk old p false front records → IsOnDisk new q broken front records
+
+module _ {D : Type 0} (disk : D → Disk) (old : Seen D) (first : D) (same : (disk first).honest ≡ (disk old.first).honest) where
+  honest_before : IsTrue (disk first).honest → IsTrue (disk old.first).honest
+  honest_before honest = subst IsTrue same honest
+
+  -- a step that changes the phase alone
+  pub phase_kept : (s : StoreState) (p q : Phase) (broken : Bool) → is_idle p ≡ false → is_idle q ≡ false → (IsTrue (disk old.first).honest → IsMove (disk old.first) (disk first) old.tail old.sealed p q broken)
+      → Keeps disk old (record s { phase = p; broken = false }) → Keeps disk (record old { first = first; phase = q; broken = broken }) (record s { phase = q; broken = broken })
+  phase_kept s p q broken busy still move keeps = record {
+    phase = refl;
+    broken = refl;
+    well_formed = keeps.well_formed;
+    durable = keeps.durable;
+    sealing = keeps.sealing;
+    few = keeps.few;
+    sealed_bytes = keeps.sealed_bytes;
+    under_way = λ is. keeps.under_way busy;
+    none = λ idle. absurd (false≢true (sym still ∙ idle));
+    sealed = keeps.sealed;
+    buffer = keeps.buffer;
+    noted = keeps.noted;
+    files = λ one two.
+        let files = keeps.files (honest_before one) two in record {
+          front = files.front;
+          is_front = files.is_front;
+          active = move (honest_before one) files.front (records_of s.sealing) (sym files.is_front.tail_is) (sym keeps.sealed_bytes) files.active;
+          spare = files.spare;
+        };
+  }
+
+  -- the first step of a commit
+  pub sealed_kept : (s : StoreState) (broken : Bool) → s.buffer ≢ [] → length old.buffer ≤ most_records
+      → (IsTrue (disk old.first).honest → (front : List ℕ) → length front ≡ old.tail → IsOnDisk (disk old.first) Idle false front [] → IsOnDisk (disk first) Written broken front old.buffer)
+      → Keeps disk old (record s { phase = Idle; broken = false })
+      → Keeps disk (record old { first = first; buffer = []; sealed = length old.buffer; phase = Written; broken = broken })
+      (record { settled = s.settled; sealed = s.noted; noted = s.noted; sealing = s.buffer; buffer = []; phase = Written; broken = broken })
+  sealed_kept s broken some few move keeps = record {
+    phase = refl;
+    broken = refl;
+    well_formed = keeps.well_formed;
+    durable = keeps.durable;
+    sealing = keeps.buffer.each;
+    few = omega (arith, few, ap length keeps.buffer.whole);
+    sealed_bytes = ap length keeps.buffer.whole;
+    under_way = λ is. some;
+    none = λ idle. absurd (false≢true idle);
+    sealed = subst (λ (w : Vault). applied w s.buffer ≡ Some s.noted) (sym settled_is) keeps.noted;
+    buffer = record { each = tt; whole = refl };
+    noted = refl;
+    files = λ one two.
+        let files = keeps.files (honest_before one) two in record {
+          front = files.front;
+          is_front = files.is_front;
+          active = subst (λ (l : List ℕ). IsOnDisk (disk first) Written broken files.front l) keeps.buffer.whole (move (honest_before one) files.front (sym files.is_front.tail_is) files.active);
+          spare = files.spare;
+        };
+  }
+    where
+      settled_is : s.settled ≡ s.sealed
+      settled_is = let e = subst (λ (l : List Effect). applied s.settled l ≡ Some s.sealed) (keeps.none refl) keeps.sealed in cc
+
+  -- the last step of a commit
+  pub settled_kept : (s : StoreState) (tail journal : ℕ) → tail ≡ old.tail + (old.sealed + 5) → journal ≡ old.journal + (old.sealed + 5)
+      → (IsTrue (disk old.first).honest → (front records : List ℕ) → length front ≡ old.tail → IsOnDisk (disk old.first) Opening false front records → IsOnDisk (disk first) Idle false (front ++ frame_bytes records) [])
+      → Keeps disk old (record s { phase = Opening; broken = false })
+      → Keeps disk (record old { first = first; tail = tail; journal = journal; sealed = 0; phase = Idle; broken = false })
+      (record { settled = s.sealed; sealed = s.sealed; noted = s.noted; sealing = []; buffer = s.buffer; phase = Idle; broken = false })
+  settled_kept s tail journal tail_is journal_is move keeps = record {
+    phase = refl;
+    broken = refl;
+    well_formed = stays.0;
+    durable = stays.1;
+    sealing = tt;
+    few = omega arith;
+    sealed_bytes = refl;
+    under_way = λ busy. absurd (false≢true (sym busy));
+    none = λ idle. refl;
+    sealed = refl;
+    buffer = keeps.buffer;
+    noted = keeps.noted;
+    files = λ one two.
+        let files = keeps.files (honest_before one) two in record {
+          front = files.front ++ frame_bytes (records_of s.sealing);
+          is_front = longer_front files.front (settled_reading old s) s.sealing s.sealed tail journal files.is_front frame keeps.sealed (omega (arith, tail_is, keeps.sealed_bytes)) (omega (arith, journal_is, keeps.sealed_bytes));
+          active = move (honest_before one) files.front (records_of s.sealing) (sym files.is_front.tail_is) files.active;
+          spare = files.spare;
+        };
+  }
+    where
+      stays : IsVault s.sealed × IsDurable s.sealed
+      stays = applied_stays s.settled s.sealed s.sealing keeps.well_formed keeps.durable keeps.sealed
+
+      frame : IsFrame s.sealing
+      frame = record { some = keeps.under_way refl; each = keeps.sealing; few = keeps.few }

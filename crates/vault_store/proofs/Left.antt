@@ -1,0 +1,89 @@
+-- What a crash leaves of the two files of a store, and what a stop inside a step leaves.
+use Rattle.std.proofs.Common.{◌≡◌, inl, inr, ℕ, ◌+◌, IsTrue, Bool, true, false, List, ◌++◌, get_or, refl, sym, subst, arith}
+use Rattle.std.proofs.lemmas.Bool.{cases_eq}
+use Rattle.vault_device.specs.Disk.{Disk}
+use Rattle.vault_journal.specs.Spelling.{records_of}
+use Rattle.vault_store.specs.declared.phase.Phase.{Phase}
+use Rattle.vault_store.specs.declared.phase.Phase.TheVariants.{Idle, Written, Bodied, Opening, Start, Closing, Writing, Filled, Ready, SnapOpening}
+use Rattle.vault_store.specs.Files.{frame_bytes, Reading, IsFront, EndsBehind, IsSpare, AreRead}
+use Rattle.vault_store.specs.Phases.{is_idle, may_open}
+use Rattle.vault_store.specs.State.{StoreState}
+use Rattle.vault_store.specs.OnDisk.{IsEither, LeavesInPhase, IsOnDisk}
+use Rattle.vault_store.specs.Seen.{Seen, Keeps, settled_reading, sealed_reading, IsByGate, IsLeft, IsLeftInside}
+use Rattle.vault_store.specs.Laws.{AreHonest, CrashLeavesWhatIsKept, IsOneGate, OneGateIsOpened}
+use Rattle.vault_store.proofs.Frames.{longer_front}
+
+-- a file that ends behind the front is read as that, beside a spare
+pub reads_front : (front x y : List ℕ) (r : Reading) → IsFront front r → EndsBehind front x → IsSpare r.generation y → AreRead x y r
+reads_front front x y r is_front ends spare = inl (record { front = front; is_front = is_front; ends = ends }, spare)
+
+module _ {D : Type 0} (disk : D → Disk) (store : Seen D) (s : StoreState) (keeps : Keeps disk store s) (front : List ℕ) (is_front : IsFront front (settled_reading store s)) where
+  -- with the frame's gate open, or not
+  pub reads_either : (x y : List ℕ) → is_idle s.phase ≡ false → IsEither front (records_of s.sealing) x → IsSpare store.generation y → IsByGate store.tail (settled_reading store s) (sealed_reading store s) x y
+  reads_either x y busy either spare = record {
+    opened = λ is. reads_front (front ++ frame_bytes (records_of s.sealing)) x y (sealed_reading store s) longer (either.opened (subst (λ (n : ℕ). get_or x n 0 ≡ 1) is_front.tail_is is)) spare;
+    shut = λ is. reads_front front x y (settled_reading store s) is_front (either.shut (λ one. is (subst (λ (n : ℕ). get_or x n 0 ≡ 1) (sym is_front.tail_is) one))) spare;
+  }
+    where
+      longer : IsFront (front ++ frame_bytes (records_of s.sealing)) (sealed_reading store s)
+      longer =
+          longer_front front (settled_reading store s) s.sealing s.sealed (store.tail + 5 + store.sealed) (store.journal + 5 + store.sealed) is_front
+          (record { some = keeps.under_way busy; each = keeps.sealing; few = keeps.few }) keeps.sealed (omega (arith, keeps.sealed_bytes)) (omega (arith, keeps.sealed_bytes))
+
+  -- a stop that leaves the front leaves the settled vault
+  pub inside_front : (x y : List ℕ) → EndsBehind front x → IsSpare store.generation y → IsLeftInside store s x y
+  inside_front x y ends spare = inl (reads_front front x y (settled_reading store s) is_front ends spare)
+
+  -- one that leaves the gate open or closed leaves the sealed vault or the settled one
+  pub inside_either : (x y : List ℕ) → is_idle s.phase ≡ false → may_open s.phase ≡ true → IsEither front (records_of s.sealing) x → IsSpare store.generation y → IsLeftInside store s x y
+  inside_either x y busy may either spare =
+      let by_gate = reads_either x y busy either spare in
+      elim (cases_eq (get_or x store.tail 0) 1) [ inl is ↦ inr (may, by_gate.opened is) | inr other ↦ inl (by_gate.shut other) ]
+
+-- what a crash leaves, of what the disk holds
+pub leaves_in : (disk : Disk) (p : Phase) (broken : Bool) (front records : List ℕ) → IsOnDisk disk p broken front records → LeavesInPhase disk p front records
+leaves_in disk p true front records on = on
+leaves_in disk Idle false front records on = λ x image. subst (EndsBehind front) (sym (on.settled.only x image)) on.ends
+leaves_in disk Written false front records on = on.images
+leaves_in disk Bodied false front records on = λ x image. subst (EndsBehind front) (sym (on.settled.only x image)) on.ends
+leaves_in disk Opening false front records on = on.images
+leaves_in disk Start false front records on = on
+leaves_in disk Closing false front records on = on
+leaves_in disk (Writing left) false front records on = on
+leaves_in disk Filled false front records on = on
+leaves_in disk Ready false front records on = on
+leaves_in disk SnapOpening false front records on = on
+
+-- what is left in each phase
+left_in : {D : Type 0} (disk : D → Disk) (store : Seen D) (s : StoreState) (p : Phase) → Keeps disk store (record s { phase = p }) → (front x y : List ℕ) → IsFront front (settled_reading store s)
+    → LeavesInPhase (disk store.first) p front (records_of s.sealing) → (disk store.first).IsImage x → IsSpare store.generation y → IsLeft store (record s { phase = p }) x y
+left_in disk store s Idle keeps front x y is_front leaves image spare = reads_front front x y (settled_reading store s) is_front (leaves x image) spare
+left_in disk store s Written keeps front x y is_front leaves image spare = reads_front front x y (settled_reading store s) is_front (leaves x image) spare
+left_in disk store s Bodied keeps front x y is_front leaves image spare = reads_front front x y (settled_reading store s) is_front (leaves x image) spare
+left_in disk store s Opening keeps front x y is_front leaves image spare = reads_either disk store (record s { phase = Opening }) keeps front is_front x y refl (leaves x image) spare
+left_in disk store s Start keeps front x y is_front leaves image spare = absurd leaves
+left_in disk store s Closing keeps front x y is_front leaves image spare = absurd leaves
+left_in disk store s (Writing more) keeps front x y is_front leaves image spare = absurd leaves
+left_in disk store s Filled keeps front x y is_front leaves image spare = absurd leaves
+left_in disk store s Ready keeps front x y is_front leaves image spare = absurd leaves
+left_in disk store s SnapOpening keeps front x y is_front leaves image spare = absurd leaves
+
+-- What a crash leaves of a store.
+pub left : {D : Type 0} (disk : D → Disk) (store : Seen D) (s : StoreState) → Keeps disk store s → IsTrue (disk store.first).honest → IsTrue (disk store.second).honest
+    → (x y : List ℕ) → (disk store.first).IsImage x → (disk store.second).IsImage y → IsLeft store s x y
+left disk store s keeps one two x y image other =
+    let files = keeps.files one two in
+    left_in disk store s s.phase keeps files.front x y files.is_front (leaves_in (disk store.first) s.phase s.broken files.front (records_of s.sealing) files.active) image (files.spare y other)
+
+-- while a gate is being opened, it alone is unsettled
+gated_in : {D : Type 0} (disk : D → Disk) (store : Seen D) (s : StoreState) (p : Phase) (broken : Bool) → p ≡ Opening → broken ≡ false → Keeps disk store (record s { phase = p; broken = broken }) → AreHonest disk store → IsOneGate (disk store.first) store.tail
+gated_in disk store s p broken is unbroken keeps honest =
+    let here = subst (λ (b : Bool). Keeps disk store (record s { phase = Opening; broken = b })) unbroken (subst (λ (q : Phase). Keeps disk store (record s { phase = q; broken = broken })) is keeps) in
+    let files = here.files honest.first honest.second in
+    subst (λ (n : ℕ). IsOneGate (disk store.first) n) (sym files.is_front.tail_is) (record { same = files.active.same; opened = files.active.opened; was_shut = files.active.was_shut })
+
+pub crash_leaves : {D : Type 0} (disk : D → Disk) → CrashLeavesWhatIsKept disk
+crash_leaves disk store s x y keeps honest image other = left disk store s keeps honest.first honest.second x y image other
+
+pub one_gate : {D : Type 0} (disk : D → Disk) → OneGateIsOpened disk
+one_gate disk store s keeps honest is unbroken = gated_in disk store s s.phase s.broken is unbroken keeps honest

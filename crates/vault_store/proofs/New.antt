@@ -1,0 +1,81 @@
+-- A new vault's file is read as the new vault.
+use Rattle.std.proofs.Common.{◌≡◌, inl, ℕ, ◌<◌, IsTrue, List, [], length, refl, sym, ◌∙◌, ap, subst, arith, false}
+use Rattle.std.proofs.lemmas.List.Elements.{All-nil}
+use Rattle.vault_model.specs.declared.place.Place.{Place}
+use Rattle.vault_model.specs.declared.claims.Claim.{Claim}
+use Rattle.vault_model.specs.Name.{IsName}
+use Rattle.vault_model.specs.Vault.{new_vault}
+use Rattle.vault_model.proofs.Kept.{kept_new}
+use Rattle.vault_device.specs.Disk.{Disk}
+use Rattle.vault_store.specs.declared.phase.Phase.TheVariants.{Idle}
+use Rattle.vault_store.specs.Snapshot.{HasSnapshot, designer_of}
+use Rattle.vault_store.specs.Files.{Reading, IsFront, EndsBehind}
+use Rattle.vault_store.specs.OnDisk.{IsIdle}
+use Rattle.vault_store.specs.State.{at_rest}
+use Rattle.vault_store.specs.Seen.{Seen, Keeps}
+use Rattle.vault_store.specs.Sound.{IsSound}
+use Rattle.vault_store.specs.Create.{new_front, new_file, IsFilled}
+
+pub new_snapshot : HasSnapshot new_vault
+new_snapshot = record { well_formed = kept_new; durable = refl; fits = omega arith; places = All-nil (λ (place : Place). IsName place.name); owners = All-nil (λ (claim : Claim). IsName (designer_of claim.owner)) }
+
+abbrev pub new_reading : Reading
+new_reading = record { vault = new_vault; generation = 1; tail = 34; journal = 0 }
+
+pub new_is_front : IsFront new_front new_reading
+new_is_front = record {
+  base = new_vault;
+  frames = [];
+  spelled = new_snapshot;
+  given = omega arith;
+  fits = omega arith;
+  each = tt;
+  bytes = refl;
+  leads = refl;
+  tail_is = refl;
+  journal_is = refl;
+}
+
+new_ends : EndsBehind new_front new_file
+new_ends = record { begins = refl; closed = record { stands = omega arith; shut = λ e. cc } }
+
+pub new_idle : (old new : Disk) → IsFilled old new new_file → IsIdle new new_front
+new_idle old new filled = record { settled = filled.settled; ends = subst (EndsBehind new_front) (sym filled.shown) new_ends }
+
+module _ {D : Type 0} (disk : D → Disk) (first second first_new second_new : D) (same : (disk first_new).honest ≡ (disk first).honest) (file : IsTrue (disk first).honest → IsFilled (disk first) (disk first_new) new_file) where
+  abbrev pub new_seen : Seen D
+  new_seen = record { first = first_new; second = second_new; buffer = []; sealed = 0; generation = 1; tail = 34; journal = 0; phase = Idle; broken = false }
+
+  pub new_sound : IsSound disk new_seen
+  new_sound = record {
+    reached = tt;
+    sealed_fits = omega arith;
+    bounded = λ some. absurd (omega (arith, some));
+    inside = omega arith;
+    active = λ one. record { front = new_front; records = []; stands = refl; size = refl; on_disk = new_idle (disk first) (disk first_new) (file (subst IsTrue same one)) };
+  }
+
+  pub new_kept : (disk second_new).honest ≡ (disk second).honest → (IsTrue (disk second).honest → IsFilled (disk second) (disk second_new) []) → Keeps disk new_seen (at_rest new_vault)
+  new_kept same_second empty = record {
+    phase = refl;
+    broken = refl;
+    well_formed = kept_new;
+    durable = refl;
+    sealing = tt;
+    few = omega arith;
+    sealed_bytes = refl;
+    under_way = λ busy. absurd (cc);
+    none = λ idle. refl;
+    sealed = refl;
+    buffer = record { each = tt; whole = refl };
+    noted = refl;
+    files = λ one two. record {
+      front = new_front;
+      is_front = new_is_front;
+      active = new_idle (disk first) (disk first_new) (file (subst IsTrue same one));
+      spare = λ x image. inl (inl (none two x image));
+    };
+  }
+    where
+      none : IsTrue (disk second_new).honest → (x : List ℕ) → (disk second_new).IsImage x → length x < 24
+      none two x image = let filled = empty (subst IsTrue same_second two) in omega (arith, ap length (filled.settled.only x image ∙ filled.shown))

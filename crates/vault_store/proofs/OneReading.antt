@@ -1,0 +1,115 @@
+-- A file is read in at most one way.
+use Rattle.std.proofs.Common.{◌≡◌, ◌≢◌, ℕ, ◌+◌, ◌<◌, ◌^◌, List, [], ◌∷◌, ◌++◌, length, get_or, take, drop, Option, Some, refl, sym, ◌∙◌, ap, arith, append_assoc, take-append-drop}
+use Rattle.std.specs.List.{AllByRecursion}
+use Rattle.std.proofs.lemmas.List.{take_at, drop_at, drop_more}
+use Rattle.std.proofs.lemmas.List.Concat.{flat_map-cons}
+use Rattle.vault_model.specs.Said.{Effect}
+use Rattle.vault_model.specs.Vault.{Vault}
+use Rattle.vault_journal.specs.Spelling.{in_four, in_eight, records_of}
+use Rattle.vault_journal.specs.Laws.{IsInverse}
+use Rattle.vault_journal.specs.Reading.{u32_at, u64_at}
+use Rattle.vault_journal.proofs.OneSpelling.{fields_are_spelled, one_row}
+use Rattle.vault_store.specs.Snapshot.{snapshot_of}
+use Rattle.vault_store.proofs.Short.{spelled_short}
+use Rattle.vault_store.specs.Files.{head_of, frame_of, frames_bytes, IsFrame, after_frames, Reading, Holds, snapshot_bytes}
+
+some_pair : {X : Type 0} (x y : X) (a b : List ℕ) → ◌≡◌ {A = Option (X × List ℕ)} (Some (x, a)) (Some (y, b)) → (x ≡ y) × (a ≡ b)
+some_pair {X} x y a b e = let p : ◌≡◌ {A = X × List ℕ} (x, a) (y, b) = cc in (ap (λ (q : X × List ℕ). q.0) p, ap (λ (q : X × List ℕ). q.1) p)
+
+-- what is spelled at the front of the same bytes is one, and the same stands behind
+pub one_spelled : {X : Type 0} (spell : X → List ℕ) (Has : X → Type 0) (read : List ℕ → Option (X × List ℕ)) → IsInverse spell Has read → (x y : X) (a b : List ℕ) → Has x → Has y → spell x ++ a ≡ spell y ++ b → (x ≡ y) × (a ≡ b)
+one_spelled spell Has read inverse x y a b has_x has_y same = some_pair x y a b (sym (inverse.reads x a has_x) ∙ ap read same ∙ inverse.reads y b has_y)
+
+-- two fronts of one length
+pub same_front : (a b c d : List ℕ) → length a ≡ length b → a ++ c ≡ b ++ d → (a ≡ b) × (c ≡ d)
+same_front a b c d size same = (
+  sym (take_at a c (length a) refl) ∙ ap (λ (l : List ℕ). take (length a) l) same ∙ take_at b d (length a) (sym size),
+  sym (drop_at a c (length a) refl) ∙ ap (λ (l : List ℕ). drop (length a) l) same ∙ drop_at b d (length a) (sym size),
+)
+
+pub one_number : (n m : ℕ) (a b : List ℕ) → n < 2 ^ 32 → m < 2 ^ 32 → in_four n ++ a ≡ in_four m ++ b → (n ≡ m) × (a ≡ b)
+one_number n m a b fits_n fits_m same = one_spelled in_four (λ k. k < 2 ^ 32) u32_at fields_are_spelled.in_four n m a b fits_n fits_m same
+
+-- one frame behind another
+pub frames_split : (effects : List Effect) (frames : List (List Effect)) (rest : List ℕ) → frames_bytes (effects ∷ frames) ++ rest ≡ 1 ∷ (in_four (length (records_of effects)) ++ (records_of effects ++ (frames_bytes frames ++ rest)))
+frames_split effects frames rest =
+    ap (λ (l : List ℕ). l ++ rest) (flat_map-cons frame_of effects frames) ∙ append_assoc (frame_of effects) (frames_bytes frames) rest
+    ∙ append_assoc (1 ∷ in_four (length (records_of effects))) (records_of effects) (frames_bytes frames ++ rest)
+
+-- frames in front of a closed gate
+pub one_frames : (fs hs : List (List Effect)) (x y : ℕ) (s t : List ℕ) → AllByRecursion IsFrame fs → AllByRecursion IsFrame hs → x ≢ 1 → y ≢ 1 → frames_bytes fs ++ x ∷ s ≡ frames_bytes hs ++ y ∷ t → fs ≡ hs
+one_frames [] [] x y s t are_fs are_hs shut_x shut_y same = refl
+one_frames [] (h ∷ hs) x y s t are_fs are_hs shut_x shut_y same = let e = same ∙ frames_split h hs (y ∷ t) in absurd (shut_x cc)
+one_frames (f ∷ fs) [] x y s t are_fs are_hs shut_x shut_y same = let e = sym same ∙ frames_split f fs (x ∷ s) in absurd (shut_y cc)
+one_frames (f ∷ fs) (h ∷ hs) x y s t are_fs are_hs shut_x shut_y same =
+    let whole = sym (frames_split f fs (x ∷ s)) ∙ same ∙ frames_split h hs (y ∷ t) in
+    let behind : in_four (length (records_of f)) ++ (records_of f ++ (frames_bytes fs ++ x ∷ s)) ≡ in_four (length (records_of h)) ++ (records_of h ++ (frames_bytes hs ++ y ∷ t)) = ap (λ (l : List ℕ). drop 1 l) whole in
+    let sizes = one_number (length (records_of f)) (length (records_of h)) (records_of f ++ (frames_bytes fs ++ x ∷ s)) (records_of h ++ (frames_bytes hs ++ y ∷ t)) (omega (arith, are_fs.0.few)) (omega (arith, are_hs.0.few)) behind in
+    let parts = same_front (records_of f) (records_of h) (frames_bytes fs ++ x ∷ s) (frames_bytes hs ++ y ∷ t) sizes.0 sizes.1 in
+    let first : f ≡ h = one_row f h (records_of f) (record { each = are_fs.0.each; whole = refl }) (record { each = are_hs.0.each; whole = parts.0 }) in
+    let others = one_frames fs hs x y s t are_fs.1 are_hs.1 shut_x shut_y parts.1 in
+    ap (λ (g : List Effect). g ∷ fs) first ∙ ap (λ (gs : List (List Effect)). h ∷ gs) others
+
+-- a file from its head to its end
+pub holds_whole : (x : List ℕ) (r : Reading) (h : Holds x r)
+    → x ≡ head_of r.generation ++ (in_four (length (snapshot_of h.is_front.base)) ++ (snapshot_of h.is_front.base ++ (frames_bytes h.is_front.frames ++ get_or x (length h.front) 0 ∷ drop (length h.front + 1) x)))
+holds_whole x r h =
+    sym (take-append-drop (length h.front) x)
+    ∙ ap (λ (l : List ℕ). l ++ drop (length h.front) x) (h.ends.begins ∙ h.is_front.bytes)
+    ∙ ap (λ (l : List ℕ). ((head_of r.generation ++ snapshot_bytes h.is_front.base) ++ frames_bytes h.is_front.frames) ++ l) (drop_more x (length h.front) 0 h.ends.closed.stands)
+    ∙ append_assoc (head_of r.generation ++ snapshot_bytes h.is_front.base) (frames_bytes h.is_front.frames) rest
+    ∙ append_assoc (head_of r.generation) (snapshot_bytes h.is_front.base) (frames_bytes h.is_front.frames ++ rest)
+    ∙ ap (λ (l : List ℕ). head_of r.generation ++ l) (append_assoc (in_four (length (snapshot_of h.is_front.base))) (snapshot_of h.is_front.base) (frames_bytes h.is_front.frames ++ rest))
+  where
+    rest : List ℕ
+    rest = get_or x (length h.front) 0 ∷ drop (length h.front + 1) x
+
+-- a head is of one generation
+pub one_head : (g k : ℕ) (a b : List ℕ) → g < 2 ^ 64 → k < 2 ^ 64 → head_of g ++ a ≡ head_of k ++ b → (g ≡ k) × (a ≡ b)
+one_head g k a b fits_g fits_k same =
+    let behind : in_eight g ++ a ≡ in_eight k ++ b = ap (λ (l : List ℕ). drop 12 l) same in
+    one_spelled in_eight (λ n. n < 2 ^ 64) u64_at fields_are_spelled.in_eight g k a b fits_g fits_k behind
+
+-- two readings of one file
+module _ (x : List ℕ) (r q : Reading) (one : Holds x r) (two : Holds x q) where
+  abbrev pub rest_one : List ℕ
+  rest_one = get_or x (length one.front) 0 ∷ drop (length one.front + 1) x
+
+  abbrev pub rest_two : List ℕ
+  rest_two = get_or x (length two.front) 0 ∷ drop (length two.front + 1) x
+
+  heads : (r.generation ≡ q.generation) × (in_four (length (snapshot_of one.is_front.base)) ++ (snapshot_of one.is_front.base ++ (frames_bytes one.is_front.frames ++ rest_one)) ≡ in_four (length (snapshot_of two.is_front.base)) ++ (snapshot_of two.is_front.base ++ (frames_bytes two.is_front.frames ++ rest_two)))
+  heads =
+      one_head r.generation q.generation _ _ one.is_front.fits two.is_front.fits (sym (holds_whole x r one) ∙ holds_whole x q two)
+
+  sizes : (length (snapshot_of one.is_front.base) ≡ length (snapshot_of two.is_front.base)) × (snapshot_of one.is_front.base ++ (frames_bytes one.is_front.frames ++ rest_one) ≡ snapshot_of two.is_front.base ++ (frames_bytes two.is_front.frames ++ rest_two))
+  sizes =
+      one_number (length (snapshot_of one.is_front.base)) (length (snapshot_of two.is_front.base)) (snapshot_of one.is_front.base ++ (frames_bytes one.is_front.frames ++ rest_one)) (snapshot_of two.is_front.base ++ (frames_bytes two.is_front.frames ++ rest_two))
+      (spelled_short one.is_front.base one.is_front.spelled) (spelled_short two.is_front.base two.is_front.spelled) heads.1
+
+  -- they have the same snapshot
+  pub snapshots : (snapshot_of one.is_front.base ≡ snapshot_of two.is_front.base) × (frames_bytes one.is_front.frames ++ rest_one ≡ frames_bytes two.is_front.frames ++ rest_two)
+  snapshots = same_front (snapshot_of one.is_front.base) (snapshot_of two.is_front.base) (frames_bytes one.is_front.frames ++ rest_one) (frames_bytes two.is_front.frames ++ rest_two) sizes.0 sizes.1
+
+  same_frames : one.is_front.frames ≡ two.is_front.frames
+  same_frames = one_frames one.is_front.frames two.is_front.frames _ _ _ _ one.is_front.each two.is_front.each one.ends.closed.shut two.ends.closed.shut snapshots.1
+
+  -- where the snapshot is of one vault, the readings are one
+  pub same_reading : one.is_front.base ≡ two.is_front.base → r ≡ q
+  same_reading base_is = λ i. record { vault = vaults i; generation = heads.0 i; tail = tails i; journal = journals i }
+    where
+      fronts : one.front ≡ two.front
+      fronts =
+          one.is_front.bytes ∙ ap (λ (g : ℕ). (head_of g ++ snapshot_bytes one.is_front.base) ++ frames_bytes one.is_front.frames) heads.0 ∙ ap (λ (v : Vault). (head_of q.generation ++ snapshot_bytes v) ++ frames_bytes one.is_front.frames) base_is
+          ∙ ap (λ (fs : List (List Effect)). (head_of q.generation ++ snapshot_bytes two.is_front.base) ++ frames_bytes fs) same_frames ∙ sym two.is_front.bytes
+
+      vaults : r.vault ≡ q.vault
+      vaults =
+          let e : after_frames two.is_front.base two.is_front.frames ≡ Some r.vault = ap (λ (v : Vault). after_frames v two.is_front.frames) (sym base_is) ∙ ap (λ (fs : List (List Effect)). after_frames one.is_front.base fs) (sym same_frames) ∙ one.is_front.leads in
+          let f = two.is_front.leads in cc
+
+      tails : r.tail ≡ q.tail
+      tails = one.is_front.tail_is ∙ ap length fronts ∙ sym two.is_front.tail_is
+
+      journals : r.journal ≡ q.journal
+      journals = one.is_front.journal_is ∙ ap (λ (fs : List (List Effect)). length (frames_bytes fs)) same_frames ∙ sym two.is_front.journal_is

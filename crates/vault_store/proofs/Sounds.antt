@@ -1,0 +1,133 @@
+-- What every store keeps, from step to step.
+use Rattle.std.proofs.Common.{◌≡◌, ℕ, ◌+◌, ◌<◌, ◌≤◌, IsTrue, Bool, false, List, [], ◌++◌, length, refl, sym, subst, arith, length-append}
+use Rattle.std.proofs.lemmas.Bool.{false≢true}
+use Rattle.std.proofs.lemmas.Bool.Decides.{nat_tests}
+use Rattle.vault_device.specs.Disk.{Disk}
+use Rattle.vault_journal.specs.Gate.{frame_room}
+use Rattle.vault_store.specs.declared.phase.Phase.{Phase}
+use Rattle.vault_store.specs.declared.phase.Phase.TheVariants.{Idle, Written, Bodied, Opening, Start, Closing, Writing, Filled, Ready, SnapOpening}
+use Rattle.vault_store.specs.Files.{frame_bytes}
+use Rattle.vault_store.specs.Phases.{is_idle}
+use Rattle.vault_store.specs.OnDisk.{IsOnDisk}
+use Rattle.vault_store.specs.Seen.{Seen, has_room, most_noted, last_tail}
+use Rattle.vault_store.specs.Sound.{IsReached, IsBounded, IsActive, IsSound}
+use Rattle.vault_store.proofs.Kept.{IsMove}
+use Rattle.vault_store.proofs.Frames.{length-frame}
+
+-- the bounds while a frame is under way
+abbrev pub IsBusy : ℕ → ℕ → Type 0
+IsBusy waiting tail = (tail < last_tail + frame_room) × (0 < waiting → tail < last_tail)
+
+busy_in : (p : Phase) (n tail : ℕ) → is_idle p ≡ false → IsBounded p n tail → IsBusy n tail
+busy_in Idle n tail busy bounded = absurd (false≢true (sym busy))
+busy_in Written n tail busy bounded = bounded
+busy_in Bodied n tail busy bounded = bounded
+busy_in Opening n tail busy bounded = bounded
+busy_in Start n tail busy bounded = bounded
+busy_in Closing n tail busy bounded = bounded
+busy_in (Writing left) n tail busy bounded = bounded
+busy_in Filled n tail busy bounded = bounded
+busy_in Ready n tail busy bounded = bounded
+busy_in SnapOpening n tail busy bounded = bounded
+
+bounded_in : (p : Phase) (n tail : ℕ) → is_idle p ≡ false → IsBusy n tail → IsBounded p n tail
+bounded_in Idle n tail busy bounded = absurd (false≢true (sym busy))
+bounded_in Written n tail busy bounded = bounded
+bounded_in Bodied n tail busy bounded = bounded
+bounded_in Opening n tail busy bounded = bounded
+bounded_in Start n tail busy bounded = bounded
+bounded_in Closing n tail busy bounded = bounded
+bounded_in (Writing left) n tail busy bounded = bounded
+bounded_in Filled n tail busy bounded = bounded
+bounded_in Ready n tail busy bounded = bounded
+bounded_in SnapOpening n tail busy bounded = bounded
+
+-- where a frame may begin, any number of records may wait
+bounded_more : (p : Phase) (n m tail : ℕ) → tail < last_tail → IsBounded p n tail → IsBounded p m tail
+bounded_more Idle n m tail below bounded = λ some. omega (arith, below)
+bounded_more Written n m tail below bounded = (bounded.0, λ some. below)
+bounded_more Bodied n m tail below bounded = (bounded.0, λ some. below)
+bounded_more Opening n m tail below bounded = (bounded.0, λ some. below)
+bounded_more Start n m tail below bounded = (bounded.0, λ some. below)
+bounded_more Closing n m tail below bounded = (bounded.0, λ some. below)
+bounded_more (Writing left) n m tail below bounded = (bounded.0, λ some. below)
+bounded_more Filled n m tail below bounded = (bounded.0, λ some. below)
+bounded_more Ready n m tail below bounded = (bounded.0, λ some. below)
+bounded_more SnapOpening n m tail below bounded = (bounded.0, λ some. below)
+
+pub note_sound : {D : Type 0} (disk : D → Disk) (store : Seen D) (bytes : List ℕ) → store.tail < last_tail → IsSound disk store → IsSound disk (record store { buffer = bytes })
+note_sound disk store bytes below sound = record {
+  reached = sound.reached;
+  sealed_fits = sound.sealed_fits;
+  bounded = bounded_more store.phase (length store.buffer) (length bytes) store.tail below sound.bounded;
+  inside = sound.inside;
+  active = sound.active;
+}
+
+module _ {D : Type 0} (disk : D → Disk) (old : Seen D) (first : D) (same : (disk first).honest ≡ (disk old.first).honest) (sound : IsSound disk old) (unbroken : old.broken ≡ false) where
+  -- what is on the active disk before the step
+  before : (p : Phase) → old.phase ≡ p → IsTrue (disk first).honest → IsActive (disk old.first) old.tail old.sealed p false
+  before p is honest = subst (λ (q : Phase). IsActive (disk old.first) old.tail old.sealed q false) is (subst (λ (b : Bool). IsActive (disk old.first) old.tail old.sealed old.phase b) unbroken (sound.active (subst IsTrue same honest)))
+
+  -- a step that changes the phase alone
+  pub phase_sound : (p q : Phase) (broken : Bool) → old.phase ≡ p → is_idle p ≡ false → is_idle q ≡ false → IsReached q → (IsTrue (disk old.first).honest → IsMove (disk old.first) (disk first) old.tail old.sealed p q broken)
+      → IsSound disk (record old { first = first; phase = q; broken = broken })
+  phase_sound p q broken is busy still reached move = record {
+    reached = reached;
+    sealed_fits = sound.sealed_fits;
+    bounded = bounded_in q (length old.buffer) old.tail still (busy_in p (length old.buffer) old.tail busy (subst (λ (r : Phase). IsBounded r (length old.buffer) old.tail) is sound.bounded));
+    inside = sound.inside;
+    active = λ honest.
+        let was = before p is honest in record {
+          front = was.front;
+          records = was.records;
+          stands = was.stands;
+          size = was.size;
+          on_disk = move (subst IsTrue same honest) was.front was.records was.stands was.size was.on_disk;
+        };
+  }
+
+  -- the first step of a commit
+  pub sealed_sound : (broken : Bool) → old.phase ≡ Idle → 0 < length old.buffer → length old.buffer + 5 ≤ frame_room
+      → (IsTrue (disk old.first).honest → (front : List ℕ) → length front ≡ old.tail → IsOnDisk (disk old.first) Idle false front [] → IsOnDisk (disk first) Written broken front old.buffer)
+      → IsSound disk (record old { first = first; buffer = []; sealed = length old.buffer; phase = Written; broken = broken })
+  sealed_sound broken is some room move = record {
+    reached = tt;
+    sealed_fits = room;
+    bounded = (let bound = subst (λ (r : Phase). IsBounded r (length old.buffer) old.tail) is sound.bounded in bound some, λ none. absurd (omega (arith, none)));
+    inside = sound.inside;
+    active = λ honest.
+        let was = before Idle is honest in record {
+          front = was.front;
+          records = old.buffer;
+          stands = was.stands;
+          size = refl;
+          on_disk = move (subst IsTrue same honest) was.front was.stands was.on_disk;
+        };
+  }
+
+  -- the last step of a commit
+  pub settled_sound : (tail journal : ℕ) → tail ≡ old.tail + (old.sealed + 5) → journal ≡ old.journal + (old.sealed + 5) → old.phase ≡ Opening
+      → (IsTrue (disk old.first).honest → (front records : List ℕ) → length front ≡ old.tail → IsOnDisk (disk old.first) Opening false front records → IsOnDisk (disk first) Idle false (front ++ frame_bytes records) [])
+      → IsSound disk (record old { first = first; tail = tail; journal = journal; sealed = 0; phase = Idle; broken = false })
+  settled_sound tail journal tail_is journal_is is move = record {
+    reached = tt;
+    sealed_fits = omega arith;
+    bounded = λ some.
+        let bound = subst (λ (r : Phase). IsBounded r (length old.buffer) old.tail) is sound.bounded in
+        let below : old.tail < last_tail = bound.1 some in
+        omega (arith, tail_is, below, sound.sealed_fits);
+    inside = omega (arith, tail_is, journal_is, sound.inside);
+    active = λ honest.
+        let was = before Opening is honest in record {
+          front = was.front ++ frame_bytes was.records;
+          records = [];
+          stands = omega (arith, tail_is, was.stands, was.size, length-append was.front (frame_bytes was.records), length-frame was.records);
+          size = refl;
+          on_disk = move (subst IsTrue same honest) was.front was.records was.stands was.on_disk;
+        };
+  }
+
+-- what the test of room says
+pub room_is : {D : Type 0} (store : Seen D) → IsTrue (has_room store) → (length store.buffer ≤ most_noted) × (store.tail < last_tail)
+room_is store room = (grind (arith, nat_tests), grind (arith, nat_tests))

@@ -1,0 +1,202 @@
+-- A snapshot is the spelling of one vault.
+use Rattle.std.proofs.Common.{◌≡◌, ℕ, zero, suc, ◌+◌, ◌<◌, ◌≤◌, ◌^◌, ◌==◌, true, List, [], ◌∷◌, ◌++◌, length, get_or, map, filter, Some, refl, sym, ◌∙◌, ap, subst, arith, append_assoc, All, inl, inr}
+use Rattle.std.specs.List.{flat_map, AllByRecursion}
+use Rattle.std.specs.Option.{option_map}
+use Rattle.std.proofs.lemmas.Bool.{cases_Bool, cases_lt}
+use Rattle.std.proofs.lemmas.Option.{slice_get-get_or}
+use Rattle.std.proofs.lemmas.List.{get_or_past}
+use Rattle.std.proofs.lemmas.List.Elements.{All-nil, All-cons, All-head, All-tail, All-map, All-filter, All-weaker, All-get_or, All-from_get_or}
+use Rattle.vault_model.specs.declared.claims.Claim.{Claim}
+use Rattle.vault_model.specs.declared.claims.Item.{Item}
+use Rattle.vault_model.specs.declared.claims.Owner.{Owner}
+use Rattle.vault_model.specs.declared.claims.Owner.TheVariants as owners
+use Rattle.vault_model.specs.declared.claims.Standing.TheVariants.{Held}
+use Rattle.vault_model.specs.declared.ids.ClaimId.{ClaimId}
+use Rattle.vault_model.specs.declared.ids.ClaimId.TheVariants.{Long, Short}
+use Rattle.vault_model.specs.declared.place.Place.{Place}
+use Rattle.vault_model.specs.Name.{IsName}
+use Rattle.vault_model.specs.Limits.{most_versions}
+use Rattle.vault_model.specs.Tree.{is_part, IsTree}
+use Rattle.vault_model.specs.Claims.{standing_of}
+use Rattle.vault_model.specs.Shelf.{versions_of, IsShelf}
+use Rattle.vault_model.specs.Drafts.{SavedDraft, drafts_of}
+use Rattle.vault_model.specs.Vault.{Vault, IsClaim, IsGiven, Owns, AreThere, IsDraft}
+use Rattle.vault_journal.specs.Spelling.{in_two, in_four, ItemFits}
+use Rattle.vault_journal.specs.Reading.{u16_at}
+use Rattle.vault_journal.proofs.OneSpelling.{fields_are_spelled}
+use Rattle.vault_store.specs.Snapshot.{snapshot_of, places_bytes, claim_bytes, number_of, designer_of, HasSnapshot}
+use Rattle.vault_store.proofs.OneReading.{one_spelled, one_number}
+use Rattle.vault_store.proofs.SpelledLists.{IsContent, AreContents, HasDraft}
+use Rattle.vault_store.proofs.SpelledPlaces.{HasPlace, AreTold, places_tell, one_shelf}
+use Rattle.vault_store.proofs.SpelledClaims.{HasClaim, drafted, claims_tell, one_line, one_drafts, same_drafts}
+
+-- each place of a tree has four bytes for its parent
+places_have : (tree : List Place) → IsTree tree → All (λ (place : Place). IsName place.name) tree → All HasPlace tree
+places_have tree is_tree names = All-from_get_or HasPlace tree none (λ i within. record { parent = below i within; name = All-get_or (λ (place : Place). IsName place.name) tree i none within names })
+  where
+    none : Place
+    none = record { parent = 0; name = [] }
+
+    below : (i : ℕ) → i < length tree → (get_or tree i none).parent < 2 ^ 32
+    below i within =
+        let lower : (get_or tree i none).parent < suc i = is_tree.parents (suc i) (get_or tree i none).parent (ap (option_map (λ (place : Place). place.parent)) (slice_get-get_or tree i none within)) in
+        omega (arith, lower, within, is_tree.few)
+
+-- the versions of each place
+contents_of : (shelf : List (List (List ℕ))) → IsShelf shelf → (p : ℕ) → AreContents (versions_of shelf p)
+contents_of shelf is_shelf p = elim (cases_lt p (length shelf)) [
+  | inl within ↦ record { few = All-get_or (λ versions. length versions ≤ most_versions) shelf p [] within is_shelf.few; short = All-get_or (λ versions. All IsContent versions) shelf p [] within is_shelf.short }
+  | inr past ↦ (let none = get_or_past shelf p [] past in record { few = omega (arith, ap length none); short = subst (λ (l : List (List ℕ)). All IsContent l) (sym none) (All-nil IsContent) })
+]
+
+items_fit : (tree : List Place) (items : List Item) → length tree < 2 ^ 32 → AreThere tree items → AllByRecursion ItemFits items
+items_fit tree [] few there = tt
+items_fit tree (item ∷ items) few there =
+    let here = All-head (λ (x : Item). x.place ≤ length tree) item items there in
+    (omega (arith, here, few), items_fit tree items few (All-tail (λ (x : Item). x.place ≤ length tree) item items there))
+
+-- the drafts of a check-out
+drafts_have : (tree : List Place) (line : List Claim) (drafts : List SavedDraft) (n : ℕ) → length tree < 2 ^ 32 → All (IsDraft tree line) drafts → All HasDraft (drafts_of drafts n)
+drafts_have tree line drafts n few are =
+    All-map HasDraft (λ (x : SavedDraft). x.draft) (filter (λ (x : SavedDraft). x.claim == n) drafts)
+    (All-filter (λ (x : SavedDraft). x.claim == n) (λ (x : SavedDraft). HasDraft x.draft) drafts
+    (All-weaker (IsDraft tree line) (λ (x : SavedDraft). HasDraft x.draft) (λ x is. record { place = omega (arith, is.there, few); content = is.short }) drafts are))
+
+module _ (v : Vault) (has : HasSnapshot v) where
+  no_sessions : v.sessions ≡ []
+  no_sessions = ap (λ (u : Vault). u.sessions) (sym has.durable)
+
+  no_short : v.last_short ≡ 0
+  no_short = ap (λ (u : Vault). u.last_short) (sym has.durable)
+
+  few_places : length v.tree < 2 ^ 32
+  few_places = omega (arith, has.well_formed.tree.few)
+
+  long_id : (id : ClaimId) → IsGiven v.last_long v.last_short id → (id ≡ Long (number_of id)) × (number_of id < 2 ^ 32)
+  long_id (Long n) given = (refl, omega (arith, given.1, has.fits))
+  long_id (Short n) given = absurd (omega (arith, given.0, given.1, no_short))
+
+  designer_owns : (id : ClaimId) (owner : Owner) → id ≡ Long (number_of id) → Owns v.sessions owner id → owner ≡ owners.Designer (designer_of owner)
+  designer_owns (Long n) (owners.Designer name) is owns = refl
+  designer_owns (Long n) (owners.Session number) is owns = absurd owns
+  designer_owns (Short n) owner is owns = absurd (cc)
+
+  claim_has : (c : Claim) → IsClaim v.tree v.sessions v.last_long v.last_short c → IsName (designer_of c.owner) → HasClaim (drafted v.drafts c)
+  claim_has c is name =
+      let id = long_id c.id is.given in record {
+        long = id.0;
+        fits = id.1;
+        designer = designer_owns c.id c.owner id.0 is.owned;
+        name = name;
+        items = record { some = omega (arith, is.some); few = is.few; fit = items_fit v.tree c.items few_places is.there };
+        drafts = drafts_have v.tree v.line v.drafts (number_of c.id) few_places has.well_formed.drafts.each;
+      }
+
+  claims_have : (line : List Claim) → All (IsClaim v.tree v.sessions v.last_long v.last_short) line → All (λ (c : Claim). IsName (designer_of c.owner)) line → All (λ (c : Claim). HasClaim (drafted v.drafts c)) line
+  claims_have [] are names = All-nil (λ (c : Claim). HasClaim (drafted v.drafts c))
+  claims_have (c ∷ line) are names =
+      All-cons (λ (d : Claim). HasClaim (drafted v.drafts d)) c line
+      (claim_has c (All-head (IsClaim v.tree v.sessions v.last_long v.last_short) c line are) (All-head (λ (d : Claim). IsName (designer_of d.owner)) c line names))
+      (claims_have line (All-tail (IsClaim v.tree v.sessions v.last_long v.last_short) c line are) (All-tail (λ (d : Claim). IsName (designer_of d.owner)) c line names))
+
+  -- a place that is no part has no version
+  no_versions : (p : ℕ) → ((p ≤ length v.tree) × (is_part v.tree p ≡ true) → ⊥) → versions_of v.shelf p ≡ []
+  no_versions p never = by_versions (versions_of v.shelf p) refl
+    where
+      by_versions : (versions : List (List ℕ)) → versions_of v.shelf p ≡ versions → versions_of v.shelf p ≡ []
+      by_versions [] is = is
+      by_versions (x ∷ xs) is = absurd (never (has.well_formed.versions.parts p (λ none. let e = sym is ∙ none in cc)))
+
+regroup : (a b p n c : List ℕ) → (((a ++ b) ++ p) ++ n) ++ c ≡ a ++ (b ++ (p ++ (n ++ c)))
+regroup a b p n c = simp append_assoc
+
+abbrev behind_places : Vault → List ℕ
+behind_places v = in_two (length v.line) ++ flat_map (claim_bytes v) v.line
+
+snapshot_split : (v : Vault) → snapshot_of v ≡ in_four v.last_long ++ (in_four (length v.tree + 1) ++ (places_bytes v 1 v.tree ++ behind_places v))
+snapshot_split v = regroup (in_four v.last_long) (in_four (length v.tree + 1)) (places_bytes v 1 v.tree) (in_two (length v.line)) (flat_map (claim_bytes v) v.line)
+
+no_library : (tree : List Place) → is_part tree 0 ≡ true → ⊥
+no_library tree part = cc
+
+-- two vaults of one spelling
+module _ (v w : Vault) (has_v : HasSnapshot v) (has_w : HasSnapshot w) (same : snapshot_of v ≡ snapshot_of w) where
+  first : (v.last_long ≡ w.last_long) × (in_four (length v.tree + 1) ++ (places_bytes v 1 v.tree ++ behind_places v) ≡ in_four (length w.tree + 1) ++ (places_bytes w 1 w.tree ++ behind_places w))
+  first =
+      one_number v.last_long w.last_long (in_four (length v.tree + 1) ++ (places_bytes v 1 v.tree ++ behind_places v)) (in_four (length w.tree + 1) ++ (places_bytes w 1 w.tree ++ behind_places w)) (omega (arith, has_v.fits)) (omega (arith, has_w.fits))
+      (sym (snapshot_split v) ∙ same ∙ snapshot_split w)
+
+  second : (length v.tree + 1 ≡ length w.tree + 1) × (places_bytes v 1 v.tree ++ behind_places v ≡ places_bytes w 1 w.tree ++ behind_places w)
+  second =
+      one_number (length v.tree + 1) (length w.tree + 1) (places_bytes v 1 v.tree ++ behind_places v) (places_bytes w 1 w.tree ++ behind_places w) (omega (arith, has_v.well_formed.tree.few)) (omega (arith, has_w.well_formed.tree.few)) first.1
+
+  told : AreTold v w 1 v.tree w.tree (behind_places v) (behind_places w)
+  told =
+      places_tell v w has_v.well_formed.tree.parents (contents_of v.shelf has_v.well_formed.versions.shelf_is) (contents_of w.shelf has_w.well_formed.versions.shelf_is) [] v.tree w.tree (behind_places v) (behind_places w) refl refl (omega (arith, second.0))
+      (places_have v.tree has_v.well_formed.tree has_v.places) (places_have w.tree has_w.well_formed.tree has_w.places) second.1
+
+  third : (length v.line ≡ length w.line) × (flat_map (claim_bytes v) v.line ≡ flat_map (claim_bytes w) w.line)
+  third =
+      one_spelled in_two (λ n. n < 2 ^ 16) u16_at fields_are_spelled.in_two (length v.line) (length w.line) (flat_map (claim_bytes v) v.line) (flat_map (claim_bytes w) w.line) (omega (arith, has_v.well_formed.few_claims)) (omega (arith, has_w.well_formed.few_claims)) told.rest
+
+  claims : map (drafted v.drafts) v.line ≡ map (drafted w.drafts) w.line
+  claims =
+      claims_tell v w [] [] third.0 (claims_have v has_v v.line has_v.well_formed.claims has_v.owners) (claims_have w has_w w.line has_w.well_formed.claims has_w.owners) (ap (λ (l : List ℕ). l ++ []) third.1)
+
+  line_is : v.line ≡ w.line
+  line_is = one_line v.drafts w.drafts v.line w.line claims
+
+  -- the versions of a place, whether it is a part or not
+  versions_are : (p : ℕ) → versions_of v.shelf p ≡ versions_of w.shelf p
+  versions_are p = elim (cases_Bool (is_part v.tree p)) [
+    | inl part ↦ elim (cases_lt (length v.tree) p) [
+      | inl past ↦ no_versions v has_v p (λ is. absurd (omega (arith, is.0, past))) ∙ sym (no_versions w has_w p (λ is. absurd (omega (arith, is.0, past, ap length told.places))))
+      | inr within ↦ told.versions p (positive p part) (omega (arith, within)) part
+    ]
+    | inr other ↦ (let never : (is_part v.tree p ≡ true → ⊥) = λ yes'. cc in no_versions v has_v p (λ is. never is.1) ∙ sym (no_versions w has_w p (λ is. never (subst (λ (t : List Place). is_part t p ≡ true) (sym told.places) is.1))))
+  ]
+    where
+      positive : (q : ℕ) → is_part v.tree q ≡ true → 1 ≤ q
+      positive zero part = absurd (no_library v.tree part)
+      positive (suc q) part = omega arith
+
+  Held_in : List Place → List Claim → SavedDraft → Type 0
+  Held_in tree line x = standing_of tree line (Long x.claim) ≡ Some Held
+
+  held : (u : Vault) → HasSnapshot u → All (λ (x : SavedDraft). standing_of u.tree u.line (Long x.claim) ≡ Some Held) u.drafts
+  held u has = All-weaker (IsDraft u.tree u.line) (λ (x : SavedDraft). standing_of u.tree u.line (Long x.claim) ≡ Some Held) (λ x is. is.held) u.drafts has.well_formed.drafts.each
+
+  drafts_are : v.drafts ≡ w.drafts
+  drafts_are =
+      one_drafts v.drafts w.drafts has_v.well_formed.drafts.ordered has_w.well_formed.drafts.ordered
+      (same_drafts v.tree v.drafts w.drafts v.line (claims ∙ ap (λ (l : List Claim). map (drafted w.drafts) l) (sym line_is)) (held v has_v)
+      (subst (λ (t : List Place). All (λ (x : SavedDraft). standing_of t v.line (Long x.claim) ≡ Some Held) w.drafts) (sym told.places)
+      (subst (λ (l : List Claim). All (λ (x : SavedDraft). standing_of w.tree l (Long x.claim) ≡ Some Held) w.drafts) (sym line_is) (held w has_w))))
+
+  pub snapshot_tells : v ≡ w
+  snapshot_tells = λ i. record {
+    tree = told.places i;
+    shelf = shelf_is i;
+    line = line_is i;
+    drafts = drafts_are i;
+    sessions = sessions_are i;
+    last_session = last_sessions i;
+    last_long = first.0 i;
+    last_short = last_shorts i;
+    door_count = doors i;
+  }
+    where
+      shelf_is : v.shelf ≡ w.shelf
+      shelf_is = one_shelf v.shelf w.shelf has_v.well_formed.versions.shelf_is has_w.well_formed.versions.shelf_is versions_are
+
+      sessions_are : v.sessions ≡ w.sessions
+      sessions_are = no_sessions v has_v ∙ sym (no_sessions w has_w)
+
+      last_sessions : v.last_session ≡ w.last_session
+      last_sessions = ap (λ (u : Vault). u.last_session) (sym has_v.durable) ∙ ap (λ (u : Vault). u.last_session) has_w.durable
+
+      last_shorts : v.last_short ≡ w.last_short
+      last_shorts = no_short v has_v ∙ sym (no_short w has_w)
+
+      doors : v.door_count ≡ w.door_count
+      doors = ap (λ (u : Vault). u.door_count) (sym has_v.durable) ∙ ap (λ (u : Vault). u.door_count) has_w.durable

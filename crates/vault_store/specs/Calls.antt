@@ -1,0 +1,17 @@
+-- What any number of device calls leave of a disk's counts. This project's own.
+use Rattle.std.specs.Prelude.{◌≡◌, ◌⊎◌, ◌<◌, ◌≤◌, Result, IsErr}
+use Rattle.vault_device.specs.Disk.{Disk, last_count}
+
+-- a fault was counted, or no more can be
+abbrev pub HasCause : Disk → Disk → Type 0
+HasCause old new = (old.faults < new.faults) ⊎ (new.faults ≡ last_count)
+
+-- the disk is as honest as it was, and has no fewer faults
+pub record IsCalled (old new : Disk) : Type 0 where
+  pub same_honesty : new.honest ≡ old.honest
+  pub no_fewer_faults : old.faults ≤ new.faults
+
+-- calls that fail only where a fault was counted or no more can be
+pub record AreCalls {A E : Type 0} (old new : Disk) (result : Result A E) : Type 0 where
+  pub called : IsCalled old new
+  pub cause : IsErr result → HasCause old new

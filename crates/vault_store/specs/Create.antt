@@ -1,0 +1,35 @@
+-- A new vault, and why none was made. This project's own.
+use Rattle.std.specs.Prelude.{◌≡◌, ◌≢◌, ◌⊎◌, ℕ, IsTrue, List, [], ◌∷◌, ◌++◌}
+use Rattle.vault_model.specs.Vault.{new_vault}
+use Rattle.vault_device.specs.Disk.{Disk}
+use Rattle.vault_store.specs.declared.creation.CreateError.{CreateError}
+use Rattle.vault_store.specs.declared.creation.CreateError.TheVariants.{Exists, Device, NoMemory}
+use Rattle.vault_store.specs.Files.{head_of, snapshot_bytes}
+use Rattle.vault_store.specs.Calls.{HasCause}
+use Rattle.vault_store.specs.OnDisk.{IsSettled}
+
+-- the bytes of a new vault, up to its tail gate and with it
+abbrev pub new_front : List ℕ
+new_front = head_of 1 ++ snapshot_bytes new_vault
+
+abbrev pub new_file : List ℕ
+new_file = new_front ++ 0 ∷ []
+
+-- a read gives what it gave
+abbrev pub ShowTheSame : Disk → Disk → Disk → Disk → Type 0
+ShowTheSame first second first_new second_new = (first_new.shown ≡ first.shown) × (second_new.shown ≡ second.shown)
+
+-- Why no vault was made: something stands in a file; a call failed; or memory was wanted. The first and the last leave the files as
+-- they were.
+abbrev pub IsNotMade : Disk → Disk → Disk → Disk → CreateError → Type 0
+IsNotMade first second first_new second_new Exists =
+    IsTrue first.honest → IsTrue second.honest → ((first.shown ≢ []) ⊎ (second.shown ≢ [])) × ShowTheSame first second first_new second_new
+IsNotMade first second first_new second_new Device = HasCause first first_new ⊎ HasCause second second_new
+IsNotMade first second first_new second_new NoMemory =
+    IsTrue first.honest → IsTrue second.honest → (first.shown ≡ []) × (second.shown ≡ []) × ShowTheSame first second first_new second_new
+
+-- an empty file has these bytes now, and they are settled
+pub record IsFilled (old new : Disk) (bytes : List ℕ) : Type 0 where
+  pub was_empty : old.shown ≡ []
+  pub shown : new.shown ≡ bytes
+  pub settled : IsSettled new

@@ -1,0 +1,16 @@
+pub mod Snapshot
+pub mod Files
+pub mod Faults
+pub mod Phases
+pub mod State
+pub mod OnDisk
+pub mod Seen
+pub mod Sound
+pub mod View
+pub mod Calls
+pub mod Step
+pub mod Create
+pub mod Opening
+pub mod Read
+pub mod Laws
+pub mod Rows

@@ -1,0 +1,47 @@
+-- Files worked out by hand, which the definitions have to give. This project's own.
+use Rattle.std.specs.Prelude.{◌≡◌, [], ◌∷◌, ◌++◌, codes}
+use Rattle.vault_model.specs.declared.claims.Owner.TheVariants as owners
+use Rattle.vault_model.specs.declared.effects.Effect.TheVariants as effects
+use Rattle.vault_model.specs.declared.ids.ClaimId.TheVariants.{Long}
+use Rattle.vault_model.specs.declared.ids.Intent.TheVariants.{Change}
+use Rattle.vault_model.specs.Vault.{Vault, new_vault}
+use Rattle.vault_store.specs.Snapshot.{snapshot_of}
+use Rattle.vault_store.specs.Files.{frame_of}
+use Rattle.vault_store.specs.Create.{new_front, new_file}
+
+-- 35 bytes: the head, ten bytes of a snapshot behind their number, and the tail gate
+abbrev pub NewVault : Type 0
+NewVault =
+    new_file
+    ≡ 1 ∷ 76 ∷ 76 ∷ 86 ∷ 65 ∷ 85 ∷ 76 ∷ 84 ∷ 0 ∷ 0 ∷ 0 ∷ 1 ∷ 0 ∷ 0 ∷ 0 ∷ 0 ∷ 0 ∷ 0 ∷ 0 ∷ 1
+    ∷ 0 ∷ 0 ∷ 0 ∷ 10 ∷ 0 ∷ 0 ∷ 0 ∷ 0 ∷ 0 ∷ 0 ∷ 0 ∷ 1 ∷ 0 ∷ 0 ∷ 0 ∷ []
+
+-- 47 bytes, once a project is committed
+abbrev pub OneProject : Type 0
+OneProject =
+    new_front ++ frame_of (effects.Made 0 (codes "e") ∷ []) ++ 0 ∷ []
+    ≡ 1 ∷ 76 ∷ 76 ∷ 86 ∷ 65 ∷ 85 ∷ 76 ∷ 84 ∷ 0 ∷ 0 ∷ 0 ∷ 1 ∷ 0 ∷ 0 ∷ 0 ∷ 0 ∷ 0 ∷ 0 ∷ 0 ∷ 1
+    ∷ 0 ∷ 0 ∷ 0 ∷ 10 ∷ 0 ∷ 0 ∷ 0 ∷ 0 ∷ 0 ∷ 0 ∷ 0 ∷ 1 ∷ 0 ∷ 0
+    ∷ 1 ∷ 0 ∷ 0 ∷ 0 ∷ 7 ∷ 1 ∷ 0 ∷ 0 ∷ 0 ∷ 0 ∷ 1 ∷ 101 ∷ 0 ∷ []
+
+-- a project, and a check-out of it for change
+abbrev pub checked_out : Vault
+checked_out =
+    record new_vault {
+      tree = record { parent = 0; name = codes "e" } ∷ [];
+      line = record { id = Long 1; owner = owners.Designer (codes "anna"); items = record { intent = Change; place = 1 } ∷ [] } ∷ [];
+      last_long = 1;
+    }
+
+-- its snapshot has 32 bytes
+abbrev pub OneCheckOut : Type 0
+OneCheckOut =
+    snapshot_of checked_out
+    ≡ 0 ∷ 0 ∷ 0 ∷ 1 ∷ 0 ∷ 0 ∷ 0 ∷ 2 ∷ 0 ∷ 0 ∷ 0 ∷ 0 ∷ 1 ∷ 101 ∷ 0 ∷ 1
+    ∷ 0 ∷ 0 ∷ 0 ∷ 1 ∷ 4 ∷ 97 ∷ 110 ∷ 110 ∷ 97 ∷ 1 ∷ 1 ∷ 0 ∷ 0 ∷ 0 ∷ 1 ∷ 0 ∷ []
+
+-- all of them
+pub record Rows : Type 0 where
+  pub new_vault_is : NewVault
+  pub one_project : OneProject
+  pub one_check_out : OneCheckOut

@@ -1,0 +1,50 @@
+-- What one step of a store does, whatever it keeps. This project's own.
+use Rattle.std.specs.Prelude.{◌≡◌, ◌≢◌, ◌⊎◌, ℕ, ◌+◌, ◌≤◌, IsTrue, false, not, ◌&&◌, if◌then◌else◌, List, [], Result, Ok, Err, IsErr}
+use Rattle.vault_device.specs.Disk.{Disk}
+use Rattle.vault_device.specs.declared.device.Fault.{Fault}
+use Rattle.vault_store.specs.declared.phase.Advanced.{Advanced}
+use Rattle.vault_store.specs.declared.phase.Advanced.TheVariants as answers
+use Rattle.vault_store.specs.Files.{frame_extra}
+use Rattle.vault_store.specs.Calls.{HasCause}
+use Rattle.vault_store.specs.Phases.{NoCall, is_idle}
+use Rattle.vault_store.specs.State.{StoreState, row_of, answer_of, advanced, failed}
+use Rattle.vault_store.specs.Seen.{Seen, Keeps, IsLeftInside}
+
+-- what at most one call of the two devices leaves of their counts and of their honesty
+pub record IsAtMostOneCall {A E : Type 0} (first second first_new second_new : Disk) (result : Result A E) : Type 0 where
+  pub first_honest : first_new.honest ≡ first.honest
+  pub second_honest : second_new.honest ≡ second.honest
+  pub calls : first_new.calls + second_new.calls ≤ first.calls + second.calls + 1
+  pub faults : (first.faults ≤ first_new.faults) × (second.faults ≤ second_new.faults)
+  pub cause : IsErr result → HasCause first first_new ⊎ HasCause second second_new
+
+-- a step that ended well, or failed
+abbrev pub IsStep : {D : Type 0} → (D → Disk) → Seen D → Seen D → Result Advanced Fault → StoreState → Type 0
+IsStep disk old new (Ok answer) s = (answer ≡ answer_of s) × Keeps disk new (advanced s)
+IsStep disk old new (Err fault) s = (s.broken ≡ false) × ((row_of s).call ≢ NoCall) × Keeps disk new (failed (row_of s) s)
+
+-- how many bytes of frames a step adds: the whole frame under way, where the step settles it
+abbrev pub gained : {D : Type 0} → Seen D → Result Advanced Fault → ℕ
+gained old (Ok answers.Settled) = frame_extra + old.sealed
+gained old _ = 0
+
+-- The numbers after a step: the last one of a commit moves the tail gate behind the frame; the first one empties the buffer, also
+-- where its device call fails; no other changes them.
+pub record AreNumbers {D : Type 0} (old new : Seen D) (result : Result Advanced Fault) : Type 0 where
+  pub generation : new.generation ≡ old.generation
+  pub tail : new.tail ≡ old.tail + gained old result
+  pub journal : new.journal ≡ old.journal + gained old result
+  pub buffer : new.buffer ≡ (if is_idle old.phase && not old.broken then [] else old.buffer)
+
+-- what a stop inside a step may leave of two devices
+abbrev pub MayBeLeft : Disk → Disk → Disk → Disk → List ℕ → List ℕ → Type 0
+MayBeLeft first second first_new second_new x y = first_new.WasImage first.moment x × second_new.WasImage second.moment y
+
+-- what one step does: to what is kept, to the numbers, to the devices' counts, and what a stop inside it leaves
+pub record IsAdvance {D : Type 0} (disk : D → Disk) (old new : Seen D) (result : Result Advanced Fault) : Type 0 where
+  pub step : (s : StoreState) → Keeps disk old s → IsStep disk old new result s
+  pub numbers : AreNumbers old new result
+  pub rests : (result ≡ Ok answers.Idle) ⊎ (result ≡ Ok answers.Broken) → new ≡ old
+  pub calls : IsAtMostOneCall (disk old.first) (disk old.second) (disk new.first) (disk new.second) result
+  pub moments : (s : StoreState) (x y : List ℕ) → Keeps disk old s → IsTrue (disk old.first).honest → IsTrue (disk old.second).honest
+      → MayBeLeft (disk old.first) (disk old.second) (disk new.first) (disk new.second) x y → IsLeftInside old s x y

@@ -1,0 +1,16 @@
+-- What contracts see of a store's fields.
+use Rattle.vault_store.specs.declared.store.Store.TheInside.{Inside}
+use Rattle.vault_store.specs.Seen.{Seen}
+
+abbrev pub seen_of : {D A : Type 0} → Inside D A → Seen D
+seen_of store = record {
+  first = store.first;
+  second = store.second;
+  buffer = store.frame;
+  sealed = store.sealed;
+  generation = store.generation;
+  tail = store.tail;
+  journal = store.journal;
+  phase = store.phase;
+  broken = store.broken;
+}

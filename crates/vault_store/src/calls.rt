@@ -1,0 +1,37 @@
+//! Calls of one device.
+ghost use Rattle.std.specs.Prelude.{◌≡◌, ◌<◌, ◌≤◌, ◌+◌, ◌^◌, [], ◌↔◌, IsTrue, IfOk, OnOk, length};
+ghost use Rattle.vault_device.specs.Disk.{IsSync, overwritten};
+ghost use Rattle.vault_store.specs.Calls.{AreCalls};
+ghost use Rattle.vault_store.specs.OnDisk.{IsSettled};
+
+use vault_device::{Device, Fault};
+
+/// Whether a device has no bytes. One device call.
+pub fn is_empty<D: Device>(device: &mut D) -> Result<bool, Fault>
+    ensures calls { AreCalls (D.disk device.old) (D.disk device.new) result }
+    ensures shown { IsTrue (D.disk device.old).honest → (D.disk device.new).shown ≡ (D.disk device.old).shown }
+    ensures empty { IsTrue (D.disk device.old).honest → IfOk result (λ empty. IsTrue empty ↔ ((D.disk device.old).shown ≡ [])) }
+{
+    Ok(device.len()? == 0)
+}
+
+/// Settles what a read gives. One device call.
+pub fn settle<D: Device>(device: &mut D) -> Result<(), Fault>
+    ensures calls { AreCalls (D.disk device.old) (D.disk device.new) result }
+    ensures shown { IsTrue (D.disk device.old).honest → (D.disk device.new).shown ≡ (D.disk device.old).shown }
+    ensures settled { IsTrue (D.disk device.old).honest → OnOk result (IsSettled (D.disk device.new)) }
+{
+    device.sync()
+}
+
+/// Writes bytes and settles them. Two device calls.
+pub fn write_settled<D: Device>(device: &mut D, at: u64, bytes: &[u8]) -> Result<(), Fault>
+    requires begin { IsTrue (D.disk device.old).honest → at ≤ length (D.disk device.old).shown }
+    requires end { IsTrue (D.disk device.old).honest → at + length bytes.now < 2 ^ 63 }
+    ensures calls { AreCalls (D.disk device.old) (D.disk device.new) result }
+    ensures shown { IsTrue (D.disk device.old).honest → OnOk result ((D.disk device.new).shown ≡ overwritten (D.disk device.old).shown at bytes.now) }
+    ensures settled { IsTrue (D.disk device.old).honest → OnOk result (IsSettled (D.disk device.new)) }
+{
+    device.write_at(at, bytes)?;
+    settle(device)
+}

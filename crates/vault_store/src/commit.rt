@@ -1,0 +1,120 @@
+//! The steps of a commit, one function for each row of the phase table.
+ghost use Rattle.std.specs.Prelude.{◌≡◌, ◌⊎◌, ◌+◌, ℕ, List, IsTrue, Ok, Err, false, true};
+ghost use Rattle.vault_store.specs.declared.phase.Phase.TheVariants as phases;
+ghost use Rattle.vault_store.specs.declared.phase.Advanced.TheVariants as answers;
+ghost use Rattle.vault_store.specs.State.{StoreState};
+ghost use Rattle.vault_store.specs.Seen.{Keeps, IsLeftInside};
+ghost use Rattle.vault_store.specs.Step.{IsStep, AreNumbers, IsAtMostOneCall, MayBeLeft, IsAdvance};
+
+use crate::{Advanced, Phase, Store};
+use std::alloc::Allocator;
+use vault_device::{Device, Fault};
+use vault_journal::{open_gate, settle_body, settle_gate, write_body};
+
+// How many bytes a frame has beside its records: its gate and the length of its records.
+const FRAME_EXTRA: u64 = 5;
+
+impl<D: Device, A: Allocator> Store<D, A> {
+    // Seals what was noted, and writes it behind the tail gate. Without effects there is nothing to do.
+    fn seal(&mut self) -> Result<Advanced, Fault>
+        requires phase { self.old.phase ≡ phases.Idle }
+        requires whole { self.old.broken ≡ false }
+        ensures { IsAdvance D.disk self.old self.new result }
+    {
+        if self.frame.len() == 0 {
+            return Ok(Advanced::Idle);
+        }
+        let written = write_body(&mut self.first, self.tail, &self.frame);
+        self.sealed = self.frame.len() as u64;
+        self.frame.clear();
+        self.phase = Phase::Written;
+        match written {
+            Ok(()) => Ok(Advanced::Moved),
+            Err(fault) => {
+                self.broken = true;
+                Err(fault)
+            }
+        }
+    }
+
+    // Settles the body.
+    fn settle_body(&mut self) -> Result<Advanced, Fault>
+        requires phase { self.old.phase ≡ phases.Written }
+        requires whole { self.old.broken ≡ false }
+        ensures { IsAdvance D.disk self.old self.new result }
+    {
+        match settle_body(&mut self.first) {
+            Ok(()) => {
+                self.phase = Phase::Bodied;
+                Ok(Advanced::Moved)
+            }
+            Err(fault) => {
+                self.broken = true;
+                Err(fault)
+            }
+        }
+    }
+
+    // Writes the frame's gate.
+    fn open_gate(&mut self) -> Result<Advanced, Fault>
+        requires phase { self.old.phase ≡ phases.Bodied }
+        requires whole { self.old.broken ≡ false }
+        ensures { IsAdvance D.disk self.old self.new result }
+    {
+        let opened = open_gate(&mut self.first, self.tail);
+        self.phase = Phase::Opening;
+        match opened {
+            Ok(()) => Ok(Advanced::Moved),
+            Err(fault) => {
+                self.broken = true;
+                Err(fault)
+            }
+        }
+    }
+
+    // Settles the frame's gate: what was sealed is settled.
+    fn settle_gate(&mut self) -> Result<Advanced, Fault>
+        requires phase { self.old.phase ≡ phases.Opening }
+        requires whole { self.old.broken ≡ false }
+        ensures { IsAdvance D.disk self.old self.new result }
+    {
+        match settle_gate(&mut self.first) {
+            Ok(()) => {
+                let frame = self.sealed + FRAME_EXTRA;
+                self.tail += frame;
+                self.journal += frame;
+                self.sealed = 0;
+                self.phase = Phase::Idle;
+                Ok(Advanced::Settled)
+            }
+            Err(fault) => {
+                self.broken = true;
+                Err(fault)
+            }
+        }
+    }
+
+    /// Does the next step of a commit: at most one device call, and no memory. After a fault it does nothing more.
+    pub fn advance(&mut self) -> Result<Advanced, Fault>
+        ensures step { (s : StoreState) → Keeps D.disk self.old s → IsStep D.disk self.old self.new result s }
+        ensures numbers { AreNumbers self.old self.new result }
+        ensures calls { IsAtMostOneCall (D.disk self.old.first) (D.disk self.old.second) (D.disk self.new.first) (D.disk self.new.second) result }
+        ensures rests { (result ≡ Ok answers.Idle) ⊎ (result ≡ Ok answers.Broken) → self.new ≡ self.old }
+        ensures broken { self.old.broken ≡ true → result ≡ Ok answers.Broken }
+
+        // What a stop at any moment inside leaves is read as what is settled or, where a gate may be opened, as what is sealed.
+        ensures moments { (s : StoreState) (x y : List ℕ) → Keeps D.disk self.old s → IsTrue (D.disk self.old.first).honest → IsTrue (D.disk self.old.second).honest
+            → MayBeLeft (D.disk self.old.first) (D.disk self.old.second) (D.disk self.new.first) (D.disk self.new.second) x y → IsLeftInside self.old s x y }
+    {
+        if self.broken {
+            return Ok(Advanced::Broken);
+        }
+        match self.phase {
+            Phase::Idle => self.seal(),
+            Phase::Written => self.settle_body(),
+            Phase::Bodied => self.open_gate(),
+            Phase::Opening => self.settle_gate(),
+            _ => unreachable!(),
+        }
+    }
+}

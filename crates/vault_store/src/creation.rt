@@ -1,0 +1,120 @@
+//! A new vault in two empty files.
+ghost use Rattle.std.specs.Prelude.{◌≡◌, [], IfOk, OnOk, OnErr, IfErr, IsTrue};
+ghost use Rattle.vault_model.specs.Vault.{new_vault};
+ghost use Rattle.vault_store.specs.declared.creation.CreateError.TheVariants.{Device as DeviceFailed, NoMemory as Wanted};
+ghost use Rattle.vault_store.specs.Calls.{AreCalls, IsCalled};
+ghost use Rattle.vault_store.specs.OnDisk.{IsSettled};
+ghost use Rattle.vault_store.specs.Create.{new_file, IsNotMade, IsFilled};
+ghost use Rattle.vault_store.specs.State.{at_rest};
+ghost use Rattle.vault_store.specs.Seen.{Keeps};
+
+use crate::calls::{is_empty, settle, write_settled};
+use crate::{Phase, Refused, Store};
+use std::alloc::Allocator;
+use thiserror::Error;
+use vault_device::{Device, Fault};
+use vault_journal::Frame;
+use vault_model::NoMemory;
+
+/// Why no vault was made.
+#[derive(Clone, Copy, Debug, PartialEq, Eq, Error)]
+pub enum CreateError {
+    /// A file isn't empty.
+    #[error("vault exists")]
+    Exists,
+    #[error("device fault")]
+    Device,
+    #[error("want of memory")]
+    NoMemory,
+}
+
+impl From<Fault> for CreateError {
+    ghost from_gives = { λ _ e. e ≡ DeviceFailed };
+
+    fn from(_fault: Fault) -> CreateError {
+        CreateError::Device
+    }
+}
+
+impl From<NoMemory> for CreateError {
+    ghost from_gives = { λ _ e. e ≡ Wanted };
+
+    fn from(_error: NoMemory) -> CreateError {
+        CreateError::NoMemory
+    }
+}
+
+// What stands behind the head gate of a new vault's file: the mark, the version, the generation, the snapshot of a vault with the
+// library alone behind its length, and a closed tail gate.
+const NEW_FILE_BEHIND_GATE: [u8; 34] = [
+    b'L', b'L', b'V', b'A', b'U', b'L', b'T', 0, 0, 0, 1, 0, 0, 0, 0, 0, 0, 0, 1, 0, 0, 0, 10, 0,
+    0, 0, 0, 0, 0, 0, 1, 0, 0, 0,
+];
+
+// How many of them stand before the tail gate, and with the head gate where that stands.
+const NEW_TAIL: u64 = 34;
+
+// Writes a new vault with its head gate closed, and then opens that. Six device calls.
+fn write_new<D: Device>(device: &mut D) -> Result<(), Fault>
+    requires { IsTrue (D.disk device.old).honest → (D.disk device.old).shown ≡ [] }
+    ensures calls { AreCalls (D.disk device.old) (D.disk device.new) result }
+    ensures shown { IsTrue (D.disk device.old).honest → OnOk result ((D.disk device.new).shown ≡ new_file) }
+    ensures settled { IsTrue (D.disk device.old).honest → OnOk result (IsSettled (D.disk device.new)) }
+{
+    write_settled(device, 0, &[0])?;
+    write_settled(device, 1, &NEW_FILE_BEHIND_GATE)?;
+    write_settled(device, 0, &[1])
+}
+
+// Writes a new vault into two empty files, and gives a frame to fill.
+fn make<D: Device, A: Allocator>(
+    alloc: A,
+    first: &mut D,
+    second: &mut D,
+) -> Result<Frame<A>, CreateError>
+    ensures first { IsCalled (D.disk first.old) (D.disk first.new) }
+    ensures second { IsCalled (D.disk second.old) (D.disk second.new) }
+    ensures refused { IfErr result (λ why. IsNotMade (D.disk first.old) (D.disk second.old) (D.disk first.new) (D.disk second.new) why) }
+    ensures frame { IfOk result (λ frame. frame ≡ []) }
+    ensures file { IsTrue (D.disk first.old).honest → OnOk result (IsFilled (D.disk first.old) (D.disk first.new) new_file) }
+    ensures empty { IsTrue (D.disk second.old).honest → OnOk result (IsFilled (D.disk second.old) (D.disk second.new) []) }
+{
+    if !is_empty(first)? || !is_empty(second)? {
+        return Err(CreateError::Exists);
+    }
+    let frame = Frame::new(alloc)?;
+    settle(second)?;
+    write_new(first)?;
+    Ok(frame)
+}
+
+impl<D: Device, A: Allocator> Store<D, A> {
+    /// Makes a vault with the library alone, in the first of two empty files. A refusal hands the devices back. What a
+    /// creation leaves in the files that failed at a device, or was stopped, is not said. Nine device calls.
+    pub fn create(alloc: A, first: D, second: D) -> Result<Store<D, A>, Refused<D, CreateError>>
+        ensures kept { IfOk result (λ store. Keeps D.disk store (at_rest new_vault)) }
+        ensures numbers { IfOk result (λ store. (store.generation ≡ 1) × (store.tail ≡ 34) × (store.journal ≡ 0)) }
+        ensures file { IsTrue (D.disk first).honest → IfOk result (λ store. IsFilled (D.disk first) (D.disk store.first) new_file) }
+        ensures empty { IsTrue (D.disk second).honest → IfOk result (λ store. IsFilled (D.disk second) (D.disk store.second) []) }
+        ensures called { IfOk result (λ store. IsCalled (D.disk first) (D.disk store.first) × IsCalled (D.disk second) (D.disk store.second)) }
+        ensures refused { IfErr result (λ refused. IsNotMade (D.disk first) (D.disk second) (D.disk refused.first) (D.disk refused.second) refused.why) }
+        ensures handed_back { IfErr result (λ refused. IsCalled (D.disk first) (D.disk refused.first) × IsCalled (D.disk second) (D.disk refused.second)) }
+    {
+        let mut first = first;
+        let mut second = second;
+        match make(alloc, &mut first, &mut second) {
+            Ok(frame) => Ok(Store {
+                first,
+                second,
+                frame,
+                sealed: 0,
+                generation: 1,
+                tail: NEW_TAIL,
+                journal: 0,
+                phase: Phase::Idle,
+                broken: false,
+            }),
+            Err(why) => Err(Refused { why, first, second }),
+        }
+    }
+}

@@ -1,0 +1,165 @@
+//! The frames of a file, read one after another.
+ghost use Rattle.std.specs.Prelude.{◌≡◌, ◌+◌, ◌<◌, ◌≤◌, ◌↔◌, Some, None, Err, IfOk, IfErr, IsErr, OnOk, IsTrue, length, drop, slice_index, slice_range};
+ghost use Rattle.vault_checkout.specs.declared.apply.ApplyError.TheVariants.{NotApplicable};
+ghost use Rattle.vault_journal.specs.Spelling.{in_four};
+ghost use Rattle.vault_store.specs.Calls.{HasCause};
+ghost use Rattle.vault_store.specs.Files.{applied, frame_extra, most_records};
+ghost use Rattle.vault_store.specs.Read.{AreReads, IsWhy, IsLengthRead, BeginsWithNoFrame, AreMade, AreNotMade, IsStepRead, IsNoFrame, AreAllRead, IsFrameWrong, first_gate};
+
+use crate::opening::{OpenError, damaged};
+use std::alloc::Allocator;
+use vault_checkout::{ApplyError, Book};
+use vault_device::{Device, Fault};
+use vault_journal::{Damage, read_effects};
+use vault_model::EffectIn;
+
+/// Where the frames begin behind the new vault's snapshot.
+pub const FIRST_GATE: u64 = 34;
+
+// The most bytes of a frame's records.
+const MOST_RECORDS: u32 = 262_139;
+
+// How many bytes a frame has beside its records.
+const FRAME_EXTRA: u64 = 5;
+
+// The byte of a gate. One device call.
+fn read_gate<D: Device>(device: &mut D, at: u64) -> Result<u8, Fault>
+    requires { IsTrue (D.disk device.old).honest → at < length (D.disk device.old).shown }
+    ensures reads { AreReads (D.disk device.old) (D.disk device.new) }
+    ensures gate { IsTrue (D.disk device.old).honest → IfOk result (λ gate. gate ≡ slice_index (D.disk device.old).shown at) }
+    ensures cause { IsErr result → HasCause (D.disk device.old) (D.disk device.new) }
+{
+    let mut gate = [0; 1];
+    device.read_at(at, &mut gate)?;
+    Ok(gate[0])
+}
+
+// The number that is spelled in four bytes.
+fn number_in(bytes: &[u8; 4]) -> u32
+    ensures { bytes.now ≡ in_four result }
+{
+    u32::from_be_bytes(*bytes)
+}
+
+// Whether a frame may have so many bytes of records, with a byte behind it, in so many bytes.
+fn is_length(length: u32, room: u64) -> bool
+    ensures { IsTrue result ↔ ((1 ≤ length) × (length ≤ most_records) × (frame_extra + length < room)) }
+{
+    1 <= length && length <= MOST_RECORDS && FRAME_EXTRA + u64::from(length) < room
+}
+
+// How many bytes of records the frame has whose open gate stands here. One device call at most.
+fn read_length<D: Device>(device: &mut D, len: u64, at: u64) -> Result<u32, OpenError>
+    requires within { at < len }
+    requires len { IsTrue (D.disk device.old).honest → len ≡ length (D.disk device.old).shown }
+    ensures reads { AreReads (D.disk device.old) (D.disk device.new) }
+    ensures length { IfOk result (λ n. IsLengthRead (D.disk device.old) len at n) }
+    ensures refused { IfErr result (λ why. IsWhy (D.disk device.old) (D.disk device.new) ⊥ (λ offset. (offset ≡ at) × BeginsWithNoFrame (drop at (D.disk device.old).shown)) why) }
+{
+    let room = len - at;
+    if room <= FRAME_EXTRA {
+        return Err(damaged(at));
+    }
+    let mut bytes = [0; 4];
+    device.read_at(at + 1, &mut bytes)?;
+    let length = number_in(&bytes);
+    if !is_length(length, room) {
+        return Err(damaged(at));
+    }
+    Ok(length)
+}
+
+// Makes effects, one behind the other.
+fn make_each<A: Allocator + Copy>(
+    book: &mut Book<A>,
+    effects: &[EffectIn<A>],
+) -> Result<(), ApplyError>
+    ensures made { OnOk result (applied book.old effects.now ≡ Some book.new) }
+    ensures not_applicable { result ≡ Err NotApplicable → applied book.old effects.now ≡ None }
+{
+    for effect in effects {
+        book.apply(effect)?;
+    }
+    Ok(())
+}
+
+// Makes the effects whose records these bytes are.
+fn make_records<A: Allocator + Copy>(
+    alloc: A,
+    records: &[u8],
+    book: &mut Book<A>,
+) -> Result<(), ApplyError>
+    ensures made { OnOk result (AreMade records.now book.old book.new) }
+    ensures refused { IfErr result (λ why. AreNotMade records.now book.old why) }
+{
+    let effects = match read_effects(alloc, records) {
+        Ok(effects) => effects,
+        Err(Damage::At(_)) => return Err(ApplyError::NotApplicable),
+        Err(Damage::NoMemory) => return Err(ApplyError::NoMemory),
+    };
+    make_each(book, &effects)
+}
+
+// The records of a frame. One device call.
+fn read_records<D: Device, A: Allocator>(
+    alloc: A,
+    device: &mut D,
+    at: u64,
+    count: u32,
+) -> Result<Vec<u8, A>, OpenError>
+    requires { IsTrue (D.disk device.old).honest → at + count ≤ length (D.disk device.old).shown }
+    ensures reads { AreReads (D.disk device.old) (D.disk device.new) }
+    ensures size { IfOk result (λ records. length records.items ≡ count) }
+    ensures records { IsTrue (D.disk device.old).honest → IfOk result (λ records. records.items ≡ slice_range (D.disk device.old).shown at (at + count)) }
+    ensures refused { IfErr result (λ why. IsWhy (D.disk device.old) (D.disk device.new) ⊥ (λ offset. ⊥) why) }
+{
+    let mut records = vec![in alloc; 0; count as usize].map_err(|_| OpenError::NoMemory)?;
+    device.read_at(at, &mut records)?;
+    Ok(records)
+}
+
+// Reads the frame at an open gate, makes its effects, and answers where the next gate stands; or nothing, at a closed gate.
+fn read_frame<D: Device, A: Allocator + Copy>(
+    alloc: A,
+    device: &mut D,
+    len: u64,
+    at: u64,
+    book: &mut Book<A>,
+) -> Result<Option<u64>, OpenError>
+    requires within { at < len }
+    requires len { IsTrue (D.disk device.old).honest → len ≡ length (D.disk device.old).shown }
+    ensures reads { AreReads (D.disk device.old) (D.disk device.new) }
+    ensures step { IfOk result (λ next. IsStepRead (D.disk device.old) len at book.old book.new next) }
+    ensures refused { IfErr result (λ why. IsWhy (D.disk device.old) (D.disk device.new) ⊥ (IsNoFrame book.old (D.disk device.old).shown at) why) }
+{
+    if read_gate(device, at)? != 1 {
+        return Ok(None);
+    }
+    let length = read_length(device, len, at)?;
+    let records = read_records(alloc, device, at + FRAME_EXTRA, length)?;
+    match make_records(alloc, &records, book) {
+        Ok(()) => Ok(Some(at + FRAME_EXTRA + u64::from(length))),
+        Err(ApplyError::NotApplicable) => Err(damaged(at)),
+        Err(ApplyError::NoMemory) => Err(OpenError::NoMemory),
+    }
+}
+
+/// Reads all frames, makes their effects, and answers where the tail gate stands.
+pub fn read_frames<D: Device, A: Allocator + Copy>(
+    alloc: A,
+    device: &mut D,
+    len: u64,
+    book: &mut Book<A>,
+) -> Result<u64, OpenError>
+    requires within { first_gate < len }
+    requires len { IsTrue (D.disk device.old).honest → len ≡ length (D.disk device.old).shown }
+    ensures reads { AreReads (D.disk device.old) (D.disk device.new) }
+    ensures all { IfOk result (λ tail. AreAllRead (D.disk device.old) len book.old book.new tail) }
+    ensures refused { IfErr result (λ why. IsWhy (D.disk device.old) (D.disk device.new) ⊥ (IsFrameWrong book.old (D.disk device.old).shown) why) }
+{
+    let mut at = FIRST_GATE;
+    while let Some(next) = read_frame(alloc, device, len, at, book)? {
+        at = next;
+    }
+    Ok(at)
+}

@@ -1,0 +1,32 @@
+//! Laws of what is kept, on which the program's theorems rest.
+ghost use Rattle.vault_store.specs.Laws.{CrashLeavesWhatIsKept, OneGateIsOpened, OneSpelling, SnapshotsAreShort, OneReading, OneVault, NothingIsWrong, OneFault};
+ghost use Rattle.vault_store.specs.Rows.{Rows};
+
+use vault_device::Device;
+
+/// What a crash leaves of the two files of honest devices is read as the settled vault or, while a gate is being opened, as
+/// the sealed one exactly where that gate is 1.
+pub fn a_crash_leaves_what_is_kept<D: Device>()
+    ensures left { CrashLeavesWhatIsKept D.disk }
+    ensures gate { OneGateIsOpened D.disk }
+{}
+
+/// A durable vault has one spelling, whose length four bytes can hold, and a spelling is of one vault.
+pub fn a_spelling_is_of_one_vault()
+    ensures one { OneSpelling }
+    ensures short { SnapshotsAreShort }
+{}
+
+/// Two files stand for at most one vault, and at most one thing is wrong with them first. Nothing is wrong with files that
+/// stand for one: until there are snapshots that is said where the second is empty and the snapshot is the new vault's.
+pub fn files_stand_for_one_vault()
+    ensures reading { OneReading }
+    ensures vault { OneVault }
+    ensures right { NothingIsWrong }
+    ensures fault { OneFault }
+{}
+
+/// The definitions give the files that were worked out by hand.
+pub fn rows_are_given()
+    ensures { Rows }
+{}

@@ -1,0 +1,99 @@
+//! A store: two devices, and the frame that is filled.
+ghost use Rattle.std.specs.Prelude.{◌≡◌, ◌++◌, length, IsTrue};
+ghost use Rattle.vault_journal.specs.Spelling.{record_of, HasRecord};
+ghost use Rattle.vault_model.specs.Vault.{Vault};
+ghost use Rattle.vault_model.specs.After.{after};
+ghost use Rattle.vault_store.specs.State.{StoreState, with_effect};
+ghost use Rattle.vault_store.specs.Seen.{Seen, Keeps, has_room};
+
+use crate::Phase;
+use std::alloc::{Allocator, Global};
+use std::marker::Model;
+use vault_device::Device;
+use vault_journal::Frame;
+use vault_model::EffectIn;
+
+// The most bytes of records in the buffer where there is room for any other record.
+const MOST_NOTED: usize = 261_104;
+
+// From where on no frame may begin, so that each write ends below 2^63.
+const LAST_TAIL: u64 = 1 << 62;
+
+/// A vault in two files. What was noted is written and settled step by step.
+#[derive(Drop)]
+pub struct Store<D: Device, A: Allocator = Global> {
+    pub(crate) first: D,
+    pub(crate) second: D,
+    pub(crate) frame: Frame<A>,
+    pub(crate) sealed: u64,
+    pub(crate) generation: u64,
+    pub(crate) tail: u64,
+    pub(crate) journal: u64,
+    pub(crate) phase: Phase,
+    pub(crate) broken: bool,
+}
+
+impl<D: Device, A: Allocator> Model for Store<D, A> {
+    ghost use Rattle.vault_store.specs.Seen.{Seen};
+
+    ghost Value = { Seen D };
+
+    ghost use Rattle.vault_store.specs.View.{seen_of};
+    ghost use Rattle.vault_store.specs.Sound.{IsSound};
+
+    ghost view = { seen_of };
+
+    ghost invariant = { λ store. IsSound D.disk (seen_of store) };
+}
+
+impl<D: Device, A: Allocator> Store<D, A> {
+    /// The phase: which step comes next.
+    pub fn phase(&self) -> Phase
+        ensures { result ≡ self.now.phase }
+    {
+        self.phase
+    }
+
+    /// How many bytes of frames the active file has.
+    pub fn journal_len(&self) -> u64
+        ensures { result ≡ self.now.journal }
+    {
+        self.journal
+    }
+
+    /// The devices. What was noted and isn't settled is lost.
+    pub fn into_devices(self) -> (D, D)
+        ensures first { result.0 ≡ self.first }
+        ensures second { result.1 ≡ self.second }
+    {
+        let Store {
+            first,
+            second,
+            frame: _frame,
+            sealed: _,
+            generation: _,
+            tail: _,
+            journal: _,
+            phase: _,
+            broken: _,
+        } = self;
+        (first, second)
+    }
+
+    /// Whether there is room to note any one effect.
+    pub fn room(&self) -> bool
+        ensures { result ≡ has_room self.now }
+    {
+        self.frame.len() <= MOST_NOTED && self.tail < LAST_TAIL
+    }
+
+    /// Notes an effect for the next frame. Takes no memory.
+    pub fn note<B: Allocator>(&mut self, effect: &EffectIn<B>)
+        requires room { IsTrue (has_room self.old) }
+        requires has { HasRecord effect.now }
+        ensures noted { self.new ≡ record self.old { buffer = self.old.buffer ++ record_of effect.now } }
+        ensures kept { (s : StoreState) (next : Vault) → Keeps D.disk self.old s → after s.noted effect.now ≡ Some next → Keeps D.disk self.new (with_effect s effect.now next) }
+    {
+        self.frame.push_effect(effect);
+    }
+}
