@@ -6,7 +6,8 @@ use Rattle.vault_model.specs.Vault.{Vault, IsVault, new_vault, durable}
 use Rattle.vault_model.specs.Step.{Outcome}
 use Rattle.vault_model.specs.After.{IsDurableChange}
 use Rattle.group_commit.specs.Entries.{Kept}
-use Rattle.group_commit.specs.History.{replay, outcome_of, members, effects, applied}
+use Rattle.vault_store.specs.Files.{applied}
+use Rattle.group_commit.specs.History.{replay, outcome_of, members, effects}
 use Rattle.group_commit.specs.World.{World, history_to, vault_at}
 use Rattle.group_commit.proofs.Facts.{well_formed_stays, effect_is_the_durable_change}
 use Rattle.group_commit.proofs.Folds.{replay-append, members_part}
@@ -16,7 +17,7 @@ one_change : (v next last : Vault) (effect : Option Effect) (rest : List Effect)
 one_change v next last None rest change e = subst (λ (w : Vault). applied w rest ≡ Some last) change e
 one_change v next last (Some effect) rest change e = rw change e
 
-effects_lead : (v : Vault) (entries : List Kept) → IsVault v → applied (durable v) (effects v entries) ≡ Some (durable (replay v (members entries)))
+pub effects_lead : (v : Vault) (entries : List Kept) → IsVault v → applied (durable v) (effects v entries) ≡ Some (durable (replay v (members entries)))
 effects_lead v [] w = refl
 effects_lead v (kept ∷ rest) w =
     let o : Outcome = outcome_of v kept.entry in

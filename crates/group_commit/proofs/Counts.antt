@@ -10,13 +10,13 @@ use Rattle.group_commit.proofs.Facts.{counts_rise}
 use Rattle.group_commit.proofs.Folds.{replay-append}
 use Rattle.group_commit.proofs.Sound.{IsSound}
 
-weaker : (low high : ℕ) (v : Vault) → low ≤ high → CountsBelow low v → CountsBelow high v
+pub weaker : (low high : ℕ) (v : Vault) → low ≤ high → CountsBelow low v → CountsBelow high v
 weaker low high v h counts = record {
   door = omega (arith, counts.door, h);
   each = All-weaker (λ (s : Session). s.count < low) (λ (s : Session). s.count < high) (λ s below. omega (arith, below, h)) v.sessions counts.each;
 }
 
-counts_after : (bound n : ℕ) (v : Vault) (entries : List Kept) → CountsBelow bound v → CountsBelow (n + bound) (replay v (members (take n entries)))
+pub counts_after : (bound n : ℕ) (v : Vault) (entries : List Kept) → CountsBelow bound v → CountsBelow (n + bound) (replay v (members (take n entries)))
 counts_after bound zero v entries counts = weaker bound (zero + bound) v (omega arith) counts
 counts_after bound (suc n) v [] counts = weaker bound (suc n + bound) v (omega arith) counts
 counts_after bound (suc n) v (kept ∷ rest) counts =

@@ -12,3 +12,12 @@ pub mod Changes
 pub mod Counts
 pub mod Reach
 pub mod Rows
+pub mod States
+pub mod SoundViews
+pub mod HasRecords
+pub mod Closed
+pub mod Tickets
+pub mod Staged
+pub mod Pumps
+pub mod Begins
+pub mod Images

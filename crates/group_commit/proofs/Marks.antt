@@ -1,6 +1,6 @@
 -- Marks of entries.
 use Rattle.std.proofs.Common.{◌≡◌, ◌≢◌, ℕ, zero, suc, ◌+◌, ◌-◌, ◌≤◌, ◌<◌, List, [], ◌∷◌, ◌++◌, length, take, drop, Some, refl, sym, ap, ◌∙◌, arith}
-use Rattle.std.specs.Prelude.{cond}
+use Rattle.std.specs.Prelude.{cond, Bool, true, false, get_or, set, slice_get}
 use Rattle.group_commit.specs.declared.mark.Mark.{Mark}
 use Rattle.group_commit.specs.declared.mark.Mark.TheVariants.{Open, Told, Forgotten}
 use Rattle.group_commit.specs.Entries.{Entry, Kept, opened, mark_at, with_mark, is_told, told_in}
@@ -88,3 +88,29 @@ told_same (x ∷ xs) (suc p) h = ap (λ n. cond (is_told x.mark) 1 0 + n) (told_
 pub told_open : (l : List Kept) (e : Entry) → told_in (l ++ opened e ∷ []) ≡ told_in l
 told_open [] e = refl
 told_open (x ∷ xs) e = ap (λ n. cond (is_told x.mark) 1 0 + n) (told_open xs e)
+
+-- a write of a mark at an element that was read
+pub set_is_marked : (m : Mark) (l : List Kept) (p : ℕ) (k : Kept) → p < length l → k ≡ get_or l p k → set l p (record { entry = k.entry; mark = m }) ≡ with_mark m l p
+set_is_marked m [] p k h e = absurd (omega arith)
+set_is_marked m (x ∷ xs) zero k h e = λ i. (record { entry = (e i).entry; mark = m }) ∷ xs
+set_is_marked m (x ∷ xs) (suc p) k h e = ap (λ l. x ∷ l) (set_is_marked m xs p k (omega arith) e)
+
+at_most_one : (b : Bool) → ◌≤◌ (cond b 1 0) 1
+at_most_one true = omega arith
+at_most_one false = omega arith
+
+told_at_most : (l : List Kept) → told_in l ≤ length l
+told_at_most [] = omega arith
+told_at_most (x ∷ xs) = let k : told_in xs ≤ length xs = told_at_most xs in let one = at_most_one (is_told x.mark) in omega arith
+
+-- an open entry isn't told
+pub told_below_length : (l : List Kept) (p : ℕ) → mark_at l p ≡ Some Open → told_in l < length l
+told_below_length [] p h = absurd (cc)
+told_below_length (x ∷ xs) zero h = let e : ◌≡◌ {A = ℕ} (cond (is_told x.mark) 1 0) 0 = told_of_open x h in let k : told_in xs ≤ length xs = told_at_most xs in omega arith
+told_below_length (x ∷ xs) (suc p) h = let k : told_in xs < length xs = told_below_length xs p h in let one = at_most_one (is_told x.mark) in omega arith
+
+-- an entry with a mark stands
+pub entry_there : (l : List Kept) (p : ℕ) (m : Mark) → mark_at l p ≡ Some m → (k : Kept) × (slice_get l p ≡ Some k)
+entry_there [] p m h = absurd (cc)
+entry_there (x ∷ xs) zero m h = (x, refl)
+entry_there (x ∷ xs) (suc p) m h = entry_there xs p m h

@@ -1,9 +1,10 @@
 -- The numbers of a life stay in order over the phase table.
 use Rattle.std.specs.Prelude.{nat_le, Bool, true, false, cond}
 use Rattle.std.proofs.Common.{◌≡◌, ◌≢◌, ◌-◌, ℕ, ◌≤◌, true, false, cond, refl, arith}
-use Rattle.group_commit.specs.declared.phase.Phase.{Phase}
-use Rattle.group_commit.specs.declared.phase.Phase.TheVariants.{Idle, Written, Bodied, Opening, Start, Closing, Writing, Filled, Ready, SnapOpening}
-use Rattle.group_commit.specs.Phases.{Waiting, Nothing, NoEffects, Effects, DeviceCall, NoCall, Write, Sync, row, settled_by, after_fault, is_idle, is_opening, InOrder, most_piece}
+use Rattle.vault_store.specs.declared.phase.Phase.{Phase}
+use Rattle.vault_store.specs.declared.phase.Phase.TheVariants.{Idle, Written, Bodied, Opening, Start, Closing, Writing, Filled, Ready, SnapOpening}
+use Rattle.vault_store.specs.Phases.{Waiting, Nothing, NoEffects, Effects, DeviceCall, NoCall, Write, Sync, row, settled_by, after_fault, is_idle, is_opening, most_piece}
+use Rattle.group_commit.specs.Phases.{InOrder}
 
 -- a commit or a snapshot goes on
 goes_on : {all retired settled sealed : ℕ} (phase next : Phase) → is_idle phase ≡ false → InOrder all retired settled sealed phase → InOrder all retired settled sealed next

@@ -4,7 +4,7 @@ use Rattle.std.specs.Prelude.{IsTrue}
 use Rattle.std.proofs.lemmas.List.{take_at, append-nil}
 use Rattle.vault_model.specs.Vault.{Vault, new_vault, durable}
 use Rattle.group_commit.specs.History.{Restart, replay, members}
-use Rattle.group_commit.specs.Phases.{is_opening}
+use Rattle.vault_store.specs.Phases.{is_opening}
 use Rattle.group_commit.specs.World.{World, history, history_to, vault_at, Gate, StaysClosed, IsOpen, kept_by, crashed, recovered}
 use Rattle.group_commit.specs.View.{view_of, opened_view, view_at, MayLeave}
 use Rattle.group_commit.specs.Laws.{IsPrefix}

@@ -4,7 +4,7 @@ use Rattle.std.proofs.Common.{arith}
 use Rattle.vault_model.specs.Claims.{overlap}
 use Rattle.vault_model.specs.Step.{step, decide, chained, join, make, permitted, check_out, hold, state, list}
 use Rattle.group_commit.specs.declared.mark.Mark.TheVariants.{Open, Told}
-use Rattle.group_commit.specs.Phases.{NoCall, Write}
+use Rattle.vault_store.specs.Phases.{NoCall, Write}
 use Rattle.group_commit.specs.Rows.{pumps_of, Rows, TwoSessionsOneFrame, NothingForGood, TornGateClosed, TornGateOpen, ToldStands, HoldGoes, SnapshotTornClosed, SnapshotTornOpen, SnapshotSettled, FailedWrite}
 
 infixr 5 ◌&◌

@@ -14,7 +14,8 @@ use Rattle.group_commit.specs.World.{World, new_world, history, history_to, vaul
 use Rattle.group_commit.specs.Runs.{Event, Within, Crash, AllowsEvent, happened, run, IsRun}
 use Rattle.group_commit.proofs.Folds.{replay-append, legal_append, legal_front, members-append, members_rest}
 use Rattle.group_commit.proofs.Marks.{members-with_mark, length-with_mark, mark_same, mark_other, mark_below, mark_front, told_before}
-use Rattle.group_commit.specs.Phases.{InOrder, is_idle}
+use Rattle.vault_store.specs.Phases.{is_idle}
+use Rattle.group_commit.specs.Phases.{InOrder}
 use Rattle.group_commit.proofs.Order.{fault_is_busy, order_row, order_fault, order_start, more_settled}
 
 -- told entries are settled, and retired ones closed

@@ -6,7 +6,7 @@ use Rattle.vault_model.specs.Vault.{Vault}
 use Rattle.group_commit.specs.declared.mark.Mark.TheVariants.{Told, Forgotten}
 use Rattle.group_commit.specs.Entries.{Entry, Kept, opened}
 use Rattle.group_commit.specs.History.{Given, Restart, entry_of, members}
-use Rattle.group_commit.specs.Phases.{is_opening}
+use Rattle.vault_store.specs.Phases.{is_opening}
 use Rattle.group_commit.specs.World.{World, history, history_to, vault_of, Act, Stage, Pump, Fault, StartSnapshot, Tell, Forget, Retire, acted, Gate, StaysClosed, IsOpen, kept_by, crashed}
 use Rattle.group_commit.specs.Runs.{Event, Within, Crash, run, IsRun}
 use Rattle.group_commit.proofs.Folds.{members-append, members_rest}

@@ -6,11 +6,12 @@ use Rattle.vault_model.specs.Said.{Command}
 use Rattle.vault_model.specs.Vault.{Vault, new_vault, durable}
 use Rattle.group_commit.specs.declared.mark.Mark.{Mark}
 use Rattle.group_commit.specs.declared.mark.Mark.TheVariants.{Open, Told, Forgotten}
-use Rattle.group_commit.specs.declared.phase.Phase.{Phase}
-use Rattle.group_commit.specs.declared.phase.Phase.TheVariants.{Idle, Written, Bodied, Opening, Start, Closing, Writing, Filled, Ready, SnapOpening}
+use Rattle.vault_store.specs.declared.phase.Phase.{Phase}
+use Rattle.vault_store.specs.declared.phase.Phase.TheVariants.{Idle, Written, Bodied, Opening, Start, Closing, Writing, Filled, Ready, SnapOpening}
 use Rattle.group_commit.specs.Entries.{Kept, opened, mark_at, with_mark, told_in}
 use Rattle.group_commit.specs.History.{replay, entry_of, members, effects}
-use Rattle.group_commit.specs.Phases.{Waiting, Nothing, NoEffects, Effects, waiting, Row, row, settled_by, after_fault, is_idle}
+use Rattle.vault_store.specs.Phases.{Waiting, Nothing, NoEffects, Effects, Row, row, settled_by, after_fault, is_idle}
+use Rattle.group_commit.specs.Phases.{waiting}
 use Rattle.group_commit.specs.World.{World, history_to, vault_at, vault_of, row_of, Act, Stage, Pump, Fault, StartSnapshot, Tell, Forget, Retire, acted}
 use Rattle.group_commit.specs.View.{view_of, length_of, view_at, book_of, view_row, after_first, view_acted}
 use Rattle.group_commit.specs.Laws.{ActsAsItsView}

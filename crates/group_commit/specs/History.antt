@@ -1,11 +1,10 @@
 -- The history: one list of the commands of all sessions, with their replies, and of restarts. This project's own.
-use Rattle.std.specs.Prelude.{◌≡◌, ℕ, ◌==◌, if◌then◌else◌, List, [], ◌∷◌, ◌++◌, map, Option, Some, option_to_list}
-use Rattle.std.specs.Option.{option_map_or, option_and_then}
+use Rattle.std.specs.Prelude.{◌≡◌, ℕ, ◌==◌, if◌then◌else◌, List, [], ◌∷◌, ◌++◌, map, option_to_list}
+use Rattle.std.specs.Option.{option_map_or}
 use Rattle.vault_model.specs.Said.{Command, Effect}
 use Rattle.vault_model.specs.declared.session.Session.{Session}
 use Rattle.vault_model.specs.Vault.{Vault, session_of, durable}
 use Rattle.vault_model.specs.Step.{Outcome, step}
-use Rattle.vault_model.specs.After.{after}
 use Rattle.group_commit.specs.Entries.{Entry, Kept}
 
 -- an entry, or a restart
@@ -53,8 +52,3 @@ members entries = map (λ (kept : Kept). Given kept.entry) entries
 abbrev pub effects : Vault → List Kept → List Effect
 effects v [] = []
 effects v (kept ∷ rest) = option_to_list (outcome_of v kept.entry).effect ++ effects (outcome_of v kept.entry).vault rest
-
--- the durable vault after effects, one behind the other, where each may be made
-abbrev pub applied : Vault → List Effect → Option Vault
-applied w [] = Some w
-applied w (effect ∷ effects) = option_and_then (λ (next : Vault). applied next effects) (after w effect)

@@ -9,8 +9,10 @@ use Rattle.vault_model.specs.Claims.{same_id, overlap, claim_of, standing_of, wi
 use Rattle.vault_model.specs.Vault.{Vault, IsVault, CountsBelow, new_vault, durable}
 use Rattle.group_commit.specs.declared.mark.Mark.TheVariants.{Told}
 use Rattle.group_commit.specs.Entries.{Entry, mark_at}
-use Rattle.group_commit.specs.History.{Given, replay, IsLegal, effects, applied}
-use Rattle.group_commit.specs.Phases.{InOrder, is_opening, is_idle}
+use Rattle.vault_store.specs.Files.{applied}
+use Rattle.group_commit.specs.History.{Given, replay, IsLegal, effects}
+use Rattle.vault_store.specs.Phases.{is_opening, is_idle}
+use Rattle.group_commit.specs.Phases.{InOrder}
 use Rattle.group_commit.specs.World.{World, new_world, history, vault_at, Act, row_of, Allows, acted, Gate, kept_by, crashed, recovered}
 use Rattle.group_commit.specs.Runs.{Event, run, IsRun}
 use Rattle.group_commit.specs.View.{View, view_of, opened_view, view_row, ViewAllows, view_acted, MayLeave}

@@ -6,3 +6,10 @@ pub mod Runs
 pub mod View
 pub mod Laws
 pub mod Rows
+pub mod Ticket
+pub mod Seen
+pub mod Inside
+pub mod Written
+pub mod Calls
+pub mod Opened
+pub mod Promises

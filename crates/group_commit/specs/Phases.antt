@@ -1,105 +1,15 @@
--- The phase table: what a pump does. One table for commits and snapshots. This project's own.
-use Rattle.std.specs.Prelude.{◌≡◌, ◌≤◌, ℕ, ◌+◌, ◌-◌, Bool, true, false, nat_le, if◌then◌else◌, List, [], ◌∷◌}
+-- What a pump finds waiting, and the order of a life's numbers. The phase table stands in vault_store. This project's own.
+use Rattle.std.specs.Prelude.{◌≡◌, ◌≤◌, ℕ, false, List, [], ◌∷◌}
 use Rattle.vault_model.specs.Said.{Effect}
-use Rattle.group_commit.specs.declared.phase.Phase.{Phase}
-use Rattle.group_commit.specs.declared.phase.Phase.TheVariants.{Idle, Written, Bodied, Opening, Start, Closing, Writing, Filled, Ready, SnapOpening}
-use Rattle.group_commit.specs.declared.phase.Pumped.{Pumped}
-use Rattle.group_commit.specs.declared.phase.Pumped.TheVariants.{Idle as AnswersIdle, Moved, Settled}
+use Rattle.vault_store.specs.declared.phase.Phase.{Phase}
+use Rattle.vault_store.specs.Phases.{Waiting, Nothing, NoEffects, Effects, is_idle}
 use Rattle.group_commit.specs.Entries.{Kept}
-
--- how many bytes of a snapshot one pump writes at most
-abbrev pub most_piece : ℕ
-most_piece = 65536
-
--- how many bytes stand before the snapshot in its file
-abbrev pub header : ℕ
-header = 24
-
--- what waits behind the settled entries: nothing, entries without an effect, or some with one
-pub data Waiting : Type 0 where
-  Nothing : Waiting
-  NoEffects : Waiting
-  Effects : Waiting
 
 -- what waits, of the unsettled entries and their effects
 abbrev pub waiting : List Kept → List Effect → Waiting
 waiting [] effects = Nothing
 waiting (kept ∷ rest) [] = NoEffects
 waiting (kept ∷ rest) (effect ∷ more) = Effects
-
--- the device call of a pump
-pub data DeviceCall : Type 0 where
-  NoCall : DeviceCall
-  Write : DeviceCall
-  Sync : DeviceCall
-
--- what a pump settles: no more than before, the sealed entries, or all entries
-pub data Settles : Type 0 where
-  NoMore : Settles
-  TheSealed : Settles
-  All : Settles
-
--- a row of the table: the device call, the next phase, whether all entries so far are sealed, what is settled, and the answer
-pub record Row : Type 0 where
-  pub call : DeviceCall
-  pub next : Phase
-  pub seals : Bool
-  pub settles : Settles
-  pub answer : Pumped
-
--- a step that settles nothing
-abbrev pub moves : DeviceCall → Phase → Row
-moves call next = record { call = call; next = next; seals = false; settles = NoMore; answer = Moved }
-
--- the first step of a commit, which seals
-abbrev pub seals : DeviceCall → Phase → Row
-seals call next = record { call = call; next = next; seals = true; settles = NoMore; answer = Moved }
-
--- a last step
-abbrev pub ends : DeviceCall → Settles → Row
-ends call settles = record { call = call; next = Idle; seals = false; settles = settles; answer = Settled }
-
--- a pump of one who has nothing to do
-abbrev pub rests : Row
-rests = record { call = NoCall; next = Idle; seals = false; settles = NoMore; answer = AnswersIdle }
-
--- The table, for a snapshot of this length.
-abbrev pub row : Phase → Waiting → ℕ → Row
-row Idle Nothing length = rests
-row Idle NoEffects length = ends NoCall All
-row Idle Effects length = seals Write Written
-row Written waiting length = moves Sync Bodied
-row Bodied waiting length = moves Write Opening
-row Opening waiting length = ends Sync TheSealed
-row Start waiting length = moves Write Closing
-row Closing waiting length = moves Sync (Writing (header + length))
-row (Writing left) waiting length = moves Write (if nat_le left most_piece then Filled else Writing (left - most_piece))
-row Filled waiting length = moves Sync Ready
-row Ready waiting length = moves Write SnapOpening
-row SnapOpening waiting length = ends Sync TheSealed
-
--- while a gate is being opened, a crash leaves it open or closed
-abbrev pub is_opening : Phase → Bool
-is_opening Opening = true
-is_opening SnapOpening = true
-is_opening _ = false
-
--- whether no commit and no snapshot is under way
-abbrev pub is_idle : Phase → Bool
-is_idle Idle = true
-is_idle _ = false
-
--- how many entries are settled, of those that were, the sealed and all
-abbrev pub settled_by : Settles → ℕ → ℕ → ℕ → ℕ
-settled_by NoMore settled sealed all = settled
-settled_by TheSealed settled sealed all = sealed
-settled_by All settled sealed all = all
-
--- what stands after a fault, of the old and what the row says: a failed write counts as made, a failed sync as not made
-abbrev pub after_fault : {A : Type 0} → DeviceCall → A → A → A
-after_fault NoCall old new = old
-after_fault Write old new = new
-after_fault Sync old new = old
 
 -- at most the settled entries are retired, at most all are settled and sealed, and in a commit or a snapshot the settled are sealed
 pub record InOrder (all retired settled sealed : ℕ) (phase : Phase) : Type 0 where

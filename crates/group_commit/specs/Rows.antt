@@ -7,10 +7,10 @@ use Rattle.vault_model.specs.declared.replies.Refusal.TheVariants.{NoSession, No
 use Rattle.vault_model.specs.declared.ids.ClaimId.TheVariants.{Long, Short}
 use Rattle.vault_model.specs.Vault.{Vault}
 use Rattle.vault_model.specs.Rows.{anna, ben, path_e, look, change}
-use Rattle.group_commit.specs.declared.phase.Pumped.{Pumped}
-use Rattle.group_commit.specs.declared.phase.Pumped.TheVariants.{Idle as Rests, Moved, Settled}
+use Rattle.vault_store.specs.declared.phase.Advanced.{Advanced as Pumped}
+use Rattle.vault_store.specs.declared.phase.Advanced.TheVariants.{Idle as Rests, Moved, Settled}
 use Rattle.group_commit.specs.History.{Member, Given, Restart}
-use Rattle.group_commit.specs.Phases.{Row, DeviceCall, NoCall, Write, Sync}
+use Rattle.vault_store.specs.Phases.{Row, DeviceCall, NoCall, Write, Sync}
 use Rattle.group_commit.specs.World.{World, new_world, history, Stage, Pump, Fault, StartSnapshot, Tell, Forget, Retire, row_of, Allows, StaysClosed, IsOpen}
 use Rattle.group_commit.specs.Runs.{Event, Within, Crash, happened, run, IsRun}
 

@@ -2,11 +2,12 @@
 use Rattle.std.specs.Prelude.{◌≡◌, ◌≢◌, ℕ, ◌+◌, ◌-◌, ◌<◌, ◌≤◌, ◌⊎◌, IsTrue, Bool, true, false, if◌then◌else◌, List, [], ◌∷◌, ◌++◌, length, take, drop, Some}
 use Rattle.vault_model.specs.Vault.{Vault, durable}
 use Rattle.group_commit.specs.declared.mark.Mark.TheVariants.{Open, Told, Forgotten}
-use Rattle.group_commit.specs.declared.phase.Phase.{Phase}
-use Rattle.group_commit.specs.declared.phase.Phase.TheVariants.{Idle, Start}
+use Rattle.vault_store.specs.declared.phase.Phase.{Phase}
+use Rattle.vault_store.specs.declared.phase.Phase.TheVariants.{Idle, Start}
 use Rattle.group_commit.specs.Entries.{Kept, opened, mark_at, with_mark, told_in}
 use Rattle.group_commit.specs.History.{replay, outcome_of, entry_of, members, effects}
-use Rattle.group_commit.specs.Phases.{Row, row, waiting, NoCall, settled_by, after_fault, is_opening}
+use Rattle.vault_store.specs.Phases.{Row, row, NoCall, settled_by, after_fault, is_opening}
+use Rattle.group_commit.specs.Phases.{waiting}
 use Rattle.group_commit.specs.World.{World, Act, Stage, Pump, Fault, StartSnapshot, Tell, Forget, Retire, vault_at}
 
 -- the vault after the retired entries, the entries behind them with their marks, and, counted from the life's start, how many

@@ -4,11 +4,12 @@ use Rattle.std.specs.Prelude.{◌≡◌, ◌≢◌, ℕ, ◌+◌, ◌<◌, Bool,
 use Rattle.vault_model.specs.Said.{Command}
 use Rattle.vault_model.specs.Vault.{Vault, new_vault, durable}
 use Rattle.group_commit.specs.declared.mark.Mark.TheVariants.{Open, Told, Forgotten}
-use Rattle.group_commit.specs.declared.phase.Phase.{Phase}
-use Rattle.group_commit.specs.declared.phase.Phase.TheVariants.{Idle, Start}
+use Rattle.vault_store.specs.declared.phase.Phase.{Phase}
+use Rattle.vault_store.specs.declared.phase.Phase.TheVariants.{Idle, Start}
 use Rattle.group_commit.specs.Entries.{Kept, opened, mark_at, with_mark}
 use Rattle.group_commit.specs.History.{Member, Restart, replay, entry_of, members, effects}
-use Rattle.group_commit.specs.Phases.{Row, row, waiting, NoCall, settled_by, after_fault, is_opening}
+use Rattle.vault_store.specs.Phases.{Row, row, NoCall, settled_by, after_fault, is_opening}
+use Rattle.group_commit.specs.Phases.{waiting}
 
 -- the members of earlier lives, the entries of the present life with their marks, and, counted from its start, how many of
 -- them are settled, sealed and retired; the phase; whether a device call failed

@@ -1,0 +1,7 @@
+use Rattle.group_commit.specs.Inside.{seen_of}
+use Rattle.group_commit.proofs.Tickets.{forget_kept}
+use Rattle.group_commit.proofs.vault.Vault.forget.Goals as goal
+
+pub invariant_of-self : goal.invariant_of-self
+invariant_of-self g c =
+    forget_kept g.D.Device.disk (seen_of c.self.inside) c.args.self.now c.self.inside.book c.args.ticket c.in-Some.place c.close.new.self c.self.view_is c.in-Some.ensures.some c.close.ensures c.self.invariant

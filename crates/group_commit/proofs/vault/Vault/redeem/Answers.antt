@@ -1,0 +1,19 @@
+use Rattle.std.proofs.Common.{◌≡◌, ◌<◌, arith}
+use Rattle.group_commit.specs.Inside.{seen_of}
+use Rattle.group_commit.proofs.Tickets.{tell_kept, one_more_fits, tells}
+use Rattle.group_commit.proofs.vault.Vault.redeem.Goals as goal
+
+pub overflow_add-self : goal.overflow_add-self
+overflow_add-self g c =
+    let fits = one_more_fits g.D.Device.disk (seen_of c.self.inside) c.args.self.now c.self.inside.book c.args.ticket c.in-Some.place c.self.view_is c.in-Some.ensures.some c.self.invariant in
+    omega arith
+
+pub invariant_of-self : goal.invariant_of-self
+invariant_of-self g c =
+    let below : c.args.ticket.position < c.self.inside.settled = (let p : c.position.result ≡ c.args.ticket.position = c.position.ensures in let q : c.position.result < c.self.inside.settled = c.if-position-self.false in omega arith) in
+    tell_kept g.D.Device.disk (seen_of c.self.inside) c.args.self.now c.self.inside.book c.args.ticket c.in-Some.place c.close.new.self c.self.view_is c.in-Some.ensures.some below c.close.ensures c.self.invariant
+
+pub returns-in-Ok : goal.returns-in-Ok
+returns-in-Ok g c =
+    let below : c.args.ticket.position < c.self.inside.settled = (let p : c.position.result ≡ c.args.ticket.position = c.position.ensures in let q : c.position.result < c.self.inside.settled = c.if-position-self.false in omega arith) in
+    tells (seen_of c.self.inside) c.args.self.now c.args.ticket c.in-Some.place c.close.new.self c.in-Ok.reply c.into_receipt.result c.self.view_is c.in-Some.ensures.some below c.close.ensures c.in-Ok.ensures c.into_receipt.ensures

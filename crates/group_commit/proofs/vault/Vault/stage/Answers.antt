@@ -1,0 +1,20 @@
+use Rattle.std.proofs.Common.{◌≡◌, ◌<◌, length, refl, arith}
+use Rattle.group_commit.specs.Inside.{seen_of}
+use Rattle.group_commit.proofs.Staged.{counts_are_few, has_record, stage_kept}
+use Rattle.group_commit.proofs.vault.Vault.stage.Goals as goal
+
+pub act-requires : goal.act-requires
+act-requires g c =
+    let few : length c.self.inside.kept < 4096 = (let l : c.len.result ≡ length c.self.inside.kept = c.len.ensures.len in let k : c.len.result < 4096 = c.if-len-ge-MOST_KEPT.false in omega arith) in
+    counts_are_few g.D.Device.disk (seen_of c.self.inside) c.self.inside.book c.args.session c.args.command c.self.invariant (omega arith)
+
+pub note_any-requires-clause-has : goal.note_any-requires-clause-has
+note_any-requires-clause-has g c =
+    has_record g.D.Device.disk (seen_of c.self.inside) c.self.inside.book c.args.session c.args.command c.self.invariant c.in-Ok.acted.1 c.in-Ok.ensures.effect
+
+pub invariant_of-self-2 : goal.invariant_of-self-2
+invariant_of-self-2 g c =
+    let few : length c.self.inside.kept < 4096 = (let l : c.len.result ≡ length c.self.inside.kept = c.len.ensures.len in let k : c.len.result < 4096 = c.if-len-ge-MOST_KEPT.false in omega arith) in
+    stage_kept g.D.Device.disk (seen_of c.self.inside) c.self.inside.book c.args.session c.args.command c.self.invariant
+    c.in-Ok.acted.1 c.note_any.new.store c.of-before.result.value c.act.new.self c.in-Ok.acted.0 c.open-entry.result c.push.new.self
+    refl few c.in-Ok.ensures.effect c.note_any.ensures.noted c.note_any.ensures.kept c.of-before.ensures c.in-Ok.ensures.told c.open-entry.ensures c.push.ensures c.in-Ok.ensures.vault

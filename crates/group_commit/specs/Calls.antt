@@ -1,0 +1,77 @@
+-- When each answer comes. This project's own.
+use Rattle.std.specs.Prelude.{◌≡◌, ◌⊎◌, ℕ, ◌+◌, ◌-◌, ◌^◌, ◌<◌, ◌≤◌, ◌&&◌, not, true, false, if◌then◌else◌, [], ◌++◌, length, Option, None, Some, slice_get, Result, Ok}
+use Rattle.vault_model.specs.Said.{Effect}
+use Rattle.vault_model.specs.declared.replies.Outside.{Outside}
+use Rattle.vault_model.specs.declared.replies.Outside.TheVariants as outsides
+use Rattle.vault_device.specs.declared.device.Fault.{Fault as DeviceFault}
+use Rattle.vault_journal.specs.Spelling.{record_of, records_of}
+use Rattle.vault_store.specs.declared.phase.Advanced.{Advanced as Pumped}
+use Rattle.vault_store.specs.declared.phase.Advanced.TheVariants as answers
+use Rattle.vault_store.specs.Files.{frame_extra}
+use Rattle.vault_store.specs.Phases.{is_idle}
+use Rattle.vault_store.specs.Seen.{Seen as StoreSeen, has_room}
+use Rattle.group_commit.specs.declared.answers.Redeemed.{Redeemed}
+use Rattle.group_commit.specs.declared.answers.Redeemed.TheVariants as redeemed
+use Rattle.group_commit.specs.declared.answers.Forgotten.{Forgotten}
+use Rattle.group_commit.specs.declared.answers.Forgotten.TheVariants as forgotten
+use Rattle.group_commit.specs.Entries.{Kept}
+use Rattle.group_commit.specs.World.{Tell, Forget}
+use Rattle.group_commit.specs.View.{View, length_of, ViewAllows, view_acted}
+use Rattle.group_commit.specs.Ticket.{Claim, Told, told_for}
+use Rattle.group_commit.specs.Seen.{Seen, snapshot_length, most_kept, effects_between}
+
+-- no more entries are taken: the most are kept, the open buffer or the active file has no room, or no position is left
+abbrev pub IsBusy : {D : Type 0} → Seen D → Type 0
+IsBusy seen = (most_kept ≤ length seen.view.kept) ⊎ (has_room seen.store ≡ false) ⊎ (length_of seen.view ≡ 2 ^ 64 - 1)
+
+-- why a command wasn't staged, the first of these that applies
+abbrev pub IsReason : {D : Type 0} → Seen D → Outside → Type 0
+IsReason seen outsides.BadLine = ⊥
+IsReason seen outsides.Broken = seen.view.broken ≡ true
+IsReason seen outsides.Busy = (seen.view.broken ≡ false) × IsBusy seen
+IsReason seen outsides.NoMemory = (seen.view.broken ≡ false) × (IsBusy seen → ⊥)
+
+-- a store with the record of an effect, if there is one, in its buffer
+abbrev pub noted : {D : Type 0} → Option Effect → StoreSeen D → StoreSeen D
+noted None store = store
+noted (Some effect) store = record store { buffer = store.buffer ++ record_of effect }
+
+-- how many bytes of frames a pump adds: the whole frame under way, where the pump settles it
+abbrev pub gained : View → Result Pumped DeviceFault → ℕ
+gained v (Ok answers.Settled) = if is_idle v.phase then 0 else frame_extra + length (records_of (effects_between v v.settled v.sealed))
+gained v _ = 0
+
+-- The numbers after a pump: the last one of a commit moves the tail gate behind the frame; the first one empties the buffer, also
+-- where its device call fails; no other changes them.
+pub record AreNumbers {D : Type 0} (old new : Seen D) (result : Result Pumped DeviceFault) : Type 0 where
+  pub generation : new.store.generation ≡ old.store.generation
+  pub tail : new.store.tail ≡ old.store.tail + gained old.view result
+  pub journal : new.store.journal ≡ old.store.journal + gained old.view result
+  pub buffer : new.store.buffer ≡ (if is_idle old.view.phase && not old.view.broken then [] else old.store.buffer)
+
+-- a ticket names an open entry of this life
+abbrev pub NamesOpen : {D : Type 0} → Seen D → Claim → Type 0
+NamesOpen seen claim = (claim.life ≡ seen.life) × ViewAllows snapshot_length seen.view (Forget claim.position)
+
+-- the receipt of the entry at a ticket's position
+pub record IsReceiptOf (claim : Claim) (v : View) (told : Told) : Type 0 where
+  pub kept : Kept
+  pub stands : slice_get v.kept (claim.position - v.retired) ≡ Some kept
+  pub receipt : told ≡ told_for claim kept.entry.reply
+
+-- What redeeming a ticket did: the reply of a settled entry was told; or the ticket came back, and nothing changed.
+abbrev pub IsRedeemed : {D A : Type 0} → Seen D → Seen D → Claim → Redeemed A → Type 0
+IsRedeemed old new claim (redeemed.Told receipt) =
+    (claim.life ≡ old.life)
+    × ViewAllows snapshot_length old.view (Tell claim.position)
+    × (new ≡ record old { view = view_acted snapshot_length old.view (Tell claim.position) })
+    × IsReceiptOf claim old.view receipt
+IsRedeemed old new claim (redeemed.NotYet back) = (back ≡ claim) × (new ≡ old) × NamesOpen old claim × (old.view.settled ≤ claim.position) × (old.view.broken ≡ false)
+IsRedeemed old new claim (redeemed.Unknown back) = (back ≡ claim) × (new ≡ old) × NamesOpen old claim × (old.view.settled ≤ claim.position) × (old.view.broken ≡ true)
+IsRedeemed old new claim (redeemed.Stranger back) = (back ≡ claim) × (new ≡ old) × (NamesOpen old claim → ⊥)
+IsRedeemed old new claim (redeemed.NoMemory back) = (back ≡ claim) × (new ≡ old) × NamesOpen old claim × (claim.position < old.view.settled)
+
+-- What forgetting a ticket did: the open entry that it names was closed; or it names none, and nothing changed.
+abbrev pub IsForgotten : {D : Type 0} → Seen D → Seen D → Claim → Forgotten → Type 0
+IsForgotten old new claim forgotten.Here = NamesOpen old claim × (new ≡ record old { view = view_acted snapshot_length old.view (Forget claim.position) })
+IsForgotten old new claim forgotten.Stranger = (new ≡ old) × (NamesOpen old claim → ⊥)

@@ -1,0 +1,31 @@
+-- A vault by its fields, and what every vault keeps.
+use Rattle.std.specs.Prelude.{◌≡◌}
+use Rattle.vault_model.specs.Vault.{Vault}
+use Rattle.vault_device.specs.Disk.{Disk}
+use Rattle.vault_store.specs.Seen.{Keeps}
+use Rattle.group_commit.specs.declared.vault.Vault.TheInside.{Inside}
+use Rattle.group_commit.specs.View.{book_of}
+use Rattle.group_commit.specs.Seen.{Seen, IsSoundView, state_of}
+
+-- what contracts see of the fields; nothing is retired yet
+abbrev pub seen_of : {D A : Type 0} → Inside D A → Seen D
+seen_of v = record {
+  view = record {
+    base = v.base.value;
+    kept = v.kept;
+    settled = v.settled;
+    sealed = v.sealed;
+    retired = 0;
+    told = v.told;
+    phase = v.store.phase;
+    broken = v.broken;
+  };
+  life = v.life;
+  store = v.store;
+}
+
+-- the book is the vault after the kept entries, the view is sound, and the store keeps what the view says
+pub record IsKept {D : Type 0} (disk : D → Disk) (seen : Seen D) (book : Vault) : Type 0 where
+  pub book_is : book ≡ book_of seen.view
+  pub sound : IsSoundView seen.view
+  pub stands : Keeps disk seen.store (state_of seen.view)

@@ -1,0 +1,40 @@
+-- What is promised of the files of a vault. This project's own.
+use Rattle.std.specs.Prelude.{◌≡◌, ℕ, false, List}
+use Rattle.vault_model.specs.Vault.{Vault}
+use Rattle.vault_device.specs.Disk.{Disk}
+use Rattle.vault_store.specs.declared.phase.Phase.TheVariants.{Opening}
+use Rattle.vault_store.specs.Files.{StandFor}
+use Rattle.vault_store.specs.Laws.{AreHonest, IsOneGate}
+use Rattle.vault_store.specs.Seen.{IsLeft, IsLeftInside}
+use Rattle.vault_store.specs.Step.{MayBeLeft}
+use Rattle.group_commit.specs.World.{new_world, Gate, recovered}
+use Rattle.group_commit.specs.Runs.{Event, run, IsRun}
+use Rattle.group_commit.specs.View.{view_of, MayLeave}
+use Rattle.group_commit.specs.Laws.{IsPrefix}
+use Rattle.group_commit.specs.Seen.{Seen, state_of}
+
+-- a crash may leave these two files of a vault's honest devices
+abbrev pub IsCrash : {D : Type 0} → (D → Disk) → Seen D → List ℕ → List ℕ → Type 0
+IsCrash disk seen x y = AreHonest disk seen.store × (disk seen.store.first).IsImage x × (disk seen.store.second).IsImage y
+
+-- What a crash leaves is read as the vault after the settled entries or, while a gate is being opened, as the one after the sealed
+-- ones exactly where that gate is 1; so it stands for one that the view allows.
+pub record ImagesStand {D : Type 0} (disk : D → Disk) (seen : Seen D) : Type 0 where
+  pub left : (x y : List ℕ) → IsCrash disk seen x y → IsLeft seen.store (state_of seen.view) x y
+  pub stands : (x y : List ℕ) → IsCrash disk seen x y → (left : Vault) × MayLeave seen.view left × StandFor x y left
+  -- while a frame's gate is being opened, and before a device call failed, a crash changes that byte alone
+  pub gate : AreHonest disk seen.store → seen.view.phase ≡ Opening → seen.view.broken ≡ false → IsOneGate (disk seen.store.first) seen.store.tail
+
+-- what a stop inside a call leaves is read as the vault after the entries settled before or, where a gate may be opened, after the
+-- sealed ones
+abbrev pub MomentsStand : {D : Type 0} → (D → Disk) → Seen D → Seen D → Type 0
+MomentsStand disk old new =
+    (x y : List ℕ) → AreHonest disk old.store → MayBeLeft (disk old.store.first) (disk old.store.second) (disk new.store.first) (disk new.store.second) x y
+    → IsLeftInside old.store (state_of old.view) x y
+
+-- Whatever run reached this view: what a crash leaves stands for the durable vault after one prefix of the history, with all that
+-- was told.
+abbrev pub RecoveryGivesOnePrefix : {D : Type 0} → (D → Disk) → Seen D → Type 0
+RecoveryGivesOnePrefix disk seen =
+    (snapshot : Vault → ℕ) (events : List Event) (x y : List ℕ) → IsRun snapshot new_world events → view_of (run snapshot new_world events) ≡ seen.view → IsCrash disk seen x y
+    → (gate : Gate) × StandFor x y (recovered (run snapshot new_world events) gate) × IsPrefix (run snapshot new_world events) gate

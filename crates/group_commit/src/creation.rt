@@ -1,0 +1,76 @@
+//! A vault in two new files, at the beginning of its first life.
+ghost use Rattle.std.specs.Prelude.{◌≡◌, [], IfOk, IfErr, IsTrue};
+ghost use Rattle.vault_model.specs.Vault.{new_vault};
+ghost use Rattle.vault_store.specs.Calls.{IsCalled};
+ghost use Rattle.vault_store.specs.Create.{new_file, IsFilled};
+ghost use Rattle.vault_store.specs.State.{at_rest};
+ghost use Rattle.vault_store.specs.Seen.{Keeps};
+ghost use Rattle.group_commit.specs.View.{opened_view};
+ghost use Rattle.group_commit.specs.Opened.{Begins, IsNotCreated};
+
+use crate::window::Window;
+use crate::{CreateError, Refused, Vault};
+use std::alloc::Allocator;
+use std::snapshot::Snapshot;
+use vault_checkout::Book;
+use vault_device::Device;
+use vault_model::NoMemory;
+use vault_store::Store;
+
+// The book of a new vault, and the room for its history.
+fn new_parts<A: Allocator + Copy>(alloc: A) -> Result<(Book<A>, Window<A>), NoMemory>
+    ensures { IfOk result (λ parts. (parts.0 ≡ new_vault) × (parts.1 ≡ [])) }
+{
+    Ok((Book::new(alloc)?, Window::new(alloc)?))
+}
+
+impl<D: Device, A: Allocator + Copy> Vault<D, A> {
+    /// A vault at the beginning of a life, over a store that keeps the book.
+    pub(crate) fn over(store: Store<D, A>, book: Book<A>, kept: Window<A>, life: u64) -> Self
+        requires kept { kept ≡ [] }
+        requires stands { Keeps D.disk store (at_rest book) }
+        ensures view { result.view ≡ opened_view book }
+        ensures life { result.life ≡ life }
+        ensures store { result.store ≡ store }
+    {
+        Vault {
+            store,
+            base: Snapshot::of(&book),
+            book,
+            kept,
+            settled: 0,
+            sealed: 0,
+            told: 0,
+            broken: false,
+            life,
+        }
+    }
+
+    /// Makes a vault with the library alone, in the first of two empty files. The life is a number that the caller hasn't
+    /// handed in before in this process. A refusal hands the devices back. A creation that failed or was stopped leaves files
+    /// that are no vault, or the new one. The room for the whole history is taken here.
+    pub fn create(
+        alloc: A,
+        first: D,
+        second: D,
+        life: u64,
+    ) -> Result<Vault<D, A>, Refused<D, CreateError>>
+        ensures view { IfOk result (λ vault. vault.view ≡ opened_view new_vault) }
+        ensures life { IfOk result (λ vault. vault.life ≡ life) }
+        ensures numbers { IfOk result (λ vault. Begins vault.store 1 34 0) }
+        ensures file { IsTrue (D.disk first).honest → IfOk result (λ vault. IsFilled (D.disk first) (D.disk vault.store.first) new_file) }
+        ensures empty { IsTrue (D.disk second).honest → IfOk result (λ vault. IsFilled (D.disk second) (D.disk vault.store.second) []) }
+        ensures called { IfOk result (λ vault. IsCalled (D.disk first) (D.disk vault.store.first) × IsCalled (D.disk second) (D.disk vault.store.second)) }
+        ensures refused { IfErr result (λ refused. IsNotCreated (D.disk first) (D.disk second) (D.disk refused.first) (D.disk refused.second) refused.why) }
+        ensures handed_back { IfErr result (λ refused. IsCalled (D.disk first) (D.disk refused.first) × IsCalled (D.disk second) (D.disk refused.second)) }
+    {
+        let Ok((book, kept)) = new_parts(alloc) else {
+            let why = CreateError::NoMemory;
+            return Err(Refused { why, first, second });
+        };
+        match Store::create(alloc, first, second) {
+            Ok(store) => Ok(Vault::over(store, book, kept, life)),
+            Err(refused) => Err(refused),
+        }
+    }
+}

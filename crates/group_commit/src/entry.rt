@@ -1,0 +1,74 @@
+//! An entry of the history, as it is kept.
+ghost use Rattle.std.specs.Prelude.{◌≡◌, IfOk};
+ghost use Rattle.vault_model.specs.Vault.{Vault};
+ghost use Rattle.group_commit.specs.History.{count_of};
+ghost use Rattle.group_commit.specs.Entries.{Entry as Given, opened};
+
+use crate::Mark;
+use std::alloc::Allocator;
+use std::marker::Model;
+use std::snapshot::Snapshot;
+use vault_checkout::Book;
+use vault_model::{CommandIn, NoMemory, ReplyIn};
+
+/// A session's command with its reply, and what became of its ticket. How many commands the session gave before it is there
+/// for contracts alone, by the book of that moment.
+#[derive(Drop)]
+pub(crate) struct Entry<A: Allocator> {
+    session: u32,
+    before: Snapshot<Book<A>>,
+    command: CommandIn<A>,
+    reply: ReplyIn<A>,
+    mark: Mark,
+}
+
+impl<A: Allocator> Model for Entry<A> {
+    ghost use Rattle.group_commit.specs.Entries.{Kept};
+
+    ghost Value = { Kept };
+
+    ghost use Rattle.group_commit.specs.History.{count_of};
+
+    ghost view = { λ e. record { entry = record { session = e.session; number = count_of e.before.value e.session; command = e.command; reply = e.reply }; mark = e.mark } };
+}
+
+impl<A: Allocator> Entry<A> {
+    /// An entry whose ticket is out.
+    pub fn open(
+        session: u32,
+        before: Snapshot<Book<A>>,
+        command: CommandIn<A>,
+        reply: ReplyIn<A>,
+    ) -> Entry<A>
+        ensures { result ≡ opened (record { session = session; number = count_of before.value session; command = command; reply = reply }) }
+    {
+        Entry {
+            session,
+            before,
+            command,
+            reply,
+            mark: Mark::Open,
+        }
+    }
+
+    /// What became of its ticket.
+    pub fn mark(&self) -> Mark
+        ensures { result ≡ self.now.mark }
+    {
+        self.mark
+    }
+
+    /// The same entry, closed.
+    pub fn close(&mut self, mark: Mark)
+        ensures { self.new ≡ record self.old { mark = mark } }
+    {
+        self.mark = mark;
+    }
+
+    /// A copy of the reply.
+    pub fn reply<B: Allocator>(&self, alloc: B) -> Result<ReplyIn<B>, NoMemory>
+        ensures { IfOk result (λ reply. reply ≡ self.now.entry.reply) }
+    {
+        self.reply.copy(alloc)
+    }
+}

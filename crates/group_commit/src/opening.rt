@@ -1,0 +1,47 @@
+//! A vault that was left in two files, at the beginning of another life.
+ghost use Rattle.std.specs.Prelude.{◌≡◌, ◌⊎◌, [], IfOk, IfErr, IsTrue};
+ghost use Rattle.vault_store.specs.declared.opening.OpenError.TheVariants.{Device as DeviceFailed};
+ghost use Rattle.vault_store.specs.Calls.{HasCause};
+ghost use Rattle.vault_store.specs.Files.{AreRead};
+ghost use Rattle.vault_store.specs.Opening.{IsNotOpened, IsHandedOn};
+ghost use Rattle.group_commit.specs.View.{opened_view};
+
+use crate::window::Window;
+use crate::{OpenError, Refused, Vault};
+use std::alloc::Allocator;
+use vault_device::Device;
+use vault_model::NoMemory;
+use vault_store::Store;
+
+impl<D: Device, A: Allocator + Copy> Vault<D, A> {
+    /// Opens the vault that two files stand for. The life is a number that the caller hasn't handed
+    /// in before in this process. A refusal hands the devices back. It writes nothing. The room for
+    /// the whole history is taken here.
+    pub fn open(
+        alloc: A,
+        first: D,
+        second: D,
+        life: u64,
+    ) -> Result<Vault<D, A>, Refused<D, OpenError>>
+        ensures begins { IfOk result (λ vault. vault.view ≡ opened_view vault.view.base) }
+        ensures life { IfOk result (λ vault. vault.life ≡ life) }
+        ensures buffer { IfOk result (λ vault. vault.store.buffer ≡ []) }
+        ensures read { IsTrue (D.disk first).honest → IsTrue (D.disk second).honest → IfOk result (λ vault. AreRead (D.disk first).shown (D.disk second).shown (record { vault = vault.view.base; generation = vault.store.generation; tail = vault.store.tail; journal = vault.store.journal })) }
+        ensures handed_on { IfOk result (λ vault. IsHandedOn (D.disk first) (D.disk vault.store.first) × IsHandedOn (D.disk second) (D.disk vault.store.second)) }
+        ensures refused { IsTrue (D.disk first).honest → IsTrue (D.disk second).honest → IfErr result (λ refused. IsNotOpened (D.disk first).shown (D.disk second).shown refused.why) }
+        ensures cause { IfErr result (λ refused. refused.why ≡ DeviceFailed → HasCause (D.disk first) (D.disk refused.first) ⊎ HasCause (D.disk second) (D.disk refused.second)) }
+        ensures handed_back { IfErr result (λ refused. IsHandedOn (D.disk first) (D.disk refused.first) × IsHandedOn (D.disk second) (D.disk refused.second)) }
+    {
+        match Store::open(alloc, first, second) {
+            Ok((store, book)) => match Window::new(alloc) {
+                Ok(kept) => Ok(Vault::over(store, book, kept, life)),
+                Err(NoMemory) => {
+                    let why = OpenError::NoMemory;
+                    let (first, second) = store.into_devices();
+                    Err(Refused { why, first, second })
+                }
+            },
+            Err(refused) => Err(refused),
+        }
+    }
+}

@@ -1,0 +1,65 @@
+//! Tickets are redeemed, or forgotten.
+ghost use Rattle.std.specs.Prelude.{◌≡◌, ◌<◌, ◌-◌, length, IfSome, IfNone, Some};
+ghost use Rattle.group_commit.specs.Entries.{mark_at};
+ghost use Rattle.group_commit.specs.Seen.{snapshot_length};
+ghost use Rattle.group_commit.specs.Calls.{NamesOpen, IsRedeemed, IsForgotten};
+
+use crate::{Forgotten, Mark, Redeemed, Ticket, Vault};
+use std::alloc::Allocator;
+use vault_device::Device;
+use vault_model::NoMemory;
+
+impl<D: Device, A: Allocator + Copy> Vault<D, A> {
+    // Where the open entry that a ticket names is kept.
+    fn open_place(&self, ticket: &Ticket<A>) -> Option<usize>
+        ensures some { IfSome result (λ place. NamesOpen self.now ticket.now × (place ≡ ticket.now.position - self.now.view.retired) × (place < length self.now.view.kept)) }
+        ensures none { IfNone result (NamesOpen self.now ticket.now → ⊥) }
+    {
+        if ticket.life() != self.life || ticket.position() >= self.kept.len() as u64 {
+            return None;
+        }
+        let place = ticket.position() as usize;
+        match self.kept.mark_at(place) {
+            Some(Mark::Open) => Some(place),
+            _ => None,
+        }
+    }
+
+    /// The reply of the entry that a ticket names, once that is settled: the entry is then closed. Else the ticket comes
+    /// back, and nothing changes. No device call.
+    pub fn redeem(&mut self, ticket: Ticket<A>) -> Redeemed<A>
+        ensures { IsRedeemed self.old self.new ticket result }
+    {
+        let Some(place) = self.open_place(&ticket) else {
+            return Redeemed::Stranger(ticket);
+        };
+        if ticket.position() >= self.settled {
+            return if self.broken {
+                Redeemed::Unknown(ticket)
+            } else {
+                Redeemed::NotYet(ticket)
+            };
+        }
+        match self.kept.reply_at(place) {
+            Ok(reply) => {
+                self.kept.close(place, Mark::Told);
+                self.told += 1;
+                Redeemed::Told(ticket.into_receipt(reply))
+            }
+            Err(NoMemory) => Redeemed::NoMemory(ticket),
+        }
+    }
+
+    /// Spends a ticket without its reply, and closes its entry. No memory and no device call.
+    pub fn forget(&mut self, ticket: Ticket<A>) -> Forgotten
+        ensures { IsForgotten self.old self.new ticket result }
+    {
+        let Some(place) = self.open_place(&ticket) else {
+            ticket.discard();
+            return Forgotten::Stranger;
+        };
+        ticket.discard();
+        self.kept.close(place, Mark::Forgotten);
+        Forgotten::Here
+    }
+}

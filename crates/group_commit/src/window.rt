@@ -1,0 +1,87 @@
+//! The kept entries.
+ghost use Rattle.std.specs.Prelude.{◌≡◌, ◌<◌, ◌≤◌, ◌++◌, [], ◌∷◌, length, slice_get, IfOk, Some};
+ghost use Rattle.group_commit.specs.Entries.{Kept, mark_at, with_mark};
+ghost use Rattle.group_commit.specs.Seen.{most_kept};
+
+use crate::Mark;
+use crate::entry::Entry;
+use std::alloc::Allocator;
+use std::collections::VecDeque;
+use std::marker::Model;
+use vault_model::{NoMemory, ReplyIn};
+
+// The most entries that are kept.
+pub(crate) const MOST_KEPT: usize = 4096;
+
+/// The kept entries, in order. All of their room is taken when it is made.
+#[derive(Drop)]
+pub(crate) struct Window<A: Allocator> {
+    entries: VecDeque<Entry<A>, A>,
+}
+
+impl<A: Allocator> Model for Window<A> {
+    ghost use Rattle.std.specs.Prelude.{◌≤◌, List, length};
+    ghost use Rattle.std.specs.VecDeque.{deque_capacity};
+    ghost use Rattle.group_commit.specs.Entries.{Kept};
+    ghost use Rattle.group_commit.specs.Seen.{most_kept};
+
+    ghost Value = { List Kept };
+
+    ghost view = { λ w. w.entries.items };
+
+    ghost invariant = { λ w. (length w.entries.items ≤ most_kept) × (most_kept ≤ deque_capacity w.entries) };
+}
+
+impl<A: Allocator + Copy> Window<A> {
+    /// No entries, and room for the most.
+    pub fn new(alloc: A) -> Result<Window<A>, NoMemory>
+        ensures { IfOk result (λ window. window ≡ []) }
+    {
+        Ok(Window {
+            entries: VecDeque::with_capacity(alloc, MOST_KEPT)?,
+        })
+    }
+
+    /// How many there are.
+    pub fn len(&self) -> usize
+        ensures len { result ≡ length self.now }
+        ensures few { result ≤ most_kept }
+    {
+        self.entries.len()
+    }
+
+    /// Puts one more at the end. Takes no memory.
+    pub fn push(&mut self, entry: Entry<A>)
+        requires { length self.old < most_kept }
+        ensures { self.new ≡ self.old ++ entry ∷ [] }
+    {
+        self.entries.push_back_reserved(entry);
+    }
+
+    /// What became of the ticket of the entry at a place.
+    pub fn mark_at(&self, place: usize) -> Option<Mark>
+        ensures { result ≡ mark_at self.now place }
+    {
+        match self.entries.get(place) {
+            Some(entry) => Some(entry.mark()),
+            None => None,
+        }
+    }
+
+    /// Closes the entry at a place.
+    pub fn close(&mut self, place: usize, mark: Mark)
+        requires { place < length self.old }
+        ensures { self.new ≡ with_mark mark self.old place }
+    {
+        self.entries[place].close(mark);
+    }
+
+    /// A copy of the reply at a place.
+    pub fn reply_at(&self, place: usize) -> Result<ReplyIn<A>, NoMemory>
+        requires { place < length self.now }
+        ensures { IfOk result (λ reply. (kept : Kept) → slice_get self.now place ≡ Some kept → reply ≡ kept.entry.reply) }
+    {
+        let alloc = *self.entries.allocator();
+        self.entries[place].reply(alloc)
+    }
+}
