@@ -26,16 +26,14 @@ fn a_check_out_has_64_drafts_at_most(rt: HostRuntime) {
     for number in 0..64u8 {
         let place = PlaceId(u32::from(number) + 5);
         let make = Make(part(&rt, number), Some(1));
-        let (reply, _) = talk.tell(1, &make).expect(&rt, "memory");
-        assert!(rt; reply == Reply::Place(place.number()));
+        assert!(rt; talk.say(&rt, 1, &make) == Reply::Place(place.number()));
         let save = Save(1, part(&rt, number), content(&rt, memory, "x"));
         let (reply, effect) = talk.tell(1, &save).expect(&rt, "memory");
         let saved = Effect::Saved(1, place, content(&rt, memory, "x"));
         assert!(rt; reply == Reply::Saved && effect == Some(saved));
     }
-    let limit = Reply::Refused(Refusal::Limit);
     let save = Save(1, path(&rt, "/e/c/p"), content(&rt, memory, "x"));
-    assert_eq!(rt; talk.say(&rt, 1, &save), limit);
+    assert_eq!(rt; talk.say(&rt, 1, &save), Reply::Refused(Refusal::Limit));
 
     // A draft in place of one that was saved before counts once.
     let save = Save(1, part(&rt, 63), content(&rt, memory, "yz"));

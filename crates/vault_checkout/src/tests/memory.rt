@@ -81,23 +81,28 @@ fn save(rt: &impl Abort, memory: Global, claim: u32, text: &str) -> Command {
     Save(claim, path(rt, "/e/b/p"), content(rt, memory, text))
 }
 
+/// What anna says before each command: she has a part with a version and a draft.
+fn before(rt: &impl Abort, memory: Global) -> [(u32, Command); 12] {
+    [
+        (0, Join(name(rt, "anna"))),
+        (1, Make(path(rt, "/e"), None)),
+        (1, Make(path(rt, "/e/b"), None)),
+        (1, Make(path(rt, "/e/b/p"), None)),
+        (1, CheckOut(item(rt, memory, Change, "/e"))),
+        (1, save(rt, memory, 1, "first")),
+        (1, CheckIn(1)),
+        (1, CheckOut(item(rt, memory, Change, "/e"))),
+        (1, save(rt, memory, 2, "second")),
+        (1, Hold(item(rt, memory, Look, "/"))),
+        (1, CheckOut(item(rt, memory, Look, "/"))),
+        (1, CheckOut(item(rt, memory, Look, "/"))),
+    ]
+}
+
 #[test]
 fn each_request_of_memory_is_refused(rt: HostRuntime) {
     let memory = rt.alloc();
-    let before = [
-        (0, Join(name(&rt, "anna"))),
-        (1, Make(path(&rt, "/e"), None)),
-        (1, Make(path(&rt, "/e/b"), None)),
-        (1, Make(path(&rt, "/e/b/p"), None)),
-        (1, CheckOut(item(&rt, memory, Change, "/e"))),
-        (1, save(&rt, memory, 1, "first")),
-        (1, CheckIn(1)),
-        (1, CheckOut(item(&rt, memory, Change, "/e"))),
-        (1, save(&rt, memory, 2, "second")),
-        (1, Hold(item(&rt, memory, Look, "/"))),
-        (1, CheckOut(item(&rt, memory, Look, "/"))),
-        (1, CheckOut(item(&rt, memory, Look, "/"))),
-    ];
+    let before = before(&rt, memory);
     let lines = [
         Make(path(&rt, "/f"), None),
         Make(path(&rt, "/e/f"), Some(2)),
@@ -127,13 +132,19 @@ fn each_request_of_memory_is_refused(rt: HostRuntime) {
 }
 
 #[test]
-fn a_new_book_is_refused_its_memory(rt: HostRuntime) {
+fn a_book_is_made_and_copied_in_refused_memory(rt: HostRuntime) {
     let memory = Refusing::new(rt.alloc());
-    memory.refuse(1);
-    assert!(rt; Book::new(&memory).is_err());
-    for number in 1..20u64 {
+    let mut talk = Talk::new(&rt, &memory);
+    talk.hear(&rt, &before(&rt, rt.alloc()));
+    for number in 1..99u64 {
         memory.refuse(number);
         let book = Book::new(&memory);
         assert_eq!(rt; book.is_err(), !memory.is_waiting());
+        assert!(rt; number > 1 || book.is_err());
+        memory.refuse(number);
+        match talk.book.copy() {
+            Ok(copy) => assert!(rt; memory.is_waiting() && are_alike(&rt, &talk.book, &copy)),
+            Err(NoMemory) => assert!(rt; !memory.is_waiting() && number < 98),
+        }
     }
 }
