@@ -1,5 +1,6 @@
 pub mod Torn
 pub mod Moments
+pub mod Picks
 mod Gates
 mod Parts
 mod Done

@@ -1,5 +1,5 @@
 -- The events of a memory since its last settling.
-use Rattle.std.proofs.Common.{◌≡◌, ℕ, ◌+◌, ◌-◌, ◌<◌, ◌≤◌, max, true, List, [], ◌∷◌, ◌++◌, length, get_or, replicate, reverse, take, drop, refl, sym, ◌∙◌, ap, subst, arith, vec_capacity, length-append, ◌==◌}
+use Rattle.std.proofs.Common.{◌≡◌, ℕ, zero, suc, ◌+◌, ◌-◌, ◌<◌, ◌≤◌, min, max, true, List, [], ◌∷◌, ◌++◌, length, get_or, replicate, reverse, take, drop, refl, sym, ◌∙◌, ap, subst, arith, vec_capacity, length-append, ◌==◌}
 use Rattle.std.proofs.lemmas.Bool.Decides.{nat_tests}
 use Rattle.std.proofs.lemmas.List.{reverse-append, drop-append-le, drop_all, length-drop, length-replicate, drop_more, take_all}
 use Rattle.vault_device.specs.Disk.{overwritten}
@@ -26,10 +26,27 @@ leads-push len total (Wrote k text ∷ later) at bytes leads le = (leads.0, lead
 leads-push len total (Synced ∷ later) at bytes leads le = leads-push len total later at bytes leads le
 leads-push len total (Crashed pick ∷ later) at bytes leads le = leads-push len total later at bytes leads le
 
+-- fewer bytes at the front are the same
+fewer_same : (k n : ℕ) (x y : List ℕ) → k ≤ n → take n x ≡ take n y → take k x ≡ take k y
+fewer_same k n x y le same = sym (take_fewer k n x le) ∙ ap (take k) same ∙ take_fewer k n y le
+  where
+    take_fewer : (k n : ℕ) (x : List ℕ) → k ≤ n → take k (take n x) ≡ take k x
+    take_fewer zero n x le = refl
+    take_fewer (suc k) zero x le = absurd (omega arith)
+    take_fewer (suc k) (suc n) [] le = refl
+    take_fewer (suc k) (suc n) (b ∷ x) le = ap (λ rest. b ∷ rest) (take_fewer k n x (omega arith))
+
+-- what is put behind the first bytes leaves them
+untouched : (k at : ℕ) (bytes rest old : List ℕ) → k ≤ at → at ≤ length old → take k (take at old ++ bytes ++ rest) ≡ take k old
+untouched zero at bytes rest old le within = refl
+untouched (suc k) zero bytes rest old le within = absurd (omega arith)
+untouched (suc k) (suc at) bytes rest [] le within = absurd (omega arith)
+untouched (suc k) (suc at) bytes rest (b ∷ old) le within = ap (λ more. b ∷ more) (untouched k at bytes rest old (omega arith) (omega arith))
+
 pub put_kept : {A : Type 0} (old new : Inside A) (at : ℕ) (bytes : List ℕ) → IsMemory old → at ≤ length old.shown.items
-    → new.shown.items ≡ overwritten old.shown.items at bytes → new.settled.items ≡ old.settled.items → new.events.items ≡ old.events.items ++ Wrote at bytes ∷ [] → new.start ≡ old.start
+    → new.shown.items ≡ overwritten old.shown.items at bytes → new.settled.items ≡ old.settled.items → new.events.items ≡ old.events.items ++ Wrote at bytes ∷ [] → new.start ≡ old.start → new.clean ≡ min old.clean at
     → length new.shown.items ≤ vec_capacity new.settled → length new.events.items < vec_capacity new.events → IsMemory new
-put_kept old new at bytes kept le shown settled events start room slot = record {
+put_kept old new at bytes kept le shown settled events start clean room slot = record {
   shown = shown ∙ ap (λ (l : List ℕ). overwritten l at bytes) kept.shown ∙ sym (ap (λ (h : List Event). (content_of h).shown) history_is);
   settled = settled ∙ kept.settled ∙ sym (ap (λ (h : List Event). (content_of h).settled) history_is);
   filled = λ b.
@@ -43,6 +60,12 @@ put_kept old new at bytes kept le shown settled events start room slot = record 
       (subst (λ (l : List Event). LeadsTo (length old.settled.items) (max (length old.shown.items) (at + length bytes)) l) (sym since_is) longer));
   start = omega (arith, start, kept.start, grown);
   rest = rested;
+  clean = omega (arith, clean, kept.clean, ap length settled);
+  same =
+      ap (λ (l : List ℕ). take new.clean l) settled ∙ ap (λ (n : ℕ). take n old.settled.items) clean
+      ∙ fewer_same (min old.clean at) old.clean old.settled.items old.shown.items (omega arith) kept.same
+      ∙ sym (untouched (min old.clean at) at bytes (drop (at + length bytes) old.shown.items) old.shown.items (omega arith) le)
+      ∙ sym (ap (λ (n : ℕ). take n (overwritten old.shown.items at bytes)) clean) ∙ sym (ap (λ (l : List ℕ). take new.clean l) shown);
   room = room;
   slot = λ lt. slot;
 }
@@ -102,14 +125,16 @@ cover_crashed b total pick events i e x y first below is-item is-crash same lead
 
 -- all of these bytes are settled now
 pub rest_kept : {A : Type 0} (old new : Inside A) (e : Event) (bytes : List ℕ) → content_of (e ∷ history_of old) ≡ at_rest bytes → is_at_rest (e ∷ history_of old) ≡ true
-    → new.shown.items ≡ bytes → new.settled.items ≡ bytes → new.events.items ≡ old.events.items ++ e ∷ [] → new.start ≡ length new.events.items → length bytes ≤ vec_capacity new.settled → IsMemory new
-rest_kept old new e bytes content rest shown settled events start room = record {
+    → new.shown.items ≡ bytes → new.settled.items ≡ bytes → new.events.items ≡ old.events.items ++ e ∷ [] → new.start ≡ length new.events.items → new.clean ≡ length new.shown.items → length bytes ≤ vec_capacity new.settled → IsMemory new
+rest_kept old new e bytes content rest shown settled events start clean room = record {
   shown = shown ∙ sym (ap (λ (k : Content). k.shown) now);
   settled = settled ∙ sym (ap (λ (k : Content). k.settled) now);
   filled = λ b. ap (λ (k : Content). k.filled b) now ∙ sym settled ∙ sym (ap (λ (l : List Event). covered b l new.settled.items) none);
   leads = subst (λ (l : List Event). LeadsTo (length new.settled.items) (length new.shown.items) l) (sym none) (ap length (settled ∙ sym shown));
   start = omega (arith, start);
   rest = let same = start in grind (arith, nat_tests) ∙ sym (ap (λ (h : List Event). is_at_rest h) history_is ∙ rest);
+  clean = omega (arith, clean, ap length shown, ap length settled);
+  same = ap (λ (l : List ℕ). take new.clean l) (settled ∙ sym shown);
   room = omega (arith, room, ap length shown);
   slot = λ lt. absurd (omega (arith, lt, start));
 }
@@ -137,8 +162,8 @@ left_since pick shown other settled start all events same same_events =
 
 -- a crash, where what it picks was made of slices of the fields
 pub crash_kept : {A : Type 0} (pick : Pick) (old new : Inside A) (other : List ℕ) (all : List Event) → IsMemory old → new.shown.items ≡ left pick old.shown.items other (take (length all - old.start) (drop old.start all)) → other ≡ old.settled.items → all ≡ old.events.items
-    → new.settled.items ≡ new.shown.items → new.events.items ≡ old.events.items ++ Crashed pick ∷ [] → new.start ≡ length new.events.items → length new.shown.items ≤ vec_capacity new.settled → IsMemory new
-crash_kept pick old new other all kept shown same same_events settled events start room =
+    → new.settled.items ≡ new.shown.items → new.events.items ≡ old.events.items ++ Crashed pick ∷ [] → new.start ≡ length new.events.items → new.clean ≡ length new.shown.items → length new.shown.items ≤ vec_capacity new.settled → IsMemory new
+crash_kept pick old new other all kept shown same same_events settled events start clean room =
     let is : new.shown.items ≡ picked pick (content_of (history_of old)) =
     shown ∙ left_since pick old.shown.items other old.settled.items old.start all old.events.items same same_events ∙ left_picked pick old kept in
-    rest_kept old new (Crashed pick) (picked pick (content_of (history_of old))) refl refl is (settled ∙ is) events start (omega (arith, room, ap length is))
+    rest_kept old new (Crashed pick) (picked pick (content_of (history_of old))) refl refl is (settled ∙ is) events start clean (omega (arith, room, ap length is))

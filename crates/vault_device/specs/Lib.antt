@@ -5,3 +5,4 @@ pub mod MemoryLaws
 pub mod MemDevice
 pub mod RawFile
 pub mod SettledByte
+pub mod Picks

@@ -1,5 +1,5 @@
 -- What the fields of a memory stand for.
-use Rattle.std.specs.Prelude.{◌≡◌, ◌==◌, ℕ, ◌<◌, ◌≤◌, List, length, drop, reverse, vec_capacity}
+use Rattle.std.specs.Prelude.{◌≡◌, ◌==◌, ℕ, ◌<◌, ◌≤◌, List, length, take, drop, reverse, vec_capacity}
 use Rattle.vault_device.specs.declared.memory.Memory.TheInside.{Inside}
 use Rattle.vault_device.specs.Memory.{Event, content_of, covered, LeadsTo, is_at_rest}
 
@@ -19,6 +19,9 @@ pub record IsMemory {A : Type 0} (memory : Inside A) : Type 0 where
   pub leads : LeadsTo (length memory.settled.items) (length memory.shown.items) (since memory)
   pub start : memory.start ≤ length memory.events.items
   pub rest : (memory.start == length memory.events.items) ≡ is_at_rest (history_of memory)
+  -- the bytes at the front that no write has touched
+  pub clean : memory.clean ≤ length memory.settled.items
+  pub same : take memory.clean memory.settled.items ≡ take memory.clean memory.shown.items
   -- a sync and a crash take no memory
   pub room : length memory.shown.items ≤ vec_capacity memory.settled
   pub slot : memory.start < length memory.events.items → length memory.events.items < vec_capacity memory.events

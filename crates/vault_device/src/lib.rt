@@ -4,6 +4,7 @@
 mod device;
 mod file_device;
 mod history;
+pub mod laws;
 mod mem_device;
 mod memory;
 mod raw_file;

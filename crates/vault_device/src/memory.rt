@@ -1,5 +1,5 @@
 //! The bytes of a device in memory, and all that was done to them.
-ghost use Rattle.std.specs.Prelude.{◌≡◌, ◌≤◌, ◌<◌, ◌+◌, ◌^◌, ◌∷◌, ◌++◌, [], OnOk, OnErr, IfOk, length, replicate, vec_len, vec_capacity};
+ghost use Rattle.std.specs.Prelude.{◌≡◌, ◌≤◌, ◌<◌, ◌+◌, ◌^◌, ◌∷◌, ◌++◌, [], OnOk, OnErr, IfOk, length, replicate, take, vec_len, vec_capacity};
 ghost use Rattle.vault_device.specs.Disk.{overwritten};
 ghost use Rattle.vault_device.specs.Memory.{content_of, covered, left, LeadsTo, after_sync, after_crash};
 
@@ -16,6 +16,8 @@ pub struct Memory<A: Allocator> {
     events: Vec<Event<Text<A>>, A>,
     // How many events there were when all was settled last.
     start: usize,
+    // How many bytes at the front no write has touched since then.
+    clean: usize,
 }
 
 impl<A: Allocator> Model for Memory<A> {
@@ -62,6 +64,20 @@ fn refill<A: Allocator>(all: &mut Vec<u8, A>, from: &[u8])
 {
     all.clear();
     let _ = all.extend_from_slice(from);
+}
+
+// Makes all the same as the other, where so many bytes at the front are the same already, within the room that there is.
+fn follow<A: Allocator>(all: &mut Vec<u8, A>, from: &[u8], clean: usize)
+    requires within { clean ≤ length from.now }
+    requires same { take clean all.old.items ≡ take clean from.now }
+    requires there { clean ≤ length all.old.items }
+    requires room { length from.now ≤ vec_capacity all.old }
+    ensures bytes { all.new.items ≡ from.now }
+    ensures capacity { vec_capacity all.old ≤ vec_capacity all.new }
+{
+    all.truncate(clean);
+    let (_, rest) = from.split_at(clean);
+    let _ = all.extend_from_slice(rest);
 }
 
 // Writes one byte n times, within the room that there is.
@@ -137,6 +153,7 @@ impl<A: Allocator + Copy> Memory<A> {
             settled: Vec::new(alloc),
             events: Vec::with_capacity(alloc, 8)?,
             start: 0,
+            clean: 0,
         })
     }
 
@@ -158,6 +175,7 @@ impl<A: Allocator + Copy> Memory<A> {
         reserve_for(&mut self.settled, self.shown.len(), bytes.len())?;
         self.events.reserve(2)?;
         overwrite(&mut self.shown, at, bytes);
+        self.clean = self.clean.min(at);
         push_within(&mut self.events, Event::Wrote(at, text));
         Ok(())
     }
@@ -178,17 +196,19 @@ impl<A: Allocator + Copy> Memory<A> {
         refill(&mut self.settled, &self.shown);
         push_within(&mut self.events, Event::Crashed(pick));
         self.start = self.events.len();
+        self.clean = self.shown.len();
     }
 
-    /// Settles what is shown.
+    /// Settles what is shown. Takes time proportional to the bytes from the first that was written since the last settling.
     pub fn settle(&mut self)
         ensures { self.new ≡ after_sync self.old }
     {
         if self.start == self.events.len() {
             return;
         }
-        refill(&mut self.settled, &self.shown);
+        follow(&mut self.settled, &self.shown, self.clean);
         push_within(&mut self.events, Event::Synced);
         self.start = self.events.len();
+        self.clean = self.shown.len();
     }
 }

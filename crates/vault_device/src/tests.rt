@@ -80,6 +80,24 @@ fn picks(rt: HostRuntime) -> Result<(), Fail> {
 }
 
 #[test]
+fn picks_of_an_unsettled_one(rt: HostRuntime) -> Result<(), Fail> {
+    let cases: [(Pick, &[u8]); 5] = [
+        (Pick::Old, b"abc"),
+        (Pick::New, b"a\x01c"),
+        (Pick::Bytes(0), b"a\x00c"),
+        (Pick::Bytes(1), b"a\x01c"),
+        (Pick::Bytes(2), b"a\x02c"),
+    ];
+    for (pick, left) in cases {
+        assert!(rt;
+            leaves(rt.alloc(), &[(1, b"\x01")], pick, left)?,
+            "{pick:?}"
+        );
+    }
+    Ok(())
+}
+
+#[test]
 fn failing_calls(rt: HostRuntime) -> Result<(), Fail> {
     let mut device = MemDevice::new(rt.alloc())?;
     device.fail_at(1);
