@@ -1,9 +1,12 @@
 mod committing;
+mod creating;
+mod real_files;
 mod reopening;
+mod stopped;
 
 use super::*;
 use committing::{filled, left, made_again, new_store, note_within, settled_after, shows};
-use reopening::{damaged, fails_at, left_with, opens, wants_at};
+use reopening::{damaged, fails_at, opens, wants_at};
 use std::test::Fail;
 use test_memory::Refusing;
 use vault_device::{Device, MemDevice, Pick};
@@ -177,19 +180,6 @@ fn opened_damaged(rt: HostRuntime) -> Result<(), Fail> {
     assert!(rt; opens(alloc, &WITH_E[..34], b"", Err(damaged(20)))?);
     assert!(rt; opens(alloc, &WITH_E[..40], b"", Err(damaged(34)))?);
     assert!(rt; opens(alloc, &WITH_E[..46], b"", Err(damaged(34)))?);
-    Ok(())
-}
-
-#[test]
-fn opened_after_a_stop(rt: HostRuntime) -> Result<(), Fail> {
-    let alloc = rt.alloc();
-    assert!(rt; left_with(alloc, 1, 0, Pick::New, (1, 0))?);
-    assert!(rt; left_with(alloc, 2, 0, Pick::New, (1, 0))?);
-    assert!(rt; left_with(alloc, 3, 0, Pick::Old, (1, 0))?);
-    assert!(rt; left_with(alloc, 3, 0, Pick::Bytes(1), (2, 12))?);
-    assert!(rt; left_with(alloc, 5, 4, Pick::Bytes(7), (1, 0))?);
-    assert!(rt; left_with(alloc, 5, 4, Pick::New, (2, 12))?);
-    assert!(rt; left_with(alloc, 4, 0, Pick::Old, (2, 12))?);
     Ok(())
 }
 

@@ -23,7 +23,7 @@ pub fn new_store(alloc: Global, failing: u64) -> Result<Store<MemDevice>, Fail> 
 }
 
 /// Notes where there is room, and says whether there was.
-pub fn note_within(store: &mut Store<MemDevice>, effect: &EffectIn<Global>) -> bool
+pub fn note_within<D: Device>(store: &mut Store<D>, effect: &EffectIn<Global>) -> bool
     requires { HasRecord effect.now }
 {
     let room = store.room();
@@ -34,7 +34,7 @@ pub fn note_within(store: &mut Store<MemDevice>, effect: &EffectIn<Global>) -> b
 }
 
 /// Whether the last of so many steps settles, and none before it.
-pub fn settled_after(store: &mut Store<MemDevice>, steps: u8) -> bool {
+pub fn settled_after<D: Device>(store: &mut Store<D>, steps: u8) -> bool {
     for _ in 1..steps {
         if store.advance() != Ok(Advanced::Moved) {
             return false;

@@ -1,12 +1,10 @@
 ghost use Rattle.std.specs.Prelude.{◌<◌, length};
 
-use crate::tests::committing::{new_store, note_within};
 use crate::{File, OpenError, Store};
 use std::alloc::Global;
 use std::test::Fail;
 use test_memory::Refusing;
-use vault_device::{Device, MemDevice, Pick};
-use vault_model::{Effect, EffectIn, Name, PlaceId};
+use vault_device::{Device, MemDevice};
 
 /// A fault of the first file.
 pub const fn damaged(offset: u64) -> OpenError {
@@ -47,27 +45,6 @@ pub fn opens(
     let first = holding(alloc, first)?;
     let second = holding(alloc, second)?;
     Ok(counted(alloc, first, second) == so)
-}
-
-/// Whether what so many steps of a commit of `make /e`, and a crash, leave opens so.
-pub fn left_with(
-    alloc: Global,
-    steps: u8,
-    failing: u64,
-    pick: Pick,
-    so: (usize, u64),
-) -> Result<bool, Fail> {
-    let name = Name::read(b"e").ok_or("a name")?;
-    let mut store = new_store(alloc, failing)?;
-    let made: EffectIn<Global> = Effect::Made(PlaceId(0), name);
-    let noted = note_within(&mut store, &made);
-    for _ in 0..steps {
-        let _ = store.advance();
-    }
-    let (mut first, mut second) = store.into_devices();
-    first.crash(pick);
-    second.crash(pick);
-    Ok(noted && counted(alloc, first, second) == Ok(so))
 }
 
 /// Whether a failing call of one of the devices is answered as a fault, and the same devices then open.
