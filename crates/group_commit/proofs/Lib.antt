@@ -21,3 +21,8 @@ pub mod Staged
 pub mod Pumps
 pub mod Begins
 pub mod Images
+pub mod Prefixes
+pub mod Pasts
+pub mod Headline
+pub mod Nexts
+pub mod Positions

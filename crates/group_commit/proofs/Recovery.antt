@@ -14,7 +14,7 @@ use Rattle.group_commit.proofs.Sound.{IsSound}
 use Rattle.group_commit.proofs.Stays.{keeps_settled, keeps_at_most_all, length-history_to}
 use Rattle.group_commit.proofs.ViewLaw.{view_at_is}
 
-prefix_is : (w : World) (n : ℕ) → n ≤ length w.life → history_to w n ≡ take (length w.earlier + n) (history w)
+pub prefix_is : (w : World) (n : ℕ) → n ≤ length w.life → history_to w n ≡ take (length w.earlier + n) (history w)
 prefix_is w n h = sym (ap (λ l. take (length w.earlier + n) l) (sym (members_rest w.earlier n w.life)) ∙ take_at (history_to w n) (members (drop n w.life)) (length w.earlier + n) (length-history_to w n h))
 
 cut_is : (w : World) (gate : Gate) → (kept_by w gate ≡ w.settled) ⊎ (IsTrue (is_opening w.phase) × (kept_by w gate ≡ w.sealed))

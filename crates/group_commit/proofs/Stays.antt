@@ -14,7 +14,7 @@ use Rattle.group_commit.proofs.Marks.{members-with_mark}
 use Rattle.group_commit.proofs.Order.{more_settled, opening_is_busy}
 use Rattle.group_commit.proofs.Sound.{IsSound, act_sound, crash_sound}
 
-get_front : {A : Type 0} (xs ys : List A) (k : ℕ) (x : A) → slice_get xs k ≡ Some x → slice_get (xs ++ ys) k ≡ Some x
+pub get_front : {A : Type 0} (xs ys : List A) (k : ℕ) (x : A) → slice_get xs k ≡ Some x → slice_get (xs ++ ys) k ≡ Some x
 get_front [] ys k x e = absurd (cc)
 get_front (z ∷ xs) ys zero x e = e
 get_front (z ∷ xs) ys (suc k) x e = get_front xs ys k x e

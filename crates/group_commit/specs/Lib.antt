@@ -13,3 +13,6 @@ pub mod Written
 pub mod Calls
 pub mod Opened
 pub mod Promises
+pub mod Pasts
+pub mod Recovered
+pub mod Positions

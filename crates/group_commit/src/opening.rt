@@ -5,6 +5,8 @@ ghost use Rattle.vault_store.specs.Calls.{HasCause};
 ghost use Rattle.vault_store.specs.Files.{AreRead};
 ghost use Rattle.vault_store.specs.Opening.{IsNotOpened, IsHandedOn};
 ghost use Rattle.group_commit.specs.View.{opened_view};
+ghost use Rattle.group_commit.specs.Seen.{Seen};
+ghost use Rattle.group_commit.specs.Pasts.{IsStop, IsNext};
 
 use crate::window::Window;
 use crate::{OpenError, Refused, Vault};
@@ -27,6 +29,7 @@ impl<D: Device, A: Allocator + Copy> Vault<D, A> {
         ensures life { IfOk result (λ vault. vault.life ≡ life) }
         ensures buffer { IfOk result (λ vault. vault.store.buffer ≡ []) }
         ensures read { IsTrue (D.disk first).honest → IsTrue (D.disk second).honest → IfOk result (λ vault. AreRead (D.disk first).shown (D.disk second).shown (record { vault = vault.view.base; generation = vault.store.generation; tail = vault.store.tail; journal = vault.store.journal })) }
+        ensures next { IsTrue (D.disk first).honest → IsTrue (D.disk second).honest → IfOk result (λ vault. (old : Seen D) → IsStop D.disk old (D.disk first).shown (D.disk second).shown → IsNext D.disk old vault) }
         ensures handed_on { IfOk result (λ vault. IsHandedOn (D.disk first) (D.disk vault.store.first) × IsHandedOn (D.disk second) (D.disk vault.store.second)) }
         ensures refused { IsTrue (D.disk first).honest → IsTrue (D.disk second).honest → IfErr result (λ refused. IsNotOpened (D.disk first).shown (D.disk second).shown refused.why) }
         ensures cause { IfErr result (λ refused. refused.why ≡ DeviceFailed → HasCause (D.disk first) (D.disk refused.first) ⊎ HasCause (D.disk second) (D.disk refused.second)) }

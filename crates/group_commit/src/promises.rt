@@ -1,11 +1,18 @@
 //! What every vault keeps, and what a crash leaves of it.
+ghost use Rattle.std.specs.Prelude.{◌≡◌, List, [], ◌∷◌};
+ghost use Rattle.vault_model.specs.Vault.{new_vault};
 ghost use Rattle.vault_store.specs.Seen.{Keeps};
-ghost use Rattle.group_commit.specs.Seen.{IsSoundView, state_of};
+ghost use Rattle.group_commit.specs.View.{opened_view};
+ghost use Rattle.group_commit.specs.Seen.{Seen, IsSoundView, state_of};
 ghost use Rattle.group_commit.specs.Promises.{ImagesStand, RecoveryGivesOnePrefix};
+ghost use Rattle.group_commit.specs.Pasts.{IsNext, IsPast};
+ghost use Rattle.group_commit.specs.Recovered.{EachPastIsKept};
+ghost use Rattle.group_commit.specs.Positions.{StagedAtItsPosition, PositionsStay, ReceiptsAreOfTheirEntries};
 
 use crate::Vault;
 use std::alloc::Allocator;
 use vault_device::Device;
+use vault_store::laws::files_stand_for_one_vault;
 
 /// The kept history is legal from the base, told entries are settled, at most 4,096 entries are kept, and the store keeps the
 /// durable vaults that the view says.
@@ -16,6 +23,15 @@ pub fn a_vault_keeps_its_history<D: Device, A: Allocator>(vault: &Vault<D, A>)
     let _ = &vault.kept;
 }
 
+/// A vault that began as the new one has no past, and the past of one that is next of another has that one before it. So whoever
+/// makes its calls one after another, and opens it again where the machine stopped, has its past.
+pub fn a_past_goes_on<D: Device, A: Allocator>(vault: &Vault<D, A>)
+    ensures begins { vault.now.view ≡ opened_view new_vault → IsPast D.disk vault.now [] }
+    ensures goes_on { (old : Seen D) (past : List (Seen D)) → IsPast D.disk old past → IsNext D.disk old vault.now → IsPast D.disk vault.now (old ∷ past) }
+{
+    a_vault_keeps_its_history(vault);
+}
+
 /// What a crash leaves of the files of honest devices stands for the durable vault after the settled entries or, while a gate
 /// is being opened, after those or the sealed ones.
 pub fn images_stand_for_the_history<D: Device, A: Allocator>(vault: &Vault<D, A>)
@@ -24,10 +40,21 @@ pub fn images_stand_for_the_history<D: Device, A: Allocator>(vault: &Vault<D, A>
     a_vault_keeps_its_history(vault);
 }
 
-/// Whatever commands any number of sessions gave, and wherever the machine stopped between two calls, the files stand for the
-/// durable vault after one prefix of the single history, and that prefix has every told command.
+/// Whatever commands any number of sessions gave in any interleaving, and wherever the machine stopped, between two calls or inside
+/// one, recovery gives the durable vault after one prefix of the single history. That prefix has every told command, its long claims
+/// stand and its short ones are gone, and no two held claims overlap.
 pub fn recovery_gives_one_prefix<D: Device, A: Allocator>(vault: &Vault<D, A>)
-    ensures { RecoveryGivesOnePrefix D.disk vault.now }
+    ensures past { EachPastIsKept D.disk vault.now }
+    ensures run { RecoveryGivesOnePrefix D.disk vault.now }
 {
     images_stand_for_the_history(vault);
+    files_stand_for_one_vault();
 }
+
+/// The entry of a staged command keeps the position that its ticket names for the whole life, and the receipt for that ticket is
+/// the entry's: its session, number and command, with its reply.
+pub fn receipts_are_of_their_entries()
+    ensures staged { StagedAtItsPosition }
+    ensures stay { PositionsStay }
+    ensures told { ReceiptsAreOfTheirEntries }
+{}

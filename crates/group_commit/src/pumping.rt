@@ -8,6 +8,7 @@ ghost use Rattle.group_commit.specs.View.{length_of, view_row, ViewAllows, view_
 ghost use Rattle.group_commit.specs.Seen.{snapshot_length};
 ghost use Rattle.group_commit.specs.Calls.{AreNumbers};
 ghost use Rattle.group_commit.specs.Promises.{MomentsStand};
+ghost use Rattle.group_commit.specs.Pasts.{IsNext, StopsInside};
 
 use crate::{Phase, Pumped, Vault};
 use std::alloc::Allocator;
@@ -43,6 +44,8 @@ impl<D: Device, A: Allocator + Copy> Vault<D, A> {
         ensures calls { IsAtMostOneCall (D.disk self.old.store.first) (D.disk self.old.store.second) (D.disk self.new.store.first) (D.disk self.new.store.second) result }
         ensures numbers { AreNumbers self.old self.new result }
         ensures moments { self.old.view.broken ≡ false → MomentsStand D.disk self.old self.new }
+        ensures next { IsNext D.disk self.old self.new }
+        ensures stops { self.old.view.broken ≡ false → StopsInside D.disk self.old self.new }
     {
         if self.broken {
             return Ok(Pumped::Broken);

@@ -3,6 +3,7 @@ ghost use Rattle.std.specs.Prelude.{◌≡◌, ◌<◌, ◌-◌, length, IfSome,
 ghost use Rattle.group_commit.specs.Entries.{mark_at};
 ghost use Rattle.group_commit.specs.Seen.{snapshot_length};
 ghost use Rattle.group_commit.specs.Calls.{NamesOpen, IsRedeemed, IsForgotten};
+ghost use Rattle.group_commit.specs.Pasts.{IsNext};
 
 use crate::{Forgotten, Mark, Redeemed, Ticket, Vault};
 use std::alloc::Allocator;
@@ -28,7 +29,8 @@ impl<D: Device, A: Allocator + Copy> Vault<D, A> {
     /// The reply of the entry that a ticket names, once that is settled: the entry is then closed. Else the ticket comes
     /// back, and nothing changes. No device call.
     pub fn redeem(&mut self, ticket: Ticket<A>) -> Redeemed<A>
-        ensures { IsRedeemed self.old self.new ticket result }
+        ensures told { IsRedeemed self.old self.new ticket result }
+        ensures next { IsNext D.disk self.old self.new }
     {
         let Some(place) = self.open_place(&ticket) else {
             return Redeemed::Stranger(ticket);
@@ -52,7 +54,8 @@ impl<D: Device, A: Allocator + Copy> Vault<D, A> {
 
     /// Spends a ticket without its reply, and closes its entry. No memory and no device call.
     pub fn forget(&mut self, ticket: Ticket<A>) -> Forgotten
-        ensures { IsForgotten self.old self.new ticket result }
+        ensures closed { IsForgotten self.old self.new ticket result }
+        ensures next { IsNext D.disk self.old self.new }
     {
         let Some(place) = self.open_place(&ticket) else {
             ticket.discard();

@@ -6,7 +6,8 @@ ghost use Rattle.group_commit.specs.World.{Stage};
 ghost use Rattle.group_commit.specs.View.{length_of, book_of, ViewAllows, view_acted};
 ghost use Rattle.group_commit.specs.Ticket.{claim_of};
 ghost use Rattle.group_commit.specs.Seen.{snapshot_length};
-ghost use Rattle.group_commit.specs.Calls.{IsReason, noted};
+ghost use Rattle.group_commit.specs.Calls.{IsBusy, IsReason, noted};
+ghost use Rattle.group_commit.specs.Pasts.{IsNext};
 
 use crate::entry::Entry;
 use crate::noting::note_any;
@@ -26,6 +27,7 @@ impl<D: Device, A: Allocator + Copy> Vault<D, A> {
         command: CommandIn<A>,
     ) -> Result<Ticket<A>, (Outside, CommandIn<A>)>
         ensures allowed { OnOk result (ViewAllows snapshot_length self.old.view (Stage session command)) }
+        ensures room { OnOk result (IsBusy self.old → ⊥) }
         ensures staged { OnOk result (self.new.view ≡ view_acted snapshot_length self.old.view (Stage session command)) }
         ensures noted { OnOk result (self.new.store ≡ noted (step (book_of self.old.view) session command).effect self.old.store) }
         ensures life { self.new.life ≡ self.old.life }
@@ -33,6 +35,7 @@ impl<D: Device, A: Allocator + Copy> Vault<D, A> {
         ensures refused { OnErr result (self.new ≡ self.old) }
         ensures handed_back { IfErr result (λ refusal. refusal.1 ≡ command) }
         ensures reason { IfErr result (λ refusal. IsReason self.old refusal.0) }
+        ensures next { IsNext D.disk self.old self.new }
     {
         if self.broken {
             return Err((Outside::Broken, command));

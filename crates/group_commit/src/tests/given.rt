@@ -1,9 +1,11 @@
-use crate::{CreateError, Forgotten, Pumped, Redeemed, Ticket, Vault};
+use crate::{Forgotten, Pumped, Redeemed, Ticket, Vault};
 use std::alloc::{Allocator, Global};
 use std::test::Fail;
-use test_memory::Refusing;
 use vault_device::{MemDevice, Pick};
-use vault_model::{ClaimId, Command, CommandIn, Name, Outside, Path, Refusal, Reply, ReplyIn};
+use vault_model::{
+    ClaimId, Command, CommandIn, Intent, Listing, Name, Outside, Path, PathItem, Refusal, Reply,
+    ReplyIn,
+};
 
 /// How many device calls a creation makes of the first device and of the second.
 pub const CREATION: (u64, u64) = (7, 2);
@@ -27,9 +29,12 @@ pub fn calls(vault: Vault<MemDevice>) -> (u64, u64) {
     (first.calls(), second.calls())
 }
 
-/// The vault of another life, after its machine stopped with nothing unsettled kept.
-pub fn stopped(alloc: Global, vault: Vault<MemDevice>) -> Result<Vault<MemDevice>, Fail> {
-    let (mut first, mut second) = vault.into_devices();
+/// The vault of another life in these files, after their machine stopped with nothing unsettled kept.
+pub fn stopped(
+    alloc: Global,
+    mut first: MemDevice,
+    mut second: MemDevice,
+) -> Result<Vault<MemDevice>, Fail> {
     first.crash(Pick::Old);
     second.crash(Pick::Old);
     match Vault::open(alloc, first, second, 2) {
@@ -48,8 +53,34 @@ pub fn make<A: Allocator>(path: &[u8]) -> Result<CommandIn<A>, Fail> {
     Ok(Command::Make(Path::read(path).ok_or("a path")?, None))
 }
 
-// The ticket of a command, where it is staged.
-fn staged<A: Allocator + Copy>(
+/// A command that asks how a claim stands, of which there is none.
+pub fn question() -> Command {
+    Command::State(ClaimId::Long(1))
+}
+
+// A command that asks for this part, for change.
+fn check_out(alloc: Global, path: &[u8]) -> Result<Command, Fail> {
+    let path = Path::read(path).ok_or("a path")?;
+    let intent = Intent::Change;
+    let items = vec![in alloc; PathItem { intent, path }]?;
+    Ok(Command::CheckOut(Listing::from_vec(items)))
+}
+
+/// A command that saves so many bytes as a draft of the part /e/b/p, for the first check-out.
+pub fn save(alloc: Global, len: usize) -> Result<Command, Fail> {
+    let path = Path::read(b"/e/b/p").ok_or("a path")?;
+    let content = vec![in alloc; b'x'; len]?;
+    Ok(Command::Save(1, path, Listing::from_vec(content)))
+}
+
+/// What is told of the places under the library, where there is this one.
+pub fn listed<A: Allocator + Copy>(alloc: A, name: &[u8]) -> Result<ReplyIn<A>, Fail> {
+    let name = Name::read(name).ok_or("a name")?;
+    Ok(Reply::Children(Listing::from_vec(vec![in alloc; name]?)))
+}
+
+/// The ticket of a command, where it is staged.
+pub fn staged<A: Allocator + Copy>(
     vault: &mut Vault<MemDevice, A>,
     session: u32,
     command: CommandIn<A>,
@@ -60,23 +91,24 @@ fn staged<A: Allocator + Copy>(
     }
 }
 
-// Why a command isn't staged.
-fn refusal<A: Allocator + Copy>(
-    vault: &mut Vault<MemDevice, A>,
-    session: u32,
-    command: CommandIn<A>,
-) -> Option<Outside> {
-    match vault.stage(session, command) {
+// Whether the first session's command isn't staged for this reason, and is handed back.
+fn is_refused(
+    vault: &mut Vault<MemDevice>,
+    command: Command,
+    why: Outside,
+    copy: &Command,
+) -> bool {
+    match vault.stage(1, command) {
         Ok(ticket) => {
             let _ = vault.forget(ticket);
-            None
+            false
         }
-        Err((why, _)) => Some(why),
+        Err((reason, back)) => reason == why && back == *copy,
     }
 }
 
-// Spends the ticket that came back, if one did.
-fn spend<A: Allocator + Copy>(vault: &mut Vault<MemDevice, A>, answer: Redeemed<A>) {
+/// Spends the ticket that came back, if one did.
+pub fn spend<A: Allocator + Copy>(vault: &mut Vault<MemDevice, A>, answer: Redeemed<A>) {
     match answer {
         Redeemed::Told(_receipt) => {}
         Redeemed::NotYet(ticket)
@@ -131,8 +163,11 @@ fn unknown<A: Allocator + Copy>(
     }
 }
 
-// Whether the ticket is of another life, both where it is to be redeemed and where it is forgotten.
-fn is_stranger<A: Allocator + Copy>(vault: &mut Vault<MemDevice, A>, ticket: Ticket<A>) -> bool {
+/// Whether the ticket is of another life, both where it is to be redeemed and where it is forgotten.
+pub fn is_stranger<A: Allocator + Copy>(
+    vault: &mut Vault<MemDevice, A>,
+    ticket: Ticket<A>,
+) -> bool {
     match vault.redeem(ticket) {
         Redeemed::Stranger(ticket) => vault.forget(ticket) == Forgotten::Stranger,
         answer => {
@@ -142,18 +177,14 @@ fn is_stranger<A: Allocator + Copy>(vault: &mut Vault<MemDevice, A>, ticket: Tic
     }
 }
 
-// Whether a pump answers this.
-fn pumps<A: Allocator + Copy>(vault: &mut Vault<MemDevice, A>, answer: Pumped) -> bool {
-    vault.pump() == Ok(answer)
-}
-
-// Whether four pumps make a commit.
-fn committed<A: Allocator + Copy>(vault: &mut Vault<MemDevice, A>) -> bool {
-    let body = pumps(vault, Pumped::Moved);
-    let settled = pumps(vault, Pumped::Moved);
-    let gate = pumps(vault, Pumped::Moved);
-    let done = pumps(vault, Pumped::Settled);
-    body && settled && gate && done
+/// Whether the last of so many pumps settles, and none before it.
+pub fn settled_after<A: Allocator + Copy>(vault: &mut Vault<MemDevice, A>, pumps: u8) -> bool {
+    for _ in 1..pumps {
+        if vault.pump() != Ok(Pumped::Moved) {
+            return false;
+        }
+    }
+    vault.pump() == Ok(Pumped::Settled)
 }
 
 /// Whether a command without an effect is settled by one pump, and told.
@@ -165,7 +196,7 @@ pub fn done<A: Allocator + Copy>(
 ) -> bool {
     match staged(vault, session, command) {
         Some(ticket) => {
-            let settled = pumps(vault, Pumped::Settled);
+            let settled = settled_after(vault, 1);
             told(vault, ticket, reply) && settled
         }
         None => false,
@@ -174,13 +205,13 @@ pub fn done<A: Allocator + Copy>(
 
 /// Whether a question from no session is told once it is settled, which takes no commit.
 pub fn asked(vault: &mut Vault<MemDevice>) -> bool {
-    let Some(ticket) = staged(vault, 1, Command::State(ClaimId::Long(1))) else {
+    let Some(ticket) = staged(vault, 1, question()) else {
         return false;
     };
     let Some(ticket) = not_yet(vault, ticket) else {
         return false;
     };
-    let settled = pumps(vault, Pumped::Settled);
+    let settled = settled_after(vault, 1);
     let answered = told(vault, ticket, &Reply::Refused(Refusal::NoSession));
     settled && answered
 }
@@ -198,115 +229,85 @@ pub fn made_by_two(
         let _ = vault.forget(one);
         return false;
     };
-    let moved = committed(vault);
+    let moved = settled_after(vault, 4);
     let first = told(vault, one, &Reply::Place(1));
     let second = told(vault, other, &Reply::Place(2));
     moved && first && second
 }
 
-/// Whether the commit of the second command fails while the first is settled, and its ticket is a stranger to
-/// the next vault.
+/// The ticket of the second command, where its commit fails while the first is settled and not told yet.
 pub fn failed_second(
     vault: &mut Vault<MemDevice>,
-    next: &mut Vault<MemDevice>,
     e: CommandIn<Global>,
     f: CommandIn<Global>,
-) -> bool {
-    let Some(settled) = staged(vault, 1, e) else {
-        return false;
-    };
-    let moved = committed(vault);
+) -> Option<Ticket<Global>> {
+    let settled = staged(vault, 1, e)?;
+    let moved = settled_after(vault, 4);
     let Some(lost) = staged(vault, 1, f) else {
         let _ = vault.forget(settled);
-        return false;
+        return None;
     };
     let failed = vault.pump().is_err();
     let first = told(vault, settled, &Reply::Place(1));
-    let Some(lost) = unknown(vault, lost) else {
-        return false;
-    };
-    let strange = is_stranger(next, lost);
-    moved && failed && first && strange
+    let lost = unknown(vault, lost)?;
+    if moved && failed && first {
+        return Some(lost);
+    }
+    let _ = vault.forget(lost);
+    None
 }
 
 /// Whether the vault takes no command and makes no device call.
 pub fn stays_broken(vault: &mut Vault<MemDevice>) -> bool {
-    let again = Command::State(ClaimId::Long(1));
-    let refused = refusal(vault, 1, again) == Some(Outside::Broken);
-    let still = pumps(vault, Pumped::Broken);
+    let refused = is_refused(vault, question(), Outside::Broken, &question());
+    let still = vault.pump() == Ok(Pumped::Broken);
     refused && still && vault.is_broken()
 }
 
-// Why no vault is made, where one request for memory is refused.
-fn creation(
-    alloc: Global,
-    memory: &Refusing<Global>,
-    number: u64,
-) -> Result<Option<CreateError>, Fail> {
-    let first = MemDevice::new(alloc)?;
-    let second = MemDevice::new(alloc)?;
-    memory.refuse(number);
-    Ok(match Vault::create(memory, first, second, 1) {
-        Ok(_vault) => None,
-        Err(refused) => Some(refused.why),
-    })
-}
-
-/// How many requests for memory a creation makes: each is refused in turn.
-pub fn requests(alloc: Global, memory: &Refusing<Global>) -> Result<u64, Fail> {
-    for number in 0..20u64 {
-        match creation(alloc, memory, number + 1)? {
-            Some(CreateError::NoMemory) if !memory.is_waiting() => {}
-            None if memory.is_waiting() => return Ok(number),
-            _ => return Err("want of memory".into()),
-        }
+// Whether a command is staged, and its ticket given up.
+fn given(vault: &mut Vault<MemDevice>, session: u32, command: Command) -> bool {
+    match vault.stage(session, command) {
+        Ok(ticket) => vault.forget(ticket) == Forgotten::Here,
+        Err(_) => false,
     }
-    Err("so many requests".into())
 }
 
-// Whether a reply is told after its copy was refused memory.
-fn told_again<'a>(
-    vault: &mut Vault<MemDevice, &'a Refusing<Global>>,
-    memory: &'a Refusing<Global>,
-    command: CommandIn<&'a Refusing<Global>>,
+// Whether the first session makes the place at this path.
+fn made(vault: &mut Vault<MemDevice>, path: &[u8]) -> Result<bool, Fail> {
+    let make = make(path)?;
+    Ok(given(vault, 1, make))
+}
+
+/// Whether the first session makes the part /e/b/p and checks it out, all in one commit.
+pub fn checked_out(vault: &mut Vault<MemDevice>, alloc: Global) -> Result<bool, Fail> {
+    let check_out = check_out(alloc, b"/e/b/p")?;
+    let places = made(vault, b"/e")? && made(vault, b"/e/b")? && made(vault, b"/e/b/p")?;
+    let asked = given(vault, 1, check_out);
+    Ok(places && asked && settled_after(vault, 4))
+}
+
+/// Whether the first session's command is staged so many times, and the tickets given up.
+pub fn repeated(
+    vault: &mut Vault<MemDevice>,
+    alloc: Global,
+    command: &Command,
+    times: u16,
 ) -> bool {
-    let Some(ticket) = staged(vault, 1, command) else {
-        return false;
-    };
-    let settled = pumps(vault, Pumped::Settled);
-    memory.refuse(1);
-    let ticket = match vault.redeem(ticket) {
-        Redeemed::NoMemory(ticket) => ticket,
-        answer => {
-            spend(vault, answer);
+    for _ in 0..times {
+        let Ok(again) = command.copy(alloc) else {
+            return false;
+        };
+        if !given(vault, 1, again) {
             return false;
         }
-    };
-    match vault.redeem(ticket) {
-        Redeemed::Told(_receipt) => settled,
-        answer => {
-            spend(vault, answer);
-            false
-        }
     }
+    true
 }
 
-/// Whether a command, and the copy of a reply, are refused memory, and are done once there is some.
-pub fn wants_memory(alloc: Global, memory: &Refusing<Global>) -> Result<bool, Fail> {
-    let first = MemDevice::new(alloc)?;
-    let second = MemDevice::new(alloc)?;
-    let anna = hello(b"anna")?;
-    let again = hello(b"anna")?;
-    let e = make(b"/e")?;
-    let list = Command::List(Path::root());
-    let Ok(mut vault) = Vault::create(memory, first, second, 1) else {
-        return Err("a new vault".into());
-    };
-    memory.refuse(1);
-    let wanted = refusal(&mut vault, 0, anna) == Some(Outside::NoMemory);
-    let joined = done(&mut vault, 0, again, &Reply::Session(1));
-    let made = refusal(&mut vault, 1, e) == None;
-    let moved = committed(&mut vault);
-    let listed = told_again(&mut vault, memory, list);
-    Ok(wanted && joined && made && moved && listed)
+/// Whether the first session's command isn't staged since the vault is busy, and is handed back.
+pub fn is_busy(vault: &mut Vault<MemDevice>, alloc: Global, command: &Command) -> bool {
+    match command.copy(alloc) {
+        Ok(again) => is_refused(vault, again, Outside::Busy, command),
+        Err(_) => false,
+    }
 }

@@ -1,4 +1,4 @@
-use Rattle.std.proofs.Common.{◌≡◌, ◌≢◌, ◌∙◌, cond, sym, subst, arith, true}
+use Rattle.std.proofs.Common.{◌≡◌, ◌≢◌, ◌∙◌, cond, sym, subst, arith, true, rules}
 use Rattle.std.specs.Prelude.{Ok, Err}
 use Rattle.vault_store.specs.declared.phase.Advanced.{Advanced as Pumped}
 use Rattle.vault_store.specs.declared.phase.Advanced.TheVariants as answers
@@ -7,6 +7,7 @@ use Rattle.group_commit.specs.View.{length_of}
 use Rattle.group_commit.specs.Seen.{Seen, state_of}
 use Rattle.group_commit.specs.Inside.{seen_of, IsKept}
 use Rattle.group_commit.proofs.Pumps.{IsPump, IsStoreStep, settled_all, settled_all_kept, settled_sealed, settled_sealed_kept, moved, moved_kept, fault, fault_kept, not_broken}
+use Rattle.group_commit.proofs.Nexts.{pump_is_next, stops_inside, pump_stops}
 use Rattle.group_commit.proofs.vault.Vault.pump.Goals as goal
 
 pub unreachable-requires : goal.unreachable-requires
@@ -42,7 +43,7 @@ returns-else-self-all g c =
     let all : c.len-all.result ≡ length_of seen.view = (let l = c.len-all.ensures.len in omega arith) in
     let some : c.self.inside.settled ≢ length_of seen.view = λ h. c.if-self-all.false (h ∙ sym all) in
     let d = subst (λ (old : Seen _). IsPump disk old (seen_of (record c.self.inside { store = c.advance.new.self; settled = c.len-all.result; sealed = c.self.inside.sealed; broken = c.self.inside.broken })) (Ok answers.Settled)) c.self.view_is (subst (λ n. IsPump disk seen (seen_of (record c.self.inside { store = c.advance.new.self; settled = n; sealed = c.self.inside.sealed; broken = c.self.inside.broken })) (Ok answers.Settled)) (sym all) (settled_all disk seen c.self.inside.book k c.advance.new.self c.if-self.false made some)) in
-    record { broken = d.broken; answer = d.answer; pumped = d.pumped; failed = d.failed; life = d.life; still = d.still; calls = d.calls; numbers = d.numbers; moments = d.moments }
+    record { broken = d.broken; answer = d.answer; pumped = d.pumped; failed = d.failed; life = d.life; still = d.still; calls = d.calls; numbers = d.numbers; moments = d.moments; next = pump_is_next d; stops = pump_stops d }
 
 pub invariant_of-self-in-Ok-Settled : goal.invariant_of-self-in-Ok-Settled
 invariant_of-self-in-Ok-Settled g c =
@@ -63,7 +64,7 @@ returns-in-Ok-Settled g c =
     let made = subst (λ (a : Pumped). IsStoreStep disk seen.store c.advance.new.self (state_of seen.view) (Ok a)) c.in-Ok-Settled.field-0-is
     (record { step = e.step (state_of seen.view) k.stands; numbers = e.numbers; calls = e.calls; rests = e.rests; moments = λ x y h i left. e.moments (state_of seen.view) x y k.stands h i left }) in
     let d = subst (λ (old : Seen _). IsPump disk old (seen_of (record c.self.inside { store = c.advance.new.self; settled = c.self.inside.sealed; sealed = c.self.inside.sealed; broken = c.self.inside.broken })) (Ok answers.Settled)) c.self.view_is (settled_sealed disk seen c.self.inside.book k c.advance.new.self c.if-self.false made) in
-    record { broken = d.broken; answer = d.answer; pumped = d.pumped; failed = d.failed; life = d.life; still = d.still; calls = d.calls; numbers = d.numbers; moments = d.moments }
+    record { broken = d.broken; answer = d.answer; pumped = d.pumped; failed = d.failed; life = d.life; still = d.still; calls = d.calls; numbers = d.numbers; moments = d.moments; next = pump_is_next d; stops = pump_stops d }
 
 pub invariant_of-self-in-Ok-Moved : goal.invariant_of-self-in-Ok-Moved
 invariant_of-self-in-Ok-Moved g c =
@@ -86,7 +87,7 @@ returns-in-Ok-Moved g c =
     let made = subst (λ (a : Pumped). IsStoreStep disk seen.store c.advance.new.self (state_of seen.view) (Ok a)) c.in-Ok-Moved.field-0-is
     (record { step = e.step (state_of seen.view) k.stands; numbers = e.numbers; calls = e.calls; rests = e.rests; moments = λ x y h i left. e.moments (state_of seen.view) x y k.stands h i left }) in
     let d = subst (λ (old : Seen _). IsPump disk old (seen_of (record c.self.inside { store = c.advance.new.self; settled = c.self.inside.settled; sealed = c.sealed_next-sealed.result; broken = c.self.inside.broken })) (Ok answers.Moved)) c.self.view_is (moved disk seen c.self.inside.book k c.advance.new.self c.if-self.false c.sealed_next-sealed.result made is) in
-    record { broken = d.broken; answer = d.answer; pumped = d.pumped; failed = d.failed; life = d.life; still = d.still; calls = d.calls; numbers = d.numbers; moments = d.moments }
+    record { broken = d.broken; answer = d.answer; pumped = d.pumped; failed = d.failed; life = d.life; still = d.still; calls = d.calls; numbers = d.numbers; moments = d.moments; next = pump_is_next d; stops = pump_stops d }
 
 pub invariant_of-self-in-Err : goal.invariant_of-self-in-Err
 invariant_of-self-in-Err g c =
@@ -107,4 +108,7 @@ returns-in-Err g c =
     let is = subst (λ (old : Seen _). c.sealed_next-sealed.result ≡ cond (is_idle old.store.phase) (length_of old.view) old.view.sealed) (sym c.self.view_is) c.sealed_next-sealed.ensures in
     let made : IsStoreStep disk seen.store c.advance.new.self (state_of seen.view) (Err c.in-Err.fault) = record { step = e.step (state_of seen.view) k.stands; numbers = e.numbers; calls = e.calls; rests = e.rests; moments = λ x y h i left. e.moments (state_of seen.view) x y k.stands h i left } in
     let d = subst (λ (old : Seen _). IsPump disk old (seen_of (record c.self.inside { store = c.advance.new.self; settled = c.self.inside.settled; sealed = c.sealed_next-sealed.result; broken = true })) (Err c.in-Err.fault)) c.self.view_is (fault disk seen c.self.inside.book k c.advance.new.self c.if-self.false c.sealed_next-sealed.result c.in-Err.fault made is) in
-    record { broken = d.broken; answer = d.answer; pumped = d.pumped; failed = d.failed; life = d.life; still = d.still; calls = d.calls; numbers = d.numbers; moments = d.moments }
+    record { broken = d.broken; answer = d.answer; pumped = d.pumped; failed = d.failed; life = d.life; still = d.still; calls = d.calls; numbers = d.numbers; moments = d.moments; next = pump_is_next d; stops = pump_stops d }
+
+pub returns-then-self-all-clause-stops : goal.returns-then-self-all-clause-stops
+returns-then-self-all-clause-stops g c = λ whole. stops_inside (seen_of (record c.self.inside { store = c.advance.new.self })) whole (search rules)

@@ -1,6 +1,7 @@
 use Rattle.std.proofs.Common.{◌≡◌, ◌<◌, arith}
 use Rattle.group_commit.specs.Inside.{seen_of}
 use Rattle.group_commit.proofs.Tickets.{tell_kept, one_more_fits, tells}
+use Rattle.group_commit.proofs.Nexts.{telling_is_next}
 use Rattle.group_commit.proofs.vault.Vault.redeem.Goals as goal
 
 pub overflow_add-self : goal.overflow_add-self
@@ -16,4 +17,5 @@ invariant_of-self g c =
 pub returns-in-Ok : goal.returns-in-Ok
 returns-in-Ok g c =
     let below : c.args.ticket.position < c.self.inside.settled = (let p : c.position.result ≡ c.args.ticket.position = c.position.ensures in let q : c.position.result < c.self.inside.settled = c.if-position-self.false in omega arith) in
-    tells (seen_of c.self.inside) c.args.self.now c.args.ticket c.in-Some.place c.close.new.self c.in-Ok.reply c.into_receipt.result c.self.view_is c.in-Some.ensures.some below c.close.ensures c.in-Ok.ensures c.into_receipt.ensures
+    let t = tells (seen_of c.self.inside) c.args.self.now c.args.ticket c.in-Some.place c.close.new.self c.in-Ok.reply c.into_receipt.result c.self.view_is c.in-Some.ensures.some below c.close.ensures c.in-Ok.ensures c.into_receipt.ensures in
+    record { told = t; next = telling_is_next t }

@@ -1,4 +1,5 @@
-use Rattle.std.proofs.Common.{◌≡◌, ◌<◌, length, refl, arith}
+use Rattle.std.proofs.Common.{rules, inl, inr, ◌≡◌, ◌<◌, length, refl, arith}
+use Rattle.group_commit.specs.World.{Stage}
 use Rattle.group_commit.specs.Inside.{seen_of}
 use Rattle.group_commit.proofs.Staged.{counts_are_few, has_record, stage_kept}
 use Rattle.group_commit.proofs.vault.Vault.stage.Goals as goal
@@ -18,3 +19,6 @@ invariant_of-self-2 g c =
     stage_kept g.D.Device.disk (seen_of c.self.inside) c.self.inside.book c.args.session c.args.command c.self.invariant
     c.in-Ok.acted.1 c.note_any.new.store c.of-before.result.value c.act.new.self c.in-Ok.acted.0 c.open-entry.result c.push.new.self
     refl few c.in-Ok.ensures.effect c.note_any.ensures.noted c.note_any.ensures.kept c.of-before.ensures c.in-Ok.ensures.told c.open-entry.ensures c.push.ensures c.in-Ok.ensures.vault
+
+pub returns-clause-next : goal.returns-clause-next
+returns-clause-next g c = inl (inr (Stage c.args.session c.args.command, record { allowed = search rules; made = search rules; life = search rules }))

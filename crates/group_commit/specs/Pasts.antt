@@ -1,0 +1,66 @@
+-- The past of a vault: what was seen of it, call by call, over any number of stops of its machine. This project's own.
+use Rattle.std.specs.Prelude.{◌≡◌, ◌⊎◌, ℕ, false, List, [], ◌∷◌}
+use Rattle.vault_model.specs.Vault.{new_vault}
+use Rattle.vault_device.specs.Disk.{Disk}
+use Rattle.vault_store.specs.Files.{AreRead}
+use Rattle.vault_store.specs.Laws.{AreHonest}
+use Rattle.vault_store.specs.Seen.{Keeps}
+use Rattle.vault_store.specs.Step.{MayBeLeft}
+use Rattle.group_commit.specs.World.{Act}
+use Rattle.group_commit.specs.View.{opened_view, ViewAllows, view_acted}
+use Rattle.group_commit.specs.Seen.{Seen, snapshot_length, state_of, IsSoundView}
+use Rattle.group_commit.specs.Promises.{IsCrash, MomentsStand}
+
+-- what every vault is: its view is sound, and its store keeps what the view says
+pub record IsOfAVault {D : Type 0} (disk : D → Disk) (seen : Seen D) : Type 0 where
+  pub sound : IsSoundView seen.view
+  pub stands : Keeps disk seen.store (state_of seen.view)
+
+-- a call made this act, which the view allowed
+pub record Makes {D : Type 0} (act : Act) (old new : Seen D) : Type 0 where
+  pub allowed : ViewAllows snapshot_length old.view act
+  pub made : new.view ≡ view_acted snapshot_length old.view act
+  pub life : new.life ≡ old.life
+
+-- a call was answered: it changed nothing, or it made one act
+abbrev pub IsAnswered : {D : Type 0} → Seen D → Seen D → Type 0
+IsAnswered old new = (new ≡ old) ⊎ ((act : Act) × Makes act old new)
+
+-- The machine stopped inside a pump, and a crash at some moment of it left these files. Had it not stopped, the pump would have made
+-- the other vault; of the moments until then it promises what `Vault::pump` promises.
+pub record IsStopInside {D : Type 0} (disk : D → Disk) (seen : Seen D) (x y : List ℕ) : Type 0 where
+  pub other : Seen D
+  pub whole : seen.view.broken ≡ false
+  pub honest : AreHonest disk seen.store
+  pub moments : MomentsStand disk seen other
+  pub left : MayBeLeft (disk seen.store.first) (disk seen.store.second) (disk other.store.first) (disk other.store.second) x y
+
+-- whatever a crash at some moment of this pump leaves is so left
+abbrev pub StopsInside : {D : Type 0} → (D → Disk) → Seen D → Seen D → Type 0
+StopsInside disk old new =
+    (x y : List ℕ) → AreHonest disk old.store → MayBeLeft (disk old.store.first) (disk old.store.second) (disk new.store.first) (disk new.store.second) x y → IsStopInside disk old x y
+
+-- the machine stopped, between two calls or inside one, and these files were left
+abbrev pub IsStop : {D : Type 0} → (D → Disk) → Seen D → List ℕ → List ℕ → Type 0
+IsStop disk seen x y = IsCrash disk seen x y ⊎ IsStopInside disk seen x y
+
+-- a vault was opened on these files
+pub record IsOpenedOn {D : Type 0} (x y : List ℕ) (new : Seen D) : Type 0 where
+  pub begins : new.view ≡ opened_view new.view.base
+  pub read : AreRead x y (record { vault = new.view.base; generation = new.store.generation; tail = new.store.tail; journal = new.store.journal })
+
+-- the machine stopped, and another life began on the files that were left
+pub record IsReopened {D : Type 0} (disk : D → Disk) (old new : Seen D) : Type 0 where
+  pub first : List ℕ
+  pub second : List ℕ
+  pub left : IsStop disk old first second
+  pub opened : IsOpenedOn first second new
+
+-- what may be seen of a vault next
+abbrev pub IsNext : {D : Type 0} → (D → Disk) → Seen D → Seen D → Type 0
+IsNext disk old new = IsAnswered old new ⊎ IsReopened disk old new
+
+-- All that was seen of a vault before now, the latest first: it began as the new vault, and each was next of the one before it.
+abbrev pub IsPast : {D : Type 0} → (D → Disk) → Seen D → List (Seen D) → Type 0
+IsPast disk now [] = IsOfAVault disk now × (now.view ≡ opened_view new_vault)
+IsPast disk now (old ∷ past) = IsOfAVault disk now × IsNext disk old now × IsPast disk old past
