@@ -7,4 +7,8 @@ pub mod Grammar
 pub mod Texts
 pub mod Spelling
 pub mod Script
+pub mod Talk
+pub mod Waiting
+pub mod Saying
 pub mod Rows
+pub mod ScriptLaws

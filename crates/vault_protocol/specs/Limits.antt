@@ -12,7 +12,3 @@ longest_script = 16777216
 -- the last connection of a script; the first is 1
 abbrev pub last_connection : ℕ
 last_connection = 64
-
--- how many commands of a script are answered; those behind them find the vault busy
-abbrev pub most_commands : ℕ
-most_commands = 4096

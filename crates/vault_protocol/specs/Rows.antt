@@ -93,8 +93,8 @@ Refusals =
 -- empty lines and comments print nothing; lines of no connection, and of no command, are bad
 abbrev pub BadLines : Type 0
 BadLines =
-    output (codes "\n# @1 hello anna\n@1 \n@1\n@01 hello anna\n@0 hello anna\n@65 hello anna\n@64  hello anna\n!pump\n!crash old\n @1 hello anna\n@2 hello ben\r\n\n")
-    ≡ codes "@1 ERR 10\n! ERR 10\n! ERR 10\n! ERR 10\n! ERR 10\n@64 ERR 10\n! ERR 10\n! ERR 10\n! ERR 10\n@2 ERR 10\n"
+    output (codes "\n# @1 hello anna\n@1 \n@1\n@01 hello anna\n@0 hello anna\n@65 hello anna\n@64  hello anna\n!pumps\n!crash 0A\n!snapshot\n @1 hello anna\n@2 hello ben\r\n\n")
+    ≡ codes "@1 ERR 10\n! ERR 10\n! ERR 10\n! ERR 10\n! ERR 10\n@64 ERR 10\n! ERR 10\n! ERR 10\n! ERR 10\n! ERR 10\n@2 ERR 10\n"
 
 -- so many bytes 0, in digits
 abbrev pub zeros : ℕ → List ℕ
@@ -128,6 +128,30 @@ BadContents =
     output (codes "@1 save c1 /e\n@1 save c1 /e 0\n@1 save c1 /e 000\n@1 save c1 /e 0g\n@1 save c1 /e --\n@1 save c1 /e \n@1 save h1 /e 00\n@1 checkin h1\n@1 fetch /e 01\n@1 fetch /e -1\n@1 fetch /e 4294967296\n@1 fetch /e\n@1 count /e 1\n@1 fetch /e 4294967295\n")
     ≡ codes "@1 ERR 10\n@1 ERR 10\n@1 ERR 10\n@1 ERR 10\n@1 ERR 10\n@1 ERR 10\n@1 ERR 10\n@1 ERR 10\n@1 ERR 10\n@1 ERR 10\n@1 ERR 10\n@1 ERR 10\n@1 ERR 10\n@1 ERR 11\n"
 
+-- a commit stopped while its gate is being opened, by this pick
+abbrev pub gate_stopped : List ℕ → List ℕ
+gate_stopped pick = output (begun ++ codes "!commit\n@1 make /f\n!pump\n!pump\n!pump\n!crash " ++ pick ++ codes "\n@1 hello anna\n@1 list /\n")
+
+-- the commit counts where the gate is found open, and its reply is told in no case
+abbrev pub GateStopped : Type 0
+GateStopped =
+    (gate_stopped (codes "old") ≡ begun_output ++ codes "@1 OK session 1\n@1 OK list 1 e\n")
+    × (gate_stopped (codes "07") ≡ begun_output ++ codes "@1 OK session 1\n@1 OK list 1 e\n")
+    × (gate_stopped (codes "new") ≡ begun_output ++ codes "@1 OK session 1\n@1 OK list 2 e f\n")
+    × (gate_stopped (codes "01") ≡ begun_output ++ codes "@1 OK session 1\n@1 OK list 2 e f\n")
+
+-- a hold is gone behind a stop, and the check-out that waited behind it is held
+abbrev pub HoldGone : Type 0
+HoldGone =
+    output (begun ++ codes "@2 hold w:/e/b\n@1 checkout r:/e/b/p1\n!commit\n!crash old\n@1 hello anna\n@1 state c1\n@1 state h1\n")
+    ≡ begun_output ++ codes "@2 OK held h1\n@1 OK queued c1 behind h1\n@1 OK session 1\n@1 OK held c1\n@1 ERR 30\n"
+
+-- an extended claim stays at the front of the line behind a stop
+abbrev pub FrontKept : Type 0
+FrontKept =
+    output (begun ++ codes "@2 checkout r:/e/b/p1\n@1 checkout r:/e/b/p2\n@2 checkout w:/e/b\n@1 extend c2 w:/e/b/p2\n@2 state c3\n!commit\n!crash old\n@1 hello anna\n@1 state c3\n")
+    ≡ begun_output ++ codes "@2 OK held c1\n@1 OK held c2\n@2 OK queued c3 behind c1\n@1 OK held c2\n@2 OK queued c3 behind c2\n@1 OK session 1\n@1 OK queued c3 behind c2\n"
+
 -- each of these scripts prints what was worked out
 pub record Rows : Type 0 where
   pub empty : Empty
@@ -149,3 +173,6 @@ pub record Rows : Type 0 where
   pub bad_contents : BadContents
   pub refusals : Refusals
   pub bad_lines : BadLines
+  pub gate_stopped : GateStopped
+  pub hold_gone : HoldGone
+  pub front_kept : FrontKept

@@ -1,69 +1,17 @@
 -- Scripts: what the lines of several connections to one vault are told, in order. This project's own.
-use Rattle.std.specs.Prelude.{ℕ, ◌+◌, ◌-◌, ◌==◌, ◌&&◌, nat_le, Bool, true, List, [], ◌∷◌, ◌++◌, codes, decimal, take, drop, fold, position, replicate, slice_index, slice_set, Option, Some, None, if◌then◌else◌}
-use Rattle.std.specs.List.{flat_map, slice_split}
+use Rattle.std.specs.Prelude.{ℕ, ◌+◌, ◌-◌, ◌*◌, ◌==◌, ◌&&◌, nat_le, Bool, true, List, [], ◌∷◌, ◌++◌, codes, take, drop, position, Option, Some, None, if◌then◌else◌}
+use Rattle.std.specs.List.{slice_split}
 use Rattle.std.specs.Str.{bytes_eq}
-use Rattle.vault_model.specs.Said.{Command, Reply}
-use Rattle.vault_model.specs.Vault.{Vault, new_vault}
-use Rattle.vault_model.specs.Step.{step}
-use Rattle.vault_model.specs.declared.replies.Reply.TheVariants as replies
-use Rattle.vault_model.specs.declared.replies.Outside.{Outside}
+use Rattle.vault_model.specs.Said.{Command}
 use Rattle.vault_model.specs.declared.replies.Outside.TheVariants.{BadLine, Busy}
-use Rattle.vault_protocol.specs.Limits.{last_connection, most_commands}
+use Rattle.vault_device.specs.declared.history.Pick.{Pick}
+use Rattle.vault_device.specs.declared.history.Pick.TheVariants.{Old, New, Bytes}
+use Rattle.vault_protocol.specs.Limits.{last_connection}
 use Rattle.vault_protocol.specs.Reading.{◌>>=◌}
 use Rattle.vault_protocol.specs.Words.{number_in}
 use Rattle.vault_protocol.specs.Grammar.{command_of}
-use Rattle.vault_protocol.specs.Texts.{reply_text, outside_text}
-
--- what is said for a line: the reply to a connection's command, which its session gave; a refusal outside the
--- history; or that the line is none of a script's
-pub data Answer : Type 0 where
-  Told : ℕ → ℕ → Command → Reply → Answer
-  Refused : ℕ → Outside → Answer
-  NoLine : Answer
-
--- how it is printed: the connection stands before its text
-abbrev pub answer_text : Answer → List ℕ
-answer_text (Told connection session command reply) = codes "@" ++ decimal connection ++ codes " " ++ reply_text reply
-answer_text (Refused connection outside) = codes "@" ++ decimal connection ++ codes " " ++ outside_text outside
-answer_text NoLine = codes "! ERR 10\n"
-
--- the vault, the session that each connection speaks for, and how many commands there were
-pub record State : Type 0 where
-  pub vault : Vault
-  pub sessions : List ℕ
-  pub commands : ℕ
-
--- a new vault, and no connection with a session: each speaks for the door, which is session 0
-abbrev pub new_state : State
-new_state = record { vault = new_vault; sessions = replicate last_connection 0; commands = 0 }
-
--- a connection speaks for the session that it was told last, and for the door again once it left
-abbrev pub sessions_after : List ℕ → ℕ → Reply → List ℕ
-sessions_after sessions connection (replies.Session number) = slice_set sessions (connection - 1) number
-sessions_after sessions connection replies.Left = slice_set sessions (connection - 1) 0
-sessions_after sessions connection reply = sessions
-
--- what a command that was answered leaves: one step of the vault, and one command more
-abbrev pub state_after : State → Answer → State
-state_after state (Told connection session command reply) = record {
-  vault = (step state.vault session command).vault;
-  sessions = sessions_after state.sessions connection reply;
-  commands = state.commands + 1;
-}
-state_after state answer = state
-
--- the reply to a command, by the step that the connection's session makes
-abbrev pub told : State → ℕ → Command → Answer
-told state connection command =
-    let session = slice_index state.sessions (connection - 1) in
-    Told connection session command (step state.vault session command).reply
-
--- what a connection is told for the command that it spelled, if it spelled one
-abbrev pub answer_command : State → ℕ → Option Command → Answer
-answer_command state connection None = Refused connection BadLine
-answer_command state connection (Some command) =
-    if nat_le most_commands state.commands then Refused connection Busy
-    else told state connection command
+use Rattle.vault_protocol.specs.Texts.{outside_text}
+use Rattle.vault_protocol.specs.Talk.{Talk, Said, behind, new_talk, said, with_text, connection_text, pumped, committed, is_full, staged, is_awaited, crashed}
 
 -- the number of a connection
 abbrev pub connection_in : List ℕ → Option ℕ
@@ -83,32 +31,86 @@ abbrev pub connection_line : List ℕ → Option (ℕ × List ℕ)
 connection_line [] = None
 connection_line (first ∷ rest) = if first == 64 then numbered_line rest else None
 
+-- the value of a hexadecimal digit, of lower case
+abbrev pub digit_in : ℕ → Option ℕ
+digit_in byte =
+    if nat_le 48 byte && nat_le byte 57 then Some (byte - 48)
+    else if nat_le 97 byte && nat_le byte 102 then Some (byte - 87) else None
+
+-- a pick by its word: `old`, `new`, or a byte in two digits
+abbrev pub byte_pick : List ℕ → Option Pick
+byte_pick (high ∷ low ∷ []) = do
+  high ← digit_in high
+  low ← digit_in low
+  Some (Bytes (16 * high + low))
+byte_pick word = None
+
+abbrev pub pick_in : List ℕ → Option Pick
+pick_in word =
+    if bytes_eq word (codes "old") then Some Old
+    else if bytes_eq word (codes "new") then Some New else byte_pick word
+
+-- how many bytes stand before the pick
+abbrev pub crash_length : ℕ
+crash_length = 7
+
+-- `!crash`, a space and a pick
+abbrev pub crash_line : List ℕ → Option Pick
+crash_line line = if bytes_eq (take crash_length line) (codes "!crash ") then pick_in (drop crash_length line) else None
+
 -- an empty line, and one that begins with `#`
 abbrev pub is_skipped : List ℕ → Bool
 is_skipped [] = true
 is_skipped (first ∷ rest) = first == 35
 
--- what is said for a line that isn't skipped
-abbrev pub answer_line : State → Option (ℕ × List ℕ) → Answer
-answer_line state None = NoLine
-answer_line state (Some line) = answer_command state line.0 (command_of line.1)
+-- a line for a connection, outside the history
+abbrev pub with_refusal : Talk → ℕ → List ℕ → Talk
+with_refusal talk connection text = with_text talk (connection_text connection text)
 
--- what is said for a line, if anything: a commit has nothing to do
-abbrev pub answers : State → List ℕ → List Answer
-answers state line =
-    if is_skipped line then []
-    else if bytes_eq line (codes "!commit") then []
-    else answer_line state (connection_line line) ∷ []
+-- the conversation once a connection gave a command, or a line that spells none
+abbrev pub answered : Talk → ℕ → Option Command → Talk
+answered talk connection None = with_refusal talk connection (outside_text BadLine)
+answered talk connection (Some command) =
+    if is_full talk then with_refusal talk connection (outside_text Busy)
+    else staged talk connection command
 
--- what is said for the lines, each in the state that those before it left
-abbrev pub conversation : State → List (List ℕ) → List Answer
-conversation state [] = []
-conversation state (line ∷ lines) = answers state line ++ conversation (fold state_after state (answers state line)) lines
+-- a connection has one command under way: where its earlier one isn't told, all is committed first
+abbrev pub ready : Talk → ℕ → Said
+ready talk connection = if is_awaited talk connection then said (committed talk) else record { text = []; talk = talk }
 
--- what is printed for the lines
-abbrev pub printed : State → List (List ℕ) → List ℕ
-printed state lines = flat_map answer_text (conversation state lines)
+-- what is printed for a line of a connection
+abbrev pub heard : Talk → ℕ → List ℕ → Said
+heard talk connection line =
+    let before = ready talk connection in
+    behind before.text (said (answered before.talk connection (command_of line)))
+
+-- the same, and for a line that is none of a script's
+abbrev pub heard_of : Talk → Option (ℕ × List ℕ) → Said
+heard_of talk None = said (with_text talk (codes "! ERR 10\n"))
+heard_of talk (Some line) = heard talk line.0 line.1
+
+-- what is printed for a line that isn't a stop
+abbrev pub said_by : Talk → List ℕ → Said
+said_by talk line =
+    if is_skipped line then record { text = []; talk = talk }
+    else if bytes_eq line (codes "!commit") then said (committed talk)
+    else if bytes_eq line (codes "!pump") then said (pumped talk)
+    else heard_of talk (connection_line line)
+
+-- what is printed for a stop, or for another line
+abbrev pub said_with : Talk → List ℕ → Option Pick → Said
+said_with talk line None = said_by talk line
+said_with talk line (Some pick) = said (crashed pick talk)
+
+-- what is printed for a line
+abbrev pub said_for : Talk → List ℕ → Said
+said_for talk line = said_with talk line (crash_line line)
+
+-- what is printed for the lines, each in the conversation that those before it left; the end commits
+abbrev pub printed : Talk → List (List ℕ) → List ℕ
+printed talk [] = (said (committed talk)).text
+printed talk (line ∷ lines) = let now = said_for talk line in now.text ++ printed now.talk lines
 
 -- The output of a script: a line feed ends each of its lines, but may be missing behind the last.
 abbrev pub output : List ℕ → List ℕ
-output script = printed new_state (slice_split (λ b. b == 10) script)
+output script = printed new_talk (slice_split (λ b. b == 10) script)

@@ -1,176 +1,406 @@
-//! One line of a script after the other.
+//! A conversation of several connections with one vault, line by line.
 
-ghost use Rattle.std.specs.Prelude.{◌≡◌, ◌+◌, ◌-◌, ◌<◌, ◌≤◌, ◌==◌, ◌++◌, fold, codes, decimal, length, position, slice_index, Some, IfOk, IfSome, OnOk, IfErr};
-ghost use Rattle.std.specs.List.{flat_map};
-ghost use Rattle.std.specs.Option.{option_map};
-ghost use Rattle.vault_protocol.specs.Limits.{last_connection, most_commands};
+ghost use Rattle.std.specs.Prelude.{◌≡◌, ◌++◌, IfErr, IfOk, OnOk, Some, [], replicate};
+ghost use Rattle.vault_model.specs.Said.{Command};
+ghost use Rattle.vault_protocol.specs.Limits.{last_connection};
 ghost use Rattle.vault_protocol.specs.Grammar.{command_of};
-ghost use Rattle.vault_protocol.specs.Script.{Told, answer_command, answer_text, answers, connection_in, connection_line, new_state, numbered_line, sessions_after, state_after, told};
+ghost use Rattle.vault_protocol.specs.Texts.{outside_text};
+ghost use Rattle.vault_protocol.specs.Talk.{new_talk, connection_text, sessions_after, with_text, said, pumped, committed, crashed, told, told_text, reply_at, is_awaited};
+ghost use Rattle.vault_protocol.specs.Script.{answered, connection_line, heard, heard_of, with_refusal, ready, said_by, said_for};
+ghost use Rattle.vault_protocol.specs.Saying.{is_sayable, said_first};
 
 use crate::error::{LineError, ScriptError};
-use crate::limits::{LAST_CONNECTION, MOST_COMMANDS};
+use crate::limits::{LAST_CONNECTION, MOST_STEPS};
+use crate::lines::{Connection, connection_of, crash_of};
+use crate::losing::{give_up, lose};
 use crate::reading::read_line_of;
+use crate::reopening::reopened;
 use crate::text::{outside_text, text_of};
-use crate::words::read_number;
+use crate::waiting::Waiting;
+use group_commit::{Pumped, Redeemed, Ticket, Vault};
 use std::alloc::{AllocError, Allocator};
+use std::collections::VecDeque;
 use std::marker::Model;
-use vault_checkout::Book;
-use vault_model::{CommandIn, NoMemory, Outside, Reply, ReplyIn};
+use vault_device::{MemDevice, Pick};
+use vault_model::{CommandIn, Listing, Outside, Reply, ReplyIn};
 
-/// The vault, the session that each connection speaks for, and how many commands there were.
-#[derive(Drop)]
-pub(crate) struct Runner<A: Allocator> {
-    book: Book<A>,
+/// A vault over two devices in memory, the session that each connection speaks for, how many entries this life had with each
+/// connection's last command, and the lines that aren't printed yet. As these may hold tickets, it ends by `finish` or `close`.
+pub(crate) struct Runner<A: Allocator + Copy> {
+    vault: Vault<MemDevice<A>, A>,
+    life: u64,
     sessions: [u32; LAST_CONNECTION as usize],
-    commands: u32,
+    asked: [u64; LAST_CONNECTION as usize],
+    lines: VecDeque<Waiting<A>, A>,
 }
 
-impl<A: Allocator> Model for Runner<A> {
-    ghost use Rattle.std.specs.Prelude.{◌+◌, ◌≤◌};
-    ghost use Rattle.vault_model.specs.Vault.{CountsBelow};
-    ghost use Rattle.vault_protocol.specs.Limits.{most_commands};
-    ghost use Rattle.vault_protocol.specs.Script.{State};
+impl<A: Allocator + Copy> Model for Runner<A> {
+    ghost use Rattle.std.specs.Prelude.{length};
+    ghost use Rattle.vault_protocol.specs.Talk.{Talk};
+    ghost use Rattle.vault_protocol.specs.Waiting.{lines_of};
 
-    ghost Value = { State };
+    ghost Value = { Talk };
 
-    ghost view = { λ r. record { vault = r.book; sessions = r.sessions; commands = r.commands } };
-
-    ghost invariant = { λ r. CountsBelow (r.commands + 1) r.book × (r.commands ≤ most_commands) };
-}
-
-/// Where the first space stands.
-fn first_space(bytes: &[u8]) -> Option<usize>
-    ensures place { result ≡ position (λ b. b == 32) bytes.now }
-    ensures within { IfSome result (λ at. at < length bytes.now) }
-{
-    bytes.iter().position(|byte| *byte == b' ')
-}
-
-/// The connection whose number the word is.
-fn read_connection(word: &[u8]) -> Option<u32>
-    ensures value { result ≡ connection_in word.now }
-    ensures first { IfSome result (λ connection. 1 ≤ connection) }
-    ensures last { IfSome result (λ connection. connection ≤ last_connection) }
-{
-    match read_number(word) {
-        Some(number) if 1 <= number && number <= LAST_CONNECTION => Some(number),
-        _ => None,
-    }
-}
-
-/// The number before the space, and the line behind it.
-fn cut_number(rest: &[u8]) -> Option<(u32, &[u8])>
-    ensures { option_map (λ found. (found.0, found.1.now)) result ≡ numbered_line rest.now }
-{
-    let at = first_space(rest)?;
-    let (word, _) = rest.split_at(at);
-    let connection = read_connection(word)?;
-    let (_, line) = rest.split_at(at + 1);
-    Some((connection, line))
-}
-
-/// The number of a connection and its line.
-fn connection_of(line: &[u8]) -> Option<(u32, &[u8])>
-    ensures { option_map (λ found. (found.0, found.1.now)) result ≡ connection_line line.now }
-{
-    match line {
-        [b'@', rest @ ..] => cut_number(rest),
-        _ => None,
-    }
+    ghost view = { λ r. record { view = r.vault.view; buffer = length r.vault.store.buffer; tail = r.vault.store.tail; sessions = r.sessions; asked = r.asked; lines = lines_of r.lines.items } };
 }
 
 /// A connection speaks for the session that it was told last, and for session 0 again once it left.
-fn speak_for<A: Allocator>(sessions: &mut [u32; 64], connection: u32, reply: &ReplyIn<A>)
-    requires first { 1 ≤ connection }
-    requires last { connection ≤ last_connection }
+fn speak_for<A: Allocator>(
+    sessions: &mut [u32; LAST_CONNECTION as usize],
+    connection: Connection,
+    reply: &ReplyIn<A>,
+)
     ensures { sessions.new ≡ sessions_after sessions.old connection reply.now }
 {
     match reply {
-        Reply::Session(number) => sessions[connection as usize - 1] = *number,
-        Reply::Left => sessions[connection as usize - 1] = 0,
+        Reply::Session(number) => sessions[connection.place()] = *number,
+        Reply::Left => sessions[connection.place()] = 0,
         _ => {}
     }
 }
 
 /// The text for a connection.
-fn prefixed<A: Allocator>(alloc: A, connection: u32, text: &[u8]) -> Result<Vec<u8, A>, AllocError>
-    ensures { IfOk result (λ whole. whole.items ≡ codes "@" ++ decimal connection ++ codes " " ++ text.now) }
+fn prefixed<A: Allocator>(
+    alloc: A,
+    connection: Connection,
+    text: &[u8],
+) -> Result<Vec<u8, A>, AllocError>
+    ensures { IfOk result (λ whole. whole.items ≡ connection_text connection text.now) }
 {
-    let mut whole = format!(in alloc; "@{connection} ")?.into_bytes();
+    let number = connection.number();
+    let mut whole = format!(in alloc; "@{number} ")?.into_bytes();
     whole.extend_from_slice(text)?;
     Ok(whole)
 }
 
 impl<A: Allocator + Copy> Runner<A> {
-    /// The new vault, and no sessions.
-    pub(crate) fn new(alloc: A) -> Result<Runner<A>, NoMemory>
-        ensures { IfOk result (λ runner. runner ≡ new_state) }
+    /// A new vault, and no sessions.
+    pub(crate) fn new(alloc: A) -> Result<Runner<A>, ScriptError>
+        ensures new { IfOk result (λ runner. runner ≡ new_talk) }
+        ensures cause { IfErr result (λ e. e ≡ ScriptError.NoMemory) }
     {
+        let first = MemDevice::new(alloc)?;
+        let second = MemDevice::new(alloc)?;
+        let Ok(vault) = Vault::create(alloc, first, second, 1) else {
+            return Err(ScriptError::NoMemory);
+        };
         Ok(Runner {
-            book: Book::new(alloc)?,
+            vault,
+            life: 1,
             sessions: [0; LAST_CONNECTION as usize],
-            commands: 0,
+            asked: [0; LAST_CONNECTION as usize],
+            lines: VecDeque::new(alloc),
         })
     }
 
-    /// The reply to a command of a connection.
-    fn reply_to(&mut self, connection: u32, command: &CommandIn<A>) -> Result<ReplyIn<A>, NoMemory>
-        requires first { 1 ≤ connection }
-        requires last { connection ≤ last_connection }
-        requires room { self.old.commands < most_commands }
-        ensures told { IfOk result (λ reply. told self.old connection command.now
-            ≡ Told connection (slice_index self.old.sessions (connection - 1)) command.now reply) }
-        ensures state { OnOk result (self.new ≡ state_after self.old (told self.old connection command.now)) }
-    {
-        let session = self.sessions[connection as usize - 1];
-        let (reply, _) = self.book.act(session, command)?;
-        self.commands += 1;
-        speak_for(&mut self.sessions, connection, &reply);
-        Ok(reply)
+    /// Ends, whatever is still waiting.
+    pub(crate) fn close(self) {
+        let Runner {
+            mut vault,
+            life: _,
+            sessions: _,
+            asked: _,
+            lines,
+        } = self;
+        give_up(&mut vault, lines);
     }
 
-    /// Answers a line of a connection.
+    // One more line of this text.
+    fn push_text(&mut self, text: Vec<u8, A>) -> Result<(), AllocError>
+        ensures { OnOk result (self.new ≡ with_text self.old text.items) }
+    {
+        self.lines.reserve(1)?;
+        self.lines
+            .push_back_reserved(Waiting::Known(Listing::from_vec(text)));
+        Ok(())
+    }
+
+    // Answers a connection outside the history.
+    fn refuse(
+        &mut self,
+        alloc: A,
+        connection: Connection,
+        outside: Outside,
+    ) -> Result<(), ScriptError>
+        ensures state { OnOk result (self.new ≡ with_refusal self.old connection (outside_text outside)) }
+        ensures cause { IfErr result (λ e. e ≡ ScriptError.NoMemory) }
+    {
+        let text = outside_text(alloc, outside)?;
+        let text = prefixed(alloc, connection, &text)?;
+        Ok(self.push_text(text)?)
+    }
+
+    // Gives a connection's command its place in the history, if there is room.
+    fn stage(
+        &mut self,
+        alloc: A,
+        connection: Connection,
+        command: CommandIn<A>,
+    ) -> Result<(), ScriptError>
+        ensures state { OnOk result (self.new ≡ answered self.old connection (Some command)) }
+        ensures cause { IfErr result (λ e. e ≡ ScriptError.NoMemory) }
+    {
+        self.lines.reserve(1)?;
+        let session = self.sessions[connection.place()];
+        match self.vault.stage(session, command) {
+            Ok(ticket) => {
+                self.asked[connection.place()] = self.vault.len();
+                self.lines
+                    .push_back_reserved(Waiting::Awaited(connection, ticket));
+                Ok(())
+            }
+            Err((Outside::Busy, _)) => self.refuse(alloc, connection, Outside::Busy),
+            Err(_) => Err(ScriptError::NoMemory),
+        }
+    }
+
+    // Answers a line of a connection.
+    fn hear(&mut self, alloc: A, connection: Connection, line: &[u8]) -> Result<(), ScriptError>
+        ensures state { OnOk result (self.new ≡ answered self.old connection (command_of line.now)) }
+        ensures cause { IfErr result (λ e. e ≡ ScriptError.NoMemory) }
+    {
+        match read_line_of(alloc, line) {
+            Ok(command) => self.stage(alloc, connection, command),
+            Err(LineError::BadLine) => self.refuse(alloc, connection, Outside::BadLine),
+            Err(LineError::NoMemory) => Err(ScriptError::NoMemory),
+        }
+    }
+
+    // One pump.
+    fn pump(&mut self) -> Result<(), ScriptError>
+        ensures state { OnOk result (self.new ≡ pumped self.old) }
+        ensures cause { IfErr result (λ e. e ≡ ScriptError.NoMemory) }
+    {
+        let Ok(answer) = self.vault.pump() else {
+            return Err(ScriptError::NoMemory);
+        };
+        if let Pumped::Broken = answer {
+            return Err(ScriptError::NoMemory);
+        }
+        Ok(())
+    }
+
+    // Pumps until nothing is left to do.
+    #[tactic(auto, unfolding(crate::specs::Talk::committed))]
+    fn commit(&mut self) -> Result<(), ScriptError>
+        ensures state { OnOk result (self.new ≡ committed self.old) }
+        ensures cause { IfErr result (λ e. e ≡ ScriptError.NoMemory) }
+    {
+        for _step in 0..MOST_STEPS {
+            self.pump()?;
+        }
+        Ok(())
+    }
+
+    // Tells a connection the reply that its ticket stands for.
+    fn tell(
+        &mut self,
+        alloc: A,
+        connection: Connection,
+        ticket: Ticket<A>,
+        out: &mut Vec<u8, A>,
+    ) -> Result<(), ScriptError>
+        ensures state { OnOk result (self.new ≡ told self.old connection ticket.position) }
+        ensures text { OnOk result (out.new.items ≡ out.old.items ++ told_text connection (reply_at self.old.view ticket.position)) }
+        ensures cause { IfErr result (λ e. e ≡ ScriptError.NoMemory) }
+    {
+        match self.vault.redeem(ticket) {
+            Redeemed::Told(receipt) => {
+                speak_for(&mut self.sessions, connection, receipt.reply());
+                let text = text_of(alloc, receipt.reply())?;
+                let text = prefixed(alloc, connection, &text)?;
+                Ok(out.extend_from_slice(&text)?)
+            }
+            Redeemed::NotYet(ticket)
+            | Redeemed::Stranger(ticket)
+            | Redeemed::Unknown(ticket)
+            | Redeemed::NoMemory(ticket) => {
+                let _ = self.vault.forget(ticket);
+                Err(ScriptError::NoMemory)
+            }
+        }
+    }
+
+    // Whether the first line may be printed.
+    fn first_is_sayable(&self) -> bool
+        ensures { result ≡ is_sayable self.now }
+    {
+        match self.lines.front() {
+            None => false,
+            Some(Waiting::Known(_)) => true,
+            Some(Waiting::Awaited(_, ticket)) => ticket.position() < self.vault.durable(),
+        }
+    }
+
+    // Prints the first line.
+    fn say_first(&mut self, alloc: A, out: &mut Vec<u8, A>) -> Result<(), ScriptError>
+        ensures state { OnOk result (self.new ≡ (said_first self.old).talk) }
+        ensures text { OnOk result (out.new.items ≡ out.old.items ++ (said_first self.old).text) }
+        ensures cause { IfErr result (λ e. e ≡ ScriptError.NoMemory) }
+    {
+        let Some(line) = self.lines.pop_front() else {
+            return Ok(());
+        };
+        match line {
+            Waiting::Known(text) => Ok(out.extend_from_slice(text.as_slice())?),
+            Waiting::Awaited(connection, ticket) => self.tell(alloc, connection, ticket, out),
+        }
+    }
+
+    // Prints the lines in front whose texts are known or whose entries are settled.
+    fn say(&mut self, alloc: A, out: &mut Vec<u8, A>) -> Result<(), ScriptError>
+        ensures state { OnOk result (self.new ≡ (said self.old).talk) }
+        ensures text { OnOk result (out.new.items ≡ out.old.items ++ (said self.old).text) }
+        ensures cause { IfErr result (λ e. e ≡ ScriptError.NoMemory) }
+    {
+        while self.first_is_sayable() {
+            self.say_first(alloc, out)?;
+        }
+        Ok(())
+    }
+
+    // Commits all, where the connection's earlier command isn't told.
+    fn prepare(
+        &mut self,
+        alloc: A,
+        connection: Connection,
+        out: &mut Vec<u8, A>,
+    ) -> Result<(), ScriptError>
+        ensures state { OnOk result (self.new ≡ (ready self.old connection).talk) }
+        ensures text { OnOk result (out.new.items ≡ out.old.items ++ (ready self.old connection).text) }
+        ensures cause { IfErr result (λ e. e ≡ ScriptError.NoMemory) }
+    {
+        if self.vault.durable() < self.asked[connection.place()] {
+            return self.commit_and_say(alloc, out);
+        }
+        Ok(())
+    }
+
+    // Answers a line of a connection, and prints what is known.
     fn answer_connection(
         &mut self,
         alloc: A,
-        connection: u32,
+        connection: Connection,
         line: &[u8],
-    ) -> Result<Vec<u8, A>, ScriptError>
-        requires first { 1 ≤ connection }
-        requires last { connection ≤ last_connection }
-        ensures text { IfOk result (λ text. text.items ≡ answer_text (answer_command self.old connection (command_of line.now))) }
-        ensures state { OnOk result (self.new ≡ state_after self.old (answer_command self.old connection (command_of line.now))) }
+        out: &mut Vec<u8, A>,
+    ) -> Result<(), ScriptError>
+        ensures state { OnOk result (self.new ≡ (heard self.old connection line.now).talk) }
+        ensures text { OnOk result (out.new.items ≡ out.old.items ++ (heard self.old connection line.now).text) }
         ensures cause { IfErr result (λ e. e ≡ ScriptError.NoMemory) }
     {
-        let command = match read_line_of(alloc, line) {
-            Ok(command) => command,
-            Err(LineError::BadLine) => {
-                let text = outside_text(alloc, Outside::BadLine)?;
-                return Ok(prefixed(alloc, connection, &text)?);
-            }
-            Err(LineError::NoMemory) => return Err(ScriptError::NoMemory),
-        };
-        if self.commands >= MOST_COMMANDS {
-            let text = outside_text(alloc, Outside::Busy)?;
-            return Ok(prefixed(alloc, connection, &text)?);
-        }
-        let reply = self.reply_to(connection, &command)?;
-        let text = text_of(alloc, &reply)?;
-        Ok(prefixed(alloc, connection, &text)?)
+        self.prepare(alloc, connection, out)?;
+        self.hear(alloc, connection, line)?;
+        self.say(alloc, out)
     }
 
-    /// Answers a line.
-    pub(crate) fn answer(&mut self, alloc: A, line: &[u8]) -> Result<Vec<u8, A>, ScriptError>
-        ensures text { IfOk result (λ text. text.items ≡ flat_map answer_text (answers self.old line.now)) }
-        ensures state { OnOk result (self.new ≡ fold state_after self.old (answers self.old line.now)) }
+    // Answers a line of a connection, or one that is none of a script's.
+    fn answer_line(
+        &mut self,
+        alloc: A,
+        line: &[u8],
+        out: &mut Vec<u8, A>,
+    ) -> Result<(), ScriptError>
+        ensures state { OnOk result (self.new ≡ (heard_of self.old (connection_line line.now)).talk) }
+        ensures text { OnOk result (out.new.items ≡ out.old.items ++ (heard_of self.old (connection_line line.now)).text) }
         ensures cause { IfErr result (λ e. e ≡ ScriptError.NoMemory) }
     {
-        if line.is_empty() || line[0] == b'#' || line == b"!commit".as_slice() {
-            return Ok(Vec::new(alloc));
-        }
         match connection_of(line) {
-            Some((connection, rest)) => self.answer_connection(alloc, connection, rest),
-            None => Ok(Vec::from_slice(alloc, b"! ERR 10\n")?),
+            Some((connection, rest)) => self.answer_connection(alloc, connection, rest, out),
+            None => {
+                self.push_text(Vec::from_slice(alloc, b"! ERR 10\n")?)?;
+                self.say(alloc, out)
+            }
         }
+    }
+
+    // Commits, and prints what is known.
+    fn commit_and_say(&mut self, alloc: A, out: &mut Vec<u8, A>) -> Result<(), ScriptError>
+        ensures state { OnOk result (self.new ≡ (said (committed self.old)).talk) }
+        ensures text { OnOk result (out.new.items ≡ out.old.items ++ (said (committed self.old)).text) }
+        ensures cause { IfErr result (λ e. e ≡ ScriptError.NoMemory) }
+    {
+        self.commit()?;
+        self.say(alloc, out)
+    }
+
+    // Answers a line that isn't a stop.
+    fn answer(&mut self, alloc: A, line: &[u8], out: &mut Vec<u8, A>) -> Result<(), ScriptError>
+        ensures state { OnOk result (self.new ≡ (said_by self.old line.now).talk) }
+        ensures text { OnOk result (out.new.items ≡ out.old.items ++ (said_by self.old line.now).text) }
+        ensures cause { IfErr result (λ e. e ≡ ScriptError.NoMemory) }
+    {
+        if line.is_empty() || line[0] == b'#' {
+            return Ok(());
+        }
+        if line == b"!commit".as_slice() {
+            return self.commit_and_say(alloc, out);
+        }
+        if line == b"!pump".as_slice() {
+            self.pump()?;
+            return self.say(alloc, out);
+        }
+        self.answer_line(alloc, line, out)
+    }
+
+    // Both devices stop, and the vault is opened again.
+    fn crash(self, alloc: A, pick: Pick, out: &mut Vec<u8, A>) -> Result<Runner<A>, ScriptError>
+        ensures state { IfOk result (λ next. next ≡ (said (crashed pick self)).talk) }
+        ensures text { OnOk result (out.new.items ≡ out.old.items ++ (said (crashed pick self)).text) }
+        ensures cause { IfErr result (λ e. e ≡ ScriptError.NoMemory) }
+    {
+        let Runner {
+            mut vault,
+            life,
+            sessions: _,
+            asked: _,
+            lines,
+        } = self;
+        let Ok(()) = lose(&mut vault, lines, out) else {
+            return Err(ScriptError::NoMemory);
+        };
+        let life = life.wrapping_add(1);
+        let vault = reopened(alloc, vault, pick, life)?;
+        Ok(Runner {
+            vault,
+            life,
+            sessions: [0; LAST_CONNECTION as usize],
+            asked: [0; LAST_CONNECTION as usize],
+            lines: VecDeque::new(alloc),
+        })
+    }
+
+    /// Runs one line of the script.
+    pub(crate) fn run_line(
+        self,
+        alloc: A,
+        line: &[u8],
+        out: &mut Vec<u8, A>,
+    ) -> Result<Runner<A>, ScriptError>
+        ensures state { IfOk result (λ next. next ≡ (said_for self line.now).talk) }
+        ensures text { OnOk result (out.new.items ≡ out.old.items ++ (said_for self line.now).text) }
+        ensures cause { IfErr result (λ e. e ≡ ScriptError.NoMemory) }
+    {
+        if let Some(pick) = crash_of(line) {
+            return self.crash(alloc, pick, out);
+        }
+        let mut runner = self;
+        match runner.answer(alloc, line, out) {
+            Ok(()) => Ok(runner),
+            Err(error) => {
+                runner.close();
+                Err(error)
+            }
+        }
+    }
+
+    /// Commits and prints what is left.
+    pub(crate) fn finish(self, alloc: A, out: &mut Vec<u8, A>) -> Result<(), ScriptError>
+        ensures text { OnOk result (out.new.items ≡ out.old.items ++ (said (committed self)).text) }
+        ensures cause { IfErr result (λ e. e ≡ ScriptError.NoMemory) }
+    {
+        let mut runner = self;
+        let result = runner.commit_and_say(alloc, out);
+        runner.close();
+        result
     }
 }

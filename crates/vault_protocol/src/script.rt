@@ -24,14 +24,21 @@ fn run_lines<A: Allocator + Copy, W: Write>(
     ensures cause { IfErr result (λ e. (e ≡ ScriptError.Write) ⊎ (e ≡ ScriptError.NoMemory)) }
 {
     let mut runner = Runner::new(alloc)?;
+    let mut text = Vec::new(alloc);
     let mut rest = Some(script);
     while let Some(bytes) = rest {
         let (line, behind) = cut(bytes, b'\n');
-        let text = runner.answer(alloc, line)?;
-        write_text(writer, &text)?;
+        text.clear();
+        runner = runner.run_line(alloc, line, &mut text)?;
+        if let Err(error) = write_text(writer, &text) {
+            runner.close();
+            return Err(error);
+        }
         rest = behind;
     }
-    Ok(())
+    text.clear();
+    runner.finish(alloc, &mut text)?;
+    write_text(writer, &text)
 }
 
 /// Reads a script whole, runs it over a new vault, and writes what its lines are told.

@@ -11,4 +11,6 @@ mod memory;
 #[cfg(test)]
 mod scripts;
 #[cfg(test)]
+mod stops;
+#[cfg(test)]
 mod streams;

@@ -2,22 +2,30 @@
 
 use std::alloc::Global;
 use std::test::Fail;
-use vault_protocol::{MOST_COMMANDS, run_script};
+use vault_protocol::run_script;
 
 /// Two designers, an assembly and two parts.
-const BEGUN: &[u8] =
+pub const BEGUN: &[u8] =
     b"@1 hello anna\n@2 hello ben\n@1 make /e\n@1 make /e/b\n@1 make /e/b/p1\n@1 make /e/b/p2\n";
 
 /// What they are told.
-const BEGUN_OUTPUT: &[u8] =
+pub const BEGUN_OUTPUT: &[u8] =
     b"@1 OK session 1\n@2 OK session 2\n@1 OK place 1\n@1 OK place 2\n@1 OK place 3\n@1 OK place 4\n";
 
 /// The bytes one after the other.
-fn joined(alloc: Global, front: &[u8], back: &[u8]) -> Result<Vec<u8>, Fail> {
+pub fn joined(alloc: Global, front: &[u8], back: &[u8]) -> Result<Vec<u8>, Fail> {
     let mut whole = Vec::new(alloc);
     whole.extend_from_slice(front)?;
     whole.extend_from_slice(back)?;
     Ok(whole)
+}
+
+/// What a script prints.
+pub fn printed(alloc: Global, script: &[u8]) -> Result<Vec<u8>, Fail> {
+    let mut reader = script;
+    let mut held = Vec::new(alloc);
+    run_script(alloc, &mut reader, &mut held)?;
+    Ok(held)
 }
 
 #[test]
@@ -35,15 +43,12 @@ fn scripts_from_nothing(rt: HostRuntime) -> Result<(), Fail> {
             b"@1 ERR 11\n@1 ERR 10\n@1 OK session 1\n@1 ERR 12\n! ERR 10\n@1 ERR 21\n@1 ERR 20\n@1 ERR 30\n@1 ERR 10\n@1 OK left\n@1 ERR 11\n",
         ),
         (
-            b"\n# @1 hello anna\n@1 \n@01 hello anna\n@65 hello anna\n!pump\n@2 hello ben\r\n\n",
+            b"\n# @1 hello anna\n@1 \n@01 hello anna\n@65 hello anna\n!snapshot\n@2 hello ben\r\n\n",
             b"@1 ERR 10\n! ERR 10\n! ERR 10\n! ERR 10\n@2 ERR 10\n",
         ),
     ];
     for (script, want) in rows {
-        let mut reader = script;
-        let mut held = Vec::new(rt.alloc());
-        run_script(rt.alloc(), &mut reader, &mut held)?;
-        assert_eq!(rt; held.as_slice(), want);
+        assert_eq!(rt; printed(rt.alloc(), script)?.as_slice(), want);
     }
     Ok(())
 }
@@ -74,11 +79,8 @@ fn scripts_of_two_designers(rt: HostRuntime) -> Result<(), Fail> {
     ];
     for (script, want) in rows {
         let script = joined(rt.alloc(), BEGUN, script)?;
-        let mut reader = script.as_slice();
-        let mut held = Vec::new(rt.alloc());
-        run_script(rt.alloc(), &mut reader, &mut held)?;
         assert_eq!(rt;
-            held.as_slice(),
+            printed(rt.alloc(), &script)?.as_slice(),
             joined(rt.alloc(), BEGUN_OUTPUT, want)?.as_slice()
         );
     }
@@ -115,11 +117,8 @@ fn scripts_of_extensions_and_holds(rt: HostRuntime) -> Result<(), Fail> {
     ];
     for (script, want) in rows {
         let script = joined(rt.alloc(), BEGUN, script)?;
-        let mut reader = script.as_slice();
-        let mut held = Vec::new(rt.alloc());
-        run_script(rt.alloc(), &mut reader, &mut held)?;
         assert_eq!(rt;
-            held.as_slice(),
+            printed(rt.alloc(), &script)?.as_slice(),
             joined(rt.alloc(), BEGUN_OUTPUT, want)?.as_slice()
         );
     }
@@ -130,16 +129,13 @@ fn scripts_of_extensions_and_holds(rt: HostRuntime) -> Result<(), Fail> {
 fn busy_behind_the_last_command(rt: HostRuntime) -> Result<(), Fail> {
     let mut script = joined(rt.alloc(), b"@1 hello anna\n", b"")?;
     let mut want = joined(rt.alloc(), b"@1 OK session 1\n", b"")?;
-    for _ in 1..MOST_COMMANDS {
+    for _ in 1..4096 {
         script.extend_from_slice(b"@1 state c1\n")?;
         want.extend_from_slice(b"@1 ERR 30\n")?;
     }
     script.extend_from_slice(b"@1 state c1\n@1 foo\n@2 hello ben\n")?;
     want.extend_from_slice(b"@1 ERR 80\n@1 ERR 10\n@2 ERR 80\n")?;
-    let mut reader = script.as_slice();
-    let mut held = Vec::new(rt.alloc());
-    run_script(rt.alloc(), &mut reader, &mut held)?;
-    assert!(rt; held == want);
+    assert!(rt; printed(rt.alloc(), &script)? == want);
     Ok(())
 }
 
@@ -157,11 +153,8 @@ fn scripts_of_drafts_and_versions(rt: HostRuntime) -> Result<(), Fail> {
     ];
     for (script, want) in rows {
         let script = joined(rt.alloc(), BEGUN, script)?;
-        let mut reader = script.as_slice();
-        let mut held = Vec::new(rt.alloc());
-        run_script(rt.alloc(), &mut reader, &mut held)?;
         assert_eq!(rt;
-            held.as_slice(),
+            printed(rt.alloc(), &script)?.as_slice(),
             joined(rt.alloc(), BEGUN_OUTPUT, want)?.as_slice()
         );
     }
@@ -189,9 +182,6 @@ fn drafts_of_1024_bytes_at_most(rt: HostRuntime) -> Result<(), Fail> {
         BEGUN_OUTPUT,
         b"@1 OK held c1\n@1 OK saved\n@1 ERR 50\n@1 OK saved\n@1 OK saved\n@1 OK saved\n@1 OK checked in 2\n@1 ERR 40\n@1 OK content 6162\n@1 ERR 40\n@1 OK content -\n@1 ERR 30\n",
     )?;
-    let mut reader = script.as_slice();
-    let mut held = Vec::new(rt.alloc());
-    run_script(rt.alloc(), &mut reader, &mut held)?;
-    assert_eq!(rt; held.as_slice(), want.as_slice());
+    assert_eq!(rt; printed(rt.alloc(), &script)?.as_slice(), want.as_slice());
     Ok(())
 }

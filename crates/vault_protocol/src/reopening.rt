@@ -1,0 +1,45 @@
+//! The devices of a vault stop, and it is opened again.
+
+ghost use Rattle.std.specs.Prelude.{◌≡◌, ◌+◌, ◌&&◌, IfOk, IfErr, [], length, if◌then◌else◌};
+ghost use Rattle.vault_model.specs.Vault.{durable};
+ghost use Rattle.vault_device.specs.Picks.{gives_one};
+ghost use Rattle.vault_journal.specs.Spelling.{records_of};
+ghost use Rattle.vault_store.specs.Files.{frame_extra};
+ghost use Rattle.vault_store.specs.Phases.{is_opening};
+ghost use Rattle.group_commit.specs.View.{opened_view, view_at};
+ghost use Rattle.group_commit.specs.Seen.{effects_between};
+
+use crate::error::ScriptError;
+use group_commit::Vault;
+use group_commit::promises::{a_vault_keeps_its_history, images_stand_for_the_history};
+use std::alloc::Allocator;
+use vault_device::{MemDevice, Pick};
+use vault_store::laws::files_stand_for_one_vault;
+
+/// Both devices stop with this pick, and the vault is opened again in another life.
+pub(crate) fn reopened<A: Allocator + Copy>(
+    alloc: A,
+    vault: Vault<MemDevice<A>, A>,
+    pick: Pick,
+    life: u64,
+) -> Result<Vault<MemDevice<A>, A>, ScriptError>
+    ensures view { IfOk result (λ next. next.view ≡ opened_view (durable (view_at vault.view (if gives_one pick && is_opening vault.view.phase then vault.view.sealed else vault.view.settled)))) }
+    ensures buffer { IfOk result (λ next. next.store.buffer ≡ []) }
+    ensures tail { IfOk result (λ next. next.store.tail ≡ (if gives_one pick && is_opening vault.view.phase then vault.store.tail + frame_extra + length (records_of (effects_between vault.view vault.view.settled vault.view.sealed)) else vault.store.tail)) }
+    ensures cause { IfErr result (λ e. e ≡ ScriptError.NoMemory) }
+{
+    if vault.is_broken() {
+        return Err(ScriptError::NoMemory);
+    }
+    a_vault_keeps_its_history(&vault);
+    images_stand_for_the_history(&vault);
+    files_stand_for_one_vault();
+
+    let (mut first, mut second) = vault.into_devices();
+    first.crash(pick);
+    second.crash(pick);
+    match Vault::open(alloc, first, second, life) {
+        Ok(vault) => Ok(vault),
+        Err(_) => Err(ScriptError::NoMemory),
+    }
+}
