@@ -59,6 +59,15 @@ impl<A: Allocator> Shelf<A> {
         self.parts.get(place.number() as usize)?.get(index as usize)
     }
 
+    /// How many places there are up to the last that has a version, with the library; 0 where there is
+    /// no version.
+    pub fn len(&self) -> usize
+        ensures len { result ≡ length self.now }
+        ensures shelf { IsShelf self.now }
+    {
+        self.parts.len()
+    }
+
     /// How many versions a place has.
     pub fn count(&self, place: PlaceId) -> u32
         ensures count { result ≡ length (versions_of self.now place) }

@@ -25,7 +25,7 @@ use Rattle.vault_checkout.specs.declared.check_outs.AnyCheckOut.{AnyCheckOut}
 use Rattle.vault_checkout.specs.declared.check_outs.AnyCheckOut.TheVariants.{Waiting, Held}
 use Rattle.vault_checkout.specs.Typed.{number_of, is_granted, own_drafts, marked, saved, check_out_of, without_check_out, saving, with_saved, is_open, is_held_standing, is_holding, granted_if, granted, recalled_unless, recalled, IsAscending, Agrees}
 use Rattle.vault_checkout.proofs.AllDrafts.{saved-append, ascending_saved}
-use Rattle.vault_checkout.proofs.Agreement.{claim_kept, claim_gone, claim_last, standing_last, claim_of-other, both, each_found, kept_ascending, mapped_there, mapped_ascending, number_recalled, agrees_granted, agrees_moved, agrees_same}
+use Rattle.vault_checkout.proofs.Agreement.{claim_kept, claim_gone, found_there, stands_there, claim_of-other, both, each_found, kept_ascending, mapped_there, mapped_ascending, number_recalled, agrees_granted, agrees_moved, agrees_same}
 
 -- the claim of a new check-out, and the check-out
 abbrev long_claim : ℕ → List ℕ → List Item → Claim
@@ -154,7 +154,7 @@ module _ {A : Type 0} where
         by_number : (n : ℕ) (b : Bool) → (v.last_long + 1 == n) ≡ b → is_some (check_out_of (xs ++ asked v.last_long held ∷ []) n) ≡ is_some (claim_of (v.line ++ long_claim v.last_long designer items ∷ []) (Long n))
         by_number n true e =
             one_last xs (asked v.last_long held) n (ap (λ k. k == n) (number_is held) ∙ e)
-            ∙ sym (ap (λ k. is_some (claim_of (v.line ++ long_claim v.last_long designer items ∷ []) (Long k))) (sym (eq_from (v.last_long + 1) n e)) ∙ ap is_some (claim_last v.line (long_claim v.last_long designer items) fresh))
+            ∙ sym (ap (λ k. is_some (claim_of (v.line ++ long_claim v.last_long designer items ∷ []) (Long k))) (sym (eq_from (v.last_long + 1) n e)) ∙ ap is_some (found_there v.line (long_claim v.last_long designer items) [] fresh))
         by_number n false e =
             none_last xs (asked v.last_long held) n (ap (λ k. k == n) (number_is held) ∙ e) ∙ agrees.numbers n ∙ ap is_some (sym (claim_of-other v.line (long_claim v.last_long designer items) (Long n) e))
 
@@ -162,7 +162,7 @@ module _ {A : Type 0} where
         (xs ++ granted_if (is_held_standing (Some (standing_behind v.tree v.line items))) (Waiting (record { number = v.last_long + 1; state = tt })) ∷ [])
     agrees_asked designer items =
         asked_with designer items (is_held_standing (Some (standing_behind v.tree v.line items)))
-        (ap is_held_standing (standing_last v.tree v.line (record { id = Long (v.last_long + 1); owner = owners.Designer designer; items = items }) fresh))
+        (ap is_held_standing (stands_there v.tree v.line (record { id = Long (v.last_long + 1); owner = owners.Designer designer; items = items }) [] fresh))
 
     -- the same line
     pub agrees_still : Agrees v.tree v.line (map (granted v.tree v.line) xs)

@@ -43,27 +43,27 @@ claim_gone (x ∷ line) id = by_test (same_id x.id id) refl (claim_gone line id)
     by_test true e rest = rest
     by_test false e rest = rw e rest
 
--- a claim put last is found there, and stands behind all others
-pub claim_last : (line : List Claim) (c : Claim) → claim_of line c.id ≡ None → claim_of (line ++ c ∷ []) c.id ≡ Some c
-claim_last [] c none = rw (same_id_itself c.id) refl
-claim_last (x ∷ line) c none = by_test (same_id x.id c.id) none (claim_last line c)
+-- a claim that none before it has the id of is found, and stands behind those
+pub found_there : (line : List Claim) (c : Claim) (more : List Claim) → claim_of line c.id ≡ None → claim_of (line ++ c ∷ more) c.id ≡ Some c
+found_there [] c more none = rw (same_id_itself c.id) refl
+found_there (x ∷ line) c more none = by_test (same_id x.id c.id) none (found_there line c more)
   where
-    by_test : (b : Bool) → cond b (Some x) (claim_of line c.id) ≡ None → (claim_of line c.id ≡ None → claim_of (line ++ c ∷ []) c.id ≡ Some c) → cond b (Some x) (claim_of (line ++ c ∷ []) c.id) ≡ Some c
+    by_test : (b : Bool) → cond b (Some x) (claim_of line c.id) ≡ None → (claim_of line c.id ≡ None → claim_of (line ++ c ∷ more) c.id ≡ Some c) → cond b (Some x) (claim_of (line ++ c ∷ more) c.id) ≡ Some c
     by_test true h rest = cc
     by_test false h rest = rest h
 
-before_last : (line : List Claim) (c : Claim) → claim_of line c.id ≡ None → before (line ++ c ∷ []) c.id ≡ line
-before_last [] c none = take_while-cons (λ (d : Claim). not (same_id d.id c.id)) c [] ∙ rw (same_id_itself c.id) refl
-before_last (x ∷ line) c none = take_while-cons (λ (d : Claim). not (same_id d.id c.id)) x (line ++ c ∷ []) ∙ by_test (same_id x.id c.id) none (before_last line c)
+before_it : (line : List Claim) (c : Claim) (more : List Claim) → claim_of line c.id ≡ None → before (line ++ c ∷ more) c.id ≡ line
+before_it [] c more none = take_while-cons (λ (d : Claim). not (same_id d.id c.id)) c more ∙ rw (same_id_itself c.id) refl
+before_it (x ∷ line) c more none = take_while-cons (λ (d : Claim). not (same_id d.id c.id)) x (line ++ c ∷ more) ∙ by_test (same_id x.id c.id) none (before_it line c more)
   where
-    by_test : (b : Bool) → cond b (Some x) (claim_of line c.id) ≡ None → (claim_of line c.id ≡ None → before (line ++ c ∷ []) c.id ≡ line) → cond (not b) (x ∷ before (line ++ c ∷ []) c.id) [] ≡ x ∷ line
+    by_test : (b : Bool) → cond b (Some x) (claim_of line c.id) ≡ None → (claim_of line c.id ≡ None → before (line ++ c ∷ more) c.id ≡ line) → cond (not b) (x ∷ before (line ++ c ∷ more) c.id) [] ≡ x ∷ line
     by_test true h rest = cc
     by_test false h rest = ap (λ xs. x ∷ xs) (rest h)
 
-pub standing_last : (tree : List Place) (line : List Claim) (c : Claim) → claim_of line c.id ≡ None → standing_of tree (line ++ c ∷ []) c.id ≡ Some (standing_behind tree line c.items)
-standing_last tree line c none =
-    ap (λ o. option_map (λ (d : Claim). standing_behind tree (before (line ++ c ∷ []) c.id) d.items) o) (claim_last line c none)
-    ∙ ap (λ ahead. Some (standing_behind tree ahead c.items)) (before_last line c none)
+pub stands_there : (tree : List Place) (line : List Claim) (c : Claim) (more : List Claim) → claim_of line c.id ≡ None → standing_of tree (line ++ c ∷ more) c.id ≡ Some (standing_behind tree line c.items)
+stands_there tree line c more none =
+    ap (λ o. option_map (λ (d : Claim). standing_behind tree (before (line ++ c ∷ more) c.id) d.items) o) (found_there line c more none)
+    ∙ ap (λ ahead. Some (standing_behind tree ahead c.items)) (before_it line c more none)
 
 -- other claims are found as before
 pub claim_of-other : (line : List Claim) (c : Claim) (id : ClaimId) → same_id c.id id ≡ false → claim_of (line ++ c ∷ []) id ≡ claim_of line id

@@ -3,8 +3,9 @@ use Rattle.std.specs.Prelude.{◌≡◌, ℕ, zero, suc, ◌<◌, ◌≤◌, nat
 use Rattle.std.specs.List.{AllByRecursion, AllWithin, HoldsAt}
 use Rattle.std.specs.List.Sorted.{IsNonDecreasingBy, IsPartitionPoint}
 use Rattle.std.specs.Ordering.{nat_cmp, ordering_index}
-use Rattle.std.proofs.Common.{arith, ap, sym, subst, cond, ◌∙◌, Less, Equal, Greater}
+use Rattle.std.proofs.Common.{arith, ap, sym, subst, cond, ◌∙◌, ◌-◌, ◌+◌, add-one, sub-one, get_or, Less, Equal, Greater}
 use Rattle.std.proofs.lemmas.Cmp.{ranked}
+use Rattle.std.proofs.lemmas.List.{get_or_default}
 use Rattle.std.proofs.lemmas.List.Sorted.{IsNonDecreasingBy-from_default}
 use Rattle.std.proofs.lemmas.Bool.Decides.{nat_tests}
 use Rattle.vault_model.specs.Shelf.{Draft}
@@ -29,11 +30,41 @@ later_at place [] all j d high = absurd (omega arith)
 later_at place (x ∷ xs) all zero d high = let less = all.0 in grind (arith, nat_tests, less)
 later_at place (x ∷ xs) all (suc j) d high = later_at place xs all.1 j d (omega arith)
 
-rising_at : (xs : List Draft) → IsRising xs → (i j : ℕ) (d : Draft) → i < j → j < length xs → (slice_index_or xs i d).place < (slice_index_or xs j d).place
+pub rising_at : (xs : List Draft) → IsRising xs → (i j : ℕ) (d : Draft) → i < j → j < length xs → (slice_index_or xs i d).place < (slice_index_or xs j d).place
 rising_at [] rising i j d low high = absurd (omega arith)
 rising_at (x ∷ xs) rising zero (suc j) d low high = later_at x.place xs rising.0 j d (omega arith)
 rising_at (x ∷ xs) rising (suc i) (suc j) d low high = rising_at xs rising.1 i j d (omega arith) (omega arith)
 rising_at (x ∷ xs) rising i zero d low high = absurd (omega arith)
+
+-- one more behind the last
+above_more : (place : ℕ) (xs : List Draft) (i : ℕ) (d : Draft) → suc i < length xs → (slice_index_or xs i d).place < (slice_index_or xs (suc i) d).place
+    → AllByRecursion (λ (y : Draft). nat_lt place y.place ≡ true) (take (suc i) xs) → AllByRecursion (λ (y : Draft). nat_lt place y.place ≡ true) (take (suc (suc i)) xs)
+above_more place [] i d high less all = absurd (omega arith)
+above_more place (x ∷ []) i d high less all = absurd (omega (arith, high))
+above_more place (x ∷ y ∷ xs) zero d high less all = (all.0, (let here = all.0 in grind (arith, nat_tests, here, less), tt))
+above_more place (x ∷ y ∷ xs) (suc i) d high less all = (all.0, above_more place (y ∷ xs) i d (omega (arith, high)) less all.1)
+
+pub rising_more : (xs : List Draft) (i : ℕ) (d : Draft) → suc i < length xs → (slice_index_or xs i d).place < (slice_index_or xs (suc i) d).place → IsRising (take (suc i) xs) → IsRising (take (suc (suc i)) xs)
+rising_more [] i d high less rising = absurd (omega arith)
+rising_more (x ∷ []) i d high less rising = absurd (omega (arith, high))
+rising_more (x ∷ y ∷ xs) zero d high less rising = ((grind (arith, nat_tests, less), tt), (tt, tt))
+rising_more (x ∷ y ∷ xs) (suc i) d high less rising = (above_more x.place (y ∷ xs) i d (omega (arith, high)) less rising.0, rising_more (y ∷ xs) i d (omega (arith, high)) less rising.1)
+
+-- the same of a draft and the one before it
+pub rises_at : (xs : List Draft) (i : ℕ) (x y : Draft) → 1 ≤ i → i < length xs → x ≡ get_or xs i x → y ≡ get_or xs (i - 1) y → IsRising xs → y.place < x.place
+rises_at xs zero x y low high at_x at_y rising = absurd (omega (arith, low))
+rises_at xs (suc i) x y low high at_x at_y rising =
+    let first : y ≡ get_or xs i x = at_y ∙ rw sub-one (get_or_default xs i y x (omega (arith, high))) in
+    let rise = rising_at xs rising i (suc i) x (omega arith) high in
+    subst (λ (d : Draft). d.place < x.place) (sym first) (subst (λ (d : Draft). (slice_index_or xs i x).place < d.place) (sym at_x) rise)
+
+pub rising_next : (xs : List Draft) (i : ℕ) (x y : Draft) → 1 ≤ i → i < length xs → x ≡ get_or xs i x → y ≡ get_or xs (i - 1) y → y.place < x.place → IsRising (take i xs) → IsRising (take (i + 1) xs)
+rising_next xs zero x y low high at_x at_y less rising = absurd (omega (arith, low))
+rising_next xs (suc i) x y low high at_x at_y less rising =
+    let first : y ≡ get_or xs i x = at_y ∙ rw sub-one (get_or_default xs i y x (omega (arith, high))) in
+    let rise : (slice_index_or xs i x).place < (slice_index_or xs (suc i) x).place = subst (λ (d : Draft). (slice_index_or xs i x).place < d.place) at_x (subst (λ (d : Draft). d.place < x.place) first less) in
+    let more = rising_more xs i x high rise rising in
+    rw add-one more
 
 set_is : (xs : List Draft) (i : ℕ) (new : Draft) → i < length xs → slice_set xs i new ≡ take i xs ++ new ∷ drop (suc i) xs
 set_is [] i new high = absurd (omega arith)

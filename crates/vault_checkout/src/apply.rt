@@ -43,15 +43,10 @@ fn is_there<A: Allocator>(tree: &Tree<A>, item: &Item) -> bool
     (item.place.number() as usize) < tree.len()
 }
 
-fn are_there<A: Allocator>(tree: &Tree<A>, items: &[Item]) -> bool
+pub(crate) fn are_there<A: Allocator>(tree: &Tree<A>, items: &[Item]) -> bool
     ensures { result ≡ are_there tree.now items.now }
 {
-    for item in items {
-        if !is_there(tree, item) {
-            return false;
-        }
-    }
-    true
+    items.iter().all(|item| is_there(tree, item))
 }
 
 /// Whether a place may be made: its parent is there and no part, has no child of the name, and there
@@ -73,7 +68,7 @@ fn may_grow<A: Allocator>(tree: &Tree<A>, own: &Items, items: &Items) -> bool
 }
 
 /// Whether a place is a part that these items change.
-fn may_change<A: Allocator>(tree: &Tree<A>, items: &Items, place: PlaceId) -> bool
+pub(crate) fn may_change<A: Allocator>(tree: &Tree<A>, items: &Items, place: PlaceId) -> bool
     ensures { result ≡ (nat_le place (length tree.now) && is_part tree.now place && change_set tree.now items.now place) }
 {
     (place.number() as usize) < tree.len()

@@ -30,13 +30,13 @@ use lock_table::{Extension, lock_set};
 use std::alloc::Allocator;
 use vault_model::{Claim, ClaimId, Draft, Items, Listing, Name, NoMemory, PlaceId, Standing};
 
-fn see_whole<A: Allocator>(tree: &Tree<A>)
+pub(crate) fn see_whole<A: Allocator>(tree: &Tree<A>)
     ensures { IsTree tree.now }
 {
     let _ = tree.parent(PlaceId(0));
 }
 
-fn overlaps<A: Allocator>(tree: &Tree<A>, items: &Items, others: &Items) -> bool
+pub(crate) fn overlaps<A: Allocator>(tree: &Tree<A>, items: &Items, others: &Items) -> bool
     requires items { AreThere tree.now items.now }
     requires others { AreThere tree.now others.now }
     ensures { result ≡ overlap tree.now items.now others.now }

@@ -11,11 +11,12 @@ mod closing;
 mod copy;
 mod done;
 mod drafting;
+mod from_parts;
+mod parts;
 mod places;
-#[cfg(test)]
-mod tests;
 mod weights;
 
 pub use apply::ApplyError;
 pub use book::Book;
 pub use check_out::{CheckOut, Held, Waiting};
+pub use from_parts::FromPartsError;

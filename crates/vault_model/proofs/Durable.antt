@@ -61,7 +61,7 @@ not_false : (b : Bool) → not b ≡ true → b ≡ false
 not_false true e = cc
 not_false false e = refl
 
-all_there : (tree : List Place) (items : List Item) → AreThere tree items → are_there tree items ≡ true
+pub all_there : (tree : List Place) (items : List Item) → AreThere tree items → are_there tree items ≡ true
 all_there tree [] there = refl
 all_there tree (item ∷ items) there =
     let here = All-head (λ (i : Item). i.place ≤ length tree) item items there in

@@ -5,6 +5,7 @@ ghost use Rattle.vault_model.specs.Vault.{CountsBelow};
 mod applied;
 mod conversations;
 mod dice;
+mod direct;
 mod limits;
 mod lives;
 mod pairs;

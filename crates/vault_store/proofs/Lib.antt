@@ -24,3 +24,13 @@ mod Steps
 mod WholeFile
 mod Opened
 mod HandedOn
+mod Refusals
+mod ListsRead
+mod TreeFronts
+mod ShelfFronts
+mod VersionsRead
+mod PlaceRead
+mod PlacesRead
+mod DraftsRead
+mod ClaimsRead
+mod SnapshotRead

@@ -13,7 +13,7 @@ use Rattle.vault_store.specs.Snapshot.{snapshot_of}
 use Rattle.vault_store.proofs.Short.{spelled_short}
 use Rattle.vault_store.specs.Files.{head_of, frame_of, frames_bytes, IsFrame, after_frames, Reading, Holds, snapshot_bytes}
 
-some_pair : {X : Type 0} (x y : X) (a b : List ℕ) → ◌≡◌ {A = Option (X × List ℕ)} (Some (x, a)) (Some (y, b)) → (x ≡ y) × (a ≡ b)
+pub some_pair : {X : Type 0} (x y : X) (a b : List ℕ) → ◌≡◌ {A = Option (X × List ℕ)} (Some (x, a)) (Some (y, b)) → (x ≡ y) × (a ≡ b)
 some_pair {X} x y a b e = let p : ◌≡◌ {A = X × List ℕ} (x, a) (y, b) = cc in (ap (λ (q : X × List ℕ). q.0) p, ap (λ (q : X × List ℕ). q.1) p)
 
 -- what is spelled at the front of the same bytes is one, and the same stands behind

@@ -24,14 +24,15 @@ use Rattle.vault_model.specs.Vault.{Vault, IsClaim, IsGiven, Owns, AreThere, IsD
 use Rattle.vault_journal.specs.Spelling.{in_two, in_four, ItemFits}
 use Rattle.vault_journal.specs.Reading.{u16_at}
 use Rattle.vault_journal.proofs.OneSpelling.{fields_are_spelled}
+use Rattle.vault_checkout.proofs.OneDrafts.{one_drafts}
 use Rattle.vault_store.specs.Snapshot.{snapshot_of, places_bytes, claim_bytes, number_of, designer_of, HasSnapshot}
 use Rattle.vault_store.proofs.OneReading.{one_spelled, one_number}
 use Rattle.vault_store.proofs.SpelledLists.{IsContent, AreContents, HasDraft}
 use Rattle.vault_store.proofs.SpelledPlaces.{HasPlace, AreTold, places_tell, one_shelf}
-use Rattle.vault_store.proofs.SpelledClaims.{HasClaim, drafted, claims_tell, one_line, one_drafts, same_drafts}
+use Rattle.vault_store.proofs.SpelledClaims.{HasClaim, drafted, claims_tell, one_line, same_drafts}
 
 -- each place of a tree has four bytes for its parent
-places_have : (tree : List Place) → IsTree tree → All (λ (place : Place). IsName place.name) tree → All HasPlace tree
+pub places_have : (tree : List Place) → IsTree tree → All (λ (place : Place). IsName place.name) tree → All HasPlace tree
 places_have tree is_tree names = All-from_get_or HasPlace tree none (λ i within. record { parent = below i within; name = All-get_or (λ (place : Place). IsName place.name) tree i none within names })
   where
     none : Place
@@ -43,7 +44,7 @@ places_have tree is_tree names = All-from_get_or HasPlace tree none (λ i within
         omega (arith, lower, within, is_tree.few)
 
 -- the versions of each place
-contents_of : (shelf : List (List (List ℕ))) → IsShelf shelf → (p : ℕ) → AreContents (versions_of shelf p)
+pub contents_of : (shelf : List (List (List ℕ))) → IsShelf shelf → (p : ℕ) → AreContents (versions_of shelf p)
 contents_of shelf is_shelf p = elim (cases_lt p (length shelf)) [
   | inl within ↦ record { few = All-get_or (λ versions. length versions ≤ most_versions) shelf p [] within is_shelf.few; short = All-get_or (λ versions. All IsContent versions) shelf p [] within is_shelf.short }
   | inr past ↦ (let none = get_or_past shelf p [] past in record { few = omega (arith, ap length none); short = subst (λ (l : List (List ℕ)). All IsContent l) (sym none) (All-nil IsContent) })
@@ -92,7 +93,7 @@ module _ (v : Vault) (has : HasSnapshot v) where
         drafts = drafts_have v.tree v.line v.drafts (number_of c.id) few_places has.well_formed.drafts.each;
       }
 
-  claims_have : (line : List Claim) → All (IsClaim v.tree v.sessions v.last_long v.last_short) line → All (λ (c : Claim). IsName (designer_of c.owner)) line → All (λ (c : Claim). HasClaim (drafted v.drafts c)) line
+  pub claims_have : (line : List Claim) → All (IsClaim v.tree v.sessions v.last_long v.last_short) line → All (λ (c : Claim). IsName (designer_of c.owner)) line → All (λ (c : Claim). HasClaim (drafted v.drafts c)) line
   claims_have [] are names = All-nil (λ (c : Claim). HasClaim (drafted v.drafts c))
   claims_have (c ∷ line) are names =
       All-cons (λ (d : Claim). HasClaim (drafted v.drafts d)) c line
@@ -110,10 +111,10 @@ module _ (v : Vault) (has : HasSnapshot v) where
 regroup : (a b p n c : List ℕ) → (((a ++ b) ++ p) ++ n) ++ c ≡ a ++ (b ++ (p ++ (n ++ c)))
 regroup a b p n c = simp append_assoc
 
-abbrev behind_places : Vault → List ℕ
+abbrev pub behind_places : Vault → List ℕ
 behind_places v = in_two (length v.line) ++ flat_map (claim_bytes v) v.line
 
-snapshot_split : (v : Vault) → snapshot_of v ≡ in_four v.last_long ++ (in_four (length v.tree + 1) ++ (places_bytes v 1 v.tree ++ behind_places v))
+pub snapshot_split : (v : Vault) → snapshot_of v ≡ in_four v.last_long ++ (in_four (length v.tree + 1) ++ (places_bytes v 1 v.tree ++ behind_places v))
 snapshot_split v = regroup (in_four v.last_long) (in_four (length v.tree + 1)) (places_bytes v 1 v.tree) (in_two (length v.line)) (flat_map (claim_bytes v) v.line)
 
 no_library : (tree : List Place) → is_part tree 0 ≡ true → ⊥

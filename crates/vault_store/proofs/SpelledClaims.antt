@@ -1,47 +1,30 @@
 -- The claims of a snapshot are of one line, and their drafts of one list.
-use Rattle.std.proofs.Common.{◌≡◌, ℕ, ◌<◌, ◌≤◌, ◌^◌, ◌==◌, Bool, true, false, cond, List, [], ◌∷◌, ◌++◌, length, drop, map, filter, Option, None, Some, refl, sym, ◌∙◌, ap, subst, arith, append_assoc, All, inl, inr}
-use Rattle.std.specs.List.{flat_map, AllByRecursion}
-use Rattle.std.specs.Option.{option_map}
-use Rattle.std.proofs.lemmas.Bool.{cases_lt, eqb-true, eq-eqb}
-use Rattle.std.proofs.lemmas.Bool.Decides.{nat_tests}
+use Rattle.std.proofs.Common.{◌≡◌, ℕ, Bool, true, false, cond, List, [], ◌∷◌, ◌++◌, length, drop, map, Option, None, Some, refl, sym, ◌∙◌, ap, subst, append_assoc, All}
+use Rattle.std.specs.List.{flat_map}
+use Rattle.std.proofs.lemmas.Bool.{eqb-true}
 use Rattle.std.proofs.lemmas.List.{length-map}
 use Rattle.std.proofs.lemmas.List.Folds.{flat_map-map}
-use Rattle.std.proofs.lemmas.List.Elements.{All-head, All-tail, All-map}
+use Rattle.std.proofs.lemmas.List.Elements.{All-map}
 use Rattle.vault_model.specs.declared.claims.Claim.{Claim}
 use Rattle.vault_model.specs.declared.claims.Owner.TheVariants as owners
 use Rattle.vault_model.specs.declared.claims.Standing.TheVariants.{Held}
 use Rattle.vault_model.specs.declared.ids.ClaimId.{ClaimId}
 use Rattle.vault_model.specs.declared.ids.ClaimId.TheVariants.{Long, Short}
 use Rattle.vault_model.specs.declared.place.Place.{Place}
-use Rattle.vault_model.specs.Name.{IsName}
-use Rattle.vault_model.specs.Claims.{same_id, before, claim_of, standing_behind, standing_of}
-use Rattle.vault_model.specs.Shelf.{Draft}
-use Rattle.vault_model.specs.Drafts.{SavedDraft, comes_before, drafts_of, IsOrdered}
+use Rattle.vault_model.specs.Claims.{same_id, claim_of, standing_of}
+use Rattle.vault_model.specs.Drafts.{SavedDraft, drafts_of}
 use Rattle.vault_model.specs.Vault.{Vault}
-use Rattle.vault_journal.specs.Spelling.{in_four, name_bytes, items_bytes, AreItems}
+use Rattle.vault_journal.specs.Spelling.{in_four, name_bytes, items_bytes}
+pub use Rattle.vault_store.specs.Claims.{Drafted, drafted_bytes, drafted, HasClaim}
 use Rattle.vault_store.specs.Snapshot.{number_of, designer_of, drafts_bytes, claim_bytes}
+use Rattle.vault_checkout.proofs.OneDrafts.{no_drafts_of}
 use Rattle.vault_store.proofs.OneReading.{one_number}
-use Rattle.vault_store.proofs.SpelledLists.{Tells, name_tells, items_tell, HasDraft, drafts_tell, lists_tell}
+use Rattle.vault_store.proofs.SpelledLists.{Tells, name_tells, items_tell, drafts_tell, lists_tell}
 
--- a claim with its drafts, and its spelling
-abbrev pub Drafted : Type 0
-Drafted = Claim × List Draft
-
-abbrev pub drafted_bytes : Drafted → List ℕ
-drafted_bytes x = in_four (number_of x.0.id) ++ name_bytes (designer_of x.0.owner) ++ items_bytes x.0.items ++ drafts_bytes x.1
-
-pub record HasClaim (x : Drafted) : Type 0 where
-  pub long : x.0.id ≡ Long (number_of x.0.id)
-  pub fits : number_of x.0.id < 2 ^ 32
-  pub designer : x.0.owner ≡ owners.Designer (designer_of x.0.owner)
-  pub name : IsName (designer_of x.0.owner)
-  pub items : AreItems x.0.items
-  pub drafts : All HasDraft x.1
-
-regroup : (n m i d a : List ℕ) → (((n ++ m) ++ i) ++ d) ++ a ≡ n ++ (m ++ (i ++ (d ++ a)))
+pub regroup : (n m i d a : List ℕ) → (((n ++ m) ++ i) ++ d) ++ a ≡ n ++ (m ++ (i ++ (d ++ a)))
 regroup n m i d a = simp append_assoc
 
-claim_tells : Tells drafted_bytes HasClaim
+pub claim_tells : Tells drafted_bytes HasClaim
 claim_tells x y a b has_x has_y same =
     let left : drafted_bytes x ++ a ≡ in_four (number_of x.0.id) ++ (name_bytes (designer_of x.0.owner) ++ (items_bytes x.0.items ++ (drafts_bytes x.1 ++ a))) =
     regroup (in_four (number_of x.0.id)) (name_bytes (designer_of x.0.owner)) (items_bytes x.0.items) (drafts_bytes x.1) a in
@@ -56,10 +39,6 @@ claim_tells x y a b has_x has_y same =
     let owned : x.0.owner ≡ y.0.owner = has_x.designer ∙ ap (λ (n : List ℕ). owners.Designer n) names.0 ∙ sym has_y.designer in
     (λ i. (record { id = ids i; owner = owned i; items = items.0 i }, drafts.0 i), drafts.1)
 
--- the claims of a line with their drafts
-abbrev pub drafted : List SavedDraft → Claim → Drafted
-drafted drafts claim = (claim, drafts_of drafts (number_of claim.id))
-
 pub claims_tell : (v w : Vault) (a b : List ℕ) → length v.line ≡ length w.line → All (λ (c : Claim). HasClaim (drafted v.drafts c)) v.line → All (λ (c : Claim). HasClaim (drafted w.drafts c)) w.line
     → flat_map (claim_bytes v) v.line ++ a ≡ flat_map (claim_bytes w) w.line ++ b → map (drafted v.drafts) v.line ≡ map (drafted w.drafts) w.line
 claims_tell v w a b size has_v has_w same =
@@ -68,7 +47,7 @@ claims_tell v w a b size has_v has_w same =
     (ap (λ (l : List ℕ). l ++ a) (flat_map-map drafted_bytes (drafted v.drafts) v.line) ∙ same ∙ ap (λ (l : List ℕ). l ++ b) (sym (flat_map-map drafted_bytes (drafted w.drafts) w.line)))).0
 
 -- the claims alone
-claims_of : (drafts : List SavedDraft) (line : List Claim) → map (λ (x : Drafted). x.0) (map (drafted drafts) line) ≡ line
+pub claims_of : (drafts : List SavedDraft) (line : List Claim) → map (λ (x : Drafted). x.0) (map (drafted drafts) line) ≡ line
 claims_of drafts [] = refl
 claims_of drafts (c ∷ line) = ap (λ (cs : List Claim). c ∷ cs) (claims_of drafts line)
 
@@ -86,67 +65,6 @@ drafts_at ds es (first ∷ line) n c same found = by_first (same_id first.id (Lo
     by_first : (b : Bool) → same_id first.id (Long n) ≡ b → (claim_of line (Long n) ≡ Some c → drafts_of ds (number_of c.id) ≡ drafts_of es (number_of c.id)) → drafts_of ds (number_of c.id) ≡ drafts_of es (number_of c.id)
     by_first true is deeper = let e = subst (λ (t : Bool). cond t (Some first) (claim_of line (Long n)) ≡ Some c) is found in let same_claim : first ≡ c = cc in subst (λ (d : Claim). drafts_of ds (number_of d.id) ≡ drafts_of es (number_of d.id)) same_claim heads
     by_first false is deeper = deeper (subst (λ (t : Bool). cond t (Some first) (claim_of line (Long n)) ≡ Some c) is found)
-
--- the first of some drafts is of a check-out, or of another
-first_of : (d : SavedDraft) (ds : List SavedDraft) (n : ℕ) → d.claim ≡ n → drafts_of (d ∷ ds) n ≡ d.draft ∷ drafts_of ds n
-first_of d ds n is = ap (λ (b : Bool). map (λ (x : SavedDraft). x.draft) (cond b (d ∷ filter (λ (x : SavedDraft). x.claim == n) ds) (filter (λ (x : SavedDraft). x.claim == n) ds))) (eq-eqb d.claim n is)
-
-not_first : (d : SavedDraft) (ds : List SavedDraft) (n : ℕ) → (d.claim == n) ≡ false → drafts_of (d ∷ ds) n ≡ drafts_of ds n
-not_first d ds n other = ap (λ (b : Bool). map (λ (x : SavedDraft). x.draft) (cond b (d ∷ filter (λ (x : SavedDraft). x.claim == n) ds) (filter (λ (x : SavedDraft). x.claim == n) ds))) other
-
--- drafts all of later check-outs
-later_drafts : (ds : List SavedDraft) (n m : ℕ) → n < m → AllByRecursion (λ (x : SavedDraft). m ≤ x.claim) ds → drafts_of ds n ≡ []
-later_drafts [] n m less later = refl
-later_drafts (d ∷ ds) n m less later = let here = later.0 in not_first d ds n (grind (arith, nat_tests, here, less)) ∙ later_drafts ds n m less later.1
-
--- what stands behind the first is of no earlier check-out
-none_before : (d : SavedDraft) (ds : List SavedDraft) → AllByRecursion (λ y. comes_before d y ≡ true) ds → AllByRecursion (λ (x : SavedDraft). d.claim ≤ x.claim) ds
-none_before d [] before = tt
-none_before d (x ∷ ds) before = (let here = before.0 in grind (arith, nat_tests, here), none_before d ds before.1)
-
--- what stands behind the first ones, which are of one check-out
-tails : (d e : SavedDraft) (ds es : List SavedDraft) (n : ℕ) → d.claim ≡ e.claim → drafts_of (d ∷ ds) n ≡ drafts_of (e ∷ es) n → drafts_of ds n ≡ drafts_of es n
-tails d e ds es n claims same = by_test (d.claim == n) refl
-  where
-    by_test : (b : Bool) → (d.claim == n) ≡ b → drafts_of ds n ≡ drafts_of es n
-    by_test true is = let here = eqb-true d.claim n is in let both : d.draft ∷ drafts_of ds n ≡ e.draft ∷ drafts_of es n = sym (first_of d ds n here) ∙ same ∙ first_of e es n (sym claims ∙ here) in cc
-    by_test false is = sym (not_first d ds n is) ∙ same ∙ not_first e es n (ap (λ (k : ℕ). k == n) (sym claims) ∙ is)
-
--- the first drafts of two lists are of one check-out
-same_first : (d e : SavedDraft) (ds es : List SavedDraft) → AllByRecursion (λ y. comes_before e y ≡ true) es → ((n : ℕ) → drafts_of (d ∷ ds) n ≡ drafts_of (e ∷ es) n) → d.claim < e.claim → ⊥
-same_first d e ds es before same less =
-    let none = sym (first_of d ds d.claim refl) ∙ same d.claim ∙ later_drafts (e ∷ es) d.claim e.claim less (omega arith, none_before e es before) in cc
-
--- drafts in order are told by those of each check-out
-pub one_drafts : (ds es : List SavedDraft) → IsOrdered ds → IsOrdered es → ((n : ℕ) → drafts_of ds n ≡ drafts_of es n) → ds ≡ es
-unfolding IsOrdered
-one_drafts [] [] order_ds order_es same = refl
-one_drafts [] (e ∷ es) order_ds order_es same = let none = same e.claim ∙ first_of e es e.claim refl in absurd (cc)
-one_drafts (d ∷ ds) [] order_ds order_es same = let none = sym (first_of d ds d.claim refl) ∙ same d.claim in absurd (cc)
-one_drafts (d ∷ ds) (e ∷ es) order_ds order_es same =
-    let claims : d.claim ≡ e.claim = elim (cases_lt d.claim e.claim) [
-      | inl less ↦ absurd (same_first d e ds es order_es.0 same less)
-      | inr not_less ↦ elim (cases_lt e.claim d.claim) [ inl more ↦ absurd (same_first e d es ds order_ds.0 (λ n. sym (same n)) more) | inr not_more ↦ omega (arith, not_less, not_more) ]
-    ] in
-    let heads : d.draft ∷ drafts_of ds d.claim ≡ e.draft ∷ drafts_of es d.claim = sym (first_of d ds d.claim refl) ∙ same d.claim ∙ first_of e es d.claim (sym claims) in
-    let drafts : d.draft ≡ e.draft = cc in
-    let first : d ≡ e = λ i. record { claim = claims i; draft = drafts i } in
-    let others : (n : ℕ) → drafts_of ds n ≡ drafts_of es n = λ n. tails d e ds es n claims (same n) in
-    ap (λ (x : SavedDraft). x ∷ ds) first ∙ ap (λ (xs : List SavedDraft). e ∷ xs) (one_drafts ds es order_ds.1 order_es.1 others)
-
--- a claim that doesn't stand has no held drafts
-pub no_drafts_of : (tree : List Place) (line : List Claim) (ds : List SavedDraft) (n : ℕ) → claim_of line (Long n) ≡ None → All (λ (x : SavedDraft). standing_of tree line (Long x.claim) ≡ Some Held) ds → drafts_of ds n ≡ []
-no_drafts_of tree line [] n gone held = refl
-no_drafts_of tree line (d ∷ ds) n gone held =
-    by_test (d.claim == n) refl (All-head (λ (x : SavedDraft). standing_of tree line (Long x.claim) ≡ Some Held) d ds held)
-    (no_drafts_of tree line ds n gone (All-tail (λ (x : SavedDraft). standing_of tree line (Long x.claim) ≡ Some Held) d ds held))
-  where
-    by_test : (b : Bool) → (d.claim == n) ≡ b → standing_of tree line (Long d.claim) ≡ Some Held → drafts_of ds n ≡ [] → drafts_of (d ∷ ds) n ≡ []
-    by_test true is stands others =
-        let here : standing_of tree line (Long n) ≡ Some Held = subst (λ (k : ℕ). standing_of tree line (Long k) ≡ Some Held) (eqb-true d.claim n is) stands in
-        let none : option_map (λ (c : Claim). standing_behind tree (before line (Long n)) c.items) None ≡ Some Held = subst (λ (o : Option Claim). option_map (λ (c : Claim). standing_behind tree (before line (Long n)) c.items) o ≡ Some Held) gone here in
-        absurd (cc)
-    by_test false is stands others = not_first d ds n is ∙ others
 
 same_number : (id : ClaimId) (n : ℕ) → same_id id (Long n) ≡ true → number_of id ≡ n
 same_number (Long m) n is = eqb-true m n is

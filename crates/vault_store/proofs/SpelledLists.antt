@@ -5,10 +5,10 @@ use Rattle.std.proofs.lemmas.List.Concat.{flat_map-cons}
 use Rattle.std.proofs.lemmas.List.Elements.{All-head, All-tail}
 use Rattle.vault_model.specs.Limits.{most_versions}
 use Rattle.vault_model.specs.Name.{IsName}
-use Rattle.vault_model.specs.Shelf.{Draft}
 use Rattle.vault_journal.specs.Spelling.{in_two, in_four, name_bytes, items_bytes, content_bytes, longest_content, AreItems}
 use Rattle.vault_journal.specs.Reading.{u16_at, name_at, items_at, content_at}
 use Rattle.vault_journal.proofs.OneSpelling.{fields_are_spelled}
+pub use Rattle.vault_store.specs.Claims.{HasDraft}
 use Rattle.vault_store.specs.Snapshot.{versions_bytes, draft_bytes, drafts_bytes}
 use Rattle.vault_store.proofs.OneReading.{one_spelled, one_number}
 
@@ -53,10 +53,6 @@ versions_tell xs ys a b has_xs has_ys same =
     lists_tell content_bytes IsContent content_tells xs ys a b sizes.0 has_xs.short has_ys.short sizes.1
 
 -- a draft
-pub record HasDraft (draft : Draft) : Type 0 where
-  pub place : draft.place < 2 ^ 32
-  pub content : IsContent draft.content
-
 pub draft_tells : Tells draft_bytes HasDraft
 draft_tells x y a b has_x has_y same =
     let whole = sym (append_assoc (in_four x.place) (content_bytes x.content) a) ∙ same ∙ append_assoc (in_four y.place) (content_bytes y.content) b in

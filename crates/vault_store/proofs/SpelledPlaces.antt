@@ -17,23 +17,23 @@ use Rattle.vault_store.specs.Snapshot.{versions_bytes, places_bytes}
 use Rattle.vault_store.proofs.OneReading.{one_number}
 use Rattle.vault_store.proofs.SpelledLists.{name_tells, AreContents, versions_tell}
 
-slice_get-front : {X : Type 0} (xs ys : List X) (k : ℕ) → k < length xs → slice_get (xs ++ ys) k ≡ slice_get xs k
+pub slice_get-front : {X : Type 0} (xs ys : List X) (k : ℕ) → k < length xs → slice_get (xs ++ ys) k ≡ slice_get xs k
 slice_get-front [] ys k h = absurd (omega (arith, h))
 slice_get-front (x ∷ xs) ys zero h = refl
 slice_get-front (x ∷ xs) ys (suc k) h = slice_get-front xs ys k (omega (arith, h))
 
-parent-front : (xs ys : List Place) (p : ℕ) → p ≤ length xs → parent_of (xs ++ ys) p ≡ parent_of xs p
+pub parent-front : (xs ys : List Place) (p : ℕ) → p ≤ length xs → parent_of (xs ++ ys) p ≡ parent_of xs p
 parent-front xs ys zero h = refl
 parent-front xs ys (suc k) h = ap (option_map (λ (place : Place). place.parent)) (slice_get-front xs ys k (omega (arith, h)))
 
 -- trees that agree on the first places agree on their depths
-depth_same : (t u : List Place) (m n p : ℕ) → ((q : ℕ) → q ≤ m → parent_of t q ≡ parent_of u q) → Rises t → p ≤ m → depth_within n t p ≡ depth_within n u p
+pub depth_same : (t u : List Place) (m n p : ℕ) → ((q : ℕ) → q ≤ m → parent_of t q ≡ parent_of u q) → Rises t → p ≤ m → depth_within n t p ≡ depth_within n u p
 depth_same t u m zero p agree rises h = refl
 depth_same t u m (suc n) p agree rises h =
     same_at (parent_of t p) (λ r. suc (depth_within n t r)) (λ r. suc (depth_within n u r)) 0 (λ r e. let lower : r < p = rises p r e in ap suc (depth_same t u m n r agree rises (omega (arith, lower, h))))
     ∙ ap (λ (o : Option ℕ). option_map_or (λ r. suc (depth_within n u r)) o 0) (agree p h)
 
-part_same : (t u front xs ys : List Place) (p : ℕ) → t ≡ front ++ xs → u ≡ front ++ ys → Rises t → p ≤ length front → is_part t p ≡ is_part u p
+pub part_same : (t u front xs ys : List Place) (p : ℕ) → t ≡ front ++ xs → u ≡ front ++ ys → Rises t → p ≤ length front → is_part t p ≡ is_part u p
 part_same t u front xs ys p t_is u_is rises h = ap (nat_le deepest) (depth_same t u (length front) p p agree rises h)
   where
     agree : (q : ℕ) → q ≤ length front → parent_of t q ≡ parent_of u q

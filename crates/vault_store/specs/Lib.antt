@@ -1,4 +1,6 @@
 pub mod Snapshot
+pub mod Places
+pub mod Claims
 pub mod Files
 pub mod Faults
 pub mod Phases

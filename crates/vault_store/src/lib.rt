@@ -10,6 +10,7 @@ pub mod laws;
 mod opening;
 mod phase;
 mod refused;
+mod snapshot;
 mod store;
 #[cfg(test)]
 mod tests;

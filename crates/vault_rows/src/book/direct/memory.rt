@@ -1,7 +1,6 @@
 //! Each request for memory refused in turn: the book is then as it was.
 
 use super::{Talk, content, item, name, path};
-use crate::Book;
 use Command::{
     Abandon, CheckIn, CheckOut, Count, Extend, Fetch, Hold, Join, Leave, List, Make, Release, Save,
     State,
@@ -9,11 +8,17 @@ use Command::{
 use std::alloc::{Allocator, Global};
 use std::process::Abort;
 use test_memory::Refusing;
+use vault_checkout::Book;
 use vault_model::ClaimId::{Long, Short};
 use vault_model::Intent::{Change, Look};
 use vault_model::{Command, NoMemory, PlaceId, Reply};
 
-fn are_alike<A: Allocator + Copy>(rt: &impl Abort, book: &Book<A>, other: &Book<A>) -> bool {
+/// Whether two books show the same, beside their sessions.
+pub(super) fn are_alike<A: Allocator + Copy>(
+    rt: &impl Abort,
+    book: &Book<A>,
+    other: &Book<A>,
+) -> bool {
     for text in ["/e", "/e/b", "/e/b/p", "/e/f", "/f"] {
         let place = path(rt, text);
         if book.tree().find(&place) != other.tree().find(&place) {

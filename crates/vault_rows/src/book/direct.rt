@@ -1,12 +1,14 @@
+//! The book, given commands that are made directly, in memory of any kind.
 ghost use Rattle.std.specs.Prelude.{◌+◌};
 ghost use Rattle.vault_model.specs.Vault.{CountsBelow};
 
 mod drafts;
 mod memory;
+mod parts;
 
-use super::*;
 use std::alloc::{Allocator, Global};
 use std::process::Abort;
+use vault_checkout::Book;
 use vault_model::{
     Command, EffectIn, Intent, Listing, Name, NoMemory, Path, PathItem, Reply, ReplyIn,
 };

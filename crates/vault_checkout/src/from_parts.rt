@@ -1,0 +1,124 @@
+//! A book made of parts that were kept.
+ghost use Rattle.std.specs.Prelude.{◌≡◌, ◌+◌, ◌<◌, ◌≤◌, nat_lt, position, length, All, vec_len, vec_capacity, IfOk, IfErr};
+ghost use Rattle.vault_checkout.specs.CheckOuts.{IsRising};
+ghost use Rattle.vault_checkout.specs.Parts.{Parts, IsVaultOf, IsRefusalOf, number_in, opened, put_in, opened_all};
+ghost use Rattle.vault_model.specs.Vault.{Vault};
+ghost use Rattle.vault_checkout.specs.Typed.{number_of};
+
+use crate::book::Book;
+use crate::check_out::CheckOut;
+use crate::check_outs::{AnyCheckOut, grant_held};
+use crate::parts::are_fit;
+use design_tree::Tree;
+use long_locks::{FromClaimsError, Line};
+use part_versions::Shelf;
+use std::alloc::Allocator;
+use thiserror::Error;
+use vault_model::{Claim, ClaimId, Drafts, NoMemory};
+
+/// Why parts make no book.
+#[derive(Clone, Copy, Debug, PartialEq, Eq, Error)]
+pub enum FromPartsError {
+    #[error("these are not the parts of a durable vault")]
+    NotWellFormed,
+    #[error("want of memory")]
+    NoMemory,
+}
+
+fn number_in(id: ClaimId) -> u32
+    ensures { result ≡ number_in id }
+{
+    match id {
+        ClaimId::Long(number) | ClaimId::Short(number) => number,
+    }
+}
+
+fn opened<A: Allocator>(alloc: A, number: u32, drafts: Drafts<A>) -> AnyCheckOut<A>
+    requires { IsRising drafts }
+    ensures { result ≡ opened number drafts }
+{
+    if drafts.as_slice().is_empty() {
+        AnyCheckOut::Waiting(CheckOut::asked(alloc, number))
+    } else {
+        AnyCheckOut::Held(CheckOut::reopened(number, drafts))
+    }
+}
+
+fn first_above<A: Allocator>(check_outs: &[AnyCheckOut<A>], number: u32) -> Option<usize>
+    ensures { result ≡ position (λ c. nat_lt number (number_of c)) check_outs.now }
+{
+    check_outs
+        .iter()
+        .position(|check_out| number < check_out.number())
+}
+
+fn put_in<A: Allocator>(check_outs: &mut Vec<AnyCheckOut<A>, A>, check_out: AnyCheckOut<A>)
+    requires { vec_len check_outs.old < vec_capacity check_outs.old }
+    ensures items { check_outs.new.items ≡ put_in check_out check_outs.old.items }
+    ensures len { vec_len check_outs.new ≡ vec_len check_outs.old + 1 }
+    ensures capacity { vec_capacity check_outs.old ≤ vec_capacity check_outs.new }
+{
+    let index = first_above(check_outs, check_out.number()).unwrap_or(check_outs.len());
+    check_outs.insert(index, check_out).unwrap();
+}
+
+fn opened_all<A: Allocator + Copy>(
+    alloc: A,
+    line: &Line<A>,
+    drafts: Vec<Drafts<A>, A>,
+) -> Result<Vec<AnyCheckOut<A>, A>, NoMemory>
+    requires same { length line.now.claims ≡ length drafts.items }
+    requires rising { All IsRising drafts.items }
+    ensures { IfOk result (λ check_outs. check_outs.items ≡ opened_all line.now.claims drafts.items) }
+{
+    let mut check_outs = Vec::with_capacity(alloc, drafts.len())?;
+    let mut rest = drafts;
+    while let Some(own) = rest.pop() {
+        let Some(claim) = line.at(rest.len()) else {
+            unreachable!()
+        };
+        put_in(&mut check_outs, opened(alloc, number_in(claim.id), own));
+    }
+    Ok(check_outs)
+}
+
+impl<A: Allocator + Copy> Book<A> {
+    /// The book of the durable vault that has just these parts, of which there is at most one: the last
+    /// number given to a check-out, the claims in the order of the line and, in the same order, the
+    /// drafts of each claim by rising place. It is kept in the claims' memory. Parts of no vault are
+    /// refused before memory is asked for. Each claim with drafts is compared with all before it.
+    pub fn from_parts(
+        tree: Tree<A>,
+        shelf: Shelf<A>,
+        last_long: u32,
+        claims: Vec<Claim, A>,
+        drafts: Vec<Drafts<A>, A>,
+    ) -> Result<Book<A>, FromPartsError>
+        ensures made { IfOk result (IsVaultOf (record { tree = tree; shelf = shelf; last_long = last_long; claims = claims.items; drafts = drafts.items })) }
+        ensures only { (v : Vault) → IsVaultOf (record { tree = tree; shelf = shelf; last_long = last_long; claims = claims.items; drafts = drafts.items }) v → IfOk result (λ book. book ≡ v) }
+        ensures refused { IfErr result (IsRefusalOf (record { tree = tree; shelf = shelf; last_long = last_long; claims = claims.items; drafts = drafts.items })) }
+    {
+        if !are_fit(&tree, &shelf, &claims, &drafts) {
+            return Err(FromPartsError::NotWellFormed);
+        }
+        let alloc = *claims.allocator();
+        let line = match Line::from_claims(alloc, &tree, last_long, claims) {
+            Ok(line) => line,
+            Err(FromClaimsError::NotWellFormed) => return Err(FromPartsError::NotWellFormed),
+            Err(FromClaimsError::NoMemory) => return Err(FromPartsError::NoMemory),
+        };
+        let Ok(mut check_outs) = opened_all(alloc, &line, drafts) else {
+            return Err(FromPartsError::NoMemory);
+        };
+        grant_held(&mut check_outs, &line);
+        Ok(Book {
+            tree,
+            shelf,
+            line,
+            check_outs,
+            sessions: Vec::new(alloc),
+            last_session: 0,
+            door_count: 0,
+        })
+    }
+}

@@ -1,0 +1,77 @@
+//! The snapshot of a vault, read.
+ghost use Rattle.std.specs.Prelude.{◌≡◌, ◌≢◌, Err, IfOk};
+ghost use Rattle.vault_model.specs.Vault.{Vault};
+ghost use Rattle.vault_store.specs.declared.snapshot.SnapshotError.TheVariants as errors;
+ghost use Rattle.vault_store.specs.Snapshot.{snapshot_of, HasSnapshot};
+
+mod claims;
+mod places;
+
+use claims::read_claims;
+use places::read_places;
+use std::alloc::{AllocError, AllocFailed, Allocator};
+use vault_checkout::{Book, FromPartsError};
+use vault_journal::u32_at;
+use vault_model::NoMemory;
+
+/// Why bytes were not read as a snapshot.
+#[derive(Clone, Copy, Debug, PartialEq, Eq)]
+pub enum SnapshotError {
+    NotWellFormed,
+    NoMemory,
+}
+
+impl From<AllocError> for SnapshotError {
+    ghost from_gives = { λ _ e. e ≡ errors.NoMemory };
+
+    fn from(_error: AllocError) -> SnapshotError {
+        SnapshotError::NoMemory
+    }
+}
+
+impl From<NoMemory> for SnapshotError {
+    ghost from_gives = { λ _ e. e ≡ errors.NoMemory };
+
+    fn from(_error: NoMemory) -> SnapshotError {
+        SnapshotError::NoMemory
+    }
+}
+
+impl<T: Drop> From<AllocFailed<T>> for SnapshotError {
+    ghost from_gives = { λ _ e. e ≡ errors.NoMemory };
+
+    fn from(_error: AllocFailed<T>) -> SnapshotError {
+        SnapshotError::NoMemory
+    }
+}
+
+/// The book whose snapshot these bytes are.
+///
+/// The work grows with the bytes that are read. Beside the book it takes memory for the list of claims, and for one version or draft
+/// at a time.
+pub(crate) fn read_snapshot<A: Allocator + Copy>(
+    alloc: A,
+    bytes: &[u8],
+) -> Result<Book<A>, SnapshotError>
+    ensures ok { IfOk result (λ book. HasSnapshot book × (bytes.now ≡ snapshot_of book)) }
+    ensures refused { result ≡ Err errors.NotWellFormed → (v : Vault) → HasSnapshot v → bytes.now ≢ snapshot_of v }
+{
+    let Some((last_long, rest)) = u32_at(bytes) else {
+        return Err(SnapshotError::NotWellFormed);
+    };
+    let places = read_places(alloc, rest)?;
+    let mut claims = Vec::new(alloc);
+    let mut drafts = Vec::new(alloc);
+    let end = read_claims(alloc, &mut claims, &mut drafts, places.rest)?;
+    if !end.is_empty() {
+        return Err(SnapshotError::NotWellFormed);
+    }
+    match Book::from_parts(places.tree, places.shelf, last_long, claims, drafts) {
+        Ok(book) => Ok(book),
+        Err(FromPartsError::NotWellFormed) => Err(SnapshotError::NotWellFormed),
+        Err(FromPartsError::NoMemory) => Err(SnapshotError::NoMemory),
+    }
+}
+
+#[cfg(test)]
+mod tests;

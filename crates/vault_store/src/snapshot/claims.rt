@@ -1,0 +1,114 @@
+//! The claims of a snapshot, with their drafts.
+ghost use Rattle.std.specs.Prelude.{◌≡◌, [], Err, IfOk};
+ghost use Rattle.vault_store.specs.declared.snapshot.SnapshotError.TheVariants.{NotWellFormed};
+ghost use Rattle.vault_store.specs.Claims.{IsDraftRead, BeginsWithNoDraft, AreDraftsRead, BeginsWithNoDrafts, IsClaimRead, BeginsWithNoClaim, AreClaimsRead, BeginsWithNoClaims};
+
+use crate::snapshot::SnapshotError;
+use std::alloc::Allocator;
+use vault_journal::{content_at, items_at, name_at, u8_at, u16_at, u32_at};
+use vault_model::{
+    Claim, ClaimId, Draft, DraftIn, Drafts, Listing, MOST_CLAIMS, MOST_DRAFTS, Owner, PlaceId,
+};
+
+// Reads a draft behind the others, and answers the bytes behind it.
+fn read_draft<'a, A: Allocator + Copy>(
+    alloc: A,
+    drafts: &mut Vec<DraftIn<A>, A>,
+    bytes: &'a [u8],
+) -> Result<&'a [u8], SnapshotError>
+    ensures read { IfOk result (λ rest. IsDraftRead drafts.old.items drafts.new.items bytes.now rest.now) }
+    ensures refused { result ≡ Err NotWellFormed → BeginsWithNoDraft bytes.now }
+{
+    let Some((place, rest)) = u32_at(bytes) else {
+        return Err(SnapshotError::NotWellFormed);
+    };
+    let Some((content, after)) = content_at(rest) else {
+        return Err(SnapshotError::NotWellFormed);
+    };
+    let content = Listing::from_vec(Vec::from_slice(alloc, content)?);
+    drafts.push(Draft {
+        place: PlaceId(place),
+        content,
+    })?;
+    Ok(after)
+}
+
+// Reads the drafts of a check-out, and answers the bytes behind them.
+fn read_drafts<'a, A: Allocator + Copy>(
+    alloc: A,
+    drafts: &mut Vec<DraftIn<A>, A>,
+    bytes: &'a [u8],
+) -> Result<&'a [u8], SnapshotError>
+    requires { drafts.old.items ≡ [] }
+    ensures read { IfOk result (λ rest. AreDraftsRead drafts.new.items bytes.now rest.now) }
+    ensures refused { result ≡ Err NotWellFormed → BeginsWithNoDrafts bytes.now }
+{
+    let Some((count, after)) = u8_at(bytes) else {
+        return Err(SnapshotError::NotWellFormed);
+    };
+    if usize::from(count) > MOST_DRAFTS {
+        return Err(SnapshotError::NotWellFormed);
+    }
+    let mut rest = after;
+    for _ in 0..count {
+        rest = read_draft(alloc, drafts, rest)?;
+    }
+    Ok(rest)
+}
+
+// Reads a claim and its drafts behind the others, and answers the bytes behind them.
+fn read_claim<'a, A: Allocator + Copy>(
+    alloc: A,
+    claims: &mut Vec<Claim, A>,
+    drafts: &mut Vec<Drafts<A>, A>,
+    bytes: &'a [u8],
+) -> Result<&'a [u8], SnapshotError>
+    ensures read { IfOk result (λ rest. IsClaimRead claims.old.items claims.new.items drafts.old.items drafts.new.items bytes.now rest.now) }
+    ensures refused { result ≡ Err NotWellFormed → BeginsWithNoClaim bytes.now }
+{
+    let Some((number, rest)) = u32_at(bytes) else {
+        return Err(SnapshotError::NotWellFormed);
+    };
+    let Some(named) = name_at(rest) else {
+        return Err(SnapshotError::NotWellFormed);
+    };
+    let Some(held) = items_at(named.1) else {
+        return Err(SnapshotError::NotWellFormed);
+    };
+    let mut own = Vec::new(alloc);
+    let after = read_drafts(alloc, &mut own, held.1)?;
+    claims.push(Claim {
+        id: ClaimId::Long(number),
+        owner: Owner::Designer(named.0),
+        items: held.0,
+    })?;
+    drafts.push(Listing::from_vec(own))?;
+    Ok(after)
+}
+
+/// Reads how many claims there are and each of them with its drafts, and answers the bytes behind them.
+///
+/// The work grows with the bytes that are read.
+pub fn read_claims<'a, A: Allocator + Copy>(
+    alloc: A,
+    claims: &mut Vec<Claim, A>,
+    drafts: &mut Vec<Drafts<A>, A>,
+    bytes: &'a [u8],
+) -> Result<&'a [u8], SnapshotError>
+    requires claims { claims.old.items ≡ [] }
+    requires drafts { drafts.old.items ≡ [] }
+    ensures read { IfOk result (λ rest. AreClaimsRead claims.new.items drafts.new.items bytes.now rest.now) }
+    ensures refused { result ≡ Err NotWellFormed → BeginsWithNoClaims bytes.now }
+{
+    let Some((count, after)) = u16_at(bytes) else {
+        return Err(SnapshotError::NotWellFormed);
+    };
+    if usize::from(count) > MOST_CLAIMS {
+        return Err(SnapshotError::NotWellFormed);
+    }
+    let mut rest = after;
+    for _ in 0..count {
+        rest = read_claim(alloc, claims, drafts, rest)?;
+    }
+    Ok(rest)
+}
