@@ -9,7 +9,7 @@ use Rattle.vault_model.specs.Claims.{claim_of}
 use Rattle.vault_model.specs.Vault.{Vault, new_vault, durable}
 use Rattle.vault_device.specs.Disk.{Disk}
 use Rattle.vault_store.specs.Phases.{is_idle, is_opening, may_open}
-use Rattle.vault_store.specs.Laws.{CrashLeavesWhatIsKept, OneGateIsOpened, OneVault}
+use Rattle.vault_store.specs.Laws.{CrashLeavesWhatIsKept, OneGateIsOpened, OneVault, NothingIsWrong}
 use Rattle.group_commit.specs.declared.mark.Mark.{Mark}
 use Rattle.group_commit.specs.declared.mark.Mark.TheVariants.{Told}
 use Rattle.group_commit.specs.Entries.{Kept, mark_at}
@@ -74,7 +74,7 @@ chosen open_gate w view n e choice = elim choice [
 length-history : (w : World) → length (history w) ≡ length w.earlier + length w.life
 length-history w = length-append w.earlier (members w.life) ∙ ap (λ n. length w.earlier + n) (length-map w.life (λ (k : Kept). Given k.entry))
 
-module _ {D : Type 0} (disk : D → Disk) (law : CrashLeavesWhatIsKept disk) (one_gate : OneGateIsOpened disk) (one_vault : OneVault) where
+module _ {D : Type 0} (disk : D → Disk) (law : CrashLeavesWhatIsKept disk) (one_gate : OneGateIsOpened disk) (one_vault : OneVault) (right : NothingIsWrong) where
   recovered : (now : Seen D) (past : List (Seen D)) (one : IsOneRun now past) (open_gate : Bool) (x y : List ℕ) → (IsTrue open_gate → is_idle now.view.phase ≡ false) → IsFoundIn open_gate now.view x y → IsRecovered one open_gate x y
   recovered now past one open_gate x y busy f =
       let w : World = world_after one.events in
@@ -85,6 +85,7 @@ module _ {D : Type 0} (disk : D → Disk) (law : CrashLeavesWhatIsKept disk) (on
       record {
         vault = f.left;
         stands = f.stands;
+        sound = λ why found is. right x y why found is f.left f.stands;
         recovery = λ new opened. sym (opened_as disk law one_gate one_vault x y f.left new f.stands opened);
         cut = length w.earlier + c.n;
         choice = chosen open_gate w now.view c.n one.reaches c.choice;

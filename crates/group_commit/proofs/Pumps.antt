@@ -15,7 +15,7 @@ use Rattle.vault_store.specs.Files.{frame_extra}
 use Rattle.vault_store.specs.Step.{IsStep, IsAtMostOneCall, MayBeLeft, gained as store_gained, AreNumbers as AreStoreNumbers}
 use Rattle.vault_store.specs.Phases.{Waiting, DeviceCall, NoCall, Write, Sync, NoMore, TheSealed, All, Row, row, rests, ends, seals, is_idle, settled_by, after_fault}
 use Rattle.vault_store.specs.State.{StoreState, waiting_in, row_of, advanced, failed}
-use Rattle.vault_store.specs.Seen.{Seen as StoreSeen, Keeps, IsLeftInside}
+use Rattle.vault_store.specs.Seen.{Seen as StoreSeen, first_of, second_of, Keeps, IsLeftInside}
 use Rattle.group_commit.specs.Entries.{Kept}
 use Rattle.group_commit.specs.History.{effects}
 use Rattle.group_commit.specs.Phases.{waiting, InOrder}
@@ -205,7 +205,7 @@ pub record IsPump {D : Type 0} (disk : D → Disk) (old new : Seen D) (result : 
   pub failed : OnErr result (ViewAllows snapshot_length old.view Fault × (new.view ≡ view_acted snapshot_length old.view Fault))
   pub life : new.life ≡ old.life
   pub still : (vault_row old.view).call ≡ NoCall → new.store ≡ old.store
-  pub calls : IsAtMostOneCall (disk old.store.first) (disk old.store.second) (disk new.store.first) (disk new.store.second) result
+  pub calls : IsAtMostOneCall (disk (first_of old.store)) (disk (second_of old.store)) (disk (first_of new.store)) (disk (second_of new.store)) result
   pub numbers : AreNumbers old new result
   pub moments : old.view.broken ≡ false → MomentsStand disk old new
 
@@ -213,9 +213,9 @@ pub record IsPump {D : Type 0} (disk : D → Disk) (old new : Seen D) (result : 
 pub record IsStoreStep {D : Type 0} (disk : D → Disk) (old new : StoreSeen D) (s : StoreState) (result : Result Pumped DeviceFault) : Type 0 where
   pub step : IsStep disk old new result s
   pub numbers : AreStoreNumbers old new result
-  pub calls : IsAtMostOneCall (disk old.first) (disk old.second) (disk new.first) (disk new.second) result
+  pub calls : IsAtMostOneCall (disk (first_of old)) (disk (second_of old)) (disk (first_of new)) (disk (second_of new)) result
   pub rests : (result ≡ Ok answers.Idle) ⊎ (result ≡ Ok answers.Broken) → new ≡ old
-  pub moments : (x y : List ℕ) → IsTrue (disk old.first).honest → IsTrue (disk old.second).honest → MayBeLeft (disk old.first) (disk old.second) (disk new.first) (disk new.second) x y → IsLeftInside old s x y
+  pub moments : (x y : List ℕ) → IsTrue (disk (first_of old)).honest → IsTrue (disk (second_of old)).honest → MayBeLeft (disk (first_of old)) (disk (second_of old)) (disk (first_of new)) (disk (second_of new)) x y → IsLeftInside old s x y
 
 clash : {b : Bool} → b ≡ false → b ≡ true → {P : Type 0} → P
 clash e f = let x : false ≡ true = sym e ∙ f in absurd (cc)
@@ -244,7 +244,7 @@ module _ {D : Type 0} (disk : D → Disk) (seen : Seen D) (book : Vault) (k : Is
     buffer = buffer_is result made;
   }
 
-  ok_calls : (answer other : Pumped) → Made (Ok answer) → IsAtMostOneCall {E = DeviceFault} (disk seen.store.first) (disk seen.store.second) (disk store.first) (disk store.second) (Ok other)
+  ok_calls : (answer other : Pumped) → Made (Ok answer) → IsAtMostOneCall {E = DeviceFault} (disk (first_of seen.store)) (disk (second_of seen.store)) (disk (first_of store)) (disk (second_of store)) (Ok other)
   ok_calls answer other made = record { first_honest = made.calls.first_honest; second_honest = made.calls.second_honest; calls = made.calls.calls; faults = made.calls.faults; cause = λ e. absurd (cc) }
 
   -- whatever the store answered, where it is no fault

@@ -4,7 +4,7 @@ use Rattle.vault_model.specs.Vault.{new_vault}
 use Rattle.vault_device.specs.Disk.{Disk}
 use Rattle.vault_store.specs.Files.{AreRead}
 use Rattle.vault_store.specs.Laws.{AreHonest}
-use Rattle.vault_store.specs.Seen.{Keeps}
+use Rattle.vault_store.specs.Seen.{first_of, second_of, Keeps}
 use Rattle.vault_store.specs.Step.{MayBeLeft}
 use Rattle.group_commit.specs.World.{Act}
 use Rattle.group_commit.specs.View.{opened_view, ViewAllows, view_acted}
@@ -33,12 +33,12 @@ pub record IsStopInside {D : Type 0} (disk : D → Disk) (seen : Seen D) (x y : 
   pub whole : seen.view.broken ≡ false
   pub honest : AreHonest disk seen.store
   pub moments : MomentsStand disk seen other
-  pub left : MayBeLeft (disk seen.store.first) (disk seen.store.second) (disk other.store.first) (disk other.store.second) x y
+  pub left : MayBeLeft (disk (first_of seen.store)) (disk (second_of seen.store)) (disk (first_of other.store)) (disk (second_of other.store)) x y
 
 -- whatever a crash at some moment of this pump leaves is so left
 abbrev pub StopsInside : {D : Type 0} → (D → Disk) → Seen D → Seen D → Type 0
 StopsInside disk old new =
-    (x y : List ℕ) → AreHonest disk old.store → MayBeLeft (disk old.store.first) (disk old.store.second) (disk new.store.first) (disk new.store.second) x y → IsStopInside disk old x y
+    (x y : List ℕ) → AreHonest disk old.store → MayBeLeft (disk (first_of old.store)) (disk (second_of old.store)) (disk (first_of new.store)) (disk (second_of new.store)) x y → IsStopInside disk old x y
 
 -- the machine stopped, between two calls or inside one, and these files were left
 abbrev pub IsStop : {D : Type 0} → (D → Disk) → Seen D → List ℕ → List ℕ → Type 0

@@ -5,7 +5,7 @@ use Rattle.vault_device.specs.Disk.{Disk}
 use Rattle.vault_store.specs.declared.phase.Phase.TheVariants.{Opening}
 use Rattle.vault_store.specs.Files.{StandFor}
 use Rattle.vault_store.specs.Laws.{AreHonest, IsOneGate}
-use Rattle.vault_store.specs.Seen.{IsLeft, IsLeftInside}
+use Rattle.vault_store.specs.Seen.{first_of, second_of, IsLeft, IsLeftInside}
 use Rattle.vault_store.specs.Step.{MayBeLeft}
 use Rattle.group_commit.specs.World.{new_world, Gate, recovered}
 use Rattle.group_commit.specs.Runs.{Event, run, IsRun}
@@ -15,21 +15,21 @@ use Rattle.group_commit.specs.Seen.{Seen, state_of}
 
 -- a crash may leave these two files of a vault's honest devices
 abbrev pub IsCrash : {D : Type 0} → (D → Disk) → Seen D → List ℕ → List ℕ → Type 0
-IsCrash disk seen x y = AreHonest disk seen.store × (disk seen.store.first).IsImage x × (disk seen.store.second).IsImage y
+IsCrash disk seen x y = AreHonest disk seen.store × (disk (first_of seen.store)).IsImage x × (disk (second_of seen.store)).IsImage y
 
 -- What a crash leaves is read as the vault after the settled entries or, while a gate is being opened, as the one after the sealed
 -- ones exactly where that gate is 1; so it stands for one that the view allows.
 pub record ImagesStand {D : Type 0} (disk : D → Disk) (seen : Seen D) : Type 0 where
   pub left : (x y : List ℕ) → IsCrash disk seen x y → IsLeft seen.store (state_of seen.view) x y
   pub stands : (x y : List ℕ) → IsCrash disk seen x y → (left : Vault) × MayLeave seen.view left × StandFor x y left
-  -- while a frame's gate is being opened, and before a device call failed, a crash changes that byte alone
-  pub gate : AreHonest disk seen.store → seen.view.phase ≡ Opening → seen.view.broken ≡ false → IsOneGate (disk seen.store.first) seen.store.tail
+  -- while a frame's gate is being opened, and before a device call failed, a crash changes that byte of the active file alone
+  pub gate : AreHonest disk seen.store → seen.view.phase ≡ Opening → seen.view.broken ≡ false → IsOneGate (disk seen.store.active) seen.store.tail
 
 -- what a stop inside a call leaves is read as the vault after the entries settled before or, where a gate may be opened, after the
 -- sealed ones
 abbrev pub MomentsStand : {D : Type 0} → (D → Disk) → Seen D → Seen D → Type 0
 MomentsStand disk old new =
-    (x y : List ℕ) → AreHonest disk old.store → MayBeLeft (disk old.store.first) (disk old.store.second) (disk new.store.first) (disk new.store.second) x y
+    (x y : List ℕ) → AreHonest disk old.store → MayBeLeft (disk (first_of old.store)) (disk (second_of old.store)) (disk (first_of new.store)) (disk (second_of new.store)) x y
     → IsLeftInside old.store (state_of old.view) x y
 
 -- Whatever run reached this view: what a crash leaves stands for the durable vault after one prefix of the history, with all that

@@ -4,7 +4,9 @@ use Rattle.vault_model.specs.declared.ids.ClaimId.TheVariants.{Short}
 use Rattle.vault_model.specs.Claims.{claim_of, without_short}
 use Rattle.vault_model.specs.Vault.{Vault, new_vault, durable}
 use Rattle.vault_device.specs.Disk.{Disk}
+use Rattle.vault_store.specs.declared.opening.OpenError.{OpenError}
 use Rattle.vault_store.specs.Files.{StandFor}
+use Rattle.vault_store.specs.Opening.{IsNotOpened, IsFound}
 use Rattle.vault_store.specs.Phases.{is_opening, may_open}
 use Rattle.group_commit.specs.declared.mark.Mark.TheVariants.{Told}
 use Rattle.group_commit.specs.Entries.{Kept}
@@ -46,11 +48,12 @@ pub record IsOneRun {D : Type 0} (now : Seen D) (past : List (Seen D)) : Type 0 
 abbrev pub history_of : {D : Type 0} → {now : Seen D} → {past : List (Seen D)} → IsOneRun now past → List Member
 history_of one = history (world_after one.events)
 
--- These files stand for a vault, and recovery gives it: the durable vault after one prefix of the single history, up to the settled
+-- These files stand for a vault, opening finds nothing wrong with them, and recovery gives it: the durable vault after one prefix of the single history, up to the settled
 -- entries or, where a gate may be open, up to the sealed ones.
 pub record IsRecovered {D : Type 0} {now : Seen D} {past : List (Seen D)} (one : IsOneRun now past) (open_gate : Bool) (x y : List ℕ) : Type 0 where
   pub vault : Vault
   pub stands : StandFor x y vault
+  pub sound : (why : OpenError) → IsFound why → IsNotOpened x y why → ⊥
   pub recovery : (new : Seen D) → IsOpenedOn x y new → new.view ≡ opened_view vault
   pub cut : ℕ
   pub choice :

@@ -4,7 +4,7 @@ ghost use Rattle.vault_model.specs.Vault.{new_vault};
 ghost use Rattle.vault_store.specs.Calls.{IsCalled};
 ghost use Rattle.vault_store.specs.Create.{new_file, IsFilled};
 ghost use Rattle.vault_store.specs.State.{at_rest};
-ghost use Rattle.vault_store.specs.Seen.{Keeps};
+ghost use Rattle.vault_store.specs.Seen.{first_of, second_of, Keeps};
 ghost use Rattle.group_commit.specs.View.{opened_view};
 ghost use Rattle.group_commit.specs.Opened.{Begins, IsNotCreated};
 
@@ -58,9 +58,9 @@ impl<D: Device, A: Allocator + Copy> Vault<D, A> {
         ensures view { IfOk result (λ vault. vault.view ≡ opened_view new_vault) }
         ensures life { IfOk result (λ vault. vault.life ≡ life) }
         ensures numbers { IfOk result (λ vault. Begins vault.store 1 34 0) }
-        ensures file { IsTrue (D.disk first).honest → IfOk result (λ vault. IsFilled (D.disk first) (D.disk vault.store.first) new_file) }
-        ensures empty { IsTrue (D.disk second).honest → IfOk result (λ vault. IsFilled (D.disk second) (D.disk vault.store.second) []) }
-        ensures called { IfOk result (λ vault. IsCalled (D.disk first) (D.disk vault.store.first) × IsCalled (D.disk second) (D.disk vault.store.second)) }
+        ensures file { IsTrue (D.disk first).honest → IfOk result (λ vault. IsFilled (D.disk first) (D.disk (first_of vault.store)) new_file) }
+        ensures empty { IsTrue (D.disk second).honest → IfOk result (λ vault. IsFilled (D.disk second) (D.disk (second_of vault.store)) []) }
+        ensures called { IfOk result (λ vault. IsCalled (D.disk first) (D.disk (first_of vault.store)) × IsCalled (D.disk second) (D.disk (second_of vault.store))) }
         ensures refused { IfErr result (λ refused. IsNotCreated (D.disk first) (D.disk second) (D.disk refused.first) (D.disk refused.second) refused.why) }
         ensures handed_back { IfErr result (λ refused. IsCalled (D.disk first) (D.disk refused.first) × IsCalled (D.disk second) (D.disk refused.second)) }
     {

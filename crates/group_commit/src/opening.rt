@@ -4,6 +4,7 @@ ghost use Rattle.vault_store.specs.declared.opening.OpenError.TheVariants.{Devic
 ghost use Rattle.vault_store.specs.Calls.{HasCause};
 ghost use Rattle.vault_store.specs.Files.{AreRead};
 ghost use Rattle.vault_store.specs.Opening.{IsNotOpened, IsHandedOn};
+ghost use Rattle.vault_store.specs.Seen.{first_of, second_of};
 ghost use Rattle.group_commit.specs.View.{opened_view};
 ghost use Rattle.group_commit.specs.Seen.{Seen};
 ghost use Rattle.group_commit.specs.Pasts.{IsStop, IsNext};
@@ -30,7 +31,7 @@ impl<D: Device, A: Allocator + Copy> Vault<D, A> {
         ensures buffer { IfOk result (λ vault. vault.store.buffer ≡ []) }
         ensures read { IsTrue (D.disk first).honest → IsTrue (D.disk second).honest → IfOk result (λ vault. AreRead (D.disk first).shown (D.disk second).shown (record { vault = vault.view.base; generation = vault.store.generation; tail = vault.store.tail; journal = vault.store.journal })) }
         ensures next { IsTrue (D.disk first).honest → IsTrue (D.disk second).honest → IfOk result (λ vault. (old : Seen D) → IsStop D.disk old (D.disk first).shown (D.disk second).shown → IsNext D.disk old vault) }
-        ensures handed_on { IfOk result (λ vault. IsHandedOn (D.disk first) (D.disk vault.store.first) × IsHandedOn (D.disk second) (D.disk vault.store.second)) }
+        ensures handed_on { IfOk result (λ vault. IsHandedOn (D.disk first) (D.disk (first_of vault.store)) × IsHandedOn (D.disk second) (D.disk (second_of vault.store))) }
         ensures refused { IsTrue (D.disk first).honest → IsTrue (D.disk second).honest → IfErr result (λ refused. IsNotOpened (D.disk first).shown (D.disk second).shown refused.why) }
         ensures cause { IfErr result (λ refused. refused.why ≡ DeviceFailed → HasCause (D.disk first) (D.disk refused.first) ⊎ HasCause (D.disk second) (D.disk refused.second)) }
         ensures handed_back { IfErr result (λ refused. IsHandedOn (D.disk first) (D.disk refused.first) × IsHandedOn (D.disk second) (D.disk refused.second)) }

@@ -2,6 +2,7 @@
 ghost use Rattle.std.specs.Prelude.{◌≡◌, ◌⊎◌, IfOk, OnOk, OnErr, Ok, true, false, if◌then◌else◌};
 ghost use Rattle.vault_store.specs.declared.phase.Advanced.TheVariants as answers;
 ghost use Rattle.vault_store.specs.Phases.{NoCall, is_idle};
+ghost use Rattle.vault_store.specs.Seen.{first_of, second_of};
 ghost use Rattle.vault_store.specs.Step.{IsAtMostOneCall};
 ghost use Rattle.group_commit.specs.World.{Pump, Fault as Fails};
 ghost use Rattle.group_commit.specs.View.{length_of, view_row, ViewAllows, view_acted};
@@ -41,7 +42,7 @@ impl<D: Device, A: Allocator + Copy> Vault<D, A> {
         ensures failed { OnErr result (ViewAllows snapshot_length self.old.view Fails × (self.new.view ≡ view_acted snapshot_length self.old.view Fails)) }
         ensures life { self.new.life ≡ self.old.life }
         ensures still { (view_row snapshot_length self.old.view).call ≡ NoCall → self.new.store ≡ self.old.store }
-        ensures calls { IsAtMostOneCall (D.disk self.old.store.first) (D.disk self.old.store.second) (D.disk self.new.store.first) (D.disk self.new.store.second) result }
+        ensures calls { IsAtMostOneCall (D.disk (first_of self.old.store)) (D.disk (second_of self.old.store)) (D.disk (first_of self.new.store)) (D.disk (second_of self.new.store)) result }
         ensures numbers { AreNumbers self.old self.new result }
         ensures moments { self.old.view.broken ≡ false → MomentsStand D.disk self.old self.new }
         ensures next { IsNext D.disk self.old self.new }

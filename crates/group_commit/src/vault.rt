@@ -1,5 +1,6 @@
 //! A vault with the history of its present life.
 ghost use Rattle.std.specs.Prelude.{◌≡◌, length};
+ghost use Rattle.vault_store.specs.Seen.{first_of, second_of};
 
 use crate::window::Window;
 use std::alloc::{Allocator, Global};
@@ -75,8 +76,8 @@ impl<D: Device, A: Allocator + Copy> Vault<D, A> {
 
     /// The devices. What isn't settled is lost.
     pub fn into_devices(self) -> (D, D)
-        ensures first { result.0 ≡ self.store.first }
-        ensures second { result.1 ≡ self.store.second }
+        ensures first { result.0 ≡ first_of self.store }
+        ensures second { result.1 ≡ second_of self.store }
     {
         let Vault {
             store,

@@ -1,5 +1,5 @@
-//! Tests that cross crates: scripts worked out by hand, run whole; the book, told line by line; and readers, writers and
-//! memory that misbehave.
+//! Tests that cross crates: scripts worked out by hand, run whole; the book, told line by line; the files of a store, stopped
+//! at each call; and readers, writers and memory that misbehave.
 #![tactic(auto)]
 
 #[cfg(test)]
@@ -12,5 +12,7 @@ mod memory;
 mod scripts;
 #[cfg(test)]
 mod stops;
+#[cfg(test)]
+mod store;
 #[cfg(test)]
 mod streams;

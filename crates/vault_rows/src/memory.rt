@@ -1,19 +1,24 @@
 //! Each request for memory refused in turn.
 
 use std::alloc::{Allocator, Global};
+use std::process::Abort;
 use std::test::Fail;
 use test_memory::Refusing;
 use vault_model::{ClaimId, Command, CommandIn, Listing, Name, NoMemory, Outside, Reply};
 use vault_protocol::{LineError, ScriptError, outside_text, read_line_of, run_script, text_of};
 
-#[test]
-fn scripts_refused_memory(rt: HostRuntime) -> Result<(), Fail> {
-    let memory = Refusing::new(rt.alloc());
-    let output = b"@1 OK session 1\n@1 OK place 1\n@1 OK held c1\n".as_slice();
+/// Each request of a script for memory is refused in turn; what it wrote until then is a part of its output.
+fn refused_in_turn(
+    rt: &impl Abort,
+    alloc: Global,
+    script: &[u8],
+    output: &[u8],
+) -> Result<(), Fail> {
+    let memory = Refusing::new(alloc);
     let mut refusals = 0u64;
     for number in 1..200u64 {
-        let mut reader = b"@1 hello anna\n@1 make /e\n@1 checkout w:/e\n".as_slice();
-        let mut held = Vec::new(rt.alloc());
+        let mut reader = script;
+        let mut held = Vec::new(alloc);
         memory.refuse(number);
         match run_script(&memory, &mut reader, &mut held) {
             Ok(()) => {
@@ -34,33 +39,23 @@ fn scripts_refused_memory(rt: HostRuntime) -> Result<(), Fail> {
 }
 
 #[test]
+fn scripts_refused_memory(rt: HostRuntime) -> Result<(), Fail> {
+    refused_in_turn(
+        &rt,
+        rt.alloc(),
+        b"@1 hello anna\n@1 make /e\n@1 checkout w:/e\n",
+        b"@1 OK session 1\n@1 OK place 1\n@1 OK held c1\n",
+    )
+}
+
+#[test]
 fn scripts_of_claims_refused_memory(rt: HostRuntime) -> Result<(), Fail> {
-    let memory = Refusing::new(rt.alloc());
-    let script =
-        b"@1 hello anna\n@1 hold r:/\n@1 extend h1 w:/\n@1 list /\n@1 release h1\n@1 quit\n".as_slice();
-    let output =
-        b"@1 OK session 1\n@1 OK held h1\n@1 OK held h1\n@1 OK list 0\n@1 OK released\n@1 OK left\n".as_slice();
-    let mut refusals = 0u64;
-    for number in 1..200u64 {
-        let mut reader = script;
-        let mut held = Vec::new(rt.alloc());
-        memory.refuse(number);
-        match run_script(&memory, &mut reader, &mut held) {
-            Ok(()) => {
-                assert!(rt; memory.is_waiting());
-                assert_eq!(rt; held.as_slice(), output);
-                break;
-            }
-            Err(error) => {
-                assert!(rt; !memory.is_waiting());
-                assert_eq!(rt; error, ScriptError::NoMemory);
-                assert!(rt; output.starts_with(&held));
-                refusals = number;
-            }
-        }
-    }
-    assert!(rt; 2 < refusals && refusals < 199);
-    Ok(())
+    refused_in_turn(
+        &rt,
+        rt.alloc(),
+        b"@1 hello anna\n@1 hold r:/\n@1 extend h1 w:/\n@1 list /\n@1 release h1\n@1 quit\n",
+        b"@1 OK session 1\n@1 OK held h1\n@1 OK held h1\n@1 OK list 0\n@1 OK released\n@1 OK left\n",
+    )
 }
 
 /// How many items a command asks for, or bytes it saves.

@@ -1,6 +1,7 @@
 //! Scripts worked out by hand.
 
 use std::alloc::Global;
+use std::process::Abort;
 use std::test::Fail;
 use vault_protocol::run_script;
 
@@ -26,6 +27,18 @@ pub fn printed(alloc: Global, script: &[u8]) -> Result<Vec<u8>, Fail> {
     let mut held = Vec::new(alloc);
     run_script(alloc, &mut reader, &mut held)?;
     Ok(held)
+}
+
+/// Each script, behind that of the two designers, prints what stands beside it.
+pub fn go_on(rt: &impl Abort, alloc: Global, rows: &[(&[u8], &[u8])]) -> Result<(), Fail> {
+    for (script, want) in rows {
+        let script = joined(alloc, BEGUN, script)?;
+        assert_eq!(rt;
+            printed(alloc, &script)?.as_slice(),
+            joined(alloc, BEGUN_OUTPUT, want)?.as_slice()
+        );
+    }
+    Ok(())
 }
 
 #[test]
@@ -77,14 +90,7 @@ fn scripts_of_two_designers(rt: HostRuntime) -> Result<(), Fail> {
             b"@1 OK held c1\n@2 ERR 23 c1\n",
         ),
     ];
-    for (script, want) in rows {
-        let script = joined(rt.alloc(), BEGUN, script)?;
-        assert_eq!(rt;
-            printed(rt.alloc(), &script)?.as_slice(),
-            joined(rt.alloc(), BEGUN_OUTPUT, want)?.as_slice()
-        );
-    }
-    Ok(())
+    go_on(&rt, rt.alloc(), &rows)
 }
 
 #[test]
@@ -115,14 +121,7 @@ fn scripts_of_extensions_and_holds(rt: HostRuntime) -> Result<(), Fail> {
             b"@1 OK list 1 e\n@2 OK list 2 p1 p2\n@2 OK list 0\n@2 OK left\n@2 OK session 3\n@2 ERR 20\n",
         ),
     ];
-    for (script, want) in rows {
-        let script = joined(rt.alloc(), BEGUN, script)?;
-        assert_eq!(rt;
-            printed(rt.alloc(), &script)?.as_slice(),
-            joined(rt.alloc(), BEGUN_OUTPUT, want)?.as_slice()
-        );
-    }
-    Ok(())
+    go_on(&rt, rt.alloc(), &rows)
 }
 
 #[test]
@@ -151,14 +150,7 @@ fn scripts_of_drafts_and_versions(rt: HostRuntime) -> Result<(), Fail> {
             b"@1 OK held c1\n@1 ERR 34\n@1 OK saved\n@1 OK checked in 1\n@2 OK content 0a\n@2 OK versions 1\n@2 ERR 22\n",
         ),
     ];
-    for (script, want) in rows {
-        let script = joined(rt.alloc(), BEGUN, script)?;
-        assert_eq!(rt;
-            printed(rt.alloc(), &script)?.as_slice(),
-            joined(rt.alloc(), BEGUN_OUTPUT, want)?.as_slice()
-        );
-    }
-    Ok(())
+    go_on(&rt, rt.alloc(), &rows)
 }
 
 #[test]

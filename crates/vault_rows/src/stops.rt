@@ -1,6 +1,6 @@
 //! Scripts in which the machine stops.
 
-use crate::scripts::{BEGUN, BEGUN_OUTPUT, joined, printed};
+use crate::scripts::{BEGUN, BEGUN_OUTPUT, go_on, joined, printed};
 use std::alloc::Global;
 use std::test::Fail;
 
@@ -75,12 +75,5 @@ fn what_a_stop_leaves(rt: HostRuntime) -> Result<(), Fail> {
             b"! ERR 10\n@2 ERR 10\n@2 ERR 11\n@1 OK session 1\n@1 OK place 5\n",
         ),
     ];
-    for (script, want) in rows {
-        let script = joined(rt.alloc(), BEGUN, script)?;
-        assert_eq!(rt;
-            printed(rt.alloc(), &script)?.as_slice(),
-            joined(rt.alloc(), BEGUN_OUTPUT, want)?.as_slice()
-        );
-    }
-    Ok(())
+    go_on(&rt, rt.alloc(), &rows)
 }

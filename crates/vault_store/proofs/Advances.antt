@@ -17,19 +17,20 @@ use Rattle.vault_store.specs.Files.{most_records, frame_bytes, EndsBehind}
 use Rattle.vault_store.specs.Phases.{is_idle, may_open}
 use Rattle.vault_store.specs.State.{StoreState}
 use Rattle.vault_store.specs.OnDisk.{IsEither, IsOnDisk}
-use Rattle.vault_store.specs.Seen.{Seen, Keeps, IsLeft, IsLeftInside}
+use Rattle.vault_store.specs.Seen.{Seen, of_file, first_of, second_of, Keeps, IsLeftInside}
 use Rattle.vault_store.specs.Step.{gained, IsAtMostOneCall, IsStep, AreNumbers, MayBeLeft, IsAdvance}
 use Rattle.vault_store.proofs.Disks.{to_written, to_bodied, to_gated, to_idle, behind_ends, opening_either}
 use Rattle.vault_store.proofs.Kept.{IsMove, phase_kept, sealed_kept, settled_kept}
-use Rattle.vault_store.proofs.Left.{left, inside_front, inside_either}
+use Rattle.vault_store.proofs.Left.{IsLeftHere, left, inside_front, inside_either}
+use Rattle.vault_store.proofs.Placed.{inside_exchanged, calls_placed, moments_placed}
 
 -- a state in a phase is the state with that phase
 at_phase : (s : StoreState) (p : Phase) → s.phase ≡ p → s.broken ≡ false → record s { phase = p; broken = false } ≡ s
 at_phase s p is unbroken = λ i. record s { phase = sym is i; broken = sym unbroken i }
 
--- what one call of the first device leaves of the counts of both
-pub first_called : {A E : Type 0} (first second new : Disk) (made : Result A E) {B F : Type 0} (result : Result B F) → IsOneCall first new made → (IsErr result → IsErr made) → IsAtMostOneCall first second new second result
-first_called first second new made result call failed = record {
+-- what one call of the active device leaves of the counts of both
+pub active_called : {A E : Type 0} (first second new : Disk) (made : Result A E) {B F : Type 0} (result : Result B F) → IsOneCall first new made → (IsErr result → IsErr made) → IsAtMostOneCall first second new second result
+active_called first second new made result call failed = record {
   first_honest = call.same_honesty;
   second_honest = refl;
   calls = omega (arith, call.counted);
@@ -48,7 +49,7 @@ none_called first second result never = record {
 }
 
 -- what is left between steps may be left inside one
-inside_in : {D : Type 0} (store : Seen D) (s : StoreState) (p : Phase) (x y : List ℕ) → IsLeft store (record s { phase = p }) x y → IsLeftInside store (record s { phase = p }) x y
+inside_in : {D : Type 0} (store : Seen D) (s : StoreState) (p : Phase) (x y : List ℕ) → IsLeftHere store (record s { phase = p }) x y → IsLeftInside store (record s { phase = p }) x y
 inside_in store s Opening x y was = elim (cases_eq (get_or x store.tail 0) 1) [ inl is ↦ inr (refl, was.opened is) | inr other ↦ inl (was.shut other) ]
 inside_in store s SnapOpening x y was = elim (cases_eq (get_or x store.tail 0) 1) [ inl is ↦ inr (refl, was.opened is) | inr other ↦ inl (was.shut other) ]
 inside_in store s Idle x y was = inl was
@@ -61,10 +62,17 @@ inside_in store s Filled x y was = inl was
 inside_in store s Ready x y was = inl was
 
 -- a step that makes no call leaves what was left before
-pub unmoved : {D : Type 0} (disk : D → Disk) (store : Seen D) → (IsTrue (disk store.first).honest → IsLawful (disk store.first)) → (IsTrue (disk store.second).honest → IsLawful (disk store.second))
-    → (s : StoreState) (x y : List ℕ) → Keeps disk store s → IsTrue (disk store.first).honest → IsTrue (disk store.second).honest → MayBeLeft (disk store.first) (disk store.second) (disk store.first) (disk store.second) x y → IsLeftInside store s x y
-unmoved disk store lawful lawful_second s x y keeps one two may =
-    inside_in store s s.phase x y (left disk store s keeps one two x y ((lawful one).only_now x may.0) ((lawful_second two).only_now y may.1))
+pub unmoved : {D : Type 0} (disk : D → Disk) (store : Seen D) → (IsTrue (disk store.active).honest → IsLawful (disk store.active)) → (IsTrue (disk store.spare).honest → IsLawful (disk store.spare))
+    → (s : StoreState) (x y : List ℕ) → Keeps disk store s → IsTrue (disk (first_of store)).honest → IsTrue (disk (second_of store)).honest
+    → MayBeLeft (disk (first_of store)) (disk (second_of store)) (disk (first_of store)) (disk (second_of store)) x y → IsLeftInside store s x y
+unmoved disk store lawful lawful_spare s x y keeps =
+    moments_placed disk store.which store.active store.spare store.active store.spare (IsLeftInside store s) (inside_exchanged store s)
+    (λ v w one two may. inside_in store s s.phase v w (left disk store s keeps one two v w ((lawful one).only_now v may.0) ((lawful_spare two).only_now w may.1))) x y
+
+-- what a stop inside a step that makes this of the active device leaves is read
+abbrev pub AreMoments : {D : Type 0} → (D → Disk) → Seen D → D → StoreState → List ℕ → List ℕ → Type 0
+AreMoments disk old active s x y =
+    IsTrue (disk (first_of old)).honest → IsTrue (disk (second_of old)).honest → MayBeLeft (disk (first_of old)) (disk (second_of old)) (disk (of_file old.which active old.spare)) (disk (of_file old.which old.spare active)) x y → IsLeftInside old s x y
 
 -- what a disk in one phase may show, whatever the front and the records, where a stop leaves the front, or the gate open or closed
 abbrev pub LeavesFront : Disk → Disk → ℕ → Phase → Type 0
@@ -73,7 +81,7 @@ LeavesFront old new tail p = (front records x : List ℕ) → length front ≡ t
 abbrev pub LeavesEither : Disk → Disk → ℕ → Phase → Type 0
 LeavesEither old new tail p = (front records x : List ℕ) → length front ≡ tail → IsOnDisk old p false front records → new.WasImage old.moment x → IsEither front records x
 
-module _ {D : Type 0} (disk : D → Disk) (old : Seen D) (first : D) (p : Phase) (is : old.phase ≡ p) (unbroken : old.broken ≡ false) (lawful_second : IsTrue (disk old.second).honest → IsLawful (disk old.second)) where
+module _ {D : Type 0} (disk : D → Disk) (old : Seen D) (active : D) (p : Phase) (is : old.phase ≡ p) (unbroken : old.broken ≡ false) (lawful_spare : IsTrue (disk old.spare).honest → IsLawful (disk old.spare)) where
   -- a state that the store keeps, as one in the phase
   pub in_phase : (s : StoreState) → Keeps disk old s → record s { phase = p; broken = false } ≡ s
   in_phase s keeps = at_phase s p (sym keeps.phase ∙ is) (sym keeps.broken ∙ unbroken)
@@ -82,28 +90,31 @@ module _ {D : Type 0} (disk : D → Disk) (old : Seen D) (first : D) (p : Phase)
   keeps_in s keeps = subst (Keeps disk old) (sym (in_phase s keeps)) keeps
 
   -- a stop inside a step that leaves the front
-  pub leaves_front : (IsTrue (disk old.first).honest → LeavesFront (disk old.first) (disk first) old.tail p) → (s : StoreState) (x y : List ℕ) → Keeps disk old s → IsTrue (disk old.first).honest → IsTrue (disk old.second).honest
-      → MayBeLeft (disk old.first) (disk old.second) (disk first) (disk old.second) x y → IsLeftInside old s x y
-  leaves_front move s x y keeps one two may =
+  pub leaves_front : (IsTrue (disk old.active).honest → LeavesFront (disk old.active) (disk active) old.tail p) → (s : StoreState) (x y : List ℕ) → Keeps disk old s → AreMoments disk old active s x y
+  leaves_front move s x y keeps =
+      moments_placed disk old.which old.active old.spare active old.spare (IsLeftInside old s) (inside_exchanged old s)
+      (λ v w one two may.
       let here = keeps_in s keeps in
       let files = here.files one two in
-      subst (λ (t : StoreState). IsLeftInside old t x y) (in_phase s keeps)
-      (inside_front disk old (record s { phase = p; broken = false }) here files.front files.is_front x y
-      (move one files.front (records_of s.sealing) x (sym files.is_front.tail_is) files.active may.0) (files.spare y ((lawful_second two).only_now y may.1)))
+      subst (λ (t : StoreState). IsLeftInside old t v w) (in_phase s keeps)
+      (inside_front disk old (record s { phase = p; broken = false }) here files.front files.is_front v w
+      (move one files.front (records_of s.sealing) v (sym files.is_front.tail_is) files.active may.0) (files.spare w ((lawful_spare two).only_now w may.1)))) x y
 
   -- a stop inside a step that leaves the gate open or closed
-  pub leaves_either : is_idle p ≡ false → may_open p ≡ true → (IsTrue (disk old.first).honest → LeavesEither (disk old.first) (disk first) old.tail p) → (s : StoreState) (x y : List ℕ) → Keeps disk old s → IsTrue (disk old.first).honest → IsTrue (disk old.second).honest
-      → MayBeLeft (disk old.first) (disk old.second) (disk first) (disk old.second) x y → IsLeftInside old s x y
-  leaves_either busy opens move s x y keeps one two may =
+  pub leaves_either : is_idle p ≡ false → may_open p ≡ true → (IsTrue (disk old.active).honest → LeavesEither (disk old.active) (disk active) old.tail p) → (s : StoreState) (x y : List ℕ) → Keeps disk old s → AreMoments disk old active s x y
+  leaves_either busy opens move s x y keeps =
+      moments_placed disk old.which old.active old.spare active old.spare (IsLeftInside old s) (inside_exchanged old s)
+      (λ v w one two may.
       let here = keeps_in s keeps in
       let files = here.files one two in
-      subst (λ (t : StoreState). IsLeftInside old t x y) (in_phase s keeps)
-      (inside_either disk old (record s { phase = p; broken = false }) here files.front files.is_front x y busy opens
-      (move one files.front (records_of s.sealing) x (sym files.is_front.tail_is) files.active may.0) (files.spare y ((lawful_second two).only_now y may.1)))
+      subst (λ (t : StoreState). IsLeftInside old t v w) (in_phase s keeps)
+      (inside_either disk old (record s { phase = p; broken = false }) here files.front files.is_front v w busy opens
+      (move one files.front (records_of s.sealing) v (sym files.is_front.tail_is) files.active may.0) (files.spare w ((lawful_spare two).only_now w may.1)))) x y
 
   -- the numbers of a step that changes the phase alone
-  phase_numbers : (q : Phase) (broken : Bool) (result : Result Advanced Fault) → is_idle p ≡ false → gained old result ≡ 0 → AreNumbers old (record old { first = first; phase = q; broken = broken }) result
+  phase_numbers : (q : Phase) (broken : Bool) (result : Result Advanced Fault) → is_idle p ≡ false → gained old result ≡ 0 → AreNumbers old (record old { active = active; phase = q; broken = broken }) result
   phase_numbers q broken result busy none = record {
+    which = refl;
     generation = refl;
     tail = omega (arith, none);
     journal = omega (arith, none);
@@ -112,15 +123,15 @@ module _ {D : Type 0} (disk : D → Disk) (old : Seen D) (first : D) (p : Phase)
 
   -- a step that changes the phase alone, by a call that was counted
   pub phase_advance : {A E : Type 0} (q : Phase) (broken : Bool) (made : Result A E) (result : Result Advanced Fault) → is_idle p ≡ false → gained old result ≡ 0 → ((result ≡ Ok answers.Idle) ⊎ (result ≡ Ok answers.Broken) → ⊥)
-      → IsOneCall (disk old.first) (disk first) made → (IsErr result → IsErr made)
-      → ((s : StoreState) → Keeps disk old (record s { phase = p; broken = false }) → IsStep disk old (record old { first = first; phase = q; broken = broken }) result (record s { phase = p; broken = false }))
-      → ((s : StoreState) (x y : List ℕ) → Keeps disk old s → IsTrue (disk old.first).honest → IsTrue (disk old.second).honest → MayBeLeft (disk old.first) (disk old.second) (disk first) (disk old.second) x y → IsLeftInside old s x y)
-      → IsAdvance disk old (record old { first = first; phase = q; broken = broken }) result
+      → IsOneCall (disk old.active) (disk active) made → (IsErr result → IsErr made)
+      → ((s : StoreState) → Keeps disk old (record s { phase = p; broken = false }) → IsStep disk old (record old { active = active; phase = q; broken = broken }) result (record s { phase = p; broken = false }))
+      → ((s : StoreState) (x y : List ℕ) → Keeps disk old s → AreMoments disk old active s x y)
+      → IsAdvance disk old (record old { active = active; phase = q; broken = broken }) result
   phase_advance q broken made result busy none moved call failed step moments = record {
-    step = λ s keeps. subst (λ (t : StoreState). IsStep disk old (record old { first = first; phase = q; broken = broken }) result t) (in_phase s keeps) (step s (keeps_in s keeps));
+    step = λ s keeps. subst (λ (t : StoreState). IsStep disk old (record old { active = active; phase = q; broken = broken }) result t) (in_phase s keeps) (step s (keeps_in s keeps));
     numbers = phase_numbers q broken result busy none;
     rests = λ idle. absurd (moved idle);
-    calls = first_called (disk old.first) (disk old.second) (disk first) made result call failed;
+    calls = calls_placed disk old.which old.active old.spare active old.spare result (active_called (disk old.active) (disk old.spare) (disk active) made result call failed);
     moments = moments;
   }
 
@@ -131,142 +142,144 @@ moved_on answer not_idle not_broken = elim [ inl is ↦ not_idle cc | inr is ↦
 failed_on : (fault : Fault) → (◌≡◌ {A = Result Advanced Fault} (Err fault) (Ok answers.Idle)) ⊎ (◌≡◌ {A = Result Advanced Fault} (Err fault) (Ok answers.Broken)) → ⊥
 failed_on fault = elim [ inl is ↦ cc | inr is ↦ cc ]
 
-module _ {D : Type 0} (disk : D → Disk) (old : Seen D) (first : D) (unbroken : old.broken ≡ false) (lawful : IsTrue (disk old.first).honest → IsLawful (disk old.first)) (lawful_second : IsTrue (disk old.second).honest → IsLawful (disk old.second)) where
+module _ {D : Type 0} (disk : D → Disk) (old : Seen D) (active : D) (unbroken : old.broken ≡ false) (lawful : IsTrue (disk old.active).honest → IsLawful (disk old.active)) (lawful_spare : IsTrue (disk old.spare).honest → IsLawful (disk old.spare)) where
   -- the moves of the rows
 
-  pub settles_body : IsTrue (disk old.first).honest → IsSync {E = Fault} (Ok tt) (disk old.first) (disk first) → IsMove (disk old.first) (disk first) old.tail old.sealed Written Bodied false
-  settles_body honest sync front records stands size on = to_bodied (disk old.first) (disk first) front records on (lawful honest) sync
+  pub settles_body : IsTrue (disk old.active).honest → IsSync {E = Fault} (Ok tt) (disk old.active) (disk active) → IsMove (disk old.active) (disk active) old.tail old.sealed Written Bodied false
+  settles_body honest sync front records stands size on = to_bodied (disk old.active) (disk active) front records on (lawful honest) sync
 
-  pub body_unsettled : (fault : Fault) → IsSync (Err fault) (disk old.first) (disk first) → IsMove (disk old.first) (disk first) old.tail old.sealed Written Written true
+  pub body_unsettled : (fault : Fault) → IsSync (Err fault) (disk old.active) (disk active) → IsMove (disk old.active) (disk active) old.tail old.sealed Written Written true
   body_unsettled fault sync front records stands size on = λ x image. on.images x (sync.images x image)
 
   -- the body is settled
-  pub body_settled : old.phase ≡ Written → IsOneCall {A = Unit {0}} {E = Fault} (disk old.first) (disk first) (Ok tt) → (IsTrue (disk old.first).honest → IsSync {E = Fault} (Ok tt) (disk old.first) (disk first))
-      → (IsTrue (disk old.first).honest → LeavesSince (disk old.first) (disk first) (disk old.first).IsImage) → IsAdvance disk old (record old { first = first; phase = Bodied }) (Ok answers.Moved)
+  pub body_settled : old.phase ≡ Written → IsOneCall {A = Unit {0}} {E = Fault} (disk old.active) (disk active) (Ok tt) → (IsTrue (disk old.active).honest → IsSync {E = Fault} (Ok tt) (disk old.active) (disk active))
+      → (IsTrue (disk old.active).honest → LeavesSince (disk old.active) (disk active) (disk old.active).IsImage) → IsAdvance disk old (record old { active = active; phase = Bodied }) (Ok answers.Moved)
   body_settled is call sync moments =
-      subst (λ (b : Bool). IsAdvance disk old (record old { first = first; phase = Bodied; broken = b }) (Ok answers.Moved)) (sym unbroken)
-      (phase_advance disk old first Written is unbroken lawful_second Bodied false (Ok tt) (Ok answers.Moved) refl refl (moved_on answers.Moved (λ e. cc) (λ e. cc)) call (λ err. err)
-      (λ s keeps. (refl, phase_kept disk old first call.same_honesty s Written Bodied false refl refl (λ honest. settles_body honest (sync honest)) keeps))
-      (leaves_front disk old first Written is unbroken lawful_second (λ honest front records x stands on was. on.images x ((moments honest).each x was))))
+      subst (λ (b : Bool). IsAdvance disk old (record old { active = active; phase = Bodied; broken = b }) (Ok answers.Moved)) (sym unbroken)
+      (phase_advance disk old active Written is unbroken lawful_spare Bodied false (Ok tt) (Ok answers.Moved) refl refl (moved_on answers.Moved (λ e. cc) (λ e. cc)) call (λ err. err)
+      (λ s keeps. (refl, phase_kept disk old active call.same_honesty s Written Bodied false refl refl (λ honest. settles_body honest (sync honest)) keeps))
+      (leaves_front disk old active Written is unbroken lawful_spare (λ honest front records x stands on was. on.images x ((moments honest).each x was))))
 
   -- the body's sync failed
-  pub body_left : (fault : Fault) → old.phase ≡ Written → IsOneCall {A = Unit {0}} {E = Fault} (disk old.first) (disk first) (Err fault) → (IsTrue (disk old.first).honest → IsSync (Err fault) (disk old.first) (disk first))
-      → (IsTrue (disk old.first).honest → LeavesSince (disk old.first) (disk first) (disk old.first).IsImage) → IsAdvance disk old (record old { first = first; broken = true }) (Err fault)
+  pub body_left : (fault : Fault) → old.phase ≡ Written → IsOneCall {A = Unit {0}} {E = Fault} (disk old.active) (disk active) (Err fault) → (IsTrue (disk old.active).honest → IsSync (Err fault) (disk old.active) (disk active))
+      → (IsTrue (disk old.active).honest → LeavesSince (disk old.active) (disk active) (disk old.active).IsImage) → IsAdvance disk old (record old { active = active; broken = true }) (Err fault)
   body_left fault is call sync moments =
-      subst (λ (q : Phase). IsAdvance disk old (record old { first = first; phase = q; broken = true }) (Err fault)) (sym is)
-      (phase_advance disk old first Written is unbroken lawful_second Written true (Err fault) (Err fault) refl refl (failed_on fault) call (λ err. err)
-      (λ s keeps. (refl, λ e. cc, phase_kept disk old first call.same_honesty s Written Written true refl refl (λ honest. body_unsettled fault (sync honest)) keeps))
-      (leaves_front disk old first Written is unbroken lawful_second (λ honest front records x stands on was. on.images x ((moments honest).each x was))))
+      subst (λ (q : Phase). IsAdvance disk old (record old { active = active; phase = q; broken = true }) (Err fault)) (sym is)
+      (phase_advance disk old active Written is unbroken lawful_spare Written true (Err fault) (Err fault) refl refl (failed_on fault) call (λ err. err)
+      (λ s keeps. (refl, λ e. cc, phase_kept disk old active call.same_honesty s Written Written true refl refl (λ honest. body_unsettled fault (sync honest)) keeps))
+      (leaves_front disk old active Written is unbroken lawful_spare (λ honest front records x stands on was. on.images x ((moments honest).each x was))))
 
-  pub opens_gate : IsWrite {E = Fault} old.tail (1 ∷ []) (Ok tt) (disk old.first) (disk first) → (disk first).shown ≡ set (disk old.first).shown old.tail 1
-      → ((x : List ℕ) → (disk first).IsImage x → IsOpening old.tail (disk old.first).shown x) → ((x : List ℕ) → (disk first).IsImage x → SameBut old.tail (disk first).shown x)
-      → IsMove (disk old.first) (disk first) old.tail old.sealed Bodied Opening false
+  pub opens_gate : IsWrite {E = Fault} old.tail (1 ∷ []) (Ok tt) (disk old.active) (disk active) → (disk active).shown ≡ set (disk old.active).shown old.tail 1
+      → ((x : List ℕ) → (disk active).IsImage x → IsOpening old.tail (disk old.active).shown x) → ((x : List ℕ) → (disk active).IsImage x → SameBut old.tail (disk active).shown x)
+      → IsMove (disk old.active) (disk active) old.tail old.sealed Bodied Opening false
   opens_gate wrote shown images same front records stands size on =
-      to_gated (disk old.first) (disk first) front records on (subst (λ (n : ℕ). IsWrite {E = Fault} n (1 ∷ []) (Ok tt) (disk old.first) (disk first)) (sym stands) wrote)
-      (subst (λ (n : ℕ). (disk first).shown ≡ set (disk old.first).shown n 1) (sym stands) shown)
-      (λ x image. subst (λ (n : ℕ). IsOpening n (disk old.first).shown x) (sym stands) (images x image)) (λ x image. subst (λ (n : ℕ). SameBut n (disk first).shown x) (sym stands) (same x image))
+      to_gated (disk old.active) (disk active) front records on (subst (λ (n : ℕ). IsWrite {E = Fault} n (1 ∷ []) (Ok tt) (disk old.active) (disk active)) (sym stands) wrote)
+      (subst (λ (n : ℕ). (disk active).shown ≡ set (disk old.active).shown n 1) (sym stands) shown)
+      (λ x image. subst (λ (n : ℕ). IsOpening n (disk old.active).shown x) (sym stands) (images x image)) (λ x image. subst (λ (n : ℕ). SameBut n (disk active).shown x) (sym stands) (same x image))
 
-  pub gate_torn : ((x : List ℕ) → (disk first).IsImage x → IsOpening old.tail (disk old.first).shown x) → IsMove (disk old.first) (disk first) old.tail old.sealed Bodied Opening true
-  gate_torn images front records stands size on = λ x image. opening_either (disk old.first) front records x on (subst (λ (n : ℕ). IsOpening n (disk old.first).shown x) (sym stands) (images x image))
+  pub gate_torn : ((x : List ℕ) → (disk active).IsImage x → IsOpening old.tail (disk old.active).shown x) → IsMove (disk old.active) (disk active) old.tail old.sealed Bodied Opening true
+  gate_torn images front records stands size on = λ x image. opening_either (disk old.active) front records x on (subst (λ (n : ℕ). IsOpening n (disk old.active).shown x) (sym stands) (images x image))
 
-  opening_inside : (IsTrue (disk old.first).honest → LeavesSince (disk old.first) (disk first) (IsOpening old.tail (disk old.first).shown)) → IsTrue (disk old.first).honest → LeavesEither (disk old.first) (disk first) old.tail Bodied
-  opening_inside moments honest front records x stands on was = opening_either (disk old.first) front records x on (subst (λ (n : ℕ). IsOpening n (disk old.first).shown x) (sym stands) ((moments honest).each x was))
+  opening_inside : (IsTrue (disk old.active).honest → LeavesSince (disk old.active) (disk active) (IsOpening old.tail (disk old.active).shown)) → IsTrue (disk old.active).honest → LeavesEither (disk old.active) (disk active) old.tail Bodied
+  opening_inside moments honest front records x stands on was = opening_either (disk old.active) front records x on (subst (λ (n : ℕ). IsOpening n (disk old.active).shown x) (sym stands) ((moments honest).each x was))
 
   -- the gate is written
-  pub gate_opened : old.phase ≡ Bodied → IsOneCall {A = Unit {0}} {E = Fault} (disk old.first) (disk first) (Ok tt) → (IsTrue (disk old.first).honest → IsWrite {E = Fault} old.tail (1 ∷ []) (Ok tt) (disk old.first) (disk first))
-      → (IsTrue (disk old.first).honest → (disk first).shown ≡ set (disk old.first).shown old.tail 1) → (IsTrue (disk old.first).honest → (x : List ℕ) → (disk first).IsImage x → IsOpening old.tail (disk old.first).shown x)
-      → (IsTrue (disk old.first).honest → (x : List ℕ) → (disk first).IsImage x → SameBut old.tail (disk first).shown x) → (IsTrue (disk old.first).honest → LeavesSince (disk old.first) (disk first) (IsOpening old.tail (disk old.first).shown))
-      → IsAdvance disk old (record old { first = first; phase = Opening }) (Ok answers.Moved)
+  pub gate_opened : old.phase ≡ Bodied → IsOneCall {A = Unit {0}} {E = Fault} (disk old.active) (disk active) (Ok tt) → (IsTrue (disk old.active).honest → IsWrite {E = Fault} old.tail (1 ∷ []) (Ok tt) (disk old.active) (disk active))
+      → (IsTrue (disk old.active).honest → (disk active).shown ≡ set (disk old.active).shown old.tail 1) → (IsTrue (disk old.active).honest → (x : List ℕ) → (disk active).IsImage x → IsOpening old.tail (disk old.active).shown x)
+      → (IsTrue (disk old.active).honest → (x : List ℕ) → (disk active).IsImage x → SameBut old.tail (disk active).shown x) → (IsTrue (disk old.active).honest → LeavesSince (disk old.active) (disk active) (IsOpening old.tail (disk old.active).shown))
+      → IsAdvance disk old (record old { active = active; phase = Opening }) (Ok answers.Moved)
   gate_opened is call wrote shown images same moments =
-      subst (λ (b : Bool). IsAdvance disk old (record old { first = first; phase = Opening; broken = b }) (Ok answers.Moved)) (sym unbroken)
-      (phase_advance disk old first Bodied is unbroken lawful_second Opening false (Ok tt) (Ok answers.Moved) refl refl (moved_on answers.Moved (λ e. cc) (λ e. cc)) call (λ err. err)
-      (λ s keeps. (refl, phase_kept disk old first call.same_honesty s Bodied Opening false refl refl (λ honest. opens_gate (wrote honest) (shown honest) (images honest) (same honest)) keeps))
-      (leaves_either disk old first Bodied is unbroken lawful_second refl refl (opening_inside moments)))
+      subst (λ (b : Bool). IsAdvance disk old (record old { active = active; phase = Opening; broken = b }) (Ok answers.Moved)) (sym unbroken)
+      (phase_advance disk old active Bodied is unbroken lawful_spare Opening false (Ok tt) (Ok answers.Moved) refl refl (moved_on answers.Moved (λ e. cc) (λ e. cc)) call (λ err. err)
+      (λ s keeps. (refl, phase_kept disk old active call.same_honesty s Bodied Opening false refl refl (λ honest. opens_gate (wrote honest) (shown honest) (images honest) (same honest)) keeps))
+      (leaves_either disk old active Bodied is unbroken lawful_spare refl refl (opening_inside moments)))
 
   -- the gate's write failed
-  pub gate_left : (fault : Fault) → old.phase ≡ Bodied → IsOneCall {A = Unit {0}} {E = Fault} (disk old.first) (disk first) (Err fault) → (IsTrue (disk old.first).honest → (x : List ℕ) → (disk first).IsImage x → IsOpening old.tail (disk old.first).shown x)
-      → (IsTrue (disk old.first).honest → LeavesSince (disk old.first) (disk first) (IsOpening old.tail (disk old.first).shown)) → IsAdvance disk old (record old { first = first; phase = Opening; broken = true }) (Err fault)
+  pub gate_left : (fault : Fault) → old.phase ≡ Bodied → IsOneCall {A = Unit {0}} {E = Fault} (disk old.active) (disk active) (Err fault) → (IsTrue (disk old.active).honest → (x : List ℕ) → (disk active).IsImage x → IsOpening old.tail (disk old.active).shown x)
+      → (IsTrue (disk old.active).honest → LeavesSince (disk old.active) (disk active) (IsOpening old.tail (disk old.active).shown)) → IsAdvance disk old (record old { active = active; phase = Opening; broken = true }) (Err fault)
   gate_left fault is call images moments =
-      phase_advance disk old first Bodied is unbroken lawful_second Opening true (Err fault) (Err fault) refl refl (failed_on fault) call (λ err. err)
-      (λ s keeps. (refl, λ e. cc, phase_kept disk old first call.same_honesty s Bodied Opening true refl refl (λ honest. gate_torn (images honest)) keeps))
-      (leaves_either disk old first Bodied is unbroken lawful_second refl refl (opening_inside moments))
+      phase_advance disk old active Bodied is unbroken lawful_spare Opening true (Err fault) (Err fault) refl refl (failed_on fault) call (λ err. err)
+      (λ s keeps. (refl, λ e. cc, phase_kept disk old active call.same_honesty s Bodied Opening true refl refl (λ honest. gate_torn (images honest)) keeps))
+      (leaves_either disk old active Bodied is unbroken lawful_spare refl refl (opening_inside moments))
 
-  pub gate_unsettled : (fault : Fault) → IsSync (Err fault) (disk old.first) (disk first) → IsMove (disk old.first) (disk first) old.tail old.sealed Opening Opening true
+  pub gate_unsettled : (fault : Fault) → IsSync (Err fault) (disk old.active) (disk active) → IsMove (disk old.active) (disk active) old.tail old.sealed Opening Opening true
   gate_unsettled fault sync front records stands size on = λ x image. on.images x (sync.images x image)
 
-  gate_inside : (IsTrue (disk old.first).honest → LeavesSince (disk old.first) (disk first) (disk old.first).IsImage) → IsTrue (disk old.first).honest → LeavesEither (disk old.first) (disk first) old.tail Opening
+  gate_inside : (IsTrue (disk old.active).honest → LeavesSince (disk old.active) (disk active) (disk old.active).IsImage) → IsTrue (disk old.active).honest → LeavesEither (disk old.active) (disk active) old.tail Opening
   gate_inside moments honest front records x stands on was = on.images x ((moments honest).each x was)
 
   -- the gate's sync failed
-  pub gate_still_open : (fault : Fault) → old.phase ≡ Opening → IsOneCall {A = Unit {0}} {E = Fault} (disk old.first) (disk first) (Err fault) → (IsTrue (disk old.first).honest → IsSync (Err fault) (disk old.first) (disk first))
-      → (IsTrue (disk old.first).honest → LeavesSince (disk old.first) (disk first) (disk old.first).IsImage) → IsAdvance disk old (record old { first = first; broken = true }) (Err fault)
+  pub gate_still_open : (fault : Fault) → old.phase ≡ Opening → IsOneCall {A = Unit {0}} {E = Fault} (disk old.active) (disk active) (Err fault) → (IsTrue (disk old.active).honest → IsSync (Err fault) (disk old.active) (disk active))
+      → (IsTrue (disk old.active).honest → LeavesSince (disk old.active) (disk active) (disk old.active).IsImage) → IsAdvance disk old (record old { active = active; broken = true }) (Err fault)
   gate_still_open fault is call sync moments =
-      subst (λ (q : Phase). IsAdvance disk old (record old { first = first; phase = q; broken = true }) (Err fault)) (sym is)
-      (phase_advance disk old first Opening is unbroken lawful_second Opening true (Err fault) (Err fault) refl refl (failed_on fault) call (λ err. err)
-      (λ s keeps. (refl, λ e. cc, phase_kept disk old first call.same_honesty s Opening Opening true refl refl (λ honest. gate_unsettled fault (sync honest)) keeps))
-      (leaves_either disk old first Opening is unbroken lawful_second refl refl (gate_inside moments)))
+      subst (λ (q : Phase). IsAdvance disk old (record old { active = active; phase = q; broken = true }) (Err fault)) (sym is)
+      (phase_advance disk old active Opening is unbroken lawful_spare Opening true (Err fault) (Err fault) refl refl (failed_on fault) call (λ err. err)
+      (λ s keeps. (refl, λ e. cc, phase_kept disk old active call.same_honesty s Opening Opening true refl refl (λ honest. gate_unsettled fault (sync honest)) keeps))
+      (leaves_either disk old active Opening is unbroken lawful_spare refl refl (gate_inside moments)))
 
   -- what the sync of the gate makes of the disk
   abbrev pub Settles : Type 0
-  Settles = (front records : List ℕ) → length front ≡ old.tail → IsOnDisk (disk old.first) Opening false front records → IsOnDisk (disk first) Idle false (front ++ frame_bytes records) []
+  Settles = (front records : List ℕ) → length front ≡ old.tail → IsOnDisk (disk old.active) Opening false front records → IsOnDisk (disk active) Idle false (front ++ frame_bytes records) []
 
-  pub settles_gate : IsTrue (disk old.first).honest → IsSync {E = Fault} (Ok tt) (disk old.first) (disk first) → Settles
-  settles_gate honest sync front records stands on = to_idle (disk old.first) (disk first) front records on (lawful honest) sync
+  pub settles_gate : IsTrue (disk old.active).honest → IsSync {E = Fault} (Ok tt) (disk old.active) (disk active) → Settles
+  settles_gate honest sync front records stands on = to_idle (disk old.active) (disk active) front records on (lawful honest) sync
 
   -- the gate is settled, and the frame belongs to the file
-  pub gate_settled : (tail journal : ℕ) → tail ≡ old.tail + (old.sealed + 5) → journal ≡ old.journal + (old.sealed + 5) → old.phase ≡ Opening → IsOneCall {A = Unit {0}} {E = Fault} (disk old.first) (disk first) (Ok tt)
-      → (IsTrue (disk old.first).honest → IsSync {E = Fault} (Ok tt) (disk old.first) (disk first)) → (IsTrue (disk old.first).honest → LeavesSince (disk old.first) (disk first) (disk old.first).IsImage)
-      → IsAdvance disk old (record old { first = first; tail = tail; journal = journal; sealed = 0; phase = Idle }) (Ok answers.Settled)
+  pub gate_settled : (tail journal : ℕ) → tail ≡ old.tail + (old.sealed + 5) → journal ≡ old.journal + (old.sealed + 5) → old.phase ≡ Opening → IsOneCall {A = Unit {0}} {E = Fault} (disk old.active) (disk active) (Ok tt)
+      → (IsTrue (disk old.active).honest → IsSync {E = Fault} (Ok tt) (disk old.active) (disk active)) → (IsTrue (disk old.active).honest → LeavesSince (disk old.active) (disk active) (disk old.active).IsImage)
+      → IsAdvance disk old (record old { active = active; tail = tail; journal = journal; sealed = 0; phase = Idle }) (Ok answers.Settled)
   gate_settled tail journal tail_is journal_is is call sync moments =
-      subst (λ (b : Bool). IsAdvance disk old (record old { first = first; tail = tail; journal = journal; sealed = 0; phase = Idle; broken = b }) (Ok answers.Settled)) (sym unbroken) (record {
+      subst (λ (b : Bool). IsAdvance disk old (record old { active = active; tail = tail; journal = journal; sealed = 0; phase = Idle; broken = b }) (Ok answers.Settled)) (sym unbroken) (record {
         step = λ s keeps.
-            subst (λ (t : StoreState). IsStep disk old (record old { first = first; tail = tail; journal = journal; sealed = 0; phase = Idle; broken = false }) (Ok answers.Settled) t) (in_phase disk old first Opening is unbroken lawful_second s keeps)
-            (refl, settled_kept disk old first call.same_honesty s tail journal tail_is journal_is (λ honest. settles_gate honest (sync honest)) (keeps_in disk old first Opening is unbroken lawful_second s keeps));
+            subst (λ (t : StoreState). IsStep disk old (record old { active = active; tail = tail; journal = journal; sealed = 0; phase = Idle; broken = false }) (Ok answers.Settled) t) (in_phase disk old active Opening is unbroken lawful_spare s keeps)
+            (refl, settled_kept disk old active call.same_honesty s tail journal tail_is journal_is (λ honest. settles_gate honest (sync honest)) (keeps_in disk old active Opening is unbroken lawful_spare s keeps));
         numbers = record {
+          which = refl;
           generation = refl;
           tail = omega (arith, tail_is);
           journal = omega (arith, journal_is);
           buffer = ap (λ (b : Bool). cond (b && not old.broken) [] old.buffer) (sym (ap is_idle is));
         };
         rests = λ idle. absurd (moved_on answers.Settled (λ e. cc) (λ e. cc) idle);
-        calls = first_called (disk old.first) (disk old.second) (disk first) (Ok tt) (Ok answers.Settled) call (λ err. err);
-        moments = leaves_either disk old first Opening is unbroken lawful_second refl refl (gate_inside moments);
+        calls = calls_placed disk old.which old.active old.spare active old.spare (Ok answers.Settled) (active_called (disk old.active) (disk old.spare) (disk active) (Ok tt) (Ok answers.Settled) call (λ err. err));
+        moments = leaves_either disk old active Opening is unbroken lawful_spare refl refl (gate_inside moments);
       })
 
   -- what the write of the body makes of the disk
   abbrev pub Writes : Bool → Type 0
-  Writes broken = (front : List ℕ) → length front ≡ old.tail → IsOnDisk (disk old.first) Idle false front [] → IsOnDisk (disk first) Written broken front old.buffer
+  Writes broken = (front : List ℕ) → length front ≡ old.tail → IsOnDisk (disk old.active) Idle false front [] → IsOnDisk (disk active) Written broken front old.buffer
 
-  pub writes_body : IsWrite {E = Fault} (old.tail + 1) (body_of old.buffer) (Ok tt) (disk old.first) (disk first) → ((x : List ℕ) → (disk first).IsImage x → IsBehind old.tail (disk old.first) x) → Writes false
+  pub writes_body : IsWrite {E = Fault} (old.tail + 1) (body_of old.buffer) (Ok tt) (disk old.active) (disk active) → ((x : List ℕ) → (disk active).IsImage x → IsBehind old.tail (disk old.active) x) → Writes false
   writes_body wrote images front stands on =
-      to_written (disk old.first) (disk first) front old.buffer on (subst (λ (n : ℕ). IsWrite {E = Fault} (n + 1) (body_of old.buffer) (Ok tt) (disk old.first) (disk first)) (sym stands) wrote)
-      (λ x image. subst (λ (n : ℕ). IsBehind n (disk old.first) x) (sym stands) (images x image))
+      to_written (disk old.active) (disk active) front old.buffer on (subst (λ (n : ℕ). IsWrite {E = Fault} (n + 1) (body_of old.buffer) (Ok tt) (disk old.active) (disk active)) (sym stands) wrote)
+      (λ x image. subst (λ (n : ℕ). IsBehind n (disk old.active) x) (sym stands) (images x image))
 
-  pub body_torn : ((x : List ℕ) → (disk first).IsImage x → IsBehind old.tail (disk old.first) x) → Writes true
-  body_torn images front stands on = λ x image. behind_ends (disk old.first) front x on (subst (λ (n : ℕ). IsBehind n (disk old.first) x) (sym stands) (images x image))
+  pub body_torn : ((x : List ℕ) → (disk active).IsImage x → IsBehind old.tail (disk old.active) x) → Writes true
+  body_torn images front stands on = λ x image. behind_ends (disk old.active) front x on (subst (λ (n : ℕ). IsBehind n (disk old.active) x) (sym stands) (images x image))
 
-  body_inside : (IsTrue (disk old.first).honest → LeavesSince (disk old.first) (disk first) (IsBehind old.tail (disk old.first))) → IsTrue (disk old.first).honest → LeavesFront (disk old.first) (disk first) old.tail Idle
-  body_inside moments honest front records x stands on was = behind_ends (disk old.first) front x on (subst (λ (n : ℕ). IsBehind n (disk old.first) x) (sym stands) ((moments honest).each x was))
+  body_inside : (IsTrue (disk old.active).honest → LeavesSince (disk old.active) (disk active) (IsBehind old.tail (disk old.active))) → IsTrue (disk old.active).honest → LeavesFront (disk old.active) (disk active) old.tail Idle
+  body_inside moments honest front records x stands on was = behind_ends (disk old.active) front x on (subst (λ (n : ℕ). IsBehind n (disk old.active) x) (sym stands) ((moments honest).each x was))
 
   abbrev sealed_seen : Bool → Seen D
-  sealed_seen broken = record old { first = first; buffer = []; sealed = length old.buffer; phase = Written; broken = broken }
+  sealed_seen broken = record old { active = active; buffer = []; sealed = length old.buffer; phase = Written; broken = broken }
 
   -- a state with effects in its buffer
   some_effects : (s : StoreState) → Keeps disk old s → 0 < length old.buffer → s.buffer ≢ []
   some_effects s keeps some none = absurd (omega (arith, some, ap length (keeps.buffer.whole ∙ ap records_of none)))
 
-  seal_ok : (s : StoreState) (buffer : List Effect) → buffer ≢ [] → length old.buffer ≤ most_records → (IsTrue (disk old.first).honest → Writes false) → (disk first).honest ≡ (disk old.first).honest
+  seal_ok : (s : StoreState) (buffer : List Effect) → buffer ≢ [] → length old.buffer ≤ most_records → (IsTrue (disk old.active).honest → Writes false) → (disk active).honest ≡ (disk old.active).honest
       → Keeps disk old (record s { phase = Idle; broken = false; buffer = buffer }) → IsStep disk old (sealed_seen false) (Ok answers.Moved) (record s { phase = Idle; broken = false; buffer = buffer })
   seal_ok s [] some few move same keeps = absurd (some refl)
-  seal_ok s (e ∷ es) some few move same keeps = (refl, sealed_kept disk old first same (record s { buffer = e ∷ es }) false some few move keeps)
+  seal_ok s (e ∷ es) some few move same keeps = (refl, sealed_kept disk old active same (record s { buffer = e ∷ es }) false some few move keeps)
 
-  seal_err : (fault : Fault) (s : StoreState) (buffer : List Effect) → buffer ≢ [] → length old.buffer ≤ most_records → (IsTrue (disk old.first).honest → Writes true) → (disk first).honest ≡ (disk old.first).honest
+  seal_err : (fault : Fault) (s : StoreState) (buffer : List Effect) → buffer ≢ [] → length old.buffer ≤ most_records → (IsTrue (disk old.active).honest → Writes true) → (disk active).honest ≡ (disk old.active).honest
       → Keeps disk old (record s { phase = Idle; broken = false; buffer = buffer }) → IsStep disk old (sealed_seen true) (Err fault) (record s { phase = Idle; broken = false; buffer = buffer })
   seal_err fault s [] some few move same keeps = absurd (some refl)
-  seal_err fault s (e ∷ es) some few move same keeps = (refl, λ e. cc, sealed_kept disk old first same (record s { buffer = e ∷ es }) true some few move keeps)
+  seal_err fault s (e ∷ es) some few move same keeps = (refl, λ e. cc, sealed_kept disk old active same (record s { buffer = e ∷ es }) true some few move keeps)
 
   seal_numbers : (broken : Bool) (result : Result Advanced Fault) → old.phase ≡ Idle → gained old result ≡ 0 → AreNumbers old (sealed_seen broken) result
   seal_numbers broken result is none = record {
+    which = refl;
     generation = refl;
     tail = omega (arith, none);
     journal = omega (arith, none);
@@ -274,32 +287,32 @@ module _ {D : Type 0} (disk : D → Disk) (old : Seen D) (first : D) (unbroken :
   }
 
   -- the body is written
-  pub body_behind : old.phase ≡ Idle → 0 < length old.buffer → length old.buffer + 5 ≤ frame_room → IsOneCall {A = Unit {0}} {E = Fault} (disk old.first) (disk first) (Ok tt)
-      → (IsTrue (disk old.first).honest → IsWrite {E = Fault} (old.tail + 1) (body_of old.buffer) (Ok tt) (disk old.first) (disk first)) → (IsTrue (disk old.first).honest → (x : List ℕ) → (disk first).IsImage x → IsBehind old.tail (disk old.first) x)
-      → (IsTrue (disk old.first).honest → LeavesSince (disk old.first) (disk first) (IsBehind old.tail (disk old.first))) → IsAdvance disk old (record old { first = first; buffer = []; sealed = length old.buffer; phase = Written }) (Ok answers.Moved)
+  pub body_behind : old.phase ≡ Idle → 0 < length old.buffer → length old.buffer + 5 ≤ frame_room → IsOneCall {A = Unit {0}} {E = Fault} (disk old.active) (disk active) (Ok tt)
+      → (IsTrue (disk old.active).honest → IsWrite {E = Fault} (old.tail + 1) (body_of old.buffer) (Ok tt) (disk old.active) (disk active)) → (IsTrue (disk old.active).honest → (x : List ℕ) → (disk active).IsImage x → IsBehind old.tail (disk old.active) x)
+      → (IsTrue (disk old.active).honest → LeavesSince (disk old.active) (disk active) (IsBehind old.tail (disk old.active))) → IsAdvance disk old (record old { active = active; buffer = []; sealed = length old.buffer; phase = Written }) (Ok answers.Moved)
   body_behind is some room call wrote images moments =
       subst (λ (b : Bool). IsAdvance disk old (sealed_seen b) (Ok answers.Moved)) (sym unbroken) (record {
         step = λ s keeps.
-            subst (λ (t : StoreState). IsStep disk old (sealed_seen false) (Ok answers.Moved) t) (in_phase disk old first Idle is unbroken lawful_second s keeps)
-            (seal_ok s s.buffer (some_effects s keeps some) (omega (arith, room)) (λ honest. writes_body (wrote honest) (images honest)) call.same_honesty (keeps_in disk old first Idle is unbroken lawful_second s keeps));
+            subst (λ (t : StoreState). IsStep disk old (sealed_seen false) (Ok answers.Moved) t) (in_phase disk old active Idle is unbroken lawful_spare s keeps)
+            (seal_ok s s.buffer (some_effects s keeps some) (omega (arith, room)) (λ honest. writes_body (wrote honest) (images honest)) call.same_honesty (keeps_in disk old active Idle is unbroken lawful_spare s keeps));
         numbers = seal_numbers false (Ok answers.Moved) is refl;
         rests = λ idle. absurd (moved_on answers.Moved (λ e. cc) (λ e. cc) idle);
-        calls = first_called (disk old.first) (disk old.second) (disk first) (Ok tt) (Ok answers.Moved) call (λ err. err);
-        moments = leaves_front disk old first Idle is unbroken lawful_second (body_inside moments);
+        calls = calls_placed disk old.which old.active old.spare active old.spare (Ok answers.Moved) (active_called (disk old.active) (disk old.spare) (disk active) (Ok tt) (Ok answers.Moved) call (λ err. err));
+        moments = leaves_front disk old active Idle is unbroken lawful_spare (body_inside moments);
       })
 
   -- the body's write failed
-  pub body_failed : (fault : Fault) → old.phase ≡ Idle → 0 < length old.buffer → length old.buffer + 5 ≤ frame_room → IsOneCall {A = Unit {0}} {E = Fault} (disk old.first) (disk first) (Err fault)
-      → (IsTrue (disk old.first).honest → (x : List ℕ) → (disk first).IsImage x → IsBehind old.tail (disk old.first) x)
-      → (IsTrue (disk old.first).honest → LeavesSince (disk old.first) (disk first) (IsBehind old.tail (disk old.first))) → IsAdvance disk old (sealed_seen true) (Err fault)
+  pub body_failed : (fault : Fault) → old.phase ≡ Idle → 0 < length old.buffer → length old.buffer + 5 ≤ frame_room → IsOneCall {A = Unit {0}} {E = Fault} (disk old.active) (disk active) (Err fault)
+      → (IsTrue (disk old.active).honest → (x : List ℕ) → (disk active).IsImage x → IsBehind old.tail (disk old.active) x)
+      → (IsTrue (disk old.active).honest → LeavesSince (disk old.active) (disk active) (IsBehind old.tail (disk old.active))) → IsAdvance disk old (sealed_seen true) (Err fault)
   body_failed fault is some room call images moments = record {
     step = λ s keeps.
-        subst (λ (t : StoreState). IsStep disk old (sealed_seen true) (Err fault) t) (in_phase disk old first Idle is unbroken lawful_second s keeps)
-        (seal_err fault s s.buffer (some_effects s keeps some) (omega (arith, room)) (λ honest. body_torn (images honest)) call.same_honesty (keeps_in disk old first Idle is unbroken lawful_second s keeps));
+        subst (λ (t : StoreState). IsStep disk old (sealed_seen true) (Err fault) t) (in_phase disk old active Idle is unbroken lawful_spare s keeps)
+        (seal_err fault s s.buffer (some_effects s keeps some) (omega (arith, room)) (λ honest. body_torn (images honest)) call.same_honesty (keeps_in disk old active Idle is unbroken lawful_spare s keeps));
     numbers = seal_numbers true (Err fault) is refl;
     rests = λ idle. absurd (failed_on fault idle);
-    calls = first_called (disk old.first) (disk old.second) (disk first) (Err fault) (Err fault) call (λ err. err);
-    moments = leaves_front disk old first Idle is unbroken lawful_second (body_inside moments);
+    calls = calls_placed disk old.which old.active old.spare active old.spare (Err fault) (active_called (disk old.active) (disk old.spare) (disk active) (Err fault) (Err fault) call (λ err. err));
+    moments = leaves_front disk old active Idle is unbroken lawful_spare (body_inside moments);
   }
 
 -- each record has a byte
@@ -321,15 +334,15 @@ module _ {D : Type 0} (disk : D → Disk) (store : Seen D) (is : store.phase ≡
   rest_step s (e ∷ es) empty keeps = absurd (cc)
 
   -- nothing is to be done
-  pub nothing_to_do : (IsTrue (disk store.first).honest → IsLawful (disk store.first)) → (IsTrue (disk store.second).honest → IsLawful (disk store.second)) → IsAdvance disk store store (Ok answers.Idle)
-  nothing_to_do lawful lawful_second = record {
+  pub nothing_to_do : (IsTrue (disk store.active).honest → IsLawful (disk store.active)) → (IsTrue (disk store.spare).honest → IsLawful (disk store.spare)) → IsAdvance disk store store (Ok answers.Idle)
+  nothing_to_do lawful lawful_spare = record {
     step = λ s keeps.
-        subst (λ (t : StoreState). IsStep disk store store (Ok answers.Idle) t) (in_phase disk store store.first Idle is unbroken lawful_second s keeps)
-        (rest_step s s.buffer (no_effects s.buffer store.buffer keeps.buffer none) (keeps_in disk store store.first Idle is unbroken lawful_second s keeps));
-    numbers = record { generation = refl; tail = omega arith; journal = omega arith; buffer = still };
+        subst (λ (t : StoreState). IsStep disk store store (Ok answers.Idle) t) (in_phase disk store store.active Idle is unbroken lawful_spare s keeps)
+        (rest_step s s.buffer (no_effects s.buffer store.buffer keeps.buffer none) (keeps_in disk store store.active Idle is unbroken lawful_spare s keeps));
+    numbers = record { which = refl; generation = refl; tail = omega arith; journal = omega arith; buffer = still };
     rests = λ idle. refl;
-    calls = none_called (disk store.first) (disk store.second) (Ok answers.Idle) (λ err. absurd (search rules));
-    moments = unmoved disk store lawful lawful_second;
+    calls = none_called (disk (first_of store)) (disk (second_of store)) (Ok answers.Idle) (λ err. absurd (search rules));
+    moments = unmoved disk store lawful lawful_spare;
   }
     where
       empty : store.buffer ≡ []

@@ -3,9 +3,8 @@ use Rattle.std.proofs.Common.{◌≡◌, inl, inr, ℕ, IsTrue, sym, ◌∙◌, 
 use Rattle.std.specs.Result.{IsErrAnd}
 use Rattle.vault_device.specs.Disk.{Disk}
 use Rattle.vault_device.proofs.Moments.{read_then}
-use Rattle.vault_store.specs.declared.opening.File.TheVariants.{First, Second}
-use Rattle.vault_store.specs.declared.opening.OpenError.{OpenError}
-use Rattle.vault_store.specs.declared.opening.OpenError.TheVariants.{NoVault, Damaged, Device, NoMemory}
+use Rattle.vault_store.specs.declared.body.ReadError.{ReadError}
+use Rattle.vault_store.specs.declared.body.ReadError.TheVariants.{Damaged, Device, NoMemory}
 use Rattle.vault_store.specs.Calls.{HasCause}
 use Rattle.vault_store.specs.Read.{AreReads, IsWhy}
 
@@ -25,15 +24,12 @@ and_reads old mid new first second = record {
 pub cause_behind : (old mid new : Disk) → AreReads old mid → HasCause mid new → HasCause old new
 cause_behind old mid new first cause = elim cause [ inl more ↦ inl (omega (arith, more, first.called.no_fewer_faults)) | inr last ↦ inr last ]
 
-pub why_behind : (old mid new : Disk) (Closed Before : Type 0) (IsWrong WasWrong : ℕ → Type 0) → AreReads old mid → (IsTrue old.honest → Closed → Before) → ((at : ℕ) → IsTrue old.honest → IsWrong at → WasWrong at)
-    → (why : OpenError) → IsWhy mid new Closed IsWrong why → IsWhy old new Before WasWrong why
-why_behind old mid new Closed Before IsWrong WasWrong first closed wrong NoVault is = λ honest. closed honest (is (honest_behind old mid first honest))
-why_behind old mid new Closed Before IsWrong WasWrong first closed wrong (Damaged First at) is = λ honest. wrong at honest (is (honest_behind old mid first honest))
-why_behind old mid new Closed Before IsWrong WasWrong first closed wrong (Damaged Second at) is = is
-why_behind old mid new Closed Before IsWrong WasWrong first closed wrong Device is = cause_behind old mid new first is
-why_behind old mid new Closed Before IsWrong WasWrong first closed wrong NoMemory is = tt
+pub why_behind : (old mid new : Disk) (IsWrong WasWrong : ℕ → Type 0) → AreReads old mid → ((at : ℕ) → IsTrue old.honest → IsWrong at → WasWrong at) → (why : ReadError) → IsWhy mid new IsWrong why → IsWhy old new WasWrong why
+why_behind old mid new IsWrong WasWrong first wrong (Damaged at) is = λ honest. wrong at honest (is (honest_behind old mid first honest))
+why_behind old mid new IsWrong WasWrong first wrong Device is = cause_behind old mid new first is
+why_behind old mid new IsWrong WasWrong first wrong NoMemory is = tt
 
 -- what a `?` hands on
-pub passed_on : {T : Type 0} (result : Result T OpenError) (why : OpenError) (P : OpenError → Type 0) → IsErrAnd result (λ (e : OpenError). e ≡ why) → P why → IfErr result P
+pub passed_on : {T : Type 0} (result : Result T ReadError) (why : ReadError) (P : ReadError → Type 0) → IsErrAnd result (λ (e : ReadError). e ≡ why) → P why → IfErr result P
 passed_on (Ok x) why P is holds = tt
 passed_on (Err e) why P is holds = subst P (sym is) holds

@@ -1,7 +1,6 @@
 -- What a sync and reads behind it leave of a device.
-use Rattle.std.proofs.Common.{◌≡◌, ℕ, IsTrue, [], length, Result, Ok, sym, ◌∙◌, subst, arith}
-use Rattle.std.proofs.lemmas.List.{nil_from_length}
-use Rattle.vault_device.specs.Disk.{Disk, IsLawful, IsOneCall, IsRead, IsSync}
+use Rattle.std.proofs.Common.{◌≡◌, IsTrue, Result, Ok, sym, ◌∙◌, subst, arith}
+use Rattle.vault_device.specs.Disk.{Disk, IsLawful, IsOneCall, IsSync}
 use Rattle.vault_device.specs.declared.device.Fault.{Fault}
 use Rattle.vault_device.proofs.Moments.{no_more, and_then}
 use Rattle.vault_store.specs.OnDisk.{IsSettled}
@@ -29,6 +28,23 @@ module _ (old mid new : Disk) (result : Result (Unit {0}) Fault) (call : IsOneCa
         bytes = r.settled ∙ s.settled ∙ sym s.shown ∙ sym r.shown;
       }
 
--- a device of no bytes
-pub no_bytes : (old new : Disk) (n : ℕ) → n ≡ length old.shown → n ≡ 0 → IsRead old new → new.shown ≡ []
-no_bytes old new n size none read = read.shown ∙ nil_from_length old.shown (sym size ∙ none)
+-- reads behind it
+module _ (old mid new : Disk) (handed : IsHandedOn old mid) (reads : AreReads mid new) where
+  here : IsTrue old.honest → IsTrue mid.honest
+  here honest = subst IsTrue (sym handed.called.same_honesty) honest
+
+  pub handed_behind : (IsTrue mid.honest → IsLawful mid) → IsHandedOn old new
+  handed_behind lawful = record {
+    called = record { same_honesty = reads.called.same_honesty ∙ handed.called.same_honesty; no_fewer_faults = omega (arith, reads.called.no_fewer_faults, handed.called.no_fewer_faults) };
+    shown = λ honest. (reads.read (here honest)).shown ∙ handed.shown honest;
+    moments = λ honest.
+        and_then old mid new old.IsImage (handed.moments honest)
+        (no_more mid new old.IsImage (lawful (here honest)) (reads.read (here honest)).time (λ x is. (handed.moments honest).each x ((lawful (here honest)).now old.moment x (handed.moments honest).later is)));
+  }
+
+pub settled_reads : (mid new : Disk) → AreReads mid new → IsTrue mid.honest → IsSettled mid → IsSettled new
+settled_reads mid new reads honest settled =
+    let r = reads.read honest in record {
+      only = λ x is. settled.only x (r.images x is) ∙ sym r.shown;
+      bytes = r.settled ∙ settled.bytes ∙ sym r.shown;
+    }

@@ -1,15 +1,14 @@
 -- The head of a file, byte for byte.
-use Rattle.std.proofs.Common.{◌≡◌, ℕ, suc, ◌+◌, ◌<◌, ◌≤◌, ◌^◌, List, [], ◌∷◌, ◌++◌, length, get_or, take, drop, sym, ◌∙◌, ap, arith, length-drop, ◌-◌}
+use Rattle.std.proofs.Common.{◌≡◌, ℕ, suc, ◌+◌, ◌<◌, ◌≤◌, ◌^◌, List, [], ◌∷◌, ◌++◌, length, get_or, take, drop, refl, sym, ◌∙◌, ap, arith, length-drop, ◌-◌}
 use Rattle.std.specs.Prelude.{slice_range}
 use Rattle.std.specs.Int.{w32, w64, from_be_bytes}
-use Rattle.std.proofs.lemmas.List.{drop_more, take_all}
+use Rattle.std.proofs.lemmas.List.{drop_more, take_all, take_at}
 use Rattle.std.proofs.lemmas.List.Folds.{drop_split}
 use Rattle.std.proofs.lemmas.Nat.{be_bytes_4, be_bytes_8}
 use Rattle.vault_journal.specs.Laws.{AreBytes}
 use Rattle.vault_journal.specs.Spelling.{in_four, in_eight}
 use Rattle.vault_journal.proofs.Takes.{AreBytes-take, AreBytes-drop}
-use Rattle.vault_store.specs.Files.{mark, version}
-use Rattle.vault_store.specs.Read.{IsRightHead}
+use Rattle.vault_store.specs.Files.{head_length, mark, version, head_of, HasHead}
 
 -- one byte of a range, and the others
 next_byte : (bytes : List ℕ) (i n : ℕ) → i < length bytes → take (suc n) (drop i bytes) ≡ get_or bytes i 0 ∷ take n (drop (i + 1) bytes)
@@ -26,15 +25,6 @@ module _ (bytes : List ℕ) (size : length bytes ≡ 24) (fits : AreBytes bytes)
   abbrev pub eight : List ℕ
   eight = get_or bytes 12 0 ∷ get_or bytes 13 0 ∷ get_or bytes 14 0 ∷ get_or bytes 15 0 ∷ get_or bytes 16 0 ∷ get_or bytes 17 0 ∷ get_or bytes 18 0 ∷ get_or bytes 19 0 ∷ []
 
-  abbrev pub four : List ℕ
-  four = get_or bytes 20 0 ∷ get_or bytes 21 0 ∷ get_or bytes 22 0 ∷ get_or bytes 23 0 ∷ []
-
-  four_is : slice_range bytes 20 24 ≡ four
-  four_is =
-      next_byte bytes 20 3 (omega arith) ∙ ap (λ (l : List ℕ). get_or bytes 20 0 ∷ l) (next_byte bytes 21 2 (omega arith)
-      ∙ ap (λ (l : List ℕ). get_or bytes 21 0 ∷ l) (next_byte bytes 22 1 (omega arith)
-      ∙ ap (λ (l : List ℕ). get_or bytes 22 0 ∷ l) (next_byte bytes 23 0 (omega arith))))
-
   eight_is : slice_range bytes 12 20 ≡ eight
   eight_is =
       next_byte bytes 12 7 (omega arith) ∙ ap (λ (l : List ℕ). get_or bytes 12 0 ∷ l) (next_byte bytes 13 6 (omega arith)
@@ -49,9 +39,6 @@ module _ (bytes : List ℕ) (size : length bytes ≡ 24) (fits : AreBytes bytes)
   pub generation_spelled : (g : ℕ) → g ≡ from_be_bytes w64 eight → slice_range bytes 12 20 ≡ in_eight g
   generation_spelled g is = sym (be_bytes_8 (slice_range bytes 12 20) g (ap length eight_is) (range_fits bytes 12 20 fits) (is ∙ ap (from_be_bytes w64) (sym eight_is)))
 
-  snapshot_spelled : (n : ℕ) → n ≡ from_be_bytes w32 four → slice_range bytes 20 24 ≡ in_four n
-  snapshot_spelled n is = four_spelled (slice_range bytes 20 24) n (ap length four_is) (range_fits bytes 20 24 fits) (is ∙ ap (from_be_bytes w32) (sym four_is))
-
   whole : bytes ≡ get_or bytes 0 0 ∷ (slice_range bytes 1 8 ++ (slice_range bytes 8 12 ++ (slice_range bytes 12 20 ++ slice_range bytes 20 24)))
   whole =
       drop_more bytes 0 0 (omega arith) ∙ ap (λ (l : List ℕ). get_or bytes 0 0 ∷ l) (drop_split bytes 1 8 (omega arith)
@@ -59,16 +46,20 @@ module _ (bytes : List ℕ) (size : length bytes ≡ 24) (fits : AreBytes bytes)
       ∙ ap (λ (l : List ℕ). slice_range bytes 8 12 ++ l) (drop_split bytes 12 20 (omega arith)
       ∙ ap (λ (l : List ℕ). slice_range bytes 12 20 ++ l) (sym (take_all 4 (drop 20 bytes) (omega (arith, length-drop 20 bytes)))))))
 
-  pub right_head : (g n : ℕ) → get_or bytes 0 0 ≡ 1 → slice_range bytes 1 8 ≡ mark → slice_range bytes 8 12 ≡ in_four version → g ≡ from_be_bytes w64 eight → n ≡ from_be_bytes w32 four → 1 ≤ g → g < 2 ^ 64 → n < 2 ^ 32
-      → IsRightHead bytes (record { generation = g; snapshot = n })
-  right_head g n opened mark_is version_is generation_is snapshot_is given g_fits n_fits = record {
+  pub right_head : (g : ℕ) → get_or bytes 0 0 ≡ 1 → slice_range bytes 1 8 ≡ mark → slice_range bytes 8 12 ≡ in_four version → g ≡ from_be_bytes w64 eight → 1 ≤ g → g < 2 ^ 64 → HasHead g bytes
+  right_head g opened mark_is version_is generation_is given g_fits = record {
+    long = omega (arith, size);
+    head = ap (λ (l : List ℕ). take head_length l) parts ∙ take_at (head_of g) rest head_length refl;
     given = given;
     fits = g_fits;
-    short = n_fits;
-    parts =
-        whole ∙ ap (λ (b : ℕ). b ∷ (slice_range bytes 1 8 ++ (slice_range bytes 8 12 ++ (slice_range bytes 12 20 ++ slice_range bytes 20 24)))) opened
-        ∙ ap (λ (l : List ℕ). 1 ∷ (l ++ (slice_range bytes 8 12 ++ (slice_range bytes 12 20 ++ slice_range bytes 20 24)))) mark_is
-        ∙ ap (λ (l : List ℕ). 1 ∷ (mark ++ (l ++ (slice_range bytes 12 20 ++ slice_range bytes 20 24)))) version_is
-        ∙ ap (λ (l : List ℕ). 1 ∷ (mark ++ (in_four version ++ (l ++ slice_range bytes 20 24)))) (generation_spelled g generation_is)
-        ∙ ap (λ (l : List ℕ). 1 ∷ (mark ++ (in_four version ++ (in_eight g ++ l)))) (snapshot_spelled n snapshot_is);
   }
+    where
+      rest : List ℕ
+      rest = slice_range bytes 20 24
+
+      parts : bytes ≡ head_of g ++ rest
+      parts =
+          whole ∙ ap (λ (b : ℕ). b ∷ (slice_range bytes 1 8 ++ (slice_range bytes 8 12 ++ (slice_range bytes 12 20 ++ rest)))) opened
+          ∙ ap (λ (l : List ℕ). 1 ∷ (l ++ (slice_range bytes 8 12 ++ (slice_range bytes 12 20 ++ rest)))) mark_is
+          ∙ ap (λ (l : List ℕ). 1 ∷ (mark ++ (l ++ (slice_range bytes 12 20 ++ rest)))) version_is
+          ∙ ap (λ (l : List ℕ). 1 ∷ (mark ++ (in_four version ++ (l ++ rest)))) (generation_spelled g generation_is)

@@ -37,13 +37,13 @@ note_kept disk store s effect next has keeps e = record {
 abbrev pub IsMove : Disk → Disk → ℕ → ℕ → Phase → Phase → Bool → Type 0
 IsMove old new tail sealed p q broken = (front records : List ℕ) → length front ≡ tail → length records ≡ sealed → IsOnDisk old p false front records → IsOnDisk new q broken front records
 
-module _ {D : Type 0} (disk : D → Disk) (old : Seen D) (first : D) (same : (disk first).honest ≡ (disk old.first).honest) where
-  honest_before : IsTrue (disk first).honest → IsTrue (disk old.first).honest
+module _ {D : Type 0} (disk : D → Disk) (old : Seen D) (active : D) (same : (disk active).honest ≡ (disk old.active).honest) where
+  honest_before : IsTrue (disk active).honest → IsTrue (disk old.active).honest
   honest_before honest = subst IsTrue same honest
 
   -- a step that changes the phase alone
-  pub phase_kept : (s : StoreState) (p q : Phase) (broken : Bool) → is_idle p ≡ false → is_idle q ≡ false → (IsTrue (disk old.first).honest → IsMove (disk old.first) (disk first) old.tail old.sealed p q broken)
-      → Keeps disk old (record s { phase = p; broken = false }) → Keeps disk (record old { first = first; phase = q; broken = broken }) (record s { phase = q; broken = broken })
+  pub phase_kept : (s : StoreState) (p q : Phase) (broken : Bool) → is_idle p ≡ false → is_idle q ≡ false → (IsTrue (disk old.active).honest → IsMove (disk old.active) (disk active) old.tail old.sealed p q broken)
+      → Keeps disk old (record s { phase = p; broken = false }) → Keeps disk (record old { active = active; phase = q; broken = broken }) (record s { phase = q; broken = broken })
   phase_kept s p q broken busy still move keeps = record {
     phase = refl;
     broken = refl;
@@ -68,9 +68,9 @@ module _ {D : Type 0} (disk : D → Disk) (old : Seen D) (first : D) (same : (di
 
   -- the first step of a commit
   pub sealed_kept : (s : StoreState) (broken : Bool) → s.buffer ≢ [] → length old.buffer ≤ most_records
-      → (IsTrue (disk old.first).honest → (front : List ℕ) → length front ≡ old.tail → IsOnDisk (disk old.first) Idle false front [] → IsOnDisk (disk first) Written broken front old.buffer)
+      → (IsTrue (disk old.active).honest → (front : List ℕ) → length front ≡ old.tail → IsOnDisk (disk old.active) Idle false front [] → IsOnDisk (disk active) Written broken front old.buffer)
       → Keeps disk old (record s { phase = Idle; broken = false })
-      → Keeps disk (record old { first = first; buffer = []; sealed = length old.buffer; phase = Written; broken = broken })
+      → Keeps disk (record old { active = active; buffer = []; sealed = length old.buffer; phase = Written; broken = broken })
       (record { settled = s.settled; sealed = s.noted; noted = s.noted; sealing = s.buffer; buffer = []; phase = Written; broken = broken })
   sealed_kept s broken some few move keeps = record {
     phase = refl;
@@ -89,7 +89,7 @@ module _ {D : Type 0} (disk : D → Disk) (old : Seen D) (first : D) (same : (di
         let files = keeps.files (honest_before one) two in record {
           front = files.front;
           is_front = files.is_front;
-          active = subst (λ (l : List ℕ). IsOnDisk (disk first) Written broken files.front l) keeps.buffer.whole (move (honest_before one) files.front (sym files.is_front.tail_is) files.active);
+          active = subst (λ (l : List ℕ). IsOnDisk (disk active) Written broken files.front l) keeps.buffer.whole (move (honest_before one) files.front (sym files.is_front.tail_is) files.active);
           spare = files.spare;
         };
   }
@@ -99,9 +99,9 @@ module _ {D : Type 0} (disk : D → Disk) (old : Seen D) (first : D) (same : (di
 
   -- the last step of a commit
   pub settled_kept : (s : StoreState) (tail journal : ℕ) → tail ≡ old.tail + (old.sealed + 5) → journal ≡ old.journal + (old.sealed + 5)
-      → (IsTrue (disk old.first).honest → (front records : List ℕ) → length front ≡ old.tail → IsOnDisk (disk old.first) Opening false front records → IsOnDisk (disk first) Idle false (front ++ frame_bytes records) [])
+      → (IsTrue (disk old.active).honest → (front records : List ℕ) → length front ≡ old.tail → IsOnDisk (disk old.active) Opening false front records → IsOnDisk (disk active) Idle false (front ++ frame_bytes records) [])
       → Keeps disk old (record s { phase = Opening; broken = false })
-      → Keeps disk (record old { first = first; tail = tail; journal = journal; sealed = 0; phase = Idle; broken = false })
+      → Keeps disk (record old { active = active; tail = tail; journal = journal; sealed = 0; phase = Idle; broken = false })
       (record { settled = s.sealed; sealed = s.sealed; noted = s.noted; sealing = []; buffer = s.buffer; phase = Idle; broken = false })
   settled_kept s tail journal tail_is journal_is move keeps = record {
     phase = refl;

@@ -6,12 +6,13 @@ use Rattle.vault_journal.specs.Spelling.{records_of}
 use Rattle.vault_store.specs.declared.phase.Phase.{Phase}
 use Rattle.vault_store.specs.declared.phase.Phase.TheVariants.{Idle, Written, Bodied, Opening, Start, Closing, Writing, Filled, Ready, SnapOpening}
 use Rattle.vault_store.specs.Files.{frame_bytes, Reading, IsFront, EndsBehind, IsSpare, AreRead}
-use Rattle.vault_store.specs.Phases.{is_idle, may_open}
+use Rattle.vault_store.specs.Phases.{is_idle, is_opening, may_open}
 use Rattle.vault_store.specs.State.{StoreState}
 use Rattle.vault_store.specs.OnDisk.{IsEither, LeavesInPhase, IsOnDisk}
-use Rattle.vault_store.specs.Seen.{Seen, Keeps, settled_reading, sealed_reading, IsByGate, IsLeft, IsLeftInside}
+use Rattle.vault_store.specs.Seen.{Seen, Keeps, settled_reading, sealed_reading, IsByGate, IsLeftWhile, IsLeftInside}
 use Rattle.vault_store.specs.Laws.{AreHonest, CrashLeavesWhatIsKept, IsOneGate, OneGateIsOpened}
 use Rattle.vault_store.proofs.Frames.{longer_front}
+use Rattle.vault_store.proofs.Placed.{both_honest, left_placed}
 
 -- a file that ends behind the front is read as that, beside a spare
 pub reads_front : (front x y : List ℕ) (r : Reading) → IsFront front r → EndsBehind front x → IsSpare r.generation y → AreRead x y r
@@ -19,7 +20,7 @@ reads_front front x y r is_front ends spare = inl (record { front = front; is_fr
 
 module _ {D : Type 0} (disk : D → Disk) (store : Seen D) (s : StoreState) (keeps : Keeps disk store s) (front : List ℕ) (is_front : IsFront front (settled_reading store s)) where
   -- with the frame's gate open, or not
-  pub reads_either : (x y : List ℕ) → is_idle s.phase ≡ false → IsEither front (records_of s.sealing) x → IsSpare store.generation y → IsByGate store.tail (settled_reading store s) (sealed_reading store s) x y
+  pub reads_either : (x y : List ℕ) → is_idle s.phase ≡ false → IsEither front (records_of s.sealing) x → IsSpare store.generation y → IsByGate store.tail (settled_reading store s) (sealed_reading store s) x x y
   reads_either x y busy either spare = record {
     opened = λ is. reads_front (front ++ frame_bytes (records_of s.sealing)) x y (sealed_reading store s) longer (either.opened (subst (λ (n : ℕ). get_or x n 0 ≡ 1) is_front.tail_is is)) spare;
     shut = λ is. reads_front front x y (settled_reading store s) is_front (either.shut (λ one. is (subst (λ (n : ℕ). get_or x n 0 ≡ 1) (sym is_front.tail_is) one))) spare;
@@ -54,9 +55,13 @@ leaves_in disk Filled false front records on = on
 leaves_in disk Ready false front records on = on
 leaves_in disk SnapOpening false front records on = on
 
+-- what is left, where the first of two files is the active one's
+abbrev pub IsLeftHere : {D : Type 0} → Seen D → StoreState → List ℕ → List ℕ → Type 0
+IsLeftHere store s x y = IsLeftWhile (is_opening s.phase) store.tail (settled_reading store s) (sealed_reading store s) x x y
+
 -- what is left in each phase
 left_in : {D : Type 0} (disk : D → Disk) (store : Seen D) (s : StoreState) (p : Phase) → Keeps disk store (record s { phase = p }) → (front x y : List ℕ) → IsFront front (settled_reading store s)
-    → LeavesInPhase (disk store.first) p front (records_of s.sealing) → (disk store.first).IsImage x → IsSpare store.generation y → IsLeft store (record s { phase = p }) x y
+    → LeavesInPhase (disk store.active) p front (records_of s.sealing) → (disk store.active).IsImage x → IsSpare store.generation y → IsLeftHere store (record s { phase = p }) x y
 left_in disk store s Idle keeps front x y is_front leaves image spare = reads_front front x y (settled_reading store s) is_front (leaves x image) spare
 left_in disk store s Written keeps front x y is_front leaves image spare = reads_front front x y (settled_reading store s) is_front (leaves x image) spare
 left_in disk store s Bodied keeps front x y is_front leaves image spare = reads_front front x y (settled_reading store s) is_front (leaves x image) spare
@@ -69,21 +74,24 @@ left_in disk store s Ready keeps front x y is_front leaves image spare = absurd 
 left_in disk store s SnapOpening keeps front x y is_front leaves image spare = absurd leaves
 
 -- What a crash leaves of a store.
-pub left : {D : Type 0} (disk : D → Disk) (store : Seen D) (s : StoreState) → Keeps disk store s → IsTrue (disk store.first).honest → IsTrue (disk store.second).honest
-    → (x y : List ℕ) → (disk store.first).IsImage x → (disk store.second).IsImage y → IsLeft store s x y
+pub left : {D : Type 0} (disk : D → Disk) (store : Seen D) (s : StoreState) → Keeps disk store s → IsTrue (disk store.active).honest → IsTrue (disk store.spare).honest
+    → (x y : List ℕ) → (disk store.active).IsImage x → (disk store.spare).IsImage y → IsLeftHere store s x y
 left disk store s keeps one two x y image other =
     let files = keeps.files one two in
-    left_in disk store s s.phase keeps files.front x y files.is_front (leaves_in (disk store.first) s.phase s.broken files.front (records_of s.sealing) files.active) image (files.spare y other)
+    left_in disk store s s.phase keeps files.front x y files.is_front (leaves_in (disk store.active) s.phase s.broken files.front (records_of s.sealing) files.active) image (files.spare y other)
 
 -- while a gate is being opened, it alone is unsettled
-gated_in : {D : Type 0} (disk : D → Disk) (store : Seen D) (s : StoreState) (p : Phase) (broken : Bool) → p ≡ Opening → broken ≡ false → Keeps disk store (record s { phase = p; broken = broken }) → AreHonest disk store → IsOneGate (disk store.first) store.tail
+gated_in : {D : Type 0} (disk : D → Disk) (store : Seen D) (s : StoreState) (p : Phase) (broken : Bool) → p ≡ Opening → broken ≡ false → Keeps disk store (record s { phase = p; broken = broken }) → AreHonest disk store → IsOneGate (disk store.active) store.tail
 gated_in disk store s p broken is unbroken keeps honest =
     let here = subst (λ (b : Bool). Keeps disk store (record s { phase = Opening; broken = b })) unbroken (subst (λ (q : Phase). Keeps disk store (record s { phase = q; broken = broken })) is keeps) in
-    let files = here.files honest.first honest.second in
-    subst (λ (n : ℕ). IsOneGate (disk store.first) n) (sym files.is_front.tail_is) (record { same = files.active.same; opened = files.active.opened; was_shut = files.active.was_shut })
+    let both = both_honest disk store.which store.active store.spare honest.first honest.second in
+    let files = here.files both.0 both.1 in
+    subst (λ (n : ℕ). IsOneGate (disk store.active) n) (sym files.is_front.tail_is) (record { same = files.active.same; opened = files.active.opened; was_shut = files.active.was_shut })
 
 pub crash_leaves : {D : Type 0} (disk : D → Disk) → CrashLeavesWhatIsKept disk
-crash_leaves disk store s x y keeps honest image other = left disk store s keeps honest.first honest.second x y image other
+crash_leaves disk store s x y keeps honest image other =
+    let both = both_honest disk store.which store.active store.spare honest.first honest.second in
+    left_placed disk store.which store.active store.spare (is_opening s.phase) store.tail (settled_reading store s) (sealed_reading store s) (left disk store s keeps both.0 both.1) x y image other
 
 pub one_gate : {D : Type 0} (disk : D → Disk) → OneGateIsOpened disk
 one_gate disk store s keeps honest is unbroken = gated_in disk store s s.phase s.broken is unbroken keeps honest

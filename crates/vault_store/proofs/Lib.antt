@@ -2,6 +2,7 @@ mod Fronts
 mod Disks
 mod Frames
 mod Kept
+mod Placed
 pub mod Left
 mod Sounds
 mod Advances
@@ -12,6 +13,7 @@ mod SpelledLists
 mod SpelledPlaces
 mod SpelledClaims
 mod Spelled
+mod Rights
 mod Exact
 mod OneFault
 mod Heads
@@ -21,7 +23,7 @@ mod Made
 mod Behind
 mod Stepped
 mod Steps
-mod WholeFile
+mod Bodies
 mod Opened
 mod HandedOn
 mod Refusals

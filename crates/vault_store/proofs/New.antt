@@ -7,6 +7,7 @@ use Rattle.vault_model.specs.Name.{IsName}
 use Rattle.vault_model.specs.Vault.{new_vault}
 use Rattle.vault_model.proofs.Kept.{kept_new}
 use Rattle.vault_device.specs.Disk.{Disk}
+use Rattle.vault_store.specs.declared.opening.File.TheVariants.{First}
 use Rattle.vault_store.specs.declared.phase.Phase.TheVariants.{Idle}
 use Rattle.vault_store.specs.Snapshot.{HasSnapshot, designer_of}
 use Rattle.vault_store.specs.Files.{Reading, IsFront, EndsBehind}
@@ -44,7 +45,7 @@ new_idle old new filled = record { settled = filled.settled; ends = subst (EndsB
 
 module _ {D : Type 0} (disk : D → Disk) (first second first_new second_new : D) (same : (disk first_new).honest ≡ (disk first).honest) (file : IsTrue (disk first).honest → IsFilled (disk first) (disk first_new) new_file) where
   abbrev pub new_seen : Seen D
-  new_seen = record { first = first_new; second = second_new; buffer = []; sealed = 0; generation = 1; tail = 34; journal = 0; phase = Idle; broken = false }
+  new_seen = record { active = first_new; spare = second_new; which = First; buffer = []; sealed = 0; generation = 1; tail = 34; journal = 0; phase = Idle; broken = false }
 
   pub new_sound : IsSound disk new_seen
   new_sound = record {

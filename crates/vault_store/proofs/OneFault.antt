@@ -1,37 +1,22 @@
 -- Files have at most one first fault.
-use Rattle.std.proofs.Common.{◌≡◌, ◌⊎◌, inl, inr, ℕ, ◌+◌, ◌<◌, ◌^◌, List, [], ◌∷◌, ◌++◌, length, drop, slice_range, Some, refl, sym, ◌∙◌, ap, subst, arith, append_assoc, length-append, take-append-drop}
+use Rattle.std.proofs.Common.{◌≡◌, ◌⊎◌, inl, inr, ℕ, ◌+◌, List, [], ◌∷◌, ◌++◌, length, drop, Some, refl, sym, ◌∙◌, ap, subst, arith, append_assoc, length-append}
 use Rattle.std.specs.List.{AllByRecursion}
-use Rattle.std.proofs.lemmas.List.{drop_more, length-take-le}
+use Rattle.std.proofs.lemmas.List.{length-take-le}
 use Rattle.std.proofs.lemmas.List.Concat.{flat_map-cons}
 use Rattle.vault_model.specs.Said.{Effect}
-use Rattle.vault_model.specs.Vault.{Vault, new_vault}
-use Rattle.vault_journal.specs.Spelling.{in_four, in_eight, records_of}
-use Rattle.vault_journal.specs.Reading.{u64_at}
-use Rattle.vault_journal.proofs.OneSpelling.{fields_are_spelled, one_row}
+use Rattle.vault_model.specs.Vault.{Vault}
+use Rattle.vault_journal.specs.Spelling.{in_four, records_of}
+use Rattle.vault_journal.proofs.OneSpelling.{one_row}
 use Rattle.vault_store.specs.declared.opening.File.TheVariants.{First, Second}
 use Rattle.vault_store.specs.declared.opening.OpenError.TheVariants.{NoVault, Damaged, Device, NoMemory}
 use Rattle.vault_store.specs.Snapshot.{snapshot_of}
-use Rattle.vault_store.specs.Files.{header, head_of, frame_of, frames_bytes, IsFrame, applied, after_frames, IsClosedFile, HasHead}
-use Rattle.vault_store.specs.Faults.{mark_in, version_in, generation_in, snapshot_length, IsOpenFile, IsHeadFault, IsSnapshotFault, IsFrameFault}
+use Rattle.vault_store.specs.Files.{header, head_of, snapshot_bytes, frame_of, frames_bytes, IsFrame, applied, after_frames, IsClosedFile, HasHead, IsSpare}
+use Rattle.vault_store.specs.Faults.{IsHeadFault, IsDamagedHead, IsSnapshotFault, IsFrameFault, IsBodyFault}
+use Rattle.vault_store.specs.Opening.{HasNoHeadFault, IsFirstFault, IsSecondFault}
 use Rattle.vault_store.specs.Laws.{OneFault}
-use Rattle.vault_store.proofs.OneReading.{one_spelled, one_number, same_front, frames_split}
-use Rattle.vault_store.proofs.Exact.{HasFrame, first_gave}
-
-head_whole : (x : List ℕ) (g : ℕ) → HasHead g x → x ≡ head_of g ++ drop 20 x
-head_whole x g right = sym (take-append-drop 20 x) ∙ ap (λ (l : List ℕ). l ++ drop 20 x) right.head
-
--- a right head has no fault
-head_right : (x : List ℕ) (g at : ℕ) → HasHead g x → IsHeadFault x at → ⊥
-head_right x g at right = elim [
-  | inl one ↦ one.1 (ap mark_in (head_whole x g right))
-  | inr (inl two) ↦ two.2 (ap version_in (head_whole x g right))
-  | inr (inr three) ↦ zero_given (sym (ap generation_in (head_whole x g right)) ∙ three.3)
-]
-  where
-    zero_given : in_eight g ≡ in_eight 0 → ⊥
-    zero_given same =
-        let zero_is = (one_spelled in_eight (λ n. n < 2 ^ 64) u64_at fields_are_spelled.in_eight g 0 [] [] right.fits (omega arith) (ap (λ (l : List ℕ). l ++ []) same)).0 in
-        let given = right.given in absurd (omega (arith, zero_is, given))
+use Rattle.vault_store.proofs.OneReading.{one_number, same_front, frames_split}
+use Rattle.vault_store.proofs.Exact.{HasFrame, first_gave, here, fault_whole, snapshot_right}
+use Rattle.vault_store.proofs.Rights.{head_right, head_open, not_both, one_generation, spare_older, spare_right, one_base}
 
 one_head_fault : (x : List ℕ) (a b : ℕ) → IsHeadFault x a → IsHeadFault x b → a ≡ b
 one_head_fault x a b (inl one) (inl other) = one.0 ∙ sym other.0
@@ -49,30 +34,6 @@ one_snapshot_fault x a b (inl one) (inl other) = one.0 ∙ sym other.0
 one_snapshot_fault x a b (inl one) (inr other) = absurd (omega (arith, one.1, other.1))
 one_snapshot_fault x a b (inr one) (inl other) = absurd (omega (arith, other.1, one.1))
 one_snapshot_fault x a b (inr one) (inr other) = one.0 ∙ sym other.0
-
--- a file up to its faulty frame, and from there on
-module _ (x : List ℕ) (at : ℕ) (fault : IsFrameFault x at) where
-  pub here : drop at x ≡ 1 ∷ drop (at + 1) x
-  here = drop_more x at 0 fault.within ∙ ap (λ (b : ℕ). b ∷ drop (at + 1) x) fault.gate
-
-  pub fault_whole : x ≡ head_of fault.generation ++ (in_four 10 ++ (snapshot_of new_vault ++ (frames_bytes fault.frames ++ 1 ∷ drop (at + 1) x)))
-  fault_whole =
-      sym (take-append-drop at x) ∙ ap (λ (l : List ℕ). l ++ drop at x) fault.begins
-      ∙ ap (λ (l : List ℕ). ((head_of fault.generation ++ (in_four 10 ++ snapshot_of new_vault)) ++ frames_bytes fault.frames) ++ l) here
-      ∙ append_assoc (head_of fault.generation ++ (in_four 10 ++ snapshot_of new_vault)) (frames_bytes fault.frames) (1 ∷ drop (at + 1) x)
-
-  -- the snapshot before it is right
-  pub snapshot_right : (b : ℕ) → IsSnapshotFault x b → ⊥
-  snapshot_right b = elim [
-    | inl one ↦ absurd (omega (arith, one.1, size, ap length fault_whole, length-append (frames_bytes fault.frames) (1 ∷ drop (at + 1) x)))
-    | inr two ↦ two.2 (ap (λ (n : ℕ). slice_range x header (header + n)) size ∙ ap (λ (l : List ℕ). slice_range l header (header + 10)) fault_whole)
-  ]
-    where
-      size : snapshot_length x ≡ 10
-      size = ap snapshot_length fault_whole
-
-  pub at_is : at ≡ 34 + length (frames_bytes fault.frames)
-  at_is = let within = fault.within in omega (arith, within, length-take-le at x, ap length fault.begins)
 
 -- a frame of a row stands at its front
 frame_here : (h : List Effect) (hs : List (List Effect)) (s t : List ℕ) (w v u : Vault) → IsFrame h → 1 ∷ s ≡ frames_bytes (h ∷ hs) ++ 1 ∷ t → Some w ≡ Some v → after_frames w (h ∷ hs) ≡ Some u → HasFrame v (1 ∷ s)
@@ -109,42 +70,98 @@ frames_meet (f ∷ fs) (h ∷ hs) s t w v u are_fs are_hs same leads ends =
       | inr there ↦ inr there
     ]
 
+-- where a fault of a frame is, and the snapshot before it
+at_is : (x : List ℕ) (at : ℕ) (fault : IsFrameFault x at) → at ≡ header + length (snapshot_of fault.base) + length (frames_bytes fault.frames)
+at_is x at fault =
+    let within = fault.within in
+    omega (
+      arith,
+      within,
+      length-take-le at x,
+      ap length fault.begins,
+      length-append (head_of fault.generation ++ snapshot_bytes fault.base) (frames_bytes fault.frames),
+      length-append (in_four (length (snapshot_of fault.base))) (snapshot_of fault.base),
+    )
+
+spelled_right : (x : List ℕ) (a b : ℕ) → IsFrameFault x a → IsSnapshotFault x b → ⊥
+spelled_right x a b fault =
+    snapshot_right x fault.generation fault.base (frames_bytes fault.frames ++ 1 ∷ drop (a + 1) x) fault.spelled (omega (arith, length-append (frames_bytes fault.frames) (1 ∷ drop (a + 1) x))) (fault_whole x a fault) b
+
 one_frame_fault : (x : List ℕ) (a b : ℕ) → IsFrameFault x a → IsFrameFault x b → a ≡ b
 one_frame_fault x a b one other =
-    let same = ap (λ (l : List ℕ). drop 34 l) (sym (fault_whole x a one) ∙ fault_whole x b other) in
-    elim (frames_meet one.frames other.frames (drop (a + 1) x) (drop (b + 1) x) new_vault one.vault other.vault one.each other.each same one.leads other.leads) [
-      | inl is ↦ at_is x a one ∙ ap (λ (fs : List (List Effect)). 34 + length (frames_bytes fs)) is ∙ sym (at_is x b other)
+    let bases = one_base one.generation other.generation one.base other.base (frames_bytes one.frames ++ 1 ∷ drop (a + 1) x) (frames_bytes other.frames ++ 1 ∷ drop (b + 1) x) one.spelled other.spelled (sym (fault_whole x a one) ∙ fault_whole x b other) in
+    elim (frames_meet one.frames other.frames (drop (a + 1) x) (drop (b + 1) x) one.base one.vault other.vault one.each other.each bases.1 one.leads (subst (λ (v : Vault). after_frames v other.frames ≡ Some other.vault) (sym bases.0) other.leads)) [
+      | inl is ↦
+          at_is x a one ∙ ap (λ (v : Vault). header + length (snapshot_of v) + length (frames_bytes one.frames)) bases.0
+          ∙ ap (λ (fs : List (List Effect)). header + length (snapshot_of other.base) + length (frames_bytes fs)) is ∙ sym (at_is x b other)
       | inr (inl there) ↦ absurd (one.none there.frame there.next there.behind there.is_frame there.leads there.some (here x a one ∙ there.parts))
       | inr (inr there) ↦ absurd (other.none there.frame there.next there.behind there.is_frame there.leads there.some (here x b other ∙ there.parts))
     ]
 
 -- what is wrong behind a right head
-one_behind : (x : List ℕ) (a b : ℕ) → IsSnapshotFault x a ⊎ IsFrameFault x a → IsSnapshotFault x b ⊎ IsFrameFault x b → a ≡ b
-one_behind x a b (inl one) (inl other) = one_snapshot_fault x a b one other
-one_behind x a b (inl one) (inr other) = absurd (snapshot_right x b other a one)
-one_behind x a b (inr one) (inl other) = absurd (snapshot_right x a one b other)
-one_behind x a b (inr one) (inr other) = one_frame_fault x a b one other
+one_body_fault : (x : List ℕ) (a b : ℕ) → IsBodyFault x a → IsBodyFault x b → a ≡ b
+one_body_fault x a b (inl one) (inl other) = one_snapshot_fault x a b one other
+one_body_fault x a b (inl one) (inr other) = absurd (spelled_right x b a other one)
+one_body_fault x a b (inr one) (inl other) = absurd (spelled_right x a b one other)
+one_body_fault x a b (inr one) (inr other) = one_frame_fault x a b one other
 
-one_of_both : (x : List ℕ) (a b : ℕ) → IsHeadFault x a ⊎ ((g : ℕ) × HasHead g x × (IsSnapshotFault x a ⊎ IsFrameFault x a)) → IsHeadFault x b ⊎ ((g : ℕ) × HasHead g x × (IsSnapshotFault x b ⊎ IsFrameFault x b)) → a ≡ b
-one_of_both x a b (inl one) (inl other) = one_head_fault x a b one other
-one_of_both x a b (inl one) (inr (g, right, other)) = absurd (head_right x g a right one)
-one_of_both x a b (inr (g, right, one)) (inl other) = absurd (head_right x g b right other)
-one_of_both x a b (inr (g, right, one)) (inr (k, also, other)) = one_behind x a b one other
+-- a damaged head is neither right nor closed
+sound_head : (x : List ℕ) (at : ℕ) → HasNoHeadFault x → IsDamagedHead x at → ⊥
+sound_head x at (inl closed) damaged = not_both x closed damaged.0
+sound_head x at (inr (g, right)) damaged = head_right x g at right damaged.1
 
-not_both : (x : List ℕ) → IsClosedFile x → IsOpenFile x → ⊥
-not_both x (inl short) is = let long = is.long in absurd (omega (arith, short, long))
-not_both x (inr shut) is = shut is.gate
+-- of two open files one is the newer
+one_newer : (x y : List ℕ) (g k : ℕ) → HasHead g x → IsSpare g y → HasHead k y → IsSpare k x → ⊥
+one_newer x y g k one spare other spare_too = absurd (omega (arith, spare_older x k g spare_too one, spare_older y g k spare other))
+
+-- no file is a spare of its own generation
+not_own : (x y : List ℕ) (g k : ℕ) → HasHead g x → IsSpare g y → HasHead k x → HasHead k y → ⊥
+not_own x y g k one spare also other = absurd (omega (arith, spare_older y g k spare other, one_generation x g k one also))
+
+no_first : (first second : List ℕ) (at : ℕ) → IsClosedFile first → IsFirstFault first second at → ⊥
+no_first first second at closed (inl damaged) = not_both first closed damaged.0
+no_first first second at closed (inr (g, newer, fault)) = not_both first closed (head_open first g newer.0)
+
+no_second : (first second : List ℕ) (at : ℕ) → IsClosedFile second → IsSecondFault first second at → ⊥
+no_second first second at closed (inl damaged) = not_both second closed damaged.1.0
+no_second first second at closed (inr (inl (g, one, other, there))) = not_both second closed (head_open second g other)
+no_second first second at closed (inr (inr (g, newer, fault))) = not_both second closed (head_open second g newer.0)
+
+one_first : (first second : List ℕ) (a b : ℕ) → IsFirstFault first second a → IsFirstFault first second b → a ≡ b
+one_first first second a b (inl one) (inl other) = one_head_fault first a b one.1 other.1
+one_first first second a b (inl one) (inr (g, newer, fault)) = absurd (head_right first g a newer.0 one.1)
+one_first first second a b (inr (g, newer, fault)) (inl other) = absurd (head_right first g b newer.0 other.1)
+one_first first second a b (inr (g, newer, fault)) (inr (k, also, other)) = one_body_fault first a b fault other
+
+not_both_files : (first second : List ℕ) (a b : ℕ) → IsFirstFault first second a → IsSecondFault first second b → ⊥
+not_both_files first second a b (inl one) (inl other) = sound_head first a other.0 one
+not_both_files first second a b (inl one) (inr (inl (g, right, other, there))) = head_right first g a right one.1
+not_both_files first second a b (inl one) (inr (inr (g, newer, fault))) = spare_right first g a newer.1 one
+not_both_files first second a b (inr (g, newer, fault)) (inl other) = spare_right second g b newer.1 other.1
+not_both_files first second a b (inr (g, newer, fault)) (inr (inl (k, one, other, there))) = not_own first second g k newer.0 newer.1 one other
+not_both_files first second a b (inr (g, newer, fault)) (inr (inr (k, also, other))) = one_newer first second g k newer.0 newer.1 also.0 also.1
+
+one_second : (first second : List ℕ) (a b : ℕ) → IsSecondFault first second a → IsSecondFault first second b → a ≡ b
+one_second first second a b (inl one) (inl other) = one_head_fault second a b one.1.1 other.1.1
+one_second first second a b (inl one) (inr (inl (g, right, other, there))) = absurd (head_right second g a other one.1.1)
+one_second first second a b (inl one) (inr (inr (g, newer, fault))) = absurd (head_right second g a newer.0 one.1.1)
+one_second first second a b (inr (inl (g, one, other, there))) (inl damaged) = absurd (head_right second g b other damaged.1.1)
+one_second first second a b (inr (inl (g, one, other, there))) (inr (inl (k, also, right, place))) = there ∙ sym place
+one_second first second a b (inr (inl (g, one, other, there))) (inr (inr (k, newer, fault))) = absurd (not_own second first k g newer.0 newer.1 other one)
+one_second first second a b (inr (inr (g, newer, fault))) (inl damaged) = absurd (head_right second g b newer.0 damaged.1.1)
+one_second first second a b (inr (inr (g, newer, fault))) (inr (inl (k, one, other, there))) = absurd (not_own second first g k newer.0 newer.1 other one)
+one_second first second a b (inr (inr (g, newer, fault))) (inr (inr (k, also, other))) = one_body_fault second a b fault other
 
 pub one_fault : OneFault
 one_fault first second NoVault NoVault found also one other = refl
-one_fault first second NoVault (Damaged First offset) found also one other = absurd (not_both first one.1 other.1.is_open)
-one_fault first second NoVault (Damaged Second offset) found also one other = absurd (other.0 one.0)
-one_fault first second (Damaged First offset) NoVault found also one other = absurd (not_both first other.1 one.1.is_open)
-one_fault first second (Damaged First offset) (Damaged First place) found also one other = ap (λ (n : ℕ). Damaged First n) (one_of_both first offset place one.1.fault other.1.fault)
-one_fault first second (Damaged First offset) (Damaged Second place) found also one other = absurd (other.0 one.0)
-one_fault first second (Damaged Second offset) NoVault found also one other = absurd (one.0 other.0)
-one_fault first second (Damaged Second offset) (Damaged First place) found also one other = absurd (one.0 other.0)
-one_fault first second (Damaged Second offset) (Damaged Second place) found also one other = ap (λ (n : ℕ). Damaged Second n) (one.1 ∙ sym other.1)
+one_fault first second NoVault (Damaged First offset) found also one other = absurd (no_first first second offset one.0 other)
+one_fault first second NoVault (Damaged Second offset) found also one other = absurd (no_second first second offset one.1 other)
+one_fault first second (Damaged First offset) NoVault found also one other = absurd (no_first first second offset other.0 one)
+one_fault first second (Damaged First offset) (Damaged First place) found also one other = ap (λ (n : ℕ). Damaged First n) (one_first first second offset place one other)
+one_fault first second (Damaged First offset) (Damaged Second place) found also one other = absurd (not_both_files first second offset place one other)
+one_fault first second (Damaged Second offset) NoVault found also one other = absurd (no_second first second offset other.1 one)
+one_fault first second (Damaged Second offset) (Damaged First place) found also one other = absurd (not_both_files first second place offset other one)
+one_fault first second (Damaged Second offset) (Damaged Second place) found also one other = ap (λ (n : ℕ). Damaged Second n) (one_second first second offset place one other)
 one_fault first second Device other found also one two = absurd found
 one_fault first second NoMemory other found also one two = absurd found
 one_fault first second why Device found also one other = absurd also

@@ -1,19 +1,29 @@
 -- What opening reads is kept.
-use Rattle.std.proofs.Common.{◌≡◌, inl, ℕ, ◌-◌, ◌<◌, IsTrue, List, [], ◌∷◌, length, Option, Some, None, refl, sym, ◌∙◌, ap, subst, arith, false}
+use Rattle.std.proofs.Common.{◌≡◌, inl, inr, ℕ, IsTrue, List, [], ◌∷◌, take, Option, Some, None, refl, sym, ◌∙◌, ap, subst, arith, false}
+use Rattle.std.proofs.lemmas.List.{length-take-le}
 use Rattle.std.specs.Option.{option_and_then}
 use Rattle.vault_model.specs.Said.{Effect}
 use Rattle.vault_model.specs.Vault.{Vault, IsVault}
 use Rattle.vault_model.specs.After.{IsDurable}
-use Rattle.vault_device.specs.Disk.{Disk}
+use Rattle.vault_device.specs.Disk.{Disk, IsLawful}
+use Rattle.vault_journal.specs.Gate.{IsClosed}
+use Rattle.vault_store.specs.declared.opening.OpenError.{OpenError}
+use Rattle.vault_store.specs.declared.opening.OpenError.TheVariants.{NoVault, Damaged, Device, NoMemory}
 use Rattle.vault_store.specs.declared.phase.Phase.TheVariants.{Idle}
-use Rattle.vault_store.specs.Files.{applied, after_frames, Reading, IsFront, EndsBehind, AreRead}
+use Rattle.vault_store.specs.declared.opening.File.{File}
+use Rattle.vault_store.specs.declared.opening.File.TheVariants.{First, Second}
+use Rattle.vault_store.specs.Files.{applied, after_frames, Reading, Holds, HasHead, EndsBehind, IsSpare, AreRead}
+use Rattle.vault_store.specs.Faults.{IsBodyFault}
 use Rattle.vault_store.specs.OnDisk.{IsSettled}
-use Rattle.vault_store.specs.Opening.{IsHandedOn}
-use Rattle.vault_store.specs.Read.{first_gate, IsFileRead}
+use Rattle.vault_store.specs.Opening.{IsNewer, IsNotOpened, IsHandedOn}
+use Rattle.vault_store.specs.Read.{AreReads, AreContents, IsFaultBehindHead, IsWhyNot, IsNewerIn}
 use Rattle.vault_store.specs.State.{at_rest}
-use Rattle.vault_store.specs.Seen.{Seen, Keeps}
+use Rattle.vault_store.specs.Seen.{Seen, of_file, Keeps}
 use Rattle.vault_store.specs.Sound.{IsSound}
+use Rattle.vault_store.proofs.Bodies.{holds_read}
 use Rattle.vault_store.proofs.Frames.{applied_stays}
+use Rattle.vault_store.proofs.HandedOn.{handed_behind, settled_reads}
+use Rattle.vault_store.proofs.Placed.{both_honest}
 
 -- frames keep a vault well formed and durable
 abbrev StaySo : Vault → List (List Effect) → Type 0
@@ -27,62 +37,144 @@ frames_stay : (w v : Vault) (frames : List (List Effect)) → IsVault w → IsDu
 frames_stay w v [] kept durable e = let same : w ≡ v = cc in subst (λ (u : Vault). IsVault u × IsDurable u) same (kept, durable)
 frames_stay w v (frame ∷ frames) kept durable e = stay_behind w v frame frames (applied w frame) (λ u. frames_stay u v frames) kept durable refl e
 
--- what is read is well formed and durable
-pub front_stays : (front : List ℕ) (r : Reading) → IsFront front r → IsVault r.vault × IsDurable r.vault
-front_stays front r is_front = frames_stay is_front.base r.vault is_front.frames is_front.spelled.well_formed is_front.spelled.durable is_front.leads
+-- two files are read so, whichever is the active one
+pub read_placed : (which : File) (first second : List ℕ) (r : Reading) → Holds (of_file which first second) r → IsSpare r.generation (of_file which second first) → AreRead first second r
+read_placed First first second r holds spare = inl (holds, spare)
+read_placed Second first second r holds spare = inr (holds, spare)
 
-module _ {D : Type 0} (disk : D → Disk) (first second first_new second_new : D) (w : Vault) (g tail : ℕ) (read : IsFileRead (disk first) w g tail) where
-  abbrev pub opened_seen : Seen D
-  opened_seen = record { first = first_new; second = second_new; buffer = []; sealed = 0; generation = g; tail = tail; journal = tail - first_gate; phase = Idle; broken = false }
+-- what is said of each file, said of the active one
+placed : {D : Type 0} (P : D → D → Type 0) (which : File) (first second one two : D) → P first one → P second two → P (of_file which first second) (of_file which one two)
+placed P First first second one two h k = h
+placed P Second first second one two h k = k
 
-  -- the files are read so
-  pub opened_read : IsHandedOn (disk second) (disk second_new) → (IsTrue (disk second).honest → IsSettled (disk second_new) × ((disk second_new).shown ≡ [])) → IsTrue (disk first).honest → IsTrue (disk second).honest
-      → AreRead (disk first).shown (disk second).shown (record { vault = w; generation = g; tail = tail; journal = tail - first_gate })
-  opened_read two alone honest other =
-      let rest = alone other in
-      let none : (disk second).shown ≡ [] = sym (two.shown other) ∙ rest.1 in inl (record { front = read.front; is_front = read.is_front; ends = read.ends honest }, inl (inl (omega (arith, ap length none))))
+-- what is said of the active file and its spare, said of each
+unplaced : {D : Type 0} (P : D → D → Type 0) (which : File) (first second active spare : D) → P (of_file which first second) active → P (of_file which second first) spare → P first (of_file which active spare) × P second (of_file which spare active)
+unplaced P First first second active spare h k = (h, k)
+unplaced P Second first second active spare h k = (k, h)
 
-  pub opened_sound : IsHandedOn (disk first) (disk first_new) → (IsTrue (disk first).honest → IsSettled (disk first_new)) → IsSound disk opened_seen
-  opened_sound one settled = record {
-    reached = tt;
-    sealed_fits = omega arith;
-    bounded = λ some. absurd (omega (arith, some));
-    inside = omega arith;
-    active = λ honest.
-        let was = subst IsTrue one.called.same_honesty honest in record {
-          front = read.front;
-          records = [];
-          stands = sym read.is_front.tail_is;
-          size = refl;
-          on_disk = record { settled = settled was; ends = subst (EndsBehind read.front) (sym (one.shown was)) (read.ends was) };
-        };
-  }
+shown_placed : {D : Type 0} (disk : D → Disk) (which : File) (first second : D) → (disk (of_file which first second)).shown ≡ of_file which (disk first).shown (disk second).shown
+shown_placed disk First first second = refl
+shown_placed disk Second first second = refl
 
-  pub opened_kept : IsHandedOn (disk first) (disk first_new) → IsHandedOn (disk second) (disk second_new) → (IsTrue (disk first).honest → IsSettled (disk first_new)) → (IsTrue (disk second).honest → IsSettled (disk second_new) × ((disk second_new).shown ≡ [])) → Keeps disk opened_seen (at_rest w)
-  opened_kept one two settled alone =
-      let stays = front_stays read.front (record { vault = w; generation = g; tail = tail; journal = tail - first_gate }) read.is_front in record {
-        phase = refl;
-        broken = refl;
-        well_formed = stays.0;
-        durable = stays.1;
-        sealing = tt;
-        few = omega arith;
-        sealed_bytes = refl;
-        under_way = λ busy. absurd (cc);
-        none = λ idle. refl;
-        sealed = refl;
-        buffer = record { each = tt; whole = refl };
-        noted = refl;
-        files = λ honest other. record {
-          front = read.front;
-          is_front = read.is_front;
-          active = record { settled = settled (was honest); ends = subst (EndsBehind read.front) (sym (one.shown (was honest))) (read.ends (was honest)) };
-          spare = λ x image. inl (inl (empty other x image));
-        };
+-- a damaged active file
+active_fault : (which : File) (first second : List ℕ) (g at : ℕ) → IsNewerIn first second which g → IsBodyFault (of_file which first second) at → IsNotOpened first second (Damaged which at)
+active_fault First first second g at newer fault = inr (g, newer, fault)
+active_fault Second first second g at newer fault = inr (inr (g, newer, fault))
+
+-- two devices whose heads are read, of which one is read on
+module _ {D : Type 0} (disk : D → Disk) (which : File) (first second one two active spare active_new : D) (g : ℕ) (handed_first : IsHandedOn (disk first) (disk one)) (handed_second : IsHandedOn (disk second) (disk two))
+    (lawful : IsTrue (disk active).honest → IsLawful (disk active)) (active_is : active ≡ of_file which one two) (spare_is : spare ≡ of_file which two one) (reads : AreReads (disk active) (disk active_new))
+    (found : IsTrue (disk first).honest → IsTrue (disk second).honest → IsNewerIn (disk first).shown (disk second).shown which g) where
+  handed_active : IsHandedOn (disk (of_file which first second)) (disk active)
+  handed_active = subst (λ (d : D). IsHandedOn (disk (of_file which first second)) (disk d)) (sym active_is) (placed (λ (a b : D). IsHandedOn (disk a) (disk b)) which first second one two handed_first handed_second)
+
+  handed_spare : IsHandedOn (disk (of_file which second first)) (disk spare)
+  handed_spare = subst (λ (d : D). IsHandedOn (disk (of_file which second first)) (disk d)) (sym spare_is) (placed (λ (a b : D). IsHandedOn (disk a) (disk b)) which second first two one handed_second handed_first)
+
+  -- the devices are handed on
+  pub opened_handed : IsHandedOn (disk first) (disk (of_file which active_new spare)) × IsHandedOn (disk second) (disk (of_file which spare active_new))
+  opened_handed =
+      unplaced (λ (a b : D). IsHandedOn (disk a) (disk b)) which first second active_new spare (handed_behind (disk (of_file which first second)) (disk active) (disk active_new) handed_active reads lawful) handed_spare
+
+  -- the heads of the active file and of its spare
+  newer_here : IsTrue (disk first).honest → IsTrue (disk second).honest → IsNewer g (disk (of_file which first second)).shown (disk (of_file which second first)).shown
+  newer_here honest other = subst (λ (l : List ℕ). IsNewer g l (disk (of_file which second first)).shown) (sym (shown_placed disk which first second)) (subst (λ (l : List ℕ). IsNewer g (of_file which (disk first).shown (disk second).shown) l) (sym (shown_placed disk which second first)) (found honest other))
+
+  active_honest : IsTrue (disk first).honest → IsTrue (disk second).honest → IsTrue (disk active).honest
+  active_honest honest other = subst IsTrue (sym handed_active.called.same_honesty) (placed (λ (a b : D). IsTrue (disk a).honest) which first second first second honest other)
+
+  -- the active file shows what it showed
+  active_shown : IsTrue (disk first).honest → IsTrue (disk second).honest → (disk active).shown ≡ of_file which (disk first).shown (disk second).shown
+  active_shown honest other = handed_active.shown (placed (λ (a b : D). IsTrue (disk a).honest) which first second first second honest other) ∙ shown_placed disk which first second
+
+  -- a fault of the active file is the first
+  pub opened_refused : (why : OpenError) → IsWhyNot (disk active) (disk active_new) which (IsFaultBehindHead (disk active).shown) why → IsTrue (disk first).honest → IsTrue (disk second).honest → IsNotOpened (disk first).shown (disk second).shown why
+  opened_refused NoVault is honest other = absurd is
+  opened_refused (Damaged file at) is honest other =
+      let newer = found honest other in
+      let shown = active_shown honest other in
+      let fault : IsBodyFault (of_file which (disk first).shown (disk second).shown) at =
+      subst (λ (l : List ℕ). IsBodyFault l at) shown (is.1 (active_honest honest other) g (subst (HasHead g) (sym shown) newer.0)) in
+      subst (λ (f : File). IsNotOpened (disk first).shown (disk second).shown (Damaged f at)) (sym is.0) (active_fault which (disk first).shown (disk second).shown g at newer fault)
+  opened_refused Device is honest other = tt
+  opened_refused NoMemory is honest other = tt
+
+  module _ (v : Vault) (frames tail journal : ℕ) (contents : AreContents (disk active) v frames tail journal) where
+    abbrev pub opened_seen : Seen D
+    opened_seen = record { active = active_new; spare = spare; which = which; buffer = []; sealed = 0; generation = g; tail = tail; journal = journal; phase = Idle; broken = false }
+
+    abbrev reading : Reading
+    reading = record { vault = v; generation = g; tail = tail; journal = journal }
+
+    active_holds : IsTrue (disk first).honest → IsTrue (disk second).honest → Holds (disk active).shown reading
+    active_holds honest other =
+        let newer = found honest other in
+        holds_read (disk active) v frames tail journal g contents (active_honest honest other) (subst (HasHead g) (sym (active_shown honest other)) newer.0)
+
+    -- the files are read so
+    pub opened_read : IsTrue (disk first).honest → IsTrue (disk second).honest → AreRead (disk first).shown (disk second).shown reading
+    opened_read honest other = let newer = found honest other in read_placed which (disk first).shown (disk second).shown reading (subst (λ (l : List ℕ). Holds l reading) (active_shown honest other) (active_holds honest other)) newer.1
+
+    module _ (settled_first : IsTrue (disk first).honest → IsSettled (disk one)) (settled_second : IsTrue (disk second).honest → IsSettled (disk two)) where
+      settled_active : IsTrue (disk active_new).honest → IsSettled (disk active_new)
+      settled_active honest =
+          let here = subst IsTrue reads.called.same_honesty honest in
+          let was = subst IsTrue handed_active.called.same_honesty here in
+          settled_reads (disk active) (disk active_new) reads here
+          (subst (λ (d : D). IsSettled (disk d)) (sym active_is) (placed (λ (a b : D). IsTrue (disk a).honest → IsSettled (disk b)) which first second one two settled_first settled_second was))
+
+      settled_spare : IsTrue (disk spare).honest → IsSettled (disk spare)
+      settled_spare honest =
+          let was = subst IsTrue handed_spare.called.same_honesty honest in
+          subst (λ (d : D). IsSettled (disk d)) (sym spare_is) (placed (λ (a b : D). IsTrue (disk a).honest → IsSettled (disk b)) which second first two one settled_second settled_first was)
+
+      still_shown : IsTrue (disk active_new).honest → (disk active_new).shown ≡ (disk active).shown
+      still_shown honest = (reads.read (subst IsTrue reads.called.same_honesty honest)).shown
+
+      pub opened_sound : IsSound disk opened_seen
+      opened_sound = record {
+        reached = tt;
+        sealed_fits = omega arith;
+        bounded = λ some. absurd (omega (arith, some));
+        inside = omega (arith, contents.tail_is);
+        active = λ honest.
+            let closed = contents.closed (subst IsTrue reads.called.same_honesty honest) in
+            let size = length-take-le tail (disk active).shown (omega (arith, closed.stands)) in record {
+              front = take tail (disk active).shown;
+              records = [];
+              stands = size;
+              size = refl;
+              on_disk = record {
+                settled = settled_active honest;
+                ends = subst (EndsBehind (take tail (disk active).shown)) (sym (still_shown honest)) (record {
+                  begins = ap (λ (n : ℕ). take n (disk active).shown) size;
+                  closed = subst (λ (n : ℕ). IsClosed n (disk active).shown) (sym size) closed;
+                });
+              };
+            };
       }
-    where
-      was : IsTrue (disk first_new).honest → IsTrue (disk first).honest
-      was honest = subst IsTrue one.called.same_honesty honest
 
-      empty : IsTrue (disk second_new).honest → (x : List ℕ) → (disk second_new).IsImage x → length x < 24
-      empty other x image = let rest = alone (subst IsTrue two.called.same_honesty other) in omega (arith, ap length (rest.0.only x image ∙ rest.1))
+      pub opened_kept : Keeps disk opened_seen (at_rest v)
+      opened_kept =
+          let stays = frames_stay contents.base v contents.list contents.spelled.well_formed contents.spelled.durable contents.leads in record {
+            phase = refl;
+            broken = refl;
+            well_formed = stays.0;
+            durable = stays.1;
+            sealing = tt;
+            few = omega arith;
+            sealed_bytes = refl;
+            under_way = λ busy. absurd (cc);
+            none = λ idle. refl;
+            sealed = refl;
+            buffer = record { each = tt; whole = refl };
+            noted = refl;
+            files = λ honest other.
+                let here = both_honest disk which first second (subst IsTrue handed_active.called.same_honesty (subst IsTrue reads.called.same_honesty honest)) (subst IsTrue handed_spare.called.same_honesty other) in
+                let holds = active_holds here.0 here.1 in record {
+                  front = holds.front;
+                  is_front = holds.is_front;
+                  active = record { settled = settled_active honest; ends = subst (EndsBehind holds.front) (sym (still_shown honest)) holds.ends };
+                  spare = λ x image. subst (IsSpare g) (sym ((settled_spare other).only x image ∙ handed_spare.shown (subst IsTrue handed_spare.called.same_honesty other))) (newer_here here.0 here.1).1;
+                };
+          }

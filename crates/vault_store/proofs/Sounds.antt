@@ -64,14 +64,14 @@ note_sound disk store bytes below sound = record {
   active = sound.active;
 }
 
-module _ {D : Type 0} (disk : D → Disk) (old : Seen D) (first : D) (same : (disk first).honest ≡ (disk old.first).honest) (sound : IsSound disk old) (unbroken : old.broken ≡ false) where
+module _ {D : Type 0} (disk : D → Disk) (old : Seen D) (active : D) (same : (disk active).honest ≡ (disk old.active).honest) (sound : IsSound disk old) (unbroken : old.broken ≡ false) where
   -- what is on the active disk before the step
-  before : (p : Phase) → old.phase ≡ p → IsTrue (disk first).honest → IsActive (disk old.first) old.tail old.sealed p false
-  before p is honest = subst (λ (q : Phase). IsActive (disk old.first) old.tail old.sealed q false) is (subst (λ (b : Bool). IsActive (disk old.first) old.tail old.sealed old.phase b) unbroken (sound.active (subst IsTrue same honest)))
+  before : (p : Phase) → old.phase ≡ p → IsTrue (disk active).honest → IsActive (disk old.active) old.tail old.sealed p false
+  before p is honest = subst (λ (q : Phase). IsActive (disk old.active) old.tail old.sealed q false) is (subst (λ (b : Bool). IsActive (disk old.active) old.tail old.sealed old.phase b) unbroken (sound.active (subst IsTrue same honest)))
 
   -- a step that changes the phase alone
-  pub phase_sound : (p q : Phase) (broken : Bool) → old.phase ≡ p → is_idle p ≡ false → is_idle q ≡ false → IsReached q → (IsTrue (disk old.first).honest → IsMove (disk old.first) (disk first) old.tail old.sealed p q broken)
-      → IsSound disk (record old { first = first; phase = q; broken = broken })
+  pub phase_sound : (p q : Phase) (broken : Bool) → old.phase ≡ p → is_idle p ≡ false → is_idle q ≡ false → IsReached q → (IsTrue (disk old.active).honest → IsMove (disk old.active) (disk active) old.tail old.sealed p q broken)
+      → IsSound disk (record old { active = active; phase = q; broken = broken })
   phase_sound p q broken is busy still reached move = record {
     reached = reached;
     sealed_fits = sound.sealed_fits;
@@ -89,8 +89,8 @@ module _ {D : Type 0} (disk : D → Disk) (old : Seen D) (first : D) (same : (di
 
   -- the first step of a commit
   pub sealed_sound : (broken : Bool) → old.phase ≡ Idle → 0 < length old.buffer → length old.buffer + 5 ≤ frame_room
-      → (IsTrue (disk old.first).honest → (front : List ℕ) → length front ≡ old.tail → IsOnDisk (disk old.first) Idle false front [] → IsOnDisk (disk first) Written broken front old.buffer)
-      → IsSound disk (record old { first = first; buffer = []; sealed = length old.buffer; phase = Written; broken = broken })
+      → (IsTrue (disk old.active).honest → (front : List ℕ) → length front ≡ old.tail → IsOnDisk (disk old.active) Idle false front [] → IsOnDisk (disk active) Written broken front old.buffer)
+      → IsSound disk (record old { active = active; buffer = []; sealed = length old.buffer; phase = Written; broken = broken })
   sealed_sound broken is some room move = record {
     reached = tt;
     sealed_fits = room;
@@ -108,8 +108,8 @@ module _ {D : Type 0} (disk : D → Disk) (old : Seen D) (first : D) (same : (di
 
   -- the last step of a commit
   pub settled_sound : (tail journal : ℕ) → tail ≡ old.tail + (old.sealed + 5) → journal ≡ old.journal + (old.sealed + 5) → old.phase ≡ Opening
-      → (IsTrue (disk old.first).honest → (front records : List ℕ) → length front ≡ old.tail → IsOnDisk (disk old.first) Opening false front records → IsOnDisk (disk first) Idle false (front ++ frame_bytes records) [])
-      → IsSound disk (record old { first = first; tail = tail; journal = journal; sealed = 0; phase = Idle; broken = false })
+      → (IsTrue (disk old.active).honest → (front records : List ℕ) → length front ≡ old.tail → IsOnDisk (disk old.active) Opening false front records → IsOnDisk (disk active) Idle false (front ++ frame_bytes records) [])
+      → IsSound disk (record old { active = active; tail = tail; journal = journal; sealed = 0; phase = Idle; broken = false })
   settled_sound tail journal tail_is journal_is is move = record {
     reached = tt;
     sealed_fits = omega arith;

@@ -1,14 +1,12 @@
--- What opening finds wrong with two files, the first fault in the order in which they are read. This project's own.
--- Until there are snapshots, a second file that isn't empty is a fault at its offset 0, and so is another snapshot than the new
--- vault's.
+-- What is wrong with one file: the first fault in the order in which it is read. This project's own.
 use Rattle.std.specs.Prelude.{◌≡◌, ◌≢◌, ◌⊎◌, ℕ, ◌+◌, ◌<◌, ◌≤◌, List, [], ◌++◌, length, take, drop, slice_index, slice_range, Some}
 use Rattle.std.specs.Int.{w32, from_be_bytes}
 use Rattle.std.specs.List.{AllByRecursion}
 use Rattle.vault_model.specs.Said.{Effect}
-use Rattle.vault_model.specs.Vault.{Vault, new_vault}
+use Rattle.vault_model.specs.Vault.{Vault}
 use Rattle.vault_journal.specs.Spelling.{in_four, in_eight}
-use Rattle.vault_store.specs.Snapshot.{snapshot_of}
-use Rattle.vault_store.specs.Files.{header, mark, version, head_of, snapshot_bytes, frame_of, frames_bytes, IsFrame, applied, after_frames, HasHead}
+use Rattle.vault_store.specs.Snapshot.{snapshot_of, HasSnapshot}
+use Rattle.vault_store.specs.Files.{header, head_length, mark, version, head_of, snapshot_bytes, frame_of, frames_bytes, IsFrame, applied, after_frames}
 
 -- the mark of a file, the spelling of its version and of its generation, and the length of its snapshot
 abbrev pub mark_in : List ℕ → List ℕ
@@ -39,26 +37,35 @@ IsHeadFault file at =
     ⊎ ((at ≡ 8) × (mark_in file ≡ mark) × (version_in file ≢ in_four version))
     ⊎ ((at ≡ 12) × (mark_in file ≡ mark) × (version_in file ≡ in_four version) × (generation_in file ≡ in_eight 0))
 
--- what is wrong with a snapshot: no byte stands behind it, or it isn't the new vault's
+-- an open file whose head has a fault
+abbrev pub IsDamagedHead : List ℕ → ℕ → Type 0
+IsDamagedHead file at = IsOpenFile file × IsHeadFault file at
+
+-- bytes are no vault's spelling
+abbrev pub IsNoSnapshot : List ℕ → Type 0
+IsNoSnapshot bytes = (v : Vault) → HasSnapshot v → bytes ≢ snapshot_of v
+
+-- what is wrong with a snapshot: no byte stands behind it, or its bytes are no vault's spelling
 abbrev pub IsSnapshotFault : List ℕ → ℕ → Type 0
 IsSnapshotFault file at =
-    ((at ≡ 20) × (length file ≤ header + snapshot_length file))
-    ⊎ ((at ≡ header) × (header + snapshot_length file < length file) × (snapshot_in file ≢ snapshot_of new_vault))
+    ((at ≡ head_length) × (length file ≤ header + snapshot_length file))
+    ⊎ ((at ≡ header) × (header + snapshot_length file < length file) × IsNoSnapshot (snapshot_in file))
 
--- The first frame that isn't one: whole frames stand before it, which lead to a vault; an open gate is there; and no frame whose
--- effects may be made on that vault stands there with a byte behind it.
+-- The first frame that isn't one: a vault's snapshot and whole frames stand before it, which lead to a vault; an open gate is there;
+-- and no frame whose effects may be made on that vault stands there with a byte behind it.
 pub record IsFrameFault (file : List ℕ) (at : ℕ) : Type 0 where
   pub generation : ℕ
+  pub base : Vault
   pub frames : List (List Effect)
   pub vault : Vault
+  pub spelled : HasSnapshot base
   pub each : AllByRecursion IsFrame frames
-  pub begins : take at file ≡ (head_of generation ++ snapshot_bytes new_vault) ++ frames_bytes frames
-  pub leads : after_frames new_vault frames ≡ Some vault
+  pub begins : take at file ≡ (head_of generation ++ snapshot_bytes base) ++ frames_bytes frames
+  pub leads : after_frames base frames ≡ Some vault
   pub within : at < length file
   pub gate : slice_index file at ≡ 1
   pub none : (effects : List Effect) (next : Vault) (behind : List ℕ) → IsFrame effects → applied vault effects ≡ Some next → behind ≢ [] → drop at file ≢ frame_of effects ++ behind
 
--- what is wrong with an open file that is alone: its head, or behind a right head its snapshot, or behind that a frame
-pub record IsFault (file : List ℕ) (at : ℕ) : Type 0 where
-  pub is_open : IsOpenFile file
-  pub fault : IsHeadFault file at ⊎ ((generation : ℕ) × HasHead generation file × (IsSnapshotFault file at ⊎ IsFrameFault file at))
+-- what is wrong behind a right head: the snapshot, or behind a right one a frame
+abbrev pub IsBodyFault : List ℕ → ℕ → Type 0
+IsBodyFault file at = IsSnapshotFault file at ⊎ IsFrameFault file at

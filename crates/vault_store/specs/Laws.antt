@@ -1,26 +1,24 @@
 -- What is promised of the files of a store. This project's own.
-use Rattle.std.specs.Prelude.{◌≡◌, ◌≢◌, ◌⊎◌, ◌<◌, ◌^◌, length, ℕ, IsTrue, false, List, [], slice_index}
-use Rattle.vault_model.specs.Vault.{Vault, new_vault}
+use Rattle.std.specs.Prelude.{◌≡◌, ◌≢◌, ◌<◌, ◌^◌, length, ℕ, IsTrue, false, List, slice_index}
+use Rattle.vault_model.specs.Vault.{Vault}
 use Rattle.vault_device.specs.Disk.{Disk}
 use Rattle.vault_journal.specs.Gate.{SameBut}
 use Rattle.vault_store.specs.declared.phase.Phase.TheVariants.{Opening}
 use Rattle.vault_store.specs.declared.opening.OpenError.{OpenError}
-use Rattle.vault_store.specs.declared.opening.OpenError.TheVariants.{Device, NoMemory}
 use Rattle.vault_store.specs.Snapshot.{snapshot_of, HasSnapshot}
 use Rattle.vault_store.specs.Files.{Reading, AreRead, StandFor}
-use Rattle.vault_store.specs.Faults.{snapshot_in}
-use Rattle.vault_store.specs.Opening.{IsNotOpened}
+use Rattle.vault_store.specs.Opening.{IsNotOpened, IsFound}
 use Rattle.vault_store.specs.State.{StoreState}
-use Rattle.vault_store.specs.Seen.{Seen, Keeps, IsLeft}
+use Rattle.vault_store.specs.Seen.{Seen, first_of, second_of, Keeps, IsLeft}
 
 -- two honest devices
 pub record AreHonest {D : Type 0} (disk : D → Disk) (store : Seen D) : Type 0 where
-  pub first : IsTrue (disk store.first).honest
-  pub second : IsTrue (disk store.second).honest
+  pub first : IsTrue (disk (first_of store)).honest
+  pub second : IsTrue (disk (second_of store)).honest
 
 -- what a crash may leave of a store's files is read as what it keeps
 abbrev pub CrashLeavesWhatIsKept : {D : Type 0} → (D → Disk) → Type 0
-CrashLeavesWhatIsKept {D} disk = (store : Seen D) (s : StoreState) (x y : List ℕ) → Keeps disk store s → AreHonest disk store → (disk store.first).IsImage x → (disk store.second).IsImage y → IsLeft store s x y
+CrashLeavesWhatIsKept {D} disk = (store : Seen D) (s : StoreState) (x y : List ℕ) → Keeps disk store s → AreHonest disk store → (disk (first_of store)).IsImage x → (disk (second_of store)).IsImage y → IsLeft store s x y
 
 -- one byte of a file may differ from what a read gives; a read gives 1 there, and what was settled isn't 1
 pub record IsOneGate (disk : Disk) (gate : ℕ) : Type 0 where
@@ -28,9 +26,9 @@ pub record IsOneGate (disk : Disk) (gate : ℕ) : Type 0 where
   pub opened : slice_index disk.shown gate ≡ 1
   pub was_shut : slice_index disk.settled gate ≢ 1
 
--- while a frame's gate is being opened, and before a device call failed, that gate is such a byte
+-- while a frame's gate is being opened, and before a device call failed, that gate is such a byte of the active file
 abbrev pub OneGateIsOpened : {D : Type 0} → (D → Disk) → Type 0
-OneGateIsOpened {D} disk = (store : Seen D) (s : StoreState) → Keeps disk store s → AreHonest disk store → s.phase ≡ Opening → s.broken ≡ false → IsOneGate (disk store.first) store.tail
+OneGateIsOpened {D} disk = (store : Seen D) (s : StoreState) → Keeps disk store s → AreHonest disk store → s.phase ≡ Opening → s.broken ≡ false → IsOneGate (disk store.active) store.tail
 
 -- four bytes can count a spelling
 abbrev pub SnapshotsAreShort : Type 0
@@ -44,24 +42,17 @@ OneSpelling = (v w : Vault) → HasSnapshot v → HasSnapshot w → snapshot_of 
 abbrev pub OneReading : Type 0
 OneReading = (first second : List ℕ) (r q : Reading) → AreRead first second r → AreRead first second q → r ≡ q
 
+-- and the same way in whichever order they are taken
+abbrev pub EitherWay : Type 0
+EitherWay = (first second : List ℕ) (r : Reading) → AreRead first second r → AreRead second first r
+
 -- so they stand for at most one vault
 abbrev pub OneVault : Type 0
 OneVault = (first second : List ℕ) (v w : Vault) → StandFor first second v → StandFor first second w → v ≡ w
 
--- files as they are until there are snapshots: the second is empty, and the first has the snapshot of the new vault
-pub record ArePlain (first second : List ℕ) : Type 0 where
-  pub alone : second ≡ []
-  pub snapshot : snapshot_in first ≡ snapshot_of new_vault
-
--- where such files stand for a vault, nothing is wrong with them
+-- where two files stand for a vault, nothing is wrong with them
 abbrev pub NothingIsWrong : Type 0
-NothingIsWrong = (first second : List ℕ) (r : Reading) (why : OpenError) → ArePlain first second → AreRead first second r → IsNotOpened first second why → (why ≡ Device) ⊎ (why ≡ NoMemory)
-
--- what opening finds in the files, not what kept it from reading them
-abbrev pub IsFound : OpenError → Type 0
-IsFound Device = ⊥
-IsFound NoMemory = ⊥
-IsFound _ = Unit {0}
+NothingIsWrong = (first second : List ℕ) (why : OpenError) → IsFound why → IsNotOpened first second why → (v : Vault) → StandFor first second v → ⊥
 
 -- at most one thing is wrong with two files first
 abbrev pub OneFault : Type 0

@@ -13,6 +13,7 @@ pub mod Calls
 pub mod Step
 pub mod Create
 pub mod Opening
+pub mod Parts
 pub mod Read
 pub mod Laws
 pub mod Rows

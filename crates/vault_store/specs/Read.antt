@@ -1,58 +1,43 @@
 -- What the functions that read a file answer, part by part. This project's own.
-use Rattle.std.specs.Prelude.{◌≡◌, ◌≢◌, ℕ, ◌+◌, ◌-◌, ◌<◌, ◌≤◌, ◌^◌, IsTrue, List, [], ◌++◌, length, take, drop, slice_index, slice_range, Option, Some, None}
+use Rattle.std.specs.Prelude.{◌≡◌, ◌≢◌, ℕ, ◌+◌, ◌<◌, ◌≤◌, IsTrue, List, [], ◌++◌, length, take, drop, slice_index, slice_range, Option, Some, None}
 use Rattle.std.specs.List.{AllByRecursion}
 use Rattle.vault_model.specs.Said.{Effect}
-use Rattle.vault_model.specs.Vault.{Vault, new_vault}
+use Rattle.vault_model.specs.Vault.{Vault}
 use Rattle.vault_device.specs.Disk.{Disk, IsRead}
 use Rattle.vault_journal.specs.Spelling.{in_four, records_of}
 use Rattle.vault_journal.specs.Rows.{AreRecordsOf}
+use Rattle.vault_journal.specs.Gate.{IsClosed}
 use Rattle.vault_checkout.specs.declared.apply.ApplyError.{ApplyError}
 use Rattle.vault_checkout.specs.declared.apply.ApplyError.TheVariants as unmade
-use Rattle.vault_store.specs.declared.opening.File.TheVariants.{First, Second}
+use Rattle.vault_store.specs.declared.opening.File.{File}
 use Rattle.vault_store.specs.declared.opening.OpenError.{OpenError}
 use Rattle.vault_store.specs.declared.opening.OpenError.TheVariants.{NoVault, Damaged, Device, NoMemory}
-use Rattle.vault_store.specs.declared.front.Head.{Head}
-use Rattle.vault_store.specs.Files.{most_records, frame_extra, head_of, snapshot_bytes, frame_of, frames_bytes, IsFrame, applied, after_frames, IsFront, EndsBehind}
-use Rattle.vault_store.specs.Faults.{IsHeadFault}
+use Rattle.vault_store.specs.declared.body.ReadError.{ReadError}
+use Rattle.vault_store.specs.declared.body.ReadError.TheVariants as errors
+use Rattle.vault_store.specs.Snapshot.{snapshot_of, HasSnapshot}
+use Rattle.vault_store.specs.Files.{header, head_length, most_records, frame_extra, snapshot_bytes, frame_of, frames_bytes, IsFrame, applied, after_frames, IsClosedFile, HasHead}
+use Rattle.vault_store.specs.Faults.{IsBodyFault}
+use Rattle.vault_store.specs.Opening.{IsNewer}
+use Rattle.vault_store.specs.Seen.{of_file}
 use Rattle.vault_store.specs.Calls.{HasCause, IsCalled}
-
--- where the frames begin behind the new vault's snapshot
-abbrev pub first_gate : ℕ
-first_gate = 34
 
 -- calls that changed nothing
 pub record AreReads (old new : Disk) : Type 0 where
   pub called : IsCalled old new
   pub read : IsTrue old.honest → IsRead old new
 
--- Why a part of the first file was not read: a call failed, memory was wanted, or of an honest device this is so, or there is this
--- fault at the offset.
-abbrev pub IsWhy : Disk → Disk → Type 0 → (ℕ → Type 0) → OpenError → Type 0
-IsWhy old new Closed IsWrong NoVault = IsTrue old.honest → Closed
-IsWhy old new Closed IsWrong (Damaged First at) = IsTrue old.honest → IsWrong at
-IsWhy old new Closed IsWrong (Damaged Second at) = ⊥
-IsWhy old new Closed IsWrong Device = HasCause old new
-IsWhy old new Closed IsWrong NoMemory = Unit {0}
+-- Why a part of a file was not read: a call failed, memory was wanted, or of an honest device there is this fault at the offset.
+abbrev pub IsWhy : Disk → Disk → (ℕ → Type 0) → ReadError → Type 0
+IsWhy old new IsWrong (errors.Damaged at) = IsTrue old.honest → IsWrong at
+IsWhy old new IsWrong errors.Device = HasCause old new
+IsWhy old new IsWrong errors.NoMemory = Unit {0}
 
--- these bytes are a right head and a snapshot's length
-pub record IsRightHead (bytes : List ℕ) (head : Head) : Type 0 where
-  pub given : 1 ≤ head.generation
-  pub fits : head.generation < 2 ^ 64
-  pub short : head.snapshot < 2 ^ 32
-  pub parts : bytes ≡ head_of head.generation ++ in_four head.snapshot
-
--- these bytes are no right head: their gate is closed, or the fault is there
-abbrev pub IsWrongHead : List ℕ → OpenError → Type 0
-IsWrongHead bytes NoVault = slice_index bytes 0 ≢ 1
-IsWrongHead bytes (Damaged First at) = (slice_index bytes 0 ≡ 1) × IsHeadFault bytes at
-IsWrongHead bytes _ = ⊥
-
--- a right head of this generation and the new vault's snapshot, with a byte behind them
-pub record IsFrontRead (disk : Disk) (len generation : ℕ) : Type 0 where
-  pub given : 1 ≤ generation
-  pub fits : generation < 2 ^ 64
-  pub within : first_gate < len
-  pub begins : IsTrue disk.honest → take first_gate disk.shown ≡ head_of generation ++ snapshot_bytes new_vault
+-- the snapshot of a vault, which ends in front of this offset, with a byte behind it
+pub record IsBaseRead (disk : Disk) (len : ℕ) (base : Vault) (end : ℕ) : Type 0 where
+  pub spelled : HasSnapshot base
+  pub size : end ≡ header + length (snapshot_of base)
+  pub within : end < len
+  pub bytes : IsTrue disk.honest → take end disk.shown ≡ take head_length disk.shown ++ snapshot_bytes base
 
 -- how many bytes of records a frame has: as many as a frame may have, and a byte stands behind them
 pub record IsLengthRead (disk : Disk) (len at n : ℕ) : Type 0 where
@@ -100,34 +85,62 @@ pub record IsNoFrame (vault : Vault) (file : List ℕ) (gate at : ℕ) : Type 0 
   pub opened : slice_index file gate ≡ 1
   pub none : BeginsWithNone vault (drop gate file)
 
--- frames stand from the first gate to this one, and lead from the one vault to the other
-pub record AreFramesRead (disk : Disk) (len : ℕ) (old new : Vault) (gate : ℕ) : Type 0 where
+-- so many frames stand between two gates, and lead from the one vault to the other
+pub record AreFramesRead (disk : Disk) (len from : ℕ) (old new : Vault) (count gate : ℕ) : Type 0 where
   pub frames : List (List Effect)
   pub each : AllByRecursion IsFrame frames
   pub leads : after_frames old frames ≡ Some new
-  pub size : gate ≡ first_gate + length (frames_bytes frames)
+  pub count_is : count ≡ length frames
+  pub size : gate ≡ from + length (frames_bytes frames)
   pub within : gate < len
-  pub bytes : IsTrue disk.honest → take gate disk.shown ≡ take first_gate disk.shown ++ frames_bytes frames
+  pub bytes : IsTrue disk.honest → take gate disk.shown ≡ take from disk.shown ++ frames_bytes frames
 
--- the same, and the gate is closed
-pub record AreAllRead (disk : Disk) (len : ℕ) (old new : Vault) (gate : ℕ) : Type 0 where
-  pub frames : AreFramesRead disk len old new gate
+-- the same, and the last gate is closed
+pub record AreAllRead (disk : Disk) (len from : ℕ) (old new : Vault) (count gate : ℕ) : Type 0 where
+  pub frames : AreFramesRead disk len from old new count gate
   pub shut : IsTrue disk.honest → slice_index disk.shown gate ≢ 1
 
 -- the first frame that isn't one, behind frames that lead from a vault to some other
-pub record IsFrameWrong (old : Vault) (file : List ℕ) (at : ℕ) : Type 0 where
+pub record IsFrameWrong (from : ℕ) (old : Vault) (file : List ℕ) (at : ℕ) : Type 0 where
   pub frames : List (List Effect)
   pub vault : Vault
   pub each : AllByRecursion IsFrame frames
   pub leads : after_frames old frames ≡ Some vault
-  pub bytes : take at file ≡ take first_gate file ++ frames_bytes frames
+  pub bytes : take at file ≡ take from file ++ frames_bytes frames
   pub within : at < length file
   pub opened : slice_index file at ≡ 1
   pub none : BeginsWithNone vault (drop at file)
 
--- what a file was read as
-pub record IsFileRead (disk : Disk) (vault : Vault) (generation tail : ℕ) : Type 0 where
-  pub front : List ℕ
-  pub is_front : IsFront front (record { vault = vault; generation = generation; tail = tail; journal = tail - first_gate })
-  pub ends : IsTrue disk.honest → EndsBehind front disk.shown
-  pub behind : first_gate ≤ tail
+-- what a file has behind its head: a snapshot, and so many frames that lead from its vault to the other, with so many bytes; a closed
+-- gate behind them
+pub record AreContents (disk : Disk) (vault : Vault) (frames tail journal : ℕ) : Type 0 where
+  pub base : Vault
+  pub list : List (List Effect)
+  pub spelled : HasSnapshot base
+  pub each : AllByRecursion IsFrame list
+  pub leads : after_frames base list ≡ Some vault
+  pub frames_are : frames ≡ length list
+  pub journal_is : journal ≡ length (frames_bytes list)
+  pub tail_is : tail ≡ header + length (snapshot_of base) + journal
+  pub bytes : IsTrue disk.honest → take tail disk.shown ≡ (take head_length disk.shown ++ snapshot_bytes base) ++ frames_bytes list
+  pub closed : IsTrue disk.honest → IsClosed tail disk.shown
+
+-- what is wrong behind the head of a file, where that is right
+abbrev pub IsFaultBehindHead : List ℕ → ℕ → Type 0
+IsFaultBehindHead file at = (generation : ℕ) → HasHead generation file → IsBodyFault file at
+
+-- what a file's head was read as: closed, or right and of this generation
+abbrev pub IsGenerationRead : List ℕ → Option ℕ → Type 0
+IsGenerationRead file None = IsClosedFile file
+IsGenerationRead file (Some generation) = HasHead generation file
+
+-- why a part of this file was not read, as opening says it
+abbrev pub IsWhyNot : Disk → Disk → File → (ℕ → Type 0) → OpenError → Type 0
+IsWhyNot old new which IsWrong NoVault = ⊥
+IsWhyNot old new which IsWrong (Damaged file at) = (file ≡ which) × (IsTrue old.honest → IsWrong at)
+IsWhyNot old new which IsWrong Device = HasCause old new
+IsWhyNot old new which IsWrong NoMemory = Unit {0}
+
+-- this one of two files is the active one
+abbrev pub IsNewerIn : List ℕ → List ℕ → File → ℕ → Type 0
+IsNewerIn first second which generation = IsNewer generation (of_file which first second) (of_file which second first)

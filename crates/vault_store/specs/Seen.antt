@@ -6,17 +6,21 @@ use Rattle.vault_model.specs.After.{IsDurable}
 use Rattle.vault_device.specs.Disk.{Disk}
 use Rattle.vault_journal.specs.Spelling.{records_of, HasRecord}
 use Rattle.vault_journal.specs.Rows.{AreRecordsOf}
+use Rattle.vault_store.specs.declared.opening.File.{File}
+use Rattle.vault_store.specs.declared.opening.File.TheVariants.{First, Second}
 use Rattle.vault_store.specs.declared.phase.Phase.{Phase}
 use Rattle.vault_store.specs.Files.{most_records, frame_extra, applied, Reading, IsFront, IsSpare, AreRead}
 use Rattle.vault_store.specs.Phases.{is_idle, is_opening, may_open}
 use Rattle.vault_store.specs.State.{StoreState}
 use Rattle.vault_store.specs.OnDisk.{IsOnDisk}
 
--- both devices; the bytes of the records in the open buffer, and how many bytes the records of the frame under way have; of the
--- active file its generation, where its tail gate stands, and how many bytes its frames have; the phase; whether a device call failed
+-- the devices of the active file and of its spare, and which file is the active one; the bytes of the records in the open buffer, and
+-- how many bytes the records of the frame under way have; of the active file its generation, where its tail gate stands, and how many
+-- bytes its frames have; the phase; whether a device call failed
 pub record Seen (D : Type 0) : Type 0 where
-  pub first : D
-  pub second : D
+  pub active : D
+  pub spare : D
+  pub which : File
   pub buffer : List ℕ
   pub sealed : ℕ
   pub generation : ℕ
@@ -24,6 +28,19 @@ pub record Seen (D : Type 0) : Type 0 where
   pub journal : ℕ
   pub phase : Phase
   pub broken : Bool
+
+-- of two, the one of the first file, or the one of the second; so is the active one of the first file's and the second's, and the
+-- first file's of the active one and its spare
+abbrev pub of_file : {A : Type 0} → File → A → A → A
+of_file First one other = one
+of_file Second one other = other
+
+-- the devices of the first file and of the second
+abbrev pub first_of : {D : Type 0} → Seen D → D
+first_of store = of_file store.which store.active store.spare
+
+abbrev pub second_of : {D : Type 0} → Seen D → D
+second_of store = of_file store.which store.spare store.active
 
 -- the most bytes of records in the buffer where there is room for any other record
 abbrev pub most_noted : ℕ
@@ -45,12 +62,12 @@ abbrev pub sealed_reading : {D : Type 0} → Seen D → StoreState → Reading
 sealed_reading store s = record { vault = s.sealed; generation = store.generation; tail = store.tail + frame_extra + store.sealed; journal = store.journal + frame_extra + store.sealed }
 
 -- the files of a store, of honest devices
-pub record AreFiles (first second : Disk) (settled : Reading) (phase : Phase) (broken : Bool) (records : List ℕ) : Type 0 where
+pub record AreFiles (active_disk spare_disk : Disk) (settled : Reading) (phase : Phase) (broken : Bool) (records : List ℕ) : Type 0 where
   -- the bytes up to the tail gate
   pub front : List ℕ
   pub is_front : IsFront front settled
-  pub active : IsOnDisk first phase broken front records
-  pub spare : (x : List ℕ) → second.IsImage x → IsSpare settled.generation x
+  pub active : IsOnDisk active_disk phase broken front records
+  pub spare : (x : List ℕ) → spare_disk.IsImage x → IsSpare settled.generation x
 
 -- A store keeps a settled vault, a sealed one and the one after all effects.
 pub record Keeps {D : Type 0} (disk : D → Disk) (store : Seen D) (s : StoreState) : Type 0 where
@@ -68,22 +85,22 @@ pub record Keeps {D : Type 0} (disk : D → Disk) (store : Seen D) (s : StoreSta
   -- the effects behind them
   pub buffer : AreRecordsOf s.buffer store.buffer
   pub noted : applied s.sealed s.buffer ≡ Some s.noted
-  pub files : IsTrue (disk store.first).honest → IsTrue (disk store.second).honest → AreFiles (disk store.first) (disk store.second) (settled_reading store s) s.phase s.broken (records_of s.sealing)
+  pub files : IsTrue (disk store.active).honest → IsTrue (disk store.spare).honest → AreFiles (disk store.active) (disk store.spare) (settled_reading store s) s.phase s.broken (records_of s.sealing)
 
--- what two files are read as, by the gate that is being opened
-pub record IsByGate (gate : ℕ) (settled sealed : Reading) (first second : List ℕ) : Type 0 where
-  pub opened : slice_index first gate ≡ 1 → AreRead first second sealed
-  pub shut : slice_index first gate ≢ 1 → AreRead first second settled
+-- what two files are read as, by the gate that is being opened in the active one
+pub record IsByGate (gate : ℕ) (settled sealed : Reading) (active first second : List ℕ) : Type 0 where
+  pub opened : slice_index active gate ≡ 1 → AreRead first second sealed
+  pub shut : slice_index active gate ≢ 1 → AreRead first second settled
 
 -- the same, where a gate is being opened; else they are read as what is settled
-abbrev pub IsLeftWhile : Bool → ℕ → Reading → Reading → List ℕ → List ℕ → Type 0
-IsLeftWhile true gate settled sealed first second = IsByGate gate settled sealed first second
-IsLeftWhile false gate settled sealed first second = AreRead first second settled
+abbrev pub IsLeftWhile : Bool → ℕ → Reading → Reading → List ℕ → List ℕ → List ℕ → Type 0
+IsLeftWhile true gate settled sealed active first second = IsByGate gate settled sealed active first second
+IsLeftWhile false gate settled sealed active first second = AreRead first second settled
 
 -- What two files that a crash leaves are read as: the settled vault or, while a gate is being opened, the sealed one exactly where
 -- that gate is 1.
 abbrev pub IsLeft : {D : Type 0} → Seen D → StoreState → List ℕ → List ℕ → Type 0
-IsLeft store s first second = IsLeftWhile (is_opening s.phase) store.tail (settled_reading store s) (sealed_reading store s) first second
+IsLeft store s first second = IsLeftWhile (is_opening s.phase) store.tail (settled_reading store s) (sealed_reading store s) (of_file store.which first second) first second
 
 -- what two files that a stop inside a step leaves are read as: the settled vault, or the sealed one where a gate may be opened
 abbrev pub IsLeftInside : {D : Type 0} → Seen D → StoreState → List ℕ → List ℕ → Type 0

@@ -36,4 +36,4 @@ pub record IsSound {D : Type 0} (disk : D → Disk) (store : Seen D) : Type 0 wh
   pub sealed_fits : store.sealed + frame_extra ≤ frame_room
   pub bounded : IsBounded store.phase (length store.buffer) store.tail
   pub inside : store.journal ≤ store.tail
-  pub active : IsTrue (disk store.first).honest → IsActive (disk store.first) store.tail store.sealed store.phase store.broken
+  pub active : IsTrue (disk store.active).honest → IsActive (disk store.active) store.tail store.sealed store.phase store.broken

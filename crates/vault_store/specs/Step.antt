@@ -8,7 +8,7 @@ use Rattle.vault_store.specs.Files.{frame_extra}
 use Rattle.vault_store.specs.Calls.{HasCause}
 use Rattle.vault_store.specs.Phases.{NoCall, is_idle}
 use Rattle.vault_store.specs.State.{StoreState, row_of, answer_of, advanced, failed}
-use Rattle.vault_store.specs.Seen.{Seen, Keeps, IsLeftInside}
+use Rattle.vault_store.specs.Seen.{Seen, first_of, second_of, Keeps, IsLeftInside}
 
 -- what at most one call of the two devices leaves of their counts and of their honesty
 pub record IsAtMostOneCall {A E : Type 0} (first second first_new second_new : Disk) (result : Result A E) : Type 0 where
@@ -28,9 +28,10 @@ abbrev pub gained : {D : Type 0} → Seen D → Result Advanced Fault → ℕ
 gained old (Ok answers.Settled) = frame_extra + old.sealed
 gained old _ = 0
 
--- The numbers after a step: the last one of a commit moves the tail gate behind the frame; the first one empties the buffer, also
--- where its device call fails; no other changes them.
+-- The active file and its numbers after a step: the last one of a commit moves the tail gate behind the frame; the first one empties
+-- the buffer, also where its device call fails; no other changes them.
 pub record AreNumbers {D : Type 0} (old new : Seen D) (result : Result Advanced Fault) : Type 0 where
+  pub which : new.which ≡ old.which
   pub generation : new.generation ≡ old.generation
   pub tail : new.tail ≡ old.tail + gained old result
   pub journal : new.journal ≡ old.journal + gained old result
@@ -45,6 +46,6 @@ pub record IsAdvance {D : Type 0} (disk : D → Disk) (old new : Seen D) (result
   pub step : (s : StoreState) → Keeps disk old s → IsStep disk old new result s
   pub numbers : AreNumbers old new result
   pub rests : (result ≡ Ok answers.Idle) ⊎ (result ≡ Ok answers.Broken) → new ≡ old
-  pub calls : IsAtMostOneCall (disk old.first) (disk old.second) (disk new.first) (disk new.second) result
-  pub moments : (s : StoreState) (x y : List ℕ) → Keeps disk old s → IsTrue (disk old.first).honest → IsTrue (disk old.second).honest
-      → MayBeLeft (disk old.first) (disk old.second) (disk new.first) (disk new.second) x y → IsLeftInside old s x y
+  pub calls : IsAtMostOneCall (disk (first_of old)) (disk (second_of old)) (disk (first_of new)) (disk (second_of new)) result
+  pub moments : (s : StoreState) (x y : List ℕ) → Keeps disk old s → IsTrue (disk (first_of old)).honest → IsTrue (disk (second_of old)).honest
+      → MayBeLeft (disk (first_of old)) (disk (second_of old)) (disk (first_of new)) (disk (second_of new)) x y → IsLeftInside old s x y

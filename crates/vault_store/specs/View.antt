@@ -4,8 +4,9 @@ use Rattle.vault_store.specs.Seen.{Seen}
 
 abbrev pub seen_of : {D A : Type 0} → Inside D A → Seen D
 seen_of store = record {
-  first = store.first;
-  second = store.second;
+  active = store.active;
+  spare = store.spare;
+  which = store.which;
   buffer = store.frame;
   sealed = store.sealed;
   generation = store.generation;

@@ -3,16 +3,14 @@ ghost use Rattle.std.specs.Prelude.{◌≡◌, ◌⊎◌, ◌+◌, ℕ, List, Is
 ghost use Rattle.vault_store.specs.declared.phase.Phase.TheVariants as phases;
 ghost use Rattle.vault_store.specs.declared.phase.Advanced.TheVariants as answers;
 ghost use Rattle.vault_store.specs.State.{StoreState};
-ghost use Rattle.vault_store.specs.Seen.{Keeps, IsLeftInside};
+ghost use Rattle.vault_store.specs.Seen.{first_of, second_of, Keeps, IsLeftInside};
 ghost use Rattle.vault_store.specs.Step.{IsStep, AreNumbers, IsAtMostOneCall, MayBeLeft, IsAdvance};
 
+use crate::journal::FRAME_EXTRA;
 use crate::{Advanced, Phase, Store};
 use std::alloc::Allocator;
 use vault_device::{Device, Fault};
 use vault_journal::{open_gate, settle_body, settle_gate, write_body};
-
-// How many bytes a frame has beside its records: its gate and the length of its records.
-const FRAME_EXTRA: u64 = 5;
 
 impl<D: Device, A: Allocator> Store<D, A> {
     // Seals what was noted, and writes it behind the tail gate. Without effects there is nothing to do.
@@ -24,7 +22,7 @@ impl<D: Device, A: Allocator> Store<D, A> {
         if self.frame.len() == 0 {
             return Ok(Advanced::Idle);
         }
-        let written = write_body(&mut self.first, self.tail, &self.frame);
+        let written = write_body(&mut self.active, self.tail, &self.frame);
         self.sealed = self.frame.len() as u64;
         self.frame.clear();
         self.phase = Phase::Written;
@@ -43,7 +41,7 @@ impl<D: Device, A: Allocator> Store<D, A> {
         requires whole { self.old.broken ≡ false }
         ensures { IsAdvance D.disk self.old self.new result }
     {
-        match settle_body(&mut self.first) {
+        match settle_body(&mut self.active) {
             Ok(()) => {
                 self.phase = Phase::Bodied;
                 Ok(Advanced::Moved)
@@ -61,7 +59,7 @@ impl<D: Device, A: Allocator> Store<D, A> {
         requires whole { self.old.broken ≡ false }
         ensures { IsAdvance D.disk self.old self.new result }
     {
-        let opened = open_gate(&mut self.first, self.tail);
+        let opened = open_gate(&mut self.active, self.tail);
         self.phase = Phase::Opening;
         match opened {
             Ok(()) => Ok(Advanced::Moved),
@@ -78,7 +76,7 @@ impl<D: Device, A: Allocator> Store<D, A> {
         requires whole { self.old.broken ≡ false }
         ensures { IsAdvance D.disk self.old self.new result }
     {
-        match settle_gate(&mut self.first) {
+        match settle_gate(&mut self.active) {
             Ok(()) => {
                 let frame = self.sealed + FRAME_EXTRA;
                 self.tail += frame;
@@ -98,13 +96,13 @@ impl<D: Device, A: Allocator> Store<D, A> {
     pub fn advance(&mut self) -> Result<Advanced, Fault>
         ensures step { (s : StoreState) → Keeps D.disk self.old s → IsStep D.disk self.old self.new result s }
         ensures numbers { AreNumbers self.old self.new result }
-        ensures calls { IsAtMostOneCall (D.disk self.old.first) (D.disk self.old.second) (D.disk self.new.first) (D.disk self.new.second) result }
+        ensures calls { IsAtMostOneCall (D.disk (first_of self.old)) (D.disk (second_of self.old)) (D.disk (first_of self.new)) (D.disk (second_of self.new)) result }
         ensures rests { (result ≡ Ok answers.Idle) ⊎ (result ≡ Ok answers.Broken) → self.new ≡ self.old }
         ensures broken { self.old.broken ≡ true → result ≡ Ok answers.Broken }
 
         // What a stop at any moment inside leaves is read as what is settled or, where a gate may be opened, as what is sealed.
-        ensures moments { (s : StoreState) (x y : List ℕ) → Keeps D.disk self.old s → IsTrue (D.disk self.old.first).honest → IsTrue (D.disk self.old.second).honest
-            → MayBeLeft (D.disk self.old.first) (D.disk self.old.second) (D.disk self.new.first) (D.disk self.new.second) x y → IsLeftInside self.old s x y }
+        ensures moments { (s : StoreState) (x y : List ℕ) → Keeps D.disk self.old s → IsTrue (D.disk (first_of self.old)).honest → IsTrue (D.disk (second_of self.old)).honest
+            → MayBeLeft (D.disk (first_of self.old)) (D.disk (second_of self.old)) (D.disk (first_of self.new)) (D.disk (second_of self.new)) x y → IsLeftInside self.old s x y }
     {
         if self.broken {
             return Ok(Advanced::Broken);

@@ -6,10 +6,10 @@ ghost use Rattle.vault_store.specs.Calls.{AreCalls, IsCalled};
 ghost use Rattle.vault_store.specs.OnDisk.{IsSettled};
 ghost use Rattle.vault_store.specs.Create.{new_file, IsNotMade, IsFilled};
 ghost use Rattle.vault_store.specs.State.{at_rest};
-ghost use Rattle.vault_store.specs.Seen.{Keeps};
+ghost use Rattle.vault_store.specs.Seen.{first_of, second_of, Keeps};
 
 use crate::calls::{is_empty, settle, write_settled};
-use crate::{Phase, Refused, Store};
+use crate::{File, Phase, Refused, Store};
 use std::alloc::Allocator;
 use thiserror::Error;
 use vault_device::{Device, Fault};
@@ -94,9 +94,9 @@ impl<D: Device, A: Allocator> Store<D, A> {
     pub fn create(alloc: A, first: D, second: D) -> Result<Store<D, A>, Refused<D, CreateError>>
         ensures kept { IfOk result (λ store. Keeps D.disk store (at_rest new_vault)) }
         ensures numbers { IfOk result (λ store. (store.generation ≡ 1) × (store.tail ≡ 34) × (store.journal ≡ 0)) }
-        ensures file { IsTrue (D.disk first).honest → IfOk result (λ store. IsFilled (D.disk first) (D.disk store.first) new_file) }
-        ensures empty { IsTrue (D.disk second).honest → IfOk result (λ store. IsFilled (D.disk second) (D.disk store.second) []) }
-        ensures called { IfOk result (λ store. IsCalled (D.disk first) (D.disk store.first) × IsCalled (D.disk second) (D.disk store.second)) }
+        ensures file { IsTrue (D.disk first).honest → IfOk result (λ store. IsFilled (D.disk first) (D.disk (first_of store)) new_file) }
+        ensures empty { IsTrue (D.disk second).honest → IfOk result (λ store. IsFilled (D.disk second) (D.disk (second_of store)) []) }
+        ensures called { IfOk result (λ store. IsCalled (D.disk first) (D.disk (first_of store)) × IsCalled (D.disk second) (D.disk (second_of store))) }
         ensures refused { IfErr result (λ refused. IsNotMade (D.disk first) (D.disk second) (D.disk refused.first) (D.disk refused.second) refused.why) }
         ensures handed_back { IfErr result (λ refused. IsCalled (D.disk first) (D.disk refused.first) × IsCalled (D.disk second) (D.disk refused.second)) }
     {
@@ -104,8 +104,9 @@ impl<D: Device, A: Allocator> Store<D, A> {
         let mut second = second;
         match make(alloc, &mut first, &mut second) {
             Ok(frame) => Ok(Store {
-                first,
-                second,
+                active: first,
+                spare: second,
+                which: File::First,
                 frame,
                 sealed: 0,
                 generation: 1,

@@ -4,23 +4,20 @@ ghost use Rattle.vault_checkout.specs.declared.apply.ApplyError.TheVariants.{Not
 ghost use Rattle.vault_journal.specs.Spelling.{in_four};
 ghost use Rattle.vault_store.specs.Calls.{HasCause};
 ghost use Rattle.vault_store.specs.Files.{applied, frame_extra, most_records};
-ghost use Rattle.vault_store.specs.Read.{AreReads, IsWhy, IsLengthRead, BeginsWithNoFrame, AreMade, AreNotMade, IsStepRead, IsNoFrame, AreAllRead, IsFrameWrong, first_gate};
+ghost use Rattle.vault_store.specs.Read.{AreReads, IsWhy, IsLengthRead, BeginsWithNoFrame, AreMade, AreNotMade, IsStepRead, IsNoFrame, AreAllRead, IsFrameWrong};
 
-use crate::opening::{OpenError, damaged};
+use crate::body::ReadError;
 use std::alloc::Allocator;
 use vault_checkout::{ApplyError, Book};
 use vault_device::{Device, Fault};
 use vault_journal::{Damage, read_effects};
 use vault_model::EffectIn;
 
-/// Where the frames begin behind the new vault's snapshot.
-pub const FIRST_GATE: u64 = 34;
-
 // The most bytes of a frame's records.
 const MOST_RECORDS: u32 = 262_139;
 
-// How many bytes a frame has beside its records.
-const FRAME_EXTRA: u64 = 5;
+/// How many bytes a frame has beside its records: its gate and the length of its records.
+pub const FRAME_EXTRA: u64 = 5;
 
 // The byte of a gate. One device call.
 fn read_gate<D: Device>(device: &mut D, at: u64) -> Result<u8, Fault>
@@ -34,8 +31,8 @@ fn read_gate<D: Device>(device: &mut D, at: u64) -> Result<u8, Fault>
     Ok(gate[0])
 }
 
-// The number that is spelled in four bytes.
-fn number_in(bytes: &[u8; 4]) -> u32
+/// The number that is spelled in four bytes.
+pub fn number_in(bytes: &[u8; 4]) -> u32
     ensures { bytes.now ≡ in_four result }
 {
     u32::from_be_bytes(*bytes)
@@ -49,22 +46,22 @@ fn is_length(length: u32, room: u64) -> bool
 }
 
 // How many bytes of records the frame has whose open gate stands here. One device call at most.
-fn read_length<D: Device>(device: &mut D, len: u64, at: u64) -> Result<u32, OpenError>
+fn read_length<D: Device>(device: &mut D, len: u64, at: u64) -> Result<u32, ReadError>
     requires within { at < len }
     requires len { IsTrue (D.disk device.old).honest → len ≡ length (D.disk device.old).shown }
     ensures reads { AreReads (D.disk device.old) (D.disk device.new) }
     ensures length { IfOk result (λ n. IsLengthRead (D.disk device.old) len at n) }
-    ensures refused { IfErr result (λ why. IsWhy (D.disk device.old) (D.disk device.new) ⊥ (λ offset. (offset ≡ at) × BeginsWithNoFrame (drop at (D.disk device.old).shown)) why) }
+    ensures refused { IfErr result (λ why. IsWhy (D.disk device.old) (D.disk device.new) (λ offset. (offset ≡ at) × BeginsWithNoFrame (drop at (D.disk device.old).shown)) why) }
 {
     let room = len - at;
     if room <= FRAME_EXTRA {
-        return Err(damaged(at));
+        return Err(ReadError::Damaged(at));
     }
     let mut bytes = [0; 4];
     device.read_at(at + 1, &mut bytes)?;
     let length = number_in(&bytes);
     if !is_length(length, room) {
-        return Err(damaged(at));
+        return Err(ReadError::Damaged(at));
     }
     Ok(length)
 }
@@ -100,22 +97,22 @@ fn make_records<A: Allocator + Copy>(
     make_each(book, &effects)
 }
 
-// The records of a frame. One device call.
-fn read_records<D: Device, A: Allocator>(
+/// So many bytes of a file. One device call.
+pub fn read_bytes<D: Device, A: Allocator>(
     alloc: A,
     device: &mut D,
     at: u64,
     count: u32,
-) -> Result<Vec<u8, A>, OpenError>
+) -> Result<Vec<u8, A>, ReadError>
     requires { IsTrue (D.disk device.old).honest → at + count ≤ length (D.disk device.old).shown }
     ensures reads { AreReads (D.disk device.old) (D.disk device.new) }
-    ensures size { IfOk result (λ records. length records.items ≡ count) }
-    ensures records { IsTrue (D.disk device.old).honest → IfOk result (λ records. records.items ≡ slice_range (D.disk device.old).shown at (at + count)) }
-    ensures refused { IfErr result (λ why. IsWhy (D.disk device.old) (D.disk device.new) ⊥ (λ offset. ⊥) why) }
+    ensures size { IfOk result (λ bytes. length bytes.items ≡ count) }
+    ensures bytes { IsTrue (D.disk device.old).honest → IfOk result (λ bytes. bytes.items ≡ slice_range (D.disk device.old).shown at (at + count)) }
+    ensures refused { IfErr result (λ why. IsWhy (D.disk device.old) (D.disk device.new) (λ offset. ⊥) why) }
 {
-    let mut records = vec![in alloc; 0; count as usize].map_err(|_| OpenError::NoMemory)?;
-    device.read_at(at, &mut records)?;
-    Ok(records)
+    let mut bytes = vec![in alloc; 0; count as usize].map_err(|_| ReadError::NoMemory)?;
+    device.read_at(at, &mut bytes)?;
+    Ok(bytes)
 }
 
 // Reads the frame at an open gate, makes its effects, and answers where the next gate stands; or nothing, at a closed gate.
@@ -125,41 +122,51 @@ fn read_frame<D: Device, A: Allocator + Copy>(
     len: u64,
     at: u64,
     book: &mut Book<A>,
-) -> Result<Option<u64>, OpenError>
+) -> Result<Option<u64>, ReadError>
     requires within { at < len }
     requires len { IsTrue (D.disk device.old).honest → len ≡ length (D.disk device.old).shown }
     ensures reads { AreReads (D.disk device.old) (D.disk device.new) }
     ensures step { IfOk result (λ next. IsStepRead (D.disk device.old) len at book.old book.new next) }
-    ensures refused { IfErr result (λ why. IsWhy (D.disk device.old) (D.disk device.new) ⊥ (IsNoFrame book.old (D.disk device.old).shown at) why) }
+    ensures refused { IfErr result (λ why. IsWhy (D.disk device.old) (D.disk device.new) (IsNoFrame book.old (D.disk device.old).shown at) why) }
 {
     if read_gate(device, at)? != 1 {
         return Ok(None);
     }
     let length = read_length(device, len, at)?;
-    let records = read_records(alloc, device, at + FRAME_EXTRA, length)?;
+    let records = read_bytes(alloc, device, at + FRAME_EXTRA, length)?;
     match make_records(alloc, &records, book) {
         Ok(()) => Ok(Some(at + FRAME_EXTRA + u64::from(length))),
-        Err(ApplyError::NotApplicable) => Err(damaged(at)),
-        Err(ApplyError::NoMemory) => Err(OpenError::NoMemory),
+        Err(ApplyError::NotApplicable) => Err(ReadError::Damaged(at)),
+        Err(ApplyError::NoMemory) => Err(ReadError::NoMemory),
     }
 }
 
-/// Reads all frames, makes their effects, and answers where the tail gate stands.
+/// How many frames a file has, and where its tail gate stands.
+#[derive(Clone, Copy)]
+pub struct Frames {
+    pub count: u64,
+    pub tail: u64,
+}
+
+/// Reads all frames from an offset on, and makes their effects.
 pub fn read_frames<D: Device, A: Allocator + Copy>(
     alloc: A,
     device: &mut D,
     len: u64,
+    from: u64,
     book: &mut Book<A>,
-) -> Result<u64, OpenError>
-    requires within { first_gate < len }
+) -> Result<Frames, ReadError>
+    requires within { from < len }
     requires len { IsTrue (D.disk device.old).honest → len ≡ length (D.disk device.old).shown }
     ensures reads { AreReads (D.disk device.old) (D.disk device.new) }
-    ensures all { IfOk result (λ tail. AreAllRead (D.disk device.old) len book.old book.new tail) }
-    ensures refused { IfErr result (λ why. IsWhy (D.disk device.old) (D.disk device.new) ⊥ (IsFrameWrong book.old (D.disk device.old).shown) why) }
+    ensures all { IfOk result (λ frames. AreAllRead (D.disk device.old) len from book.old book.new frames.count frames.tail) }
+    ensures refused { IfErr result (λ why. IsWhy (D.disk device.old) (D.disk device.new) (IsFrameWrong from book.old (D.disk device.old).shown) why) }
 {
-    let mut at = FIRST_GATE;
-    while let Some(next) = read_frame(alloc, device, len, at, book)? {
-        at = next;
+    let mut count = 0;
+    let mut tail = from;
+    while let Some(next) = read_frame(alloc, device, len, tail, book)? {
+        count += 1;
+        tail = next;
     }
-    Ok(at)
+    Ok(Frames { count, tail })
 }

@@ -1,5 +1,5 @@
 //! Laws of what is kept, on which the program's theorems rest.
-ghost use Rattle.vault_store.specs.Laws.{CrashLeavesWhatIsKept, OneGateIsOpened, OneSpelling, SnapshotsAreShort, OneReading, OneVault, NothingIsWrong, OneFault};
+ghost use Rattle.vault_store.specs.Laws.{CrashLeavesWhatIsKept, OneGateIsOpened, OneSpelling, SnapshotsAreShort, OneReading, EitherWay, OneVault, NothingIsWrong, OneFault};
 ghost use Rattle.vault_store.specs.Rows.{Rows};
 
 use vault_device::Device;
@@ -17,10 +17,11 @@ pub fn a_spelling_is_of_one_vault()
     ensures short { SnapshotsAreShort }
 {}
 
-/// Two files stand for at most one vault, and at most one thing is wrong with them first. Nothing is wrong with files that
-/// stand for one: until there are snapshots that is said where the second is empty and the snapshot is the new vault's.
+/// Two files stand for at most one vault, in whichever order, and then nothing is wrong with them; at most one thing is wrong
+/// with two files first.
 pub fn files_stand_for_one_vault()
     ensures reading { OneReading }
+    ensures either { EitherWay }
     ensures vault { OneVault }
     ensures right { NothingIsWrong }
     ensures fault { OneFault }

@@ -1,6 +1,7 @@
 //! A vault in two files: committed in four steps, and read again after a crash.
 #![tactic(auto)]
 
+mod body;
 mod calls;
 mod commit;
 mod creation;
@@ -15,7 +16,9 @@ mod store;
 #[cfg(test)]
 mod tests;
 
+pub use body::{Body, BodyError, read_body};
 pub use creation::CreateError;
+pub use front::{Head, read_head};
 pub use opening::{File, OpenError};
 pub use phase::{Advanced, Phase};
 pub use refused::Refused;

@@ -1,18 +1,17 @@
 //! A vault that was left in two files, read again.
-ghost use Rattle.std.specs.Prelude.{◌≡◌, ◌⊎◌, [], IfOk, IfErr, OnOk, IsTrue};
-ghost use Rattle.vault_store.specs.declared.opening.File.TheVariants.{First};
-ghost use Rattle.vault_store.specs.declared.opening.OpenError.TheVariants.{Damaged, Device as DeviceFailed, NoMemory as Wanted};
+ghost use Rattle.std.specs.Prelude.{◌≡◌, ◌⊎◌, ℕ, List, [], IfOk, IfErr, OnOk, IsTrue};
+ghost use Rattle.vault_store.specs.declared.opening.OpenError.TheVariants.{Device as DeviceFailed, NoMemory as Wanted};
 ghost use Rattle.vault_store.specs.Calls.{HasCause};
-ghost use Rattle.vault_store.specs.Files.{IsClosedFile, AreRead};
-ghost use Rattle.vault_store.specs.Faults.{IsFault};
+ghost use Rattle.vault_store.specs.Faults.{IsDamagedHead};
+ghost use Rattle.vault_store.specs.Files.{AreRead};
 ghost use Rattle.vault_store.specs.OnDisk.{IsSettled};
 ghost use Rattle.vault_store.specs.Opening.{IsNotOpened, IsHandedOn};
-ghost use Rattle.vault_store.specs.Read.{AreReads, IsWhy, IsFileRead};
+ghost use Rattle.vault_store.specs.Read.{AreReads, AreContents, IsFaultBehindHead, IsGenerationRead, IsWhyNot, IsNewerIn};
 ghost use Rattle.vault_store.specs.State.{at_rest};
-ghost use Rattle.vault_store.specs.Seen.{Keeps, settled_reading};
+ghost use Rattle.vault_store.specs.Seen.{of_file, first_of, second_of, Keeps, settled_reading};
 
-use crate::front::{HEADER, read_front};
-use crate::journal::{FIRST_GATE, read_frames};
+use crate::body::{Contents, ReadError, read_contents};
+use crate::front::{Head, read_head};
 use crate::{Phase, Refused, Store};
 use std::alloc::Allocator;
 use thiserror::Error;
@@ -59,81 +58,122 @@ impl From<NoMemory> for OpenError {
     }
 }
 
-/// A fault of the first file.
-pub fn damaged(offset: u64) -> OpenError
-    ensures { result ≡ Damaged First offset }
-{
-    OpenError::Damaged {
-        file: File::First,
-        offset,
-    }
-}
-
-// What a file was read as.
-#[derive(Drop)]
-struct Opened<A: Allocator> {
-    book: Book<A>,
+// The active file, and its generation.
+#[derive(Clone, Copy)]
+struct Active {
+    which: File,
     generation: u64,
-    tail: u64,
 }
 
-// Reads a file whole.
-fn read_file<D: Device, A: Allocator + Copy>(
-    alloc: A,
-    device: &mut D,
-) -> Result<Opened<A>, OpenError>
+// The generation of an open file; of a closed one there is none.
+fn generation_in<D: Device>(which: File, device: &mut D) -> Result<Option<u64>, OpenError>
     ensures reads { AreReads (D.disk device.old) (D.disk device.new) }
-    ensures read { IfOk result (λ opened. IsFileRead (D.disk device.old) opened.book opened.generation opened.tail) }
-    ensures refused { IfErr result (λ why. IsWhy (D.disk device.old) (D.disk device.new) (IsClosedFile (D.disk device.old).shown) (IsFault (D.disk device.old).shown) why) }
+    ensures generation { IsTrue (D.disk device.old).honest → IfOk result (λ generation. IsGenerationRead (D.disk device.old).shown generation) }
+    ensures refused { IfErr result (λ why. IsWhyNot (D.disk device.old) (D.disk device.new) which (IsDamagedHead (D.disk device.old).shown) why) }
 {
-    let len = device.len()?;
-    if len < HEADER {
-        return Err(OpenError::NoVault);
+    match read_head(device)? {
+        Head::Closed => Ok(None),
+        Head::Open {
+            version: _,
+            generation,
+        } => Ok(Some(generation)),
+        Head::Damaged(offset) => Err(OpenError::Damaged {
+            file: which,
+            offset,
+        }),
     }
-    let generation = read_front(device, len)?;
-    let mut book = Book::new(alloc)?;
-    let tail = read_frames(alloc, device, len, &mut book)?;
-    Ok(Opened {
-        book,
-        generation,
-        tail,
-    })
 }
 
-// Settles both files and reads them.
-fn read_files<D: Device, A: Allocator + Copy>(
-    alloc: A,
-    first: &mut D,
-    second: &mut D,
-) -> Result<(Opened<A>, Frame<A>), OpenError>
+// The open file of the greater generation.
+fn newer(first: Option<u64>, second: Option<u64>) -> Result<Active, OpenError>
+    ensures newer { IfOk result (λ active. (x y : List ℕ) → IsGenerationRead x first → IsGenerationRead y second → IsNewerIn x y active.which active.generation) }
+    ensures refused { IfErr result (λ why. (x y : List ℕ) → IsGenerationRead x first → IsGenerationRead y second → IsNotOpened x y why) }
+    ensures files { IfErr result (λ why. why ≡ DeviceFailed → ⊥) }
+{
+    match (first, second) {
+        (None, None) => Err(OpenError::NoVault),
+        (Some(generation), None) => Ok(Active {
+            which: File::First,
+            generation,
+        }),
+        (None, Some(generation)) => Ok(Active {
+            which: File::Second,
+            generation,
+        }),
+        (Some(one), Some(other)) if one > other => Ok(Active {
+            which: File::First,
+            generation: one,
+        }),
+        (Some(one), Some(other)) if one < other => Ok(Active {
+            which: File::Second,
+            generation: other,
+        }),
+        (Some(_), Some(_)) => Err(OpenError::Damaged {
+            file: File::Second,
+            offset: 12,
+        }),
+    }
+}
+
+// Settles both files, and finds the active one by their heads.
+fn find_active<D: Device>(first: &mut D, second: &mut D) -> Result<Active, OpenError>
     ensures first { IsHandedOn (D.disk first.old) (D.disk first.new) }
     ensures second { IsHandedOn (D.disk second.old) (D.disk second.new) }
-    ensures read { IfOk result (λ read. IsFileRead (D.disk first.old) read.0.book read.0.generation read.0.tail) }
-    ensures settled { IsTrue (D.disk first.old).honest → OnOk result (IsSettled (D.disk first.new)) }
-    ensures alone { IsTrue (D.disk second.old).honest → OnOk result (IsSettled (D.disk second.new) × ((D.disk second.new).shown ≡ [])) }
-    ensures frame { IfOk result (λ read. read.1 ≡ []) }
+    ensures settled_first { IsTrue (D.disk first.old).honest → OnOk result (IsSettled (D.disk first.new)) }
+    ensures settled_second { IsTrue (D.disk second.old).honest → OnOk result (IsSettled (D.disk second.new)) }
+    ensures found { IsTrue (D.disk first.old).honest → IsTrue (D.disk second.old).honest → IfOk result (λ active. IsNewerIn (D.disk first.old).shown (D.disk second.old).shown active.which active.generation) }
     ensures refused { IsTrue (D.disk first.old).honest → IsTrue (D.disk second.old).honest → IfErr result (λ why. IsNotOpened (D.disk first.old).shown (D.disk second.old).shown why) }
     ensures cause { IfErr result (λ why. why ≡ DeviceFailed → HasCause (D.disk first.old) (D.disk first.new) ⊎ HasCause (D.disk second.old) (D.disk second.new)) }
 {
     first.sync()?;
     second.sync()?;
-    if second.len()? != 0 {
-        return Err(OpenError::Damaged {
-            file: File::Second,
-            offset: 0,
-        });
+    let one = generation_in(File::First, first)?;
+    let other = generation_in(File::Second, second)?;
+    newer(one, other)
+}
+
+// Reads the active file, and gives a frame to fill.
+fn read_active<D: Device, A: Allocator + Copy>(
+    alloc: A,
+    which: File,
+    active: &mut D,
+) -> Result<(Contents<A>, Frame<A>), OpenError>
+    ensures reads { AreReads (D.disk active.old) (D.disk active.new) }
+    ensures contents { IfOk result (λ read. AreContents (D.disk active.old) read.0.book read.0.frames read.0.tail read.0.journal) }
+    ensures frame { IfOk result (λ read. read.1 ≡ []) }
+    ensures refused { IfErr result (λ why. IsWhyNot (D.disk active.old) (D.disk active.new) which (IsFaultBehindHead (D.disk active.old).shown) why) }
+{
+    match read_contents(alloc, active) {
+        Ok(contents) => {
+            let frame = Frame::new(alloc)?;
+            Ok((contents, frame))
+        }
+        Err(ReadError::Damaged(offset)) => Err(OpenError::Damaged {
+            file: which,
+            offset,
+        }),
+        Err(ReadError::Device) => Err(OpenError::Device),
+        Err(ReadError::NoMemory) => Err(OpenError::NoMemory),
     }
-    let opened = read_file(alloc, first)?;
-    let frame = Frame::new(alloc)?;
-    Ok((opened, frame))
+}
+
+/// Two devices, exchanged where the second file is the active one.
+pub fn in_turn<D: Device>(which: File, one: D, other: D) -> (D, D)
+    ensures { (result.0 ≡ of_file which one other) × (result.1 ≡ of_file which other one) }
+{
+    match which {
+        File::First => (one, other),
+        File::Second => (other, one),
+    }
 }
 
 impl<D: Device, A: Allocator + Copy> Store<D, A> {
     /// Opens the vault that two files hold, and answers its book with the store. A refusal hands the devices back. It begins
     /// with a sync of each device and writes nothing.
     ///
-    /// Each byte of the first file is read once, up to its tail gate, with three device calls a frame. Beside the book it takes
-    /// memory for the bytes and the effects of one frame at a time, and for the frame that is filled.
+    /// Of each file the head is read, and of the one of the greater generation each byte once, up to its tail gate, with three device
+    /// calls a frame. Beside the book it takes memory for the bytes of the snapshot, for the bytes and the effects of one frame at a
+    /// time, and for the frame that is filled.
     pub fn open(
         alloc: A,
         first: D,
@@ -141,34 +181,44 @@ impl<D: Device, A: Allocator + Copy> Store<D, A> {
     ) -> Result<(Store<D, A>, Book<A>), Refused<D, OpenError>>
         ensures kept { IfOk result (λ opened. Keeps D.disk opened.0 (at_rest opened.1)) }
         ensures read { IsTrue (D.disk first).honest → IsTrue (D.disk second).honest → IfOk result (λ opened. AreRead (D.disk first).shown (D.disk second).shown (settled_reading opened.0 (at_rest opened.1))) }
-        ensures handed_on { IfOk result (λ opened. IsHandedOn (D.disk first) (D.disk opened.0.first) × IsHandedOn (D.disk second) (D.disk opened.0.second)) }
+        ensures handed_on { IfOk result (λ opened. IsHandedOn (D.disk first) (D.disk (first_of opened.0)) × IsHandedOn (D.disk second) (D.disk (second_of opened.0))) }
         ensures refused { IsTrue (D.disk first).honest → IsTrue (D.disk second).honest → IfErr result (λ refused. IsNotOpened (D.disk first).shown (D.disk second).shown refused.why) }
         ensures cause { IfErr result (λ refused. refused.why ≡ DeviceFailed → HasCause (D.disk first) (D.disk refused.first) ⊎ HasCause (D.disk second) (D.disk refused.second)) }
         ensures handed_back { IfErr result (λ refused. IsHandedOn (D.disk first) (D.disk refused.first) × IsHandedOn (D.disk second) (D.disk refused.second)) }
     {
         let mut first = first;
         let mut second = second;
-        match read_files(alloc, &mut first, &mut second) {
-            Ok((opened, frame)) => {
-                let Opened {
+        let Active { which, generation } = match find_active(&mut first, &mut second) {
+            Ok(active) => active,
+            Err(why) => return Err(Refused { why, first, second }),
+        };
+        let (mut active, spare) = in_turn(which, first, second);
+        match read_active(alloc, which, &mut active) {
+            Ok((contents, frame)) => {
+                let Contents {
                     book,
-                    generation,
+                    frames: _,
                     tail,
-                } = opened;
+                    journal,
+                } = contents;
                 let store = Store {
-                    first,
-                    second,
+                    active,
+                    spare,
+                    which,
                     frame,
                     sealed: 0,
                     generation,
                     tail,
-                    journal: tail - FIRST_GATE,
+                    journal,
                     phase: Phase::Idle,
                     broken: false,
                 };
                 Ok((store, book))
             }
-            Err(why) => Err(Refused { why, first, second }),
+            Err(why) => {
+                let (first, second) = in_turn(which, active, spare);
+                Err(Refused { why, first, second })
+            }
         }
     }
 }

@@ -72,6 +72,3 @@ pub(crate) fn read_snapshot<A: Allocator + Copy>(
         Err(FromPartsError::NoMemory) => Err(SnapshotError::NoMemory),
     }
 }
-
-#[cfg(test)]
-mod tests;

@@ -4,9 +4,10 @@ ghost use Rattle.vault_journal.specs.Spelling.{record_of, HasRecord};
 ghost use Rattle.vault_model.specs.Vault.{Vault};
 ghost use Rattle.vault_model.specs.After.{after};
 ghost use Rattle.vault_store.specs.State.{StoreState, with_effect};
-ghost use Rattle.vault_store.specs.Seen.{Seen, Keeps, has_room};
+ghost use Rattle.vault_store.specs.Seen.{first_of, second_of, Keeps, has_room};
 
-use crate::Phase;
+use crate::opening::in_turn;
+use crate::{File, Phase};
 use std::alloc::{Allocator, Global};
 use std::marker::Model;
 use vault_device::Device;
@@ -22,8 +23,9 @@ const LAST_TAIL: u64 = 1 << 62;
 /// A vault in two files. What was noted is written and settled step by step.
 #[derive(Drop)]
 pub struct Store<D: Device, A: Allocator = Global> {
-    pub(crate) first: D,
-    pub(crate) second: D,
+    pub(crate) active: D,
+    pub(crate) spare: D,
+    pub(crate) which: File,
     pub(crate) frame: Frame<A>,
     pub(crate) sealed: u64,
     pub(crate) generation: u64,
@@ -61,14 +63,15 @@ impl<D: Device, A: Allocator> Store<D, A> {
         self.journal
     }
 
-    /// The devices. What was noted and isn't settled is lost.
+    /// The devices of the first file and of the second. What was noted and isn't settled is lost.
     pub fn into_devices(self) -> (D, D)
-        ensures first { result.0 ≡ self.first }
-        ensures second { result.1 ≡ self.second }
+        ensures first { result.0 ≡ first_of self }
+        ensures second { result.1 ≡ second_of self }
     {
         let Store {
-            first,
-            second,
+            active,
+            spare,
+            which,
             frame: _frame,
             sealed: _,
             generation: _,
@@ -77,7 +80,7 @@ impl<D: Device, A: Allocator> Store<D, A> {
             phase: _,
             broken: _,
         } = self;
-        (first, second)
+        in_turn(which, active, spare)
     }
 
     /// Whether there is room to note any one effect.

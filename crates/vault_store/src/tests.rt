@@ -1,12 +1,10 @@
+mod bodies;
 mod committing;
-mod creating;
-mod real_files;
 mod reopening;
-mod stopped;
 
 use super::*;
 use committing::{filled, left, made_again, new_store, note_within, settled_after, shows};
-use reopening::{damaged, fails_at, opens, wants_at};
+use reopening::{committed, damaged, fails_at, opens, refusals, with};
 use std::test::Fail;
 use test_memory::Refusing;
 use vault_device::{Device, MemDevice, Pick};
@@ -156,50 +154,83 @@ fn refused_memory(rt: HostRuntime) -> Result<(), Fail> {
 const WITH_E: &[u8; 47] =
     b"\x01LLVAULT\0\0\0\x01\0\0\0\0\0\0\0\x01\0\0\0\x0a\0\0\0\0\0\0\0\x01\0\0\x01\0\0\0\x07\x01\0\0\0\0\x01e\0";
 
+// A vault of generation 2 with anna's check-out of `/e`, in the second file.
+const SECOND: &[u8; 57] =
+    b"\x01LLVAULT\0\0\0\x01\0\0\0\0\0\0\0\x02\0\0\0\x20\0\0\0\x01\0\0\0\x02\0\0\0\0\x01e\0\x01\0\0\0\x01\x04anna\x01\x01\0\0\0\x01\0\0";
+
 #[test]
 fn opened(rt: HostRuntime) -> Result<(), Fail> {
     let alloc = rt.alloc();
-    let mut other_gate = *NEW;
-    other_gate[34] = 7;
+    let other_gate = with(NEW, 34, 7);
     assert!(rt; opens(alloc, NEW, b"", Ok((1, 0)))?);
     assert!(rt; opens(alloc, &other_gate, b"", Ok((1, 0)))?);
-    assert!(rt; opens(alloc, WITH_E, b"", Ok((2, 12)))?);
+    assert!(rt;
+        opens(alloc, WITH_E, b"", Ok((2, 12)))? && opens(alloc, b"\0", WITH_E, Ok((2, 12)))?
+    );
     assert!(rt; opens(alloc, b"", b"", Err(OpenError::NoVault))?);
-    let second = OpenError::Damaged {
-        file: File::Second,
-        offset: 0,
-    };
-    assert!(rt; opens(alloc, NEW, b"\0", Err(second))?);
+    assert!(rt; opens(alloc, &WITH_E[..23], b"\0", Err(OpenError::NoVault))?);
+
+    // The older file isn't read behind its head.
+    assert!(rt;
+        opens(alloc, &WITH_E[..40], SECOND, Ok((2, 0)))?
+            && opens(alloc, SECOND, &WITH_E[..24], Ok((2, 0)))?
+    );
     Ok(())
 }
 
 #[test]
 fn opened_damaged(rt: HostRuntime) -> Result<(), Fail> {
     let alloc = rt.alloc();
-    assert!(rt; opens(alloc, &WITH_E[..23], b"", Err(OpenError::NoVault))?);
-    assert!(rt; opens(alloc, &WITH_E[..34], b"", Err(damaged(20)))?);
-    assert!(rt; opens(alloc, &WITH_E[..40], b"", Err(damaged(34)))?);
-    assert!(rt; opens(alloc, &WITH_E[..46], b"", Err(damaged(34)))?);
+    let first = |offset| Err(damaged(File::First, offset));
+    let second = |offset| Err(damaged(File::Second, offset));
+    for (at, byte, offset) in [(1, 0, 1), (7, 0, 1), (8, 1, 8), (11, 2, 8), (19, 0, 12)] {
+        let bytes = with(NEW, at, byte);
+        assert!(rt;
+            opens(alloc, &bytes, b"", first(offset))?
+                && opens(alloc, &bytes, SECOND, first(offset))?
+        );
+        assert!(rt;
+            opens(alloc, b"", &bytes, second(offset))?
+                && opens(alloc, WITH_E, &bytes, second(offset))?
+        );
+    }
+    assert!(rt; opens(alloc, NEW, NEW, second(12))?);
+    for (end, offset) in [(24, 20), (34, 20), (40, 34), (46, 34)] {
+        assert!(rt;
+            opens(alloc, &WITH_E[..end], b"", first(offset))?
+                && opens(alloc, b"", &WITH_E[..end], second(offset))?
+        );
+    }
+    // An empty frame, and a longer one than there are bytes for.
+    let empty_frame = with(WITH_E, 38, 0);
+    let long_frame = with(WITH_E, 38, 8);
+    assert!(rt;
+        opens(alloc, &empty_frame, b"", first(34))? && opens(alloc, &long_frame, b"", first(34))?
+    );
     Ok(())
 }
 
 #[test]
 fn opened_with_a_failed_call(rt: HostRuntime) -> Result<(), Fail> {
     let alloc = rt.alloc();
-    for call in 1..=8 {
+    for call in 1..=10 {
         assert!(rt; fails_at(alloc, WITH_E, call, 0)?);
     }
     assert!(rt; fails_at(alloc, WITH_E, 0, 1)? && fails_at(alloc, WITH_E, 0, 2)?);
-    assert!(rt; !fails_at(alloc, WITH_E, 9, 3)?);
+    assert!(rt; !fails_at(alloc, WITH_E, 11, 3)?);
     Ok(())
 }
 
 #[test]
 fn opened_without_memory(rt: HostRuntime) -> Result<(), Fail> {
     let alloc = rt.alloc();
-    for request in 1..=7 {
-        assert!(rt; wants_at(alloc, WITH_E, request)?);
-    }
-    assert!(rt; !wants_at(alloc, WITH_E, 8)?);
+    assert_eq!(rt; refusals(alloc, WITH_E)?, 7);
+    Ok(())
+}
+
+#[test]
+fn committed_in_the_second_file(rt: HostRuntime) -> Result<(), Fail> {
+    let alloc = rt.alloc();
+    assert!(rt; committed(alloc, WITH_E, SECOND)?);
     Ok(())
 }

@@ -164,6 +164,3 @@ pub fn read_places<'a, A: Allocator + Copy>(
     let rest = read_each_place(alloc, &mut tree, &mut shelf, bytes)?;
     Ok(Places { tree, shelf, rest })
 }
-
-#[cfg(test)]
-mod tests;

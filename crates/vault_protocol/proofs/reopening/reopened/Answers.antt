@@ -14,6 +14,7 @@ returns-in-Ok-clause-view g c =
     c.files_stand_for_one_vault.ensures.reading
     (sym c.is_broken.ensures ∙ c.if-is_broken.false)
     (c.crash.ensures.shown ∙ ap (λ (d : MemDisk). picked c.args.pick (content_of d.history)) c.into_devices-first.ensures.first)
+    (c.crash-2.ensures.shown ∙ ap (λ (d : MemDisk). picked c.args.pick (content_of d.history)) c.into_devices-first.ensures.second)
     (subst (λ (d : MemDisk). (disk_of d).IsImage (disk_of c.crash.new.self).shown) c.into_devices-first.ensures.first c.crash.ensures.image)
     (subst (λ (d : MemDisk). (disk_of d).IsImage (disk_of c.crash-2.new.self).shown) c.into_devices-first.ensures.second c.crash-2.ensures.image)
     (c.in-Ok.ensures.read refl refl)).0
@@ -25,6 +26,7 @@ returns-in-Ok-clause-tail g c =
     c.files_stand_for_one_vault.ensures.reading
     (sym c.is_broken.ensures ∙ c.if-is_broken.false)
     (c.crash.ensures.shown ∙ ap (λ (d : MemDisk). picked c.args.pick (content_of d.history)) c.into_devices-first.ensures.first)
+    (c.crash-2.ensures.shown ∙ ap (λ (d : MemDisk). picked c.args.pick (content_of d.history)) c.into_devices-first.ensures.second)
     (subst (λ (d : MemDisk). (disk_of d).IsImage (disk_of c.crash.new.self).shown) c.into_devices-first.ensures.first c.crash.ensures.image)
     (subst (λ (d : MemDisk). (disk_of d).IsImage (disk_of c.crash-2.new.self).shown) c.into_devices-first.ensures.second c.crash-2.ensures.image)
     (c.in-Ok.ensures.read refl refl)).1

@@ -7,16 +7,15 @@ use Rattle.vault_store.proofs.journal.read_length.Goals as goal
 
 pub returns-then-room-le-FRAME_EXTRA-clause-refused : goal.returns-then-room-le-FRAME_EXTRA-clause-refused
 returns-then-room-le-FRAME_EXTRA-clause-refused g c =
-    rw c.damaged.ensures (λ honest. (refl, no_room (g.D.Device.disk c.args.device.now).shown c.args.len c.args.at (c.requires.len honest) c.if-room-le-FRAME_EXTRA.true))
+    λ honest. (refl, no_room (g.D.Device.disk c.args.device.now).shown c.args.len c.args.at (c.requires.len honest) c.if-room-le-FRAME_EXTRA.true)
 
 pub returns-then-not-is_length-clause-refused : goal.returns-then-not-is_length-clause-refused
 returns-then-not-is_length-clause-refused g c =
-    rw c.damaged-then-not-is_length.ensures
-    (λ honest. (
+    λ honest. (
       refl,
       wrong_length (g.D.Device.disk c.args.device.now).shown c.read_at.new.buffer c.args.len c.args.at c.number_in-length.result c.number_in-length.ensures (omega arith) (c.requires.len honest) (c.in_ok-read_at.ensures.bytes honest)
           (λ right. not_both c.is_length.result (c.is_length.ensures.1 right) c.if-not-is_length.true),
-    ))
+    )
 
 pub returns-clause-length : goal.returns-clause-length
 returns-clause-length g c =

@@ -1,4 +1,4 @@
-use Rattle.std.proofs.Common.{◌≡◌, ◌≢◌, ◌∙◌, cond, sym, subst, arith, true, rules}
+use Rattle.std.proofs.Common.{◌≡◌, ◌≢◌, ◌∙◌, cond, sym, subst, arith, true}
 use Rattle.std.specs.Prelude.{Ok, Err}
 use Rattle.vault_store.specs.declared.phase.Advanced.{Advanced as Pumped}
 use Rattle.vault_store.specs.declared.phase.Advanced.TheVariants as answers
@@ -6,6 +6,7 @@ use Rattle.vault_store.specs.Phases.{is_idle}
 use Rattle.group_commit.specs.View.{length_of}
 use Rattle.group_commit.specs.Seen.{Seen, state_of}
 use Rattle.group_commit.specs.Inside.{seen_of, IsKept}
+use Rattle.group_commit.specs.Promises.{MomentsStand}
 use Rattle.group_commit.proofs.Pumps.{IsPump, IsStoreStep, settled_all, settled_all_kept, settled_sealed, settled_sealed_kept, moved, moved_kept, fault, fault_kept, not_broken}
 use Rattle.group_commit.proofs.Nexts.{pump_is_next, stops_inside, pump_stops}
 use Rattle.group_commit.proofs.vault.Vault.pump.Goals as goal
@@ -111,4 +112,17 @@ returns-in-Err g c =
     record { broken = d.broken; answer = d.answer; pumped = d.pumped; failed = d.failed; life = d.life; still = d.still; calls = d.calls; numbers = d.numbers; moments = d.moments; next = pump_is_next d; stops = pump_stops d }
 
 pub returns-then-self-all-clause-stops : goal.returns-then-self-all-clause-stops
-returns-then-self-all-clause-stops g c = λ whole. stops_inside (seen_of (record c.self.inside { store = c.advance.new.self })) whole (search rules)
+returns-then-self-all-clause-stops g c = λ whole.
+    let seen = seen_of c.self.inside in
+    let disk = g.D.Device.disk in
+    let new = seen_of (record c.self.inside { store = c.advance.new.self }) in
+    let moments : MomentsStand disk seen new = λ x y honest left. c.in-Ok-Idle.ensures.moments (state_of seen.view) x y c.self.invariant.stands honest.first honest.second left in
+    stops_inside {disk = disk} {old = c.args.self.now} new whole (subst (λ (old : Seen _). MomentsStand disk old new) c.self.view_is moments)
+
+pub returns-then-self-all-clause-moments : goal.returns-then-self-all-clause-moments
+returns-then-self-all-clause-moments g c = λ whole.
+    let seen = seen_of c.self.inside in
+    let disk = g.D.Device.disk in
+    let new = seen_of (record c.self.inside { store = c.advance.new.self }) in
+    let moments : MomentsStand disk seen new = λ x y honest left. c.in-Ok-Idle.ensures.moments (state_of seen.view) x y c.self.invariant.stands honest.first honest.second left in
+    subst (λ (old : Seen _). MomentsStand disk old new) c.self.view_is moments

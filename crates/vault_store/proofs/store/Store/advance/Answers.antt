@@ -2,4 +2,4 @@ use Rattle.vault_store.proofs.Advances.{unmoved}
 use Rattle.vault_store.proofs.store.Store.advance.Goals as goal
 
 pub returns-then-self-clause-moments : goal.returns-then-self-clause-moments
-returns-then-self-clause-moments g c = unmoved g.D.Device.disk c.args.self.now (g.met.D.Device.lawful c.args.self.now.first) (g.met.D.Device.lawful c.args.self.now.second)
+returns-then-self-clause-moments g c = unmoved g.D.Device.disk c.args.self.now (g.met.D.Device.lawful c.args.self.now.active) (g.met.D.Device.lawful c.args.self.now.spare)

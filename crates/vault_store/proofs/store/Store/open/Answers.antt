@@ -1,21 +1,34 @@
-use Rattle.std.proofs.Common.{List, ℕ, ◌-◌, sym, subst, false}
+use Rattle.std.proofs.Common.{List, ℕ, sym, subst, false}
 use Rattle.vault_store.specs.declared.phase.Phase.TheVariants.{Idle}
 use Rattle.vault_store.specs.State.{at_rest}
 use Rattle.vault_store.specs.Seen.{Keeps}
 use Rattle.vault_store.specs.Sound.{IsSound}
-use Rattle.vault_store.proofs.Opened.{opened_kept, opened_read, opened_sound}
+use Rattle.vault_store.proofs.Opened.{opened_handed, opened_kept, opened_read, opened_refused, opened_sound}
 use Rattle.vault_store.proofs.store.Store.open.Goals as goal
 
-pub returns-in-Ok-clause-kept : goal.returns-in-Ok-clause-kept
-returns-in-Ok-clause-kept g c =
-    subst (λ (bytes : List ℕ). Keeps g.D.Device.disk (record { first = c.read_files.new.first; second = c.read_files.new.second; buffer = bytes; sealed = 0; generation = c.in-Ok.opened.generation; tail = c.in-Ok.opened.tail; journal = c.in-Ok.opened.tail - 34; phase = Idle; broken = false }) (at_rest c.in-Ok.opened.book)) (sym c.in-Ok.ensures.frame)
-    (opened_kept g.D.Device.disk c.args.first c.args.second c.read_files.new.first c.read_files.new.second c.in-Ok.opened.book c.in-Ok.opened.generation c.in-Ok.opened.tail c.in-Ok.ensures.read c.read_files.ensures.first c.read_files.ensures.second c.in-Ok.ensures.settled c.in-Ok.ensures.alone)
+pub returns-in-Ok-read_active-clause-kept : goal.returns-in-Ok-read_active-clause-kept
+returns-in-Ok-read_active-clause-kept g c =
+    subst (λ (bytes : List ℕ). Keeps g.D.Device.disk (record { active = c.read_active.new.active; spare = c.in_turn-active.result.1; which = c.in-Ok.active.which; buffer = bytes; sealed = 0; generation = c.in-Ok.active.generation; tail = c.in-Ok-read_active.contents.tail; journal = c.in-Ok-read_active.contents.journal; phase = Idle; broken = false }) (at_rest c.in-Ok-read_active.contents.book)) (sym c.in-Ok-read_active.ensures.frame)
+    (opened_kept g.D.Device.disk c.in-Ok.active.which c.args.first c.args.second c.find_active.new.first c.find_active.new.second c.in_turn-active.result.0 c.in_turn-active.result.1 c.read_active.new.active c.in-Ok.active.generation c.in-Ok.ensures.first c.in-Ok.ensures.second (g.met.D.Device.lawful c.in_turn-active.result.0)
+    c.in_turn-active.ensures.0 c.in_turn-active.ensures.1 c.read_active.ensures.reads c.in-Ok.ensures.found c.in-Ok-read_active.contents.book c.in-Ok-read_active.contents.frames c.in-Ok-read_active.contents.tail c.in-Ok-read_active.contents.journal c.in-Ok-read_active.ensures.contents c.in-Ok.ensures.settled_first c.in-Ok.ensures.settled_second)
 
 pub invariant_of-store : goal.invariant_of-store
 invariant_of-store g c =
-    subst (λ (bytes : List ℕ). IsSound g.D.Device.disk (record { first = c.read_files.new.first; second = c.read_files.new.second; buffer = bytes; sealed = 0; generation = c.in-Ok.opened.generation; tail = c.in-Ok.opened.tail; journal = c.in-Ok.opened.tail - 34; phase = Idle; broken = false })) (sym c.in-Ok.ensures.frame)
-    (opened_sound g.D.Device.disk c.args.first c.args.second c.read_files.new.first c.read_files.new.second c.in-Ok.opened.book c.in-Ok.opened.generation c.in-Ok.opened.tail c.in-Ok.ensures.read c.read_files.ensures.first c.in-Ok.ensures.settled)
+    subst (λ (bytes : List ℕ). IsSound g.D.Device.disk (record { active = c.read_active.new.active; spare = c.in_turn-active.result.1; which = c.in-Ok.active.which; buffer = bytes; sealed = 0; generation = c.in-Ok.active.generation; tail = c.in-Ok-read_active.contents.tail; journal = c.in-Ok-read_active.contents.journal; phase = Idle; broken = false })) (sym c.in-Ok-read_active.ensures.frame)
+    (opened_sound g.D.Device.disk c.in-Ok.active.which c.args.first c.args.second c.find_active.new.first c.find_active.new.second c.in_turn-active.result.0 c.in_turn-active.result.1 c.read_active.new.active c.in-Ok.active.generation c.in-Ok.ensures.first c.in-Ok.ensures.second (g.met.D.Device.lawful c.in_turn-active.result.0)
+    c.in_turn-active.ensures.0 c.in_turn-active.ensures.1 c.read_active.ensures.reads c.in-Ok.ensures.found c.in-Ok-read_active.contents.book c.in-Ok-read_active.contents.frames c.in-Ok-read_active.contents.tail c.in-Ok-read_active.contents.journal c.in-Ok-read_active.ensures.contents c.in-Ok.ensures.settled_first c.in-Ok.ensures.settled_second)
 
-pub returns-in-Ok-clause-read : goal.returns-in-Ok-clause-read
-returns-in-Ok-clause-read g c =
-    opened_read g.D.Device.disk c.args.first c.args.second c.read_files.new.first c.read_files.new.second c.in-Ok.opened.book c.in-Ok.opened.generation c.in-Ok.opened.tail c.in-Ok.ensures.read c.read_files.ensures.second c.in-Ok.ensures.alone
+pub returns-in-Ok-read_active-clause-read : goal.returns-in-Ok-read_active-clause-read
+returns-in-Ok-read_active-clause-read g c =
+    opened_read g.D.Device.disk c.in-Ok.active.which c.args.first c.args.second c.find_active.new.first c.find_active.new.second c.in_turn-active.result.0 c.in_turn-active.result.1 c.read_active.new.active c.in-Ok.active.generation c.in-Ok.ensures.first c.in-Ok.ensures.second (g.met.D.Device.lawful c.in_turn-active.result.0)
+    c.in_turn-active.ensures.0 c.in_turn-active.ensures.1 c.read_active.ensures.reads c.in-Ok.ensures.found c.in-Ok-read_active.contents.book c.in-Ok-read_active.contents.frames c.in-Ok-read_active.contents.tail c.in-Ok-read_active.contents.journal c.in-Ok-read_active.ensures.contents
+
+pub returns-in-Ok-read_active-clause-handed_on : goal.returns-in-Ok-read_active-clause-handed_on
+returns-in-Ok-read_active-clause-handed_on g c =
+    opened_handed g.D.Device.disk c.in-Ok.active.which c.args.first c.args.second c.find_active.new.first c.find_active.new.second c.in_turn-active.result.0 c.in_turn-active.result.1 c.read_active.new.active c.in-Ok.active.generation c.in-Ok.ensures.first c.in-Ok.ensures.second (g.met.D.Device.lawful c.in_turn-active.result.0)
+    c.in_turn-active.ensures.0 c.in_turn-active.ensures.1 c.read_active.ensures.reads c.in-Ok.ensures.found
+
+pub returns-in-Err-read_active-clause-refused : goal.returns-in-Err-read_active-clause-refused
+returns-in-Err-read_active-clause-refused g c =
+    opened_refused g.D.Device.disk c.in-Ok.active.which c.args.first c.args.second c.find_active.new.first c.find_active.new.second c.in_turn-active.result.0 c.in_turn-active.result.1 c.read_active.new.active c.in-Ok.active.generation c.in-Ok.ensures.first c.in-Ok.ensures.second (g.met.D.Device.lawful c.in_turn-active.result.0)
+    c.in_turn-active.ensures.0 c.in_turn-active.ensures.1 c.read_active.ensures.reads c.in-Ok.ensures.found c.in-Err-read_active.why c.in-Err-read_active.ensures.refused

@@ -1,7 +1,5 @@
 //! A vault in two real files.
-use crate::Store;
-use crate::tests::WITH_E;
-use crate::tests::committing::{note_within, settled_after};
+use crate::store::{note_within, settled_after};
 use std::alloc::Global;
 use std::fs;
 use std::fs::{File, OpenOptions};
@@ -9,6 +7,11 @@ use std::rt::Files;
 use std::test::Fail;
 use vault_device::FileDevice;
 use vault_model::{Effect, EffectIn, Name, Path, PlaceId};
+use vault_store::Store;
+
+// What the first one holds then, 47 bytes.
+const WITH_E: &[u8; 47] =
+    b"\x01LLVAULT\0\0\0\x01\0\0\0\0\0\0\0\x01\0\0\0\x0a\0\0\0\0\0\0\0\x01\0\0\x01\0\0\0\x07\x01\0\0\0\0\x01e\0";
 
 const FIRST: &str = "first_of_a_test";
 

@@ -1,9 +1,9 @@
 //! Creations with a failed device call.
-use crate::tests::committing::CREATION;
-use crate::{CreateError, OpenError, Refused, Store};
+use crate::store::CREATION;
 use std::alloc::Global;
 use std::test::Fail;
 use vault_device::{MemDevice, Pick};
+use vault_store::{CreateError, OpenError, Refused, Store};
 
 // A creation, the nth of whose calls of one of the devices fails.
 fn creates(

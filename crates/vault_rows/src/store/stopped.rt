@@ -1,10 +1,10 @@
 //! A commit stopped before and after each of its device calls, and what the files then open as.
-use crate::tests::committing::{new_store, note_within, settled_after};
-use crate::{Phase, Store};
+use crate::store::{new_store, note_within, settled_after};
 use std::alloc::Global;
 use std::test::Fail;
 use vault_device::{MemDevice, Pick};
 use vault_model::{Effect, EffectIn, Intent, Item, Items, Name, PlaceId};
+use vault_store::{Phase, Store};
 
 // Whether a project of this name is noted.
 fn made(store: &mut Store<MemDevice>, name: &[u8]) -> bool {

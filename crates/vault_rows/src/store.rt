@@ -1,0 +1,49 @@
+//! The two files of a store: creations and commits that fail or are stopped at each call, and two real files.
+ghost use Rattle.vault_journal.specs.Spelling.{HasRecord};
+
+mod creating;
+mod real_files;
+mod stopped;
+
+use std::alloc::Global;
+use std::test::Fail;
+use vault_device::{Device, MemDevice};
+use vault_model::EffectIn;
+use vault_store::{Advanced, Store};
+
+/// How many calls of the first device a creation makes.
+const CREATION: u64 = 7;
+
+/// A store of a new vault, the nth device call behind whose creation is to fail.
+fn new_store(alloc: Global, failing: u64) -> Result<Store<MemDevice>, Fail> {
+    let mut first = MemDevice::new(alloc)?;
+    let second = MemDevice::new(alloc)?;
+    if failing > 0 {
+        first.fail_at(failing.saturating_add(CREATION));
+    }
+    match Store::create(alloc, first, second) {
+        Ok(store) => Ok(store),
+        Err(_) => Err("a new vault".into()),
+    }
+}
+
+/// Notes where there is room, and says whether there was.
+fn note_within<D: Device>(store: &mut Store<D>, effect: &EffectIn<Global>) -> bool
+    requires { HasRecord effect.now }
+{
+    let room = store.room();
+    if room {
+        store.note(effect);
+    }
+    room
+}
+
+/// Whether the last of so many steps settles, and none before it.
+fn settled_after<D: Device>(store: &mut Store<D>, steps: u8) -> bool {
+    for _ in 1..steps {
+        if store.advance() != Ok(Advanced::Moved) {
+            return false;
+        }
+    }
+    store.advance() == Ok(Advanced::Settled)
+}

@@ -1,0 +1,27 @@
+use Rattle.std.proofs.Common.{◌≡◌, ℕ, ◌+◌, List, length, take, ◌∙◌, ap, arith}
+use Rattle.std.specs.Prelude.{slice_range}
+use Rattle.vault_store.proofs.Behind.{honest_behind, and_reads}
+use Rattle.vault_store.proofs.Bodies.{one_read, base_bytes}
+use Rattle.vault_store.proofs.body.read_base.Goals as goal
+
+pub returns-in-Ok-clause-reads : goal.returns-in-Ok-clause-reads
+returns-in-Ok-clause-reads g c =
+    and_reads (g.D.Device.disk c.args.device.now) (g.D.Device.disk c.read_at.new.self) (g.D.Device.disk c.read_bytes.new.device)
+    (one_read (g.D.Device.disk c.args.device.now) (g.D.Device.disk c.read_at.new.self) c.read_at.result c.read_at.ensures.one_call c.read_at.ensures.kept) c.read_bytes.ensures.reads
+
+pub returns-in-Ok-clause-base : goal.returns-in-Ok-clause-base
+returns-in-Ok-clause-base g c =
+    let reads = one_read (g.D.Device.disk c.args.device.now) (g.D.Device.disk c.read_at.new.self) c.read_at.result c.read_at.ensures.one_call c.read_at.ensures.kept in
+    let size : length c.deref.result.now ≡ c.number_in-length.result = ap length c.deref.ensures.value ∙ c.in_ok-snapshot.ensures.size in
+    let same : c.from-in-Ok.result ≡ c.number_in-length.result = omega (arith, c.from-in-Ok.ensures) in
+    record {
+      spelled = c.in-Ok.ensures.ok.0;
+      size = omega (arith, same, size, ap length c.in-Ok.ensures.ok.1);
+      within = omega (arith, same, c.if-len-from.false, c.from.ensures);
+      bytes = λ honest.
+          let there : c.deref.result.now ≡ slice_range (g.D.Device.disk c.args.device.now).shown 24 (24 + c.number_in-length.result) =
+          c.deref.ensures.value ∙ c.in_ok-snapshot.ensures.bytes (honest_behind (g.D.Device.disk c.args.device.now) (g.D.Device.disk c.read_at.new.self) reads honest)
+          ∙ ap (λ (file : List ℕ). slice_range file 24 (24 + c.number_in-length.result)) (reads.read honest).shown in
+          ap (λ (n : ℕ). take (24 + n) (g.D.Device.disk c.args.device.now).shown) same
+          ∙ base_bytes (g.D.Device.disk c.args.device.now).shown c.read_at.new.buffer c.deref.result.now c.number_in-length.result (c.in_ok-read_at.ensures.bytes honest) c.number_in-length.ensures there c.in-Ok.book c.in-Ok.ensures.ok.1 size;
+    }

@@ -1,0 +1,151 @@
+//! What stands behind the head of a file, read: its snapshot and its frames.
+ghost use Rattle.std.specs.Prelude.{◌≡◌, ◌≤◌, ℕ, IfOk, IfErr, IsTrue, length};
+ghost use Rattle.vault_store.specs.declared.body.BodyError.TheVariants.{Device as DeviceFailed};
+ghost use Rattle.vault_store.specs.declared.body.ReadError.TheVariants as errors;
+ghost use Rattle.vault_store.specs.Calls.{HasCause};
+ghost use Rattle.vault_store.specs.Faults.{IsSnapshotFault};
+ghost use Rattle.vault_store.specs.Files.{header, HasHead};
+ghost use Rattle.vault_store.specs.Parts.{IsBody};
+ghost use Rattle.vault_store.specs.Read.{AreReads, IsWhy, IsBaseRead, AreContents, IsFaultBehindHead};
+
+use crate::front::HEADER;
+use crate::journal::{number_in, read_bytes, read_frames};
+use crate::snapshot::{SnapshotError, read_snapshot};
+use std::alloc::Allocator;
+use thiserror::Error;
+use vault_checkout::Book;
+use vault_device::{Device, Fault};
+
+/// What stands behind the head of a file.
+#[derive(Drop)]
+pub enum Body<A: Allocator> {
+    /// The vault, how many frames the file has, and where its tail gate stands.
+    Whole(Book<A>, u64, u64),
+    /// The first fault, by its offset.
+    Damaged(u64),
+}
+
+/// Why it wasn't read.
+#[derive(Clone, Copy, Debug, PartialEq, Eq, Error)]
+pub enum BodyError {
+    #[error("device fault")]
+    Device,
+    #[error("want of memory")]
+    NoMemory,
+}
+
+/// The first fault of a file behind its head, or why it wasn't read.
+#[derive(Clone, Copy, Debug, PartialEq, Eq)]
+pub enum ReadError {
+    Damaged(u64),
+    Device,
+    NoMemory,
+}
+
+impl From<Fault> for ReadError {
+    ghost from_gives = { λ _ e. e ≡ errors.Device };
+
+    fn from(_fault: Fault) -> ReadError {
+        ReadError::Device
+    }
+}
+
+// The vault of a file's snapshot, and where the frames begin behind it.
+#[derive(Drop)]
+struct Base<A: Allocator> {
+    book: Book<A>,
+    end: u64,
+}
+
+// Reads the snapshot of a file.
+fn read_base<D: Device, A: Allocator + Copy>(
+    alloc: A,
+    device: &mut D,
+    len: u64,
+) -> Result<Base<A>, ReadError>
+    requires long { header ≤ len }
+    requires len { IsTrue (D.disk device.old).honest → len ≡ length (D.disk device.old).shown }
+    ensures reads { AreReads (D.disk device.old) (D.disk device.new) }
+    ensures base { IfOk result (λ base. IsBaseRead (D.disk device.old) len base.book base.end) }
+    ensures refused { IfErr result (λ why. IsWhy (D.disk device.old) (D.disk device.new) (IsSnapshotFault (D.disk device.old).shown) why) }
+{
+    let mut bytes = [0; 4];
+    device.read_at(20, &mut bytes)?;
+    let length = number_in(&bytes);
+    if len - HEADER <= u64::from(length) {
+        return Err(ReadError::Damaged(20));
+    }
+    let snapshot = read_bytes(alloc, device, HEADER, length)?;
+    match read_snapshot(alloc, &snapshot) {
+        Ok(book) => Ok(Base {
+            book,
+            end: HEADER + u64::from(length),
+        }),
+        Err(SnapshotError::NotWellFormed) => Err(ReadError::Damaged(HEADER)),
+        Err(SnapshotError::NoMemory) => Err(ReadError::NoMemory),
+    }
+}
+
+/// What stands in a file behind its head.
+#[derive(Drop)]
+pub struct Contents<A: Allocator> {
+    /// The vault that the snapshot and the frames lead to.
+    pub book: Book<A>,
+    /// How many frames there are.
+    pub frames: u64,
+    /// Where the tail gate stands.
+    pub tail: u64,
+    /// How many bytes the frames have.
+    pub journal: u64,
+}
+
+/// Reads what stands in a file behind its head.
+pub fn read_contents<D: Device, A: Allocator + Copy>(
+    alloc: A,
+    device: &mut D,
+) -> Result<Contents<A>, ReadError>
+    ensures reads { AreReads (D.disk device.old) (D.disk device.new) }
+    ensures contents { IfOk result (λ contents. AreContents (D.disk device.old) contents.book contents.frames contents.tail contents.journal) }
+    ensures refused { IfErr result (λ why. IsWhy (D.disk device.old) (D.disk device.new) (IsFaultBehindHead (D.disk device.old).shown) why) }
+{
+    let len = device.len()?;
+    if len < HEADER {
+        return Err(ReadError::Damaged(20));
+    }
+    let Base { mut book, end } = read_base(alloc, device, len)?;
+    let frames = read_frames(alloc, device, len, end, &mut book)?;
+    Ok(Contents {
+        book,
+        frames: frames.count,
+        tail: frames.tail,
+        journal: frames.tail - end,
+    })
+}
+
+/// Reads a file behind its head, which has to be right: of any other the answer is not said. It makes reads only.
+///
+/// Each byte is read once, up to the tail gate, with two device calls, one for the snapshot and three for a frame. Beside the book it
+/// takes memory for the bytes of the snapshot, and for the bytes and the effects of one frame at a time.
+pub fn read_body<D: Device, A: Allocator + Copy>(
+    alloc: A,
+    device: &mut D,
+) -> Result<Body<A>, BodyError>
+    ensures reads { AreReads (D.disk device.old) (D.disk device.new) }
+    ensures body { IsTrue (D.disk device.old).honest → IfOk result (λ body. (generation : ℕ) → HasHead generation (D.disk device.old).shown → IsBody generation (D.disk device.old).shown body) }
+    ensures cause { IfErr result (λ why. why ≡ DeviceFailed → HasCause (D.disk device.old) (D.disk device.new)) }
+{
+    match read_contents(alloc, device) {
+        Ok(contents) => {
+            let Contents {
+                book,
+                frames,
+                tail,
+                journal: _,
+            } = contents;
+            Ok(Body::Whole(book, frames, tail))
+        }
+        Err(ReadError::Damaged(at)) => Ok(Body::Damaged(at)),
+        Err(ReadError::Device) => Err(BodyError::Device),
+        Err(ReadError::NoMemory) => Err(BodyError::NoMemory),
+    }
+}
