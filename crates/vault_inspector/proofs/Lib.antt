@@ -1,0 +1,5 @@
+mod Written
+mod Counting
+mod Heads
+mod Choices
+mod Reports

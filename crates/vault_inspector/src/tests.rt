@@ -1,0 +1,165 @@
+ghost use Rattle.std.specs.Prelude.{◌<◌, ◌≤◌, length};
+
+use super::*;
+use std::alloc::Global;
+use std::test::Fail;
+use test_memory::Refusing;
+use vault_device::{Device, MemDevice};
+
+// A new vault, and one with a project made in a frame.
+const NEW: &[u8; 35] = b"\x01LLVAULT\0\0\0\x01\0\0\0\0\0\0\0\x01\0\0\0\x0a\0\0\0\0\0\0\0\x01\0\0\0";
+
+const WITH_E: &[u8; 47] =
+    b"\x01LLVAULT\0\0\0\x01\0\0\0\0\0\0\0\x01\0\0\0\x0a\0\0\0\0\0\0\0\x01\0\0\x01\0\0\0\x07\x01\0\0\0\0\x01e\0";
+
+// A file of generation 2 with a snapshot: a project that anna has checked out for change.
+const CHECKED_OUT: &[u8; 57] =
+    b"\x01LLVAULT\0\0\0\x01\0\0\0\0\0\0\0\x02\0\0\0\x20\0\0\0\x01\0\0\0\x02\0\0\0\0\x01e\0\x01\0\0\0\x01\x04anna\x01\x01\0\0\0\x01\0\0";
+
+// One of generation 3: a part with a version; anna's c3, which is held with a draft of it; and behind it ben's c2.
+const QUEUED: &[u8; 99] =
+    b"\x01LLVAULT\0\0\0\x01\0\0\0\0\0\0\0\x03\0\0\0\x4a\0\0\0\x03\0\0\0\x04\0\0\0\0\x01e\0\0\0\x01\x01b\0\0\0\x02\x01p\0\x01\0\x04text\0\x02\0\0\0\x03\x04anna\x01\x01\0\0\0\x03\x01\0\0\0\x03\0\x01x\0\0\0\x02\x03ben\x01\0\0\0\0\x02\0\0";
+
+const QUEUED_TEXT: &[u8; 168] =
+    b"file a: open, generation 3, frames 0, tail 98\nfile b: older, generation 1\nplaces 4, versions 1, claims 2, drafts 1\nc3 anna held w:/e/b/p\nc2 ben queued behind c3 r:/e/b\n";
+
+// A device with these bytes.
+fn holding(alloc: Global, bytes: &[u8]) -> Result<MemDevice, Fail>
+    requires { length bytes.now < 200 }
+{
+    let mut device = MemDevice::new(alloc)?;
+    device.write_at(0, bytes)?;
+    device.sync()?;
+    Ok(device)
+}
+
+// Whether a report on files with these bytes has this text.
+fn tells(alloc: Global, first: &[u8], second: &[u8], text: &[u8]) -> Result<bool, Fail>
+    requires first { length first.now < 200 }
+    requires second { length second.now < 200 }
+{
+    let mut a = holding(alloc, first)?;
+    let mut b = holding(alloc, second)?;
+    let report = inspect(alloc, &mut a, &mut b)?;
+    let mut printed = Vec::new(alloc);
+    print(&report, &mut printed)?;
+    Ok(printed.as_slice() == text)
+}
+
+#[test]
+fn reports_on_vaults(rt: HostRuntime) -> Result<(), Fail> {
+    let alloc = rt.alloc();
+    let text =
+        b"file a: open, generation 1, frames 1, tail 46\nfile b: closed\nplaces 2, versions 0, claims 0, drafts 0\n";
+    assert!(rt; tells(alloc, WITH_E, b"", text)?);
+    let text =
+        b"file a: older, generation 1\nfile b: open, generation 2, frames 0, tail 56\nplaces 2, versions 0, claims 1, drafts 0\nc1 anna held w:/e\n";
+    assert!(rt; tells(alloc, WITH_E, CHECKED_OUT, text)?);
+    assert!(rt; tells(alloc, QUEUED, NEW, QUEUED_TEXT)?);
+    Ok(())
+}
+
+// Two closed files; two alike; a frame that is cut off; a wrong head beside a right one, first or second; a wrong body beside an
+// older file.
+#[test]
+fn reports_on_no_vault(rt: HostRuntime) -> Result<(), Fail> {
+    let alloc = rt.alloc();
+    assert!(rt;
+        tells(
+            alloc,
+            b"",
+            b"\x01",
+            b"file a: closed\nfile b: closed\nno vault\n"
+        )?
+    );
+    let text = b"file a: open, generation 1, frames 0, tail 34\nfile b: damaged at 12\nno vault\n";
+    assert!(rt; tells(alloc, NEW, NEW, text)?);
+    let text = b"file a: damaged at 34\nfile b: closed\nno vault\n";
+    assert!(rt; tells(alloc, &WITH_E[..40], b"", text)?);
+    let mut other = *NEW;
+    other[11] = 2;
+    let text = b"file a: damaged at 8\nfile b: open, generation 1, frames 0, tail 34\nno vault\n";
+    assert!(rt; tells(alloc, &other, NEW, text)?);
+    let text = b"file a: open, generation 1, frames 1, tail 46\nfile b: damaged at 8\nno vault\n";
+    assert!(rt; tells(alloc, WITH_E, &other, text)?);
+    let text = b"file a: older, generation 1\nfile b: damaged at 20\nno vault\n";
+    assert!(rt; tells(alloc, NEW, &CHECKED_OUT[..56], text)?);
+    Ok(())
+}
+
+// Whether a writer with room for so many bytes fails, and then holds the first of the text.
+fn is_cut(report: &Report, room: usize) -> bool
+    requires { room ≤ 168 }
+{
+    let mut bytes = [0; 168];
+    let mut writer = &mut bytes[..room];
+    let end = print(report, &mut writer);
+    end == Err(PrintError::Write) && bytes[..room] == QUEUED_TEXT[..room]
+}
+
+#[test]
+fn a_writer_that_fails(rt: HostRuntime) -> Result<(), Fail> {
+    let mut a = holding(rt.alloc(), QUEUED)?;
+    let mut b = holding(rt.alloc(), NEW)?;
+    let report = inspect(rt.alloc(), &mut a, &mut b)?;
+    for room in 0..168 {
+        assert!(rt; is_cut(&report, room), "{room}");
+    }
+    Ok(())
+}
+
+// What an inspection answers whose nth call of one of the devices fails.
+fn failing(alloc: Global, first_call: u64, second_call: u64) -> Result<Option<InspectError>, Fail> {
+    let mut a = holding(alloc, WITH_E)?;
+    let mut b = holding(alloc, NEW)?;
+    a.fail_at(first_call);
+    b.fail_at(second_call);
+    Ok(inspect(alloc, &mut a, &mut b).err())
+}
+
+// Two calls read a head; seven more read the active file, its snapshot, its frame and its tail gate.
+#[test]
+fn each_device_call_fails(rt: HostRuntime) -> Result<(), Fail> {
+    for call in 1..=9 {
+        assert_eq!(rt;
+            failing(rt.alloc(), call, 0)?,
+            Some(InspectError::Device),
+            "{call}"
+        );
+    }
+    for call in 1..=2 {
+        assert_eq!(rt;
+            failing(rt.alloc(), 0, call)?,
+            Some(InspectError::Device),
+            "{call}"
+        );
+    }
+    assert_eq!(rt; failing(rt.alloc(), 10, 3)?, None);
+    Ok(())
+}
+
+// More requests than an inspection makes.
+const MANY: u64 = 40;
+
+// What an inspection answers whose nth request for memory is refused, where it is made.
+fn wanting(alloc: Global, request: u64) -> Result<Option<Option<InspectError>>, Fail> {
+    let memory = Refusing::new(alloc);
+    let mut a = holding(alloc, QUEUED)?;
+    let mut b = holding(alloc, NEW)?;
+    memory.refuse(request);
+    let end = inspect(&memory, &mut a, &mut b).err();
+    Ok(if memory.is_waiting() { None } else { Some(end) })
+}
+
+#[test]
+fn each_request_for_memory_is_refused(rt: HostRuntime) -> Result<(), Fail> {
+    let mut requests = 0;
+    for request in 1..=MANY {
+        if let Some(end) = wanting(rt.alloc(), request)? {
+            assert!(rt; end == Some(InspectError::NoMemory), "{request}");
+            requests = request;
+        }
+    }
+    assert!(rt; 10 < requests && requests < MANY);
+    Ok(())
+}

@@ -1,0 +1,107 @@
+//! What the program is asked to do.
+
+use clap::{Arg, ArgMatches, Command, Error};
+use std::alloc::{AllocError, Global};
+
+/// What a script may say, below the help of `script`.
+const LINES: &str = "\
+A line is '@K LINE' for a connection K of 1 to 64, and LINE is one of:
+  hello NAME            opens a session in a designer's name
+  make PATH [CLAIM]     makes a place, as /engine or /engine/block/piston, in a check-out's name if one is given
+  list PATH             lists the places right under one
+  checkout ITEM ..      asks for a claim on 1 to 8 items, as r:/engine to look or w:/engine to change
+  extend CLAIM ITEM ..  asks for more items for a held claim, as c1
+  save CLAIM PART HEX   saves a draft of a part for a held check-out: its bytes in hexadecimal, or - for none
+  checkin CLAIM         makes versions of a check-out's drafts, and gives it up
+  abandon CLAIM         gives up a check-out, as c1
+  hold ITEM ..          asks for a claim that ends with the session
+  release CLAIM         gives up such a claim, as h1
+  state CLAIM           says whether a claim is held, or behind which one it is queued
+  fetch PART VERSION    shows a version of a part, from 1 on
+  count PART            says how many versions a part has
+  quit                  closes the session
+Empty lines and lines that begin with '#' are skipped.";
+
+/// What `create` does, below its help.
+const CREATED: &str = "\
+A file that isn't there is made; one that is there has to be empty. A file that isn't empty is left as it is, and the
+program ends with status 1 and the line 'vault exists'.
+Example:
+  vaultd create vault.a vault.b";
+
+/// What `inspect` prints, below its help.
+const INSPECTED: &str = "\
+The files are only read. A line for each file says whether it is closed, open, older than the other or damaged at an
+offset; then come the vault's counts and a line for each standing claim, or 'no vault'.
+Example:
+  vaultd inspect vault.a vault.b
+prints for a new vault:
+  file a: open, generation 1, frames 0, tail 34
+  file b: closed
+  places 1, versions 0, claims 0, drafts 0";
+
+/// An example, below the help of the program.
+const EXAMPLE: &str = "\
+Example:
+  printf '@1 hello anna\\n@1 make /engine\\n@1 checkout w:/engine\\n' | vaultd script
+'vaultd script --help' lists what a script may say.";
+
+/// What the program is asked to do.
+pub(crate) enum Task<'a> {
+    /// Runs a script.
+    Script,
+    /// Makes a vault in the files of these paths.
+    Create(&'a str, &'a str),
+    /// Reports on the files of these paths.
+    Inspect(&'a str, &'a str),
+}
+
+/// A subcommand over two files.
+fn over_files<'a>(alloc: Global, name: &'a str) -> Result<Command<'a>, AllocError> {
+    let first = Arg::new(alloc, "A")
+        .required(true)
+        .help("The path of the vault's first file");
+    let second = Arg::new(alloc, "B")
+        .required(true)
+        .help("The path of the vault's second file, another one");
+    Command::new(alloc, name).arg(first)?.arg(second)
+}
+
+/// The command line.
+fn command_line<'a>(alloc: Global) -> Result<Command<'a>, AllocError> {
+    let script = Command::new(alloc, "script")
+        .about("Runs a script from standard input over a new vault, replies to standard output")
+        .after_help(LINES);
+    let create = over_files(alloc, "create")?
+        .about(
+            "Makes two files where they are missing and a new vault in them, and prints 'created'",
+        )
+        .after_help(CREATED);
+    let inspect = over_files(alloc, "inspect")?
+        .about("Prints a report on the two files of a vault, and changes neither")
+        .after_help(INSPECTED);
+    Command::new(alloc, "vaultd")
+        .about("The server of an engineering design library")
+        .after_help(EXAMPLE)
+        .subcommand_required(true)
+        .arg_required_else_help(true)
+        .disable_help_subcommand(true)
+        .subcommand(script)?
+        .subcommand(create)?
+        .subcommand(inspect)
+}
+
+/// A path on the command line, which has it.
+fn path<'a>(matches: &ArgMatches<'a>, id: &str) -> &'a str {
+    matches.get_str(id).unwrap_or("")
+}
+
+/// What the words ask for, the program's own name first.
+pub(crate) fn task_of(alloc: Global, words: &[String]) -> Result<Task<'_>, Error> {
+    let matches = command_line(alloc)?.try_get_matches_from(words)?;
+    match matches.subcommand() {
+        Some(("create", files)) => Ok(Task::Create(path(files, "A"), path(files, "B"))),
+        Some(("inspect", files)) => Ok(Task::Inspect(path(files, "A"), path(files, "B"))),
+        _ => Ok(Task::Script),
+    }
+}

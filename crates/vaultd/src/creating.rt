@@ -1,0 +1,69 @@
+//! Making a vault in two files.
+
+use crate::fault::Fault;
+use std::alloc::Global;
+use std::fs::{self, File, OpenOptions};
+use std::io::ErrorKind;
+use vault_device::FileDevice;
+use vault_store::Store;
+
+/// A file that is open for a new vault, and whether it was made for it.
+#[derive(Drop)]
+struct Opened {
+    file: File,
+    made: bool,
+}
+
+/// Opens a file, or makes it where it is missing.
+fn open_or_make(rt: &HostRuntime, path: &str) -> Result<Opened, Fault> {
+    let mut options = OpenOptions::new();
+    options.read(true).write(true);
+    match options.open(rt, path) {
+        Ok(file) => Ok(Opened { file, made: false }),
+        Err(error) if error.kind() == ErrorKind::NotFound => match File::create_new(rt, path) {
+            Ok(file) => Ok(Opened { file, made: true }),
+            Err(_) => Err(Fault::Device),
+        },
+        Err(_) => Err(Fault::Device),
+    }
+}
+
+/// Takes a file away again that was made for a vault, where no vault came into it.
+fn take_back(rt: &HostRuntime, path: &str, made: bool) {
+    if made {
+        let _ = fs::remove_file(rt, path);
+    }
+}
+
+/// Makes a vault in two open files.
+fn create_in(alloc: Global, first: File, second: File) -> Result<(), Fault> {
+    match Store::create(alloc, FileDevice::over(first), FileDevice::over(second)) {
+        Ok(_) => Ok(()),
+        Err(refused) => Err(Fault::from(refused.why)),
+    }
+}
+
+/// Makes a vault in the files of these two paths, which are made where they are missing. Where that is refused, no file is
+/// changed, and those made for it are taken away again.
+pub(crate) fn create_files(rt: &HostRuntime, first: &str, second: &str) -> Result<(), Fault> {
+    let a = open_or_make(rt, first)?;
+    let b = match open_or_make(rt, second) {
+        Ok(b) => b,
+        Err(fault) => {
+            take_back(rt, first, a.made);
+            return Err(fault);
+        }
+    };
+    let created = create_in(rt.alloc(), a.file, b.file);
+    if created.is_err() {
+        take_back(rt, first, a.made);
+        take_back(rt, second, b.made);
+    }
+    created
+}
+
+/// Makes a vault in the files of these two paths, and says so on standard output.
+pub(crate) fn create(rt: &HostRuntime, first: &str, second: &str) -> Result<(), Fault> {
+    create_files(rt, first, second)?;
+    println!(rt; "created").or(Err(Fault::Write))
+}

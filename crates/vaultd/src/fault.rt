@@ -1,0 +1,74 @@
+//! Why the program ends with status 1.
+
+use std::alloc::AllocError;
+use thiserror::Error;
+use vault_inspector::{InspectError, PrintError};
+use vault_protocol::ScriptError;
+use vault_store::CreateError;
+
+/// What went wrong, as it is said in one line.
+#[derive(Clone, Copy, Debug, PartialEq, Eq, Error)]
+pub(crate) enum Fault {
+    /// A file that was to hold a new vault isn't empty.
+    #[error("vault exists")]
+    Exists,
+    /// A file can't be opened, made, read or written.
+    #[error("device fault")]
+    Device,
+    /// Memory was wanted and refused.
+    #[error("want of memory")]
+    NoMemory,
+    /// Standard input failed.
+    #[error("read fault")]
+    Read,
+    /// Standard output failed.
+    #[error("write fault")]
+    Write,
+    /// The script has more bytes than a script may have.
+    #[error("script too long")]
+    TooLong,
+}
+
+impl From<AllocError> for Fault {
+    fn from(_error: AllocError) -> Fault {
+        Fault::NoMemory
+    }
+}
+
+impl From<ScriptError> for Fault {
+    fn from(error: ScriptError) -> Fault {
+        match error {
+            ScriptError::Read => Fault::Read,
+            ScriptError::Write => Fault::Write,
+            ScriptError::TooLong => Fault::TooLong,
+            ScriptError::NoMemory => Fault::NoMemory,
+        }
+    }
+}
+
+impl From<CreateError> for Fault {
+    fn from(error: CreateError) -> Fault {
+        match error {
+            CreateError::Exists => Fault::Exists,
+            CreateError::Device => Fault::Device,
+            CreateError::NoMemory => Fault::NoMemory,
+        }
+    }
+}
+
+impl From<InspectError> for Fault {
+    fn from(error: InspectError) -> Fault {
+        match error {
+            InspectError::Device => Fault::Device,
+            InspectError::NoMemory => Fault::NoMemory,
+        }
+    }
+}
+
+impl From<PrintError> for Fault {
+    fn from(error: PrintError) -> Fault {
+        match error {
+            PrintError::Write => Fault::Write,
+        }
+    }
+}
