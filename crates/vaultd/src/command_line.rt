@@ -1,6 +1,7 @@
 //! What the program is asked to do.
 
-use clap::{Arg, ArgMatches, Command, Error};
+use crate::serving::Serving;
+use clap::{Arg, ArgMatches, Command, Error, value_parser};
 use std::alloc::{AllocError, Global};
 
 /// What a script may say, below the help of `script`.
@@ -40,6 +41,20 @@ prints for a new vault:
   file b: closed
   places 1, versions 0, claims 0, drafts 0";
 
+/// What a client says and is told, below the help of `serve`.
+const SERVED: &str = "\
+Prints 'listening' once it accepts connections, and runs until it is stopped: by any signal, at any time. What a client
+was told is on disk then. A client sends lines as those of a script without '@K ', and is told one line for each.
+There are no passwords: the name in 'hello' is believed, so bind an address that only trusted people reach.
+Example:
+  vaultd create vault.a vault.b
+  vaultd serve vault.a vault.b 127.0.0.1:7070 --workers 16 &
+  printf 'hello anna\\nmake /engine\\nquit\\n' | nc 127.0.0.1 7070
+prints
+  OK session 1
+  OK place 1
+  OK left";
+
 /// An example, below the help of the program.
 const EXAMPLE: &str = "\
 Example:
@@ -54,6 +69,8 @@ pub(crate) enum Task<'a> {
     Create(&'a str, &'a str),
     /// Reports on the files of these paths.
     Inspect(&'a str, &'a str),
+    /// Serves a vault.
+    Serve(Serving<'a>),
 }
 
 /// A subcommand over two files.
@@ -65,6 +82,30 @@ fn over_files<'a>(alloc: Global, name: &'a str) -> Result<Command<'a>, AllocErro
         .required(true)
         .help("The path of the vault's second file, another one");
     Command::new(alloc, name).arg(first)?.arg(second)
+}
+
+/// The subcommand that serves.
+fn serve<'a>(alloc: Global) -> Result<Command<'a>, AllocError> {
+    let address = Arg::new(alloc, "ADDR")
+        .required(true)
+        .help("Where to listen, as 127.0.0.1:7070");
+    let workers = Arg::new(alloc, "workers")
+        .long("workers")
+        .value_name("N")
+        .default_value("4")
+        .value_parser(value_parser!(u32).range(1..=64))
+        .help("How many connections are served at a time, 1 to 64");
+    let connections = Arg::new(alloc, "connections")
+        .long("connections")
+        .value_name("M")
+        .value_parser(value_parser!(u32).range(1..))
+        .help("Ends after so many connections; without it the program serves on");
+    over_files(alloc, "serve")?
+        .about("Serves the vault in two files over TCP")
+        .after_help(SERVED)
+        .arg(address)?
+        .arg(workers)?
+        .arg(connections)
 }
 
 /// The command line.
@@ -88,12 +129,24 @@ fn command_line<'a>(alloc: Global) -> Result<Command<'a>, AllocError> {
         .disable_help_subcommand(true)
         .subcommand(script)?
         .subcommand(create)?
-        .subcommand(inspect)
+        .subcommand(inspect)?
+        .subcommand(serve(alloc)?)
 }
 
-/// A path on the command line, which has it.
+/// A word on the command line, which has it.
 fn path<'a>(matches: &ArgMatches<'a>, id: &str) -> &'a str {
     matches.get_str(id).unwrap_or("")
+}
+
+/// What `serve` is asked to do.
+fn serving<'a>(matches: &ArgMatches<'a>) -> Serving<'a> {
+    Serving {
+        first: path(matches, "A"),
+        second: path(matches, "B"),
+        address: path(matches, "ADDR"),
+        workers: matches.get_one::<u32>("workers").unwrap_or(4),
+        connections: matches.get_one::<u32>("connections"),
+    }
 }
 
 /// What the words ask for, the program's own name first.
@@ -102,6 +155,7 @@ pub(crate) fn task_of(alloc: Global, words: &[String]) -> Result<Task<'_>, Error
     match matches.subcommand() {
         Some(("create", files)) => Ok(Task::Create(path(files, "A"), path(files, "B"))),
         Some(("inspect", files)) => Ok(Task::Inspect(path(files, "A"), path(files, "B"))),
+        Some(("serve", words)) => Ok(Task::Serve(serving(words))),
         _ => Ok(Task::Script),
     }
 }

@@ -4,7 +4,8 @@ use std::alloc::AllocError;
 use thiserror::Error;
 use vault_inspector::{InspectError, PrintError};
 use vault_protocol::ScriptError;
-use vault_store::CreateError;
+use vault_sessions::ServerError;
+use vault_store::{CreateError, File, OpenError};
 
 /// What went wrong, as it is said in one line.
 #[derive(Clone, Copy, Debug, PartialEq, Eq, Error)]
@@ -12,13 +13,22 @@ pub(crate) enum Fault {
     /// A file that was to hold a new vault isn't empty.
     #[error("vault exists")]
     Exists,
+    /// Neither file is open.
+    #[error("no vault")]
+    NoVault,
+    /// The first fault stands in the first file, at this offset.
+    #[error("file a damaged at {0}")]
+    FirstDamaged(u64),
+    /// The first fault stands in the second file, at this offset.
+    #[error("file b damaged at {0}")]
+    SecondDamaged(u64),
     /// A file can't be opened, made, read or written.
     #[error("device fault")]
     Device,
     /// Memory was wanted and refused.
     #[error("want of memory")]
     NoMemory,
-    /// Standard input failed.
+    /// Standard input failed, or the address can't be bound, or no connection accepted.
     #[error("read fault")]
     Read,
     /// Standard output failed.
@@ -52,6 +62,33 @@ impl From<CreateError> for Fault {
             CreateError::Exists => Fault::Exists,
             CreateError::Device => Fault::Device,
             CreateError::NoMemory => Fault::NoMemory,
+        }
+    }
+}
+
+impl From<OpenError> for Fault {
+    fn from(error: OpenError) -> Fault {
+        match error {
+            OpenError::NoVault => Fault::NoVault,
+            OpenError::Damaged {
+                file: File::First,
+                offset,
+            } => Fault::FirstDamaged(offset),
+            OpenError::Damaged {
+                file: File::Second,
+                offset,
+            } => Fault::SecondDamaged(offset),
+            OpenError::Device => Fault::Device,
+            OpenError::NoMemory => Fault::NoMemory,
+        }
+    }
+}
+
+impl From<ServerError> for Fault {
+    fn from(error: ServerError) -> Fault {
+        match error {
+            ServerError::Accept => Fault::Read,
+            ServerError::NoMemory => Fault::NoMemory,
         }
     }
 }

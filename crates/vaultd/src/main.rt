@@ -6,6 +6,7 @@ mod creating;
 mod fault;
 mod inspecting;
 mod scripting;
+mod serving;
 #[cfg(test)]
 mod tests;
 
@@ -14,6 +15,7 @@ use crate::creating::create;
 use crate::fault::Fault;
 use crate::inspecting::inspect;
 use crate::scripting::script;
+use crate::serving::serve;
 use clap::error::ErrorKind;
 use std::process::ExitCode;
 use std::{env, io};
@@ -31,15 +33,6 @@ fn words(rt: &HostRuntime) -> io::Result<Vec<String>> {
         words.push(word)?;
     }
     Ok(words)
-}
-
-/// Does what the program was asked to do.
-fn run(rt: &HostRuntime, task: Task<'_>) -> Result<(), Fault> {
-    match task {
-        Task::Script => script(rt),
-        Task::Create(first, second) => create(rt, first, second),
-        Task::Inspect(first, second) => inspect(rt, first, second),
-    }
 }
 
 /// Says in one line what went wrong.
@@ -63,22 +56,32 @@ fn shown(rt: &HostRuntime, error: &clap::Error) -> ExitCode {
     }
 }
 
+/// Says that the command line can't be read.
+fn unread(rt: &HostRuntime, error: &io::Error) -> ExitCode {
+    if error.kind() == io::ErrorKind::OutOfMemory {
+        return told(rt, Fault::NoMemory);
+    }
+    let _ = eprintln!(rt; "error: an argument is no text");
+    ExitCode::from(REFUSED)
+}
+
 fn main(rt: HostRuntime) -> ExitCode {
     let words = match words(&rt) {
         Ok(words) => words,
-        Err(error) if error.kind() == io::ErrorKind::OutOfMemory => {
-            return told(&rt, Fault::NoMemory);
-        }
-        Err(_) => {
-            let _ = eprintln!(rt; "error: an argument is no text");
-            return ExitCode::from(REFUSED);
-        }
+        Err(error) => return unread(&rt, &error),
     };
-    match task_of(rt.alloc(), words.as_slice()) {
-        Ok(task) => match run(&rt, task) {
-            Ok(()) => ExitCode::SUCCESS,
-            Err(fault) => told(&rt, fault),
-        },
-        Err(error) => shown(&rt, &error),
+    let task = match task_of(rt.alloc(), words.as_slice()) {
+        Ok(task) => task,
+        Err(error) => return shown(&rt, &error),
+    };
+    let done = match task {
+        Task::Script => script(&rt),
+        Task::Create(first, second) => create(&rt, first, second),
+        Task::Inspect(first, second) => inspect(&rt, first, second),
+        Task::Serve(serving) => serve(&rt, &serving),
+    };
+    match done {
+        Ok(()) => ExitCode::SUCCESS,
+        Err(fault) => told(&rt, fault),
     }
 }

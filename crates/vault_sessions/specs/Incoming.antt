@@ -1,0 +1,68 @@
+-- Bytes and lines as they come from a reader. This project's own.
+use Rattle.std.specs.Prelude.{◌≡◌, ◌≢◌, ℕ, ◌+◌, ◌<◌, ◌≤◌, Bool, true, false, List, [], ◌∷◌, ◌++◌, length, take, Option, Some, None, All}
+use Rattle.std.specs.Io.KnownBytes.{Consumes, IsAtEnd}
+use Rattle.vault_protocol.specs.Limits.{longest_line}
+use Rattle.vault_sessions.specs.Inflow.{Inflow}
+use Rattle.vault_sessions.specs.declared.inlet.NextByte.{NextByte}
+use Rattle.vault_sessions.specs.declared.inlet.NextByte.TheVariants as bytes
+use Rattle.vault_sessions.specs.declared.inlet.NextLine.{NextLine}
+use Rattle.vault_sessions.specs.declared.inlet.NextLine.TheVariants as lines
+use Rattle.vault_sessions.specs.declared.inlet.Filled.{Filled}
+use Rattle.vault_sessions.specs.declared.inlet.Filled.TheVariants as filled
+
+-- the most bytes of a connection that are taken
+abbrev pub most_bytes : ℕ
+most_bytes = 16777216
+
+-- the most calls of a connection's reader
+abbrev pub most_reads : ℕ
+most_reads = 33554432
+
+-- no line feed is among the bytes
+abbrev pub IsOneLine : List ℕ → Type 0
+IsOneLine line = All (λ b. b ≢ 10) line
+
+-- the next byte of those that were pending and those that were given since
+abbrev pub GivesByte : Inflow → List ℕ → NextByte → Inflow → Option (List ℕ) → Type 0
+GivesByte old given (bytes.Byte b) new rest = (old.pending ++ given ≡ b ∷ new.pending) × (new.taken ≡ old.taken + 1) × (new.taken ≤ most_bytes)
+GivesByte old given bytes.End new rest = (old.pending ++ given ≡ []) × IsAtEnd rest
+GivesByte old given bytes.Fault new rest = Unit {0}
+GivesByte old given bytes.Limit new rest = most_bytes < old.taken + length (old.pending ++ given)
+
+-- the line so far is kept, while it isn't too long
+abbrev pub KeepsLine : List ℕ → List ℕ → Bool → Type 0
+KeepsLine line kept false = (kept ≡ line) × (length line ≤ longest_line)
+KeepsLine line kept true = longest_line < length line
+
+-- what was pending and given begins with this line and a line feed, which are taken; what is behind them is pending
+pub record CutsLine (old : Inflow) (given line : List ℕ) (new : Inflow) : Type 0 where
+  pub bytes : old.pending ++ given ≡ line ++ 10 ∷ new.pending
+  pub one : IsOneLine line
+  pub taken : new.taken ≡ old.taken + length line + 1
+  pub within : new.taken ≤ most_bytes
+
+-- the next line of those bytes
+abbrev pub GivesLine : Inflow → List ℕ → NextLine → List ℕ → Inflow → Option (List ℕ) → Type 0
+GivesLine old given lines.Whole line new rest = CutsLine old given line new × (length line ≤ longest_line)
+GivesLine old given lines.TooLong line new rest = (long : List ℕ) × CutsLine old given long new × (longest_line < length long)
+GivesLine old given lines.End line new rest = IsOneLine (old.pending ++ given) × IsAtEnd rest
+GivesLine old given lines.Fault line new rest = Unit {0}
+GivesLine old given lines.Limit line new rest = most_bytes < old.taken + length (old.pending ++ given)
+
+-- a read gave the first bytes of the chunk, none only at the end
+abbrev pub ReadsChunk : Option (List ℕ) → Option (List ℕ) → List ℕ → Option ℕ → Type 0
+ReadsChunk old new chunk (Some count) = (count ≤ length chunk) × (count ≤ 1024) × Consumes old new (take count chunk) × (count ≡ 0 → IsAtEnd new)
+ReadsChunk old new chunk None = (given : List ℕ) × Consumes old new given
+
+-- bytes wait now, or none is left
+abbrev pub Fills : Inflow → List ℕ → Filled → Inflow → Option (List ℕ) → Type 0
+Fills old given filled.Waiting new rest = (new.pending ≡ old.pending ++ given) × (0 < length new.pending) × (new.taken ≡ old.taken)
+Fills old given filled.End new rest = (old.pending ++ given ≡ []) × IsAtEnd rest
+Fills old given filled.Fault new rest = Unit {0}
+
+-- the first byte that waits, or there is one too many
+abbrev pub TakesByte : Inflow → NextByte → Inflow → Type 0
+TakesByte old (bytes.Byte b) new = (old.pending ≡ b ∷ new.pending) × (new.taken ≡ old.taken + 1) × (new.taken ≤ most_bytes)
+TakesByte old bytes.End new = ⊥
+TakesByte old bytes.Fault new = ⊥
+TakesByte old bytes.Limit new = most_bytes < old.taken + length old.pending

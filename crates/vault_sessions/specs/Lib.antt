@@ -1,0 +1,6 @@
+pub mod Tallies
+pub mod Pumping
+pub mod Inflow
+pub mod Incoming
+pub mod Serving
+pub mod Waits

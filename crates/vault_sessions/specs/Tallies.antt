@@ -1,0 +1,29 @@
+-- What redeeming a ticket counts, and whose receipt it gives. This project's own.
+use Rattle.std.specs.Prelude.{◌≡◌, ◌+◌}
+use Rattle.group_commit.specs.declared.answers.Redeemed.{Redeemed}
+use Rattle.group_commit.specs.declared.answers.Redeemed.TheVariants as redeemed
+use Rattle.group_commit.specs.Ticket.{Claim, Told}
+use Rattle.vault_sessions.specs.declared.tally.Totals.{Totals}
+
+-- a receipt is of the entry that a ticket names
+pub record IsReceiptFor (claim : Claim) (told : Told) : Type 0 where
+  pub position : told.position ≡ claim.position
+  pub session : told.session ≡ claim.session
+  pub number : told.number ≡ claim.number
+  pub command : told.command ≡ claim.command
+
+-- the receipt is for the ticket, or the ticket came back
+abbrev pub IsOfTicket : {A : Type 0} → Claim → Redeemed A → Type 0
+IsOfTicket claim (redeemed.Told receipt) = IsReceiptFor claim receipt
+IsOfTicket claim (redeemed.NotYet back) = back ≡ claim
+IsOfTicket claim (redeemed.Stranger back) = back ≡ claim
+IsOfTicket claim (redeemed.Unknown back) = back ≡ claim
+IsOfTicket claim (redeemed.NoMemory back) = back ≡ claim
+
+-- a receipt is counted once, and nothing else
+abbrev pub CountsRedeem : {A : Type 0} → Totals → Redeemed A → Totals → Type 0
+CountsRedeem old (redeemed.Told receipt) new = new ≡ record old { told = old.told + 1 }
+CountsRedeem old (redeemed.NotYet back) new = new ≡ old
+CountsRedeem old (redeemed.Stranger back) new = new ≡ old
+CountsRedeem old (redeemed.Unknown back) new = new ≡ old
+CountsRedeem old (redeemed.NoMemory back) new = new ≡ old

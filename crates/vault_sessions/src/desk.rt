@@ -1,0 +1,158 @@
+//! What lies under the lock.
+ghost use Rattle.std.specs.Prelude.{◌≡◌, ◌+◌, ◌≤◌, ◌↔◌, IsTrue, IfOk, IfErr, OnOk, OnErr, Some, true, false};
+ghost use Rattle.group_commit.specs.History.{entry_of};
+ghost use Rattle.group_commit.specs.World.{Stage};
+ghost use Rattle.group_commit.specs.View.{length_of, book_of, view_acted};
+ghost use Rattle.group_commit.specs.Seen.{snapshot_length};
+ghost use Rattle.group_commit.specs.Ticket.{claim_of};
+ghost use Rattle.group_commit.specs.Calls.{IsReason, IsRedeemed, IsForgotten};
+ghost use Rattle.group_commit.specs.Pasts.{IsNext};
+ghost use Rattle.vault_sessions.specs.Tallies.{IsOfTicket, CountsRedeem};
+ghost use Rattle.vault_sessions.specs.Pumping.{IsPumped, IsAtRest};
+ghost use Rattle.vault_sessions.specs.declared.flusher.Flushed.TheVariants as Flushed;
+
+use crate::flusher::Flushed;
+use crate::tally::{Share, Tally};
+use group_commit::promises::a_vault_keeps_its_history;
+use group_commit::{Forgotten, Pumped, Redeemed, Ticket, Vault};
+use std::alloc::{Allocator, Global};
+use std::marker::Model;
+use std::sync::ledger::Book;
+use vault_device::{Device, Fault};
+use vault_model::{CommandIn, Outside};
+
+/// A vault and the books of both tallies, of what was counted before, and whether the flusher is to end. Contracts see the vault.
+#[derive(Drop)]
+pub struct Desk<D: Device, S: Tally, T: Tally, A: Allocator = Global> {
+    pub(crate) vault: Vault<D, A>,
+    pub(crate) staged: Book<S>,
+    pub(crate) told: Book<T>,
+    pub(crate) opening: Share<S, T>,
+    pub(crate) closed: bool,
+}
+
+impl<D: Device, S: Tally, T: Tally, A: Allocator> Model for Desk<D, S, T, A> {
+    ghost use Rattle.std.specs.Prelude.{◌≡◌};
+    ghost use Rattle.group_commit.specs.View.{length_of};
+    ghost use Rattle.group_commit.specs.Seen.{Seen};
+
+    ghost Value = { Seen D };
+
+    ghost view = { λ d. d.vault };
+
+    ghost invariant = { λ d. (d.staged.total ≡ length_of d.vault.view) × (d.told.total ≡ d.vault.view.told) × (d.opening.staged ≡ S.opening) × (d.opening.told ≡ T.opening) };
+}
+
+impl<D: Device, S: Tally, T: Tally, A: Allocator + Copy> Desk<D, S, T, A> {
+    /// Gives a session's command a place in the history, and counts the ticket in the share. A refusal hands the command back.
+    pub fn stage(
+        &mut self,
+        session: u32,
+        command: CommandIn<A>,
+        share: &mut Share<S, T>,
+    ) -> Result<Ticket<A>, (Outside, CommandIn<A>)>
+        ensures staged { OnOk result (self.new.view ≡ view_acted snapshot_length self.old.view (Stage session command)) }
+        ensures counted { OnOk result (share.new ≡ record share.old { staged = share.old.staged + 1 }) }
+        ensures ticket { IfOk result (λ ticket. ticket ≡ claim_of self.old.life (length_of self.old.view) (entry_of (book_of self.old.view) session command)) }
+        ensures asked { IfOk result (λ ticket. (ticket.session ≡ session) × (ticket.command ≡ command)) }
+        ensures refused { OnErr result ((self.new ≡ self.old) × (share.new ≡ share.old)) }
+        ensures handed_back { IfErr result (λ refusal. refusal.1 ≡ command) }
+        ensures reason { IfErr result (λ refusal. IsReason self.old refusal.0) }
+        ensures least { (share.new.staged + S.opening ≤ length_of self.new.view) × (share.new.told + T.opening ≤ self.new.view.told) }
+        ensures next { IsNext D.disk self.old self.new }
+    {
+        share.audit_beside(&mut self.opening, &mut self.staged, &mut self.told);
+        match self.vault.stage(session, command) {
+            Ok(ticket) => {
+                let _length = self.vault.len();
+                self.staged.add(&mut share.staged, 1);
+                share.counts.staged += 1;
+                Ok(ticket)
+            }
+            Err(refused) => Err(refused),
+        }
+    }
+
+    /// The reply of the entry that a ticket names, once that is settled, counted in the share. Else the ticket comes back.
+    pub fn redeem(&mut self, ticket: Ticket<A>, share: &mut Share<S, T>) -> Redeemed<A>
+        ensures redeemed { IsRedeemed self.old self.new ticket result }
+        ensures of_ticket { IsOfTicket ticket result }
+        ensures counted { CountsRedeem share.old result share.new }
+        ensures least { (share.new.staged + S.opening ≤ length_of self.new.view) × (share.new.told + T.opening ≤ self.new.view.told) }
+        ensures next { IsNext D.disk self.old self.new }
+    {
+        share.audit_beside(&mut self.opening, &mut self.staged, &mut self.told);
+        match self.vault.redeem(ticket) {
+            Redeemed::Told(receipt) => {
+                let _told = self.vault.told();
+                self.told.add(&mut share.told, 1);
+                share.counts.told += 1;
+                Redeemed::Told(receipt)
+            }
+            other => other,
+        }
+    }
+
+    /// Spends a ticket without its reply. No tally changes.
+    pub fn forget(&mut self, ticket: Ticket<A>) -> Forgotten
+        ensures closed { IsForgotten self.old self.new ticket result }
+        ensures next { IsNext D.disk self.old self.new }
+    {
+        self.vault.forget(ticket)
+    }
+
+    /// Does the next step of a commit. No tally changes.
+    pub fn pump(&mut self) -> Result<Pumped, Fault>
+        ensures pumped { IsPumped self.old result self.new }
+        ensures same { (length_of self.new.view ≡ length_of self.old.view) × (self.new.view.told ≡ self.old.view.told) }
+        ensures next { IsNext D.disk self.old self.new }
+    {
+        self.vault.pump()
+    }
+}
+
+impl<D: Device, S: Tally, T: Tally, A: Allocator + Copy> Desk<D, S, T, A> {
+    // How many commands were staged.
+    pub(crate) fn len(&self) -> u64
+        ensures { result ≡ length_of self.now.view }
+    {
+        self.vault.len()
+    }
+
+    /// Whether there is nothing to pump, and more may come.
+    pub(crate) fn is_quiet(&self) -> bool
+        ensures { IsTrue result → (self.now.view.broken ≡ false) × IsAtRest self.now.view }
+    {
+        !self.closed && self.is_settled() && !self.vault.is_broken()
+    }
+
+    /// Why the flusher ends now, if it does.
+    pub(crate) fn flushed(&self) -> Option<Flushed>
+        ensures broken { (result ≡ Some Flushed.Broken) ↔ (self.now.view.broken ≡ true) }
+        ensures closed { result ≡ Some Flushed.Closed → IsAtRest self.now.view }
+    {
+        if self.vault.is_broken() {
+            return Some(Flushed::Broken);
+        }
+        if self.closed && self.is_settled() {
+            return Some(Flushed::Closed);
+        }
+        None
+    }
+
+    /// Lets the flusher end once all is settled.
+    pub(crate) fn close(&mut self)
+        ensures { self.new ≡ self.old }
+    {
+        self.closed = true;
+    }
+
+    // Whether every entry is settled. Then no commit is under way, since a commit has an effect to settle.
+    fn is_settled(&self) -> bool
+        ensures settled { IsTrue result ↔ (self.now.view.settled ≡ length_of self.now.view) }
+        ensures at_rest { IsTrue result → IsAtRest self.now.view }
+    {
+        a_vault_keeps_its_history(&self.vault);
+        self.vault.durable() == self.vault.len()
+    }
+}

@@ -1,0 +1,28 @@
+//! Points at which a test can hold a thread.
+
+/// Where a thread stands, with the number of its connection.
+#[derive(Debug, Clone, Copy, PartialEq, Eq)]
+pub enum Point {
+    /// A worker is about to read a line.
+    Read(u32),
+    /// A worker staged a command.
+    Staged(u32),
+    /// A worker has the receipt, and hasn't written its text yet.
+    Told(u32),
+    /// The flusher is about to pump.
+    Pump,
+}
+
+/// What is called at each point. No lock is held there.
+pub trait Gate {
+    /// Returns once the thread may go on.
+    fn at(&self, point: Point);
+}
+
+/// Holds nobody.
+#[derive(Debug, Clone, Copy, PartialEq, Eq)]
+pub struct OpenGate;
+
+impl Gate for OpenGate {
+    fn at(&self, _point: Point) {}
+}

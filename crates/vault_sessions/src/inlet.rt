@@ -1,0 +1,197 @@
+//! Bytes and lines from a reader, within bounds.
+
+ghost use Rattle.std.specs.Prelude.{◌≡◌, ◌+◌, ◌≤◌, ◌<◌, List, ℕ, [], ◌∷◌, ◌++◌, length, take, true, vec_capacity};
+ghost use Rattle.std.specs.Io.KnownBytes.{Consumes, IsAtEnd};
+ghost use Rattle.vault_protocol.specs.Limits.{longest_line};
+ghost use Rattle.vault_sessions.specs.Inflow.{Inflow};
+ghost use Rattle.vault_sessions.specs.Incoming.{most_bytes, most_reads, GivesByte, GivesLine, KeepsLine, ReadsChunk, Fills, TakesByte};
+
+use std::alloc::Allocator;
+use std::io::{ErrorKind, Read};
+use std::marker::Model;
+use vault_protocol::{LONGEST_LINE, MOST_READS};
+
+// The most bytes of a connection that are taken. It ends at the first one behind them.
+const MOST_BYTES: u64 = 16_777_216;
+
+// How many bytes a read may give.
+const CHUNK: usize = 1024;
+
+/// What comes next.
+#[derive(Debug, Clone, Copy, PartialEq, Eq)]
+pub(crate) enum NextByte {
+    Byte(u8),
+    /// The reader has no more.
+    End,
+    /// The reader failed, or was called too often.
+    Fault,
+    /// There is a byte, but too many were taken.
+    Limit,
+}
+
+/// How the next line came.
+#[derive(Debug, Clone, Copy, PartialEq, Eq)]
+pub(crate) enum NextLine {
+    /// It lies in the buffer, without its line feed.
+    Whole,
+    /// It was read up to its line feed, but has too many bytes.
+    TooLong,
+    /// The reader has no more line feed.
+    End,
+    /// The reader failed, or was called too often.
+    Fault,
+    /// Too many bytes were taken.
+    Limit,
+}
+
+/// What lies between a reader and the lines of a connection. Contracts see the bytes that wait, and how many were taken.
+#[derive(Drop)]
+pub(crate) struct Inlet {
+    chunk: [u8; CHUNK],
+    at: usize,
+    end: usize,
+    taken: u64,
+    reads: u32,
+}
+
+impl Model for Inlet {
+    ghost use Rattle.std.specs.Prelude.{◌-◌, ◌≤◌, take, drop};
+    ghost use Rattle.vault_sessions.specs.Inflow.{Inflow};
+    ghost use Rattle.vault_sessions.specs.Incoming.{most_bytes, most_reads};
+
+    ghost Value = { Inflow };
+
+    ghost view = { λ i. record { pending = take (i.end - i.at) (drop i.at i.chunk); taken = i.taken } };
+
+    ghost invariant = { λ i. (i.at ≤ i.end) × (i.end ≤ 1024) × (i.taken ≤ most_bytes) × (i.reads ≤ most_reads) };
+}
+
+impl Inlet {
+    /// Nothing was read.
+    pub fn new() -> Inlet
+        ensures { result ≡ record { pending = []; taken = 0 } }
+    {
+        Inlet {
+            chunk: [0; CHUNK],
+            at: 0,
+            end: 0,
+            taken: 0,
+            reads: 0,
+        }
+    }
+
+    /// The next byte. A read that is interrupted is tried again, and counts among the reads.
+    pub fn next_byte<R: Read>(&mut self, reader: &mut R) -> NextByte
+        ensures { (given : List ℕ) × Consumes (R.remaining reader.old) (R.remaining reader.new) given
+            × GivesByte self.old given result self.new (R.remaining reader.new) }
+    {
+        match self.fill(reader) {
+            Filled::Waiting => self.take_byte(),
+            Filled::End => NextByte::End,
+            Filled::Fault => NextByte::Fault,
+        }
+    }
+
+    // Reads where nothing waits.
+    fn fill<R: Read>(&mut self, reader: &mut R) -> Filled
+        ensures { (given : List ℕ) × Consumes (R.remaining reader.old) (R.remaining reader.new) given
+            × Fills self.old given result self.new (R.remaining reader.new) }
+    {
+        if self.at < self.end {
+            return Filled::Waiting;
+        }
+        match read_chunk(reader, &mut self.chunk, &mut self.reads) {
+            Some(0) => Filled::End,
+            Some(count) => {
+                self.at = 0;
+                self.end = count;
+                Filled::Waiting
+            }
+            None => Filled::Fault,
+        }
+    }
+
+    // The first byte that waits.
+    fn take_byte(&mut self) -> NextByte
+        requires { 0 < length self.old.pending }
+        ensures { TakesByte self.old result self.new }
+    {
+        if self.taken >= MOST_BYTES {
+            return NextByte::Limit;
+        }
+        let byte = self.chunk[self.at];
+        self.at += 1;
+        self.taken += 1;
+        NextByte::Byte(byte)
+    }
+
+    /// The next line, into a buffer that has room for the longest. Of a longer one all bytes are taken.
+    pub fn next_line<R: Read, A: Allocator>(
+        &mut self,
+        reader: &mut R,
+        line: &mut Vec<u8, A>,
+    ) -> NextLine
+        requires { longest_line ≤ vec_capacity line.old }
+        ensures line { (given : List ℕ) × Consumes (R.remaining reader.old) (R.remaining reader.new) given
+            × GivesLine self.old given result line.new.items self.new (R.remaining reader.new) }
+        ensures room { vec_capacity line.new ≡ vec_capacity line.old }
+    {
+        line.clear();
+        let mut is_long = false;
+        loop {
+            match self.next_byte(reader) {
+                NextByte::Byte(b'\n') => {
+                    return if is_long {
+                        NextLine::TooLong
+                    } else {
+                        NextLine::Whole
+                    };
+                }
+                NextByte::Byte(byte) => is_long = keep(line, is_long, byte),
+                NextByte::End => return NextLine::End,
+                NextByte::Fault => return NextLine::Fault,
+                NextByte::Limit => return NextLine::Limit,
+            }
+        }
+    }
+}
+
+// Puts one more byte to the line, while it isn't too long. Answers whether it is.
+fn keep<A: Allocator>(line: &mut Vec<u8, A>, is_long: bool, byte: u8) -> bool
+    requires { longest_line ≤ vec_capacity line.old }
+    ensures room { vec_capacity line.new ≡ vec_capacity line.old }
+    ensures kept { (so_far : List ℕ) → KeepsLine so_far line.old.items is_long → KeepsLine (so_far ++ byte ∷ []) line.new.items result }
+{
+    if is_long || line.len() >= LONGEST_LINE {
+        return true;
+    }
+    line.push_reserved(byte);
+    false
+}
+
+// Whether bytes wait.
+enum Filled {
+    Waiting,
+    End,
+    Fault,
+}
+
+// Reads once, and again where the read was interrupted. None where the reader failed, or was called too often.
+fn read_chunk<R: Read>(reader: &mut R, chunk: &mut [u8; CHUNK], reads: &mut u32) -> Option<usize>
+    requires { reads.old ≤ most_reads }
+    ensures reads { reads.new ≤ most_reads }
+    ensures bytes { ReadsChunk (R.remaining reader.old) (R.remaining reader.new) chunk.new result }
+{
+    for _ in 0..MOST_READS {
+        if *reads >= MOST_READS {
+            return None;
+        }
+        *reads += 1;
+        match reader.read(chunk) {
+            Ok(count) => return Some(count),
+            Err(error) if error.kind() == ErrorKind::Interrupted => {}
+            Err(_) => return None,
+        }
+    }
+    None
+}

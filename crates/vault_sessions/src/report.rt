@@ -1,0 +1,43 @@
+//! What a conversation came to.
+
+use crate::tally::{Share, Tally};
+use group_commit::Receipt;
+use std::alloc::{Allocator, Global};
+use vault_model::Outside;
+
+/// The answer to a line.
+#[derive(Drop)]
+pub enum Out<A: Allocator = Global> {
+    /// Its command got this reply.
+    Told(Receipt<A>),
+    /// It got no place in the history, or what became of it isn't known.
+    Refused(Outside),
+}
+
+/// Why a conversation ended.
+#[derive(Debug, Clone, Copy, PartialEq, Eq)]
+pub enum Ended {
+    /// The session left.
+    Quit,
+    /// The reader has no more lines.
+    EndOfInput,
+    /// The reader failed, or was called too often.
+    Read,
+    /// The writer failed, or took nothing.
+    Write,
+    /// There is a byte behind the most lines or the most bytes.
+    Limit,
+    /// Memory was wanted and refused.
+    NoMemory,
+}
+
+/// A conversation that ended.
+#[derive(Drop)]
+pub struct Report<S: Tally, T: Tally, A: Allocator = Global> {
+    /// The answers to its lines, in order.
+    pub outs: Vec<Out<A>, A>,
+    /// The worker's share.
+    pub share: Share<S, T>,
+    /// Why it ended.
+    pub ended: Ended,
+}

@@ -1,0 +1,210 @@
+//! One desk under one lock.
+ghost use Rattle.std.specs.Prelude.{◌≡◌, ◌+◌, ◌<◌, ◌≤◌, ◌^◌, ◌↔◌, IfOk, IfErr, IsOk, All, sum_by, vec_len};
+ghost use Rattle.group_commit.specs.View.{length_of};
+
+use crate::desk::Desk;
+use crate::tally::{Share, Tally, Totals};
+use group_commit::Vault;
+use std::alloc::{AllocError, Allocator, Global};
+use std::marker::Model;
+use std::sync::ledger::{Blank, Book, Share as Part};
+use std::sync::{Condvar, Mutex, Wait};
+use vault_device::Device;
+
+/// A desk under a lock, for some workers and a flusher. Contracts see how many shares it gave out.
+#[derive(Drop)]
+pub struct Shared<D: Device, S: Tally, T: Tally, A: Allocator = Global> {
+    pub(crate) desk: Mutex<Desk<D, S, T, A>>,
+    // The flusher waits for it: something was staged, or the flusher is to end.
+    pub(crate) work: Condvar,
+    // Workers wait for it: something was settled, or the vault is broken.
+    pub(crate) settled: Condvar,
+    workers: usize,
+}
+
+impl<D: Device, S: Tally, T: Tally, A: Allocator> Model for Shared<D, S, T, A> {
+    ghost use Rattle.std.specs.Prelude.{◌≡◌, ◌+◌, ℕ};
+
+    ghost Value = { ℕ };
+
+    ghost view = { λ s. s.workers };
+
+    ghost invariant = { λ s. (s.workers + 1 ≡ S.all) × (s.workers + 1 ≡ T.all) };
+}
+
+impl<D: Device, S: Tally, T: Tally, A: Allocator + Copy> Shared<D, S, T, A> {
+    /// Puts a vault under a lock, with a share for each worker. The two blanks are for as many parts as there are workers, and
+    /// one more. Where memory is refused, the vault comes back.
+    pub fn new(
+        alloc: A,
+        staged: Blank,
+        told: Blank,
+        vault: Vault<D, A>,
+        workers: usize,
+    ) -> Result<(Shared<D, S, T, A>, Vec<Share<S, T>, A>), Vault<D, A>>
+        requires workers { (0 < workers) × (workers ≤ 64) }
+        requires whole { (S.all ≡ S.parts) × (T.all ≡ T.parts) }
+        requires staged { (staged.name ≡ S.name) × (staged.parts ≡ S.parts) × (S.all ≡ workers + 1) × (S.opening ≡ length_of vault.view) }
+        requires told { (told.name ≡ T.name) × (told.parts ≡ T.parts) × (T.all ≡ workers + 1) × (T.opening ≡ vault.view.told) }
+        ensures shares { IfOk result (λ made. (made.0 ≡ workers) × (vec_len made.1 ≡ workers)) }
+        ensures empty { IfOk result (λ made. All (λ share. (share.staged ≡ 0) × (share.told ≡ 0)) made.1.items) }
+        ensures handed_back { IfErr result (λ back. back ≡ vault) }
+    {
+        let (mut staged, staged_parts) = staged.open::<S>();
+        let (mut told, told_parts) = told.open::<T>();
+        let Ok((shares, mut staged_rest, mut told_rest)) = cut(
+            alloc,
+            staged_parts,
+            told_parts,
+            workers,
+        ) else {
+            return Err(vault);
+        };
+        let counts = Totals {
+            staged: vault.len(),
+            told: vault.told(),
+        };
+        staged.add(&mut staged_rest, counts.staged);
+        told.add(&mut told_rest, counts.told);
+        let desk = Desk {
+            vault,
+            staged,
+            told,
+            opening: Share {
+                counts,
+                staged: staged_rest,
+                told: told_rest,
+            },
+            closed: false,
+        };
+        let shared = Shared {
+            desk: Mutex::new(desk),
+            work: Condvar::new(),
+            settled: Condvar::new(),
+            workers,
+        };
+        Ok((shared, shares))
+    }
+
+    /// Lets the flusher end once all is settled. Is called once no worker stages any more; a second call changes nothing. Waits
+    /// for the lock.
+    pub fn close<H: Wait>(&self, rt: &H) {
+        self.desk.lock(rt).close();
+        self.work.notify_all();
+    }
+
+    // How many shares were given out.
+    pub(crate) fn workers(&self) -> usize
+        ensures { result ≡ self.now }
+    {
+        self.workers
+    }
+}
+
+/// Takes the vault out of its lock, with what was counted since it was put there. Where a share is missing, all comes back.
+pub fn gather<D: Device, S: Tally, T: Tally, A: Allocator + Copy>(
+    shared: Shared<D, S, T, A>,
+    shares: Vec<Share<S, T>, A>,
+) -> Result<(Vault<D, A>, Totals), (Shared<D, S, T, A>, Vec<Share<S, T>, A>)>
+    requires { (S.all ≡ S.parts) × (T.all ≡ T.parts) }
+    ensures all { IsOk result ↔ (vec_len shares ≡ shared) }
+    ensures totals { IfOk result (λ gathered. (gathered.1.staged ≡ sum_by (λ share. share.staged) shares.items) × (gathered.1.told ≡ sum_by (λ share. share.told) shares.items)) }
+    ensures grown { IfOk result (λ gathered. (length_of gathered.0.view ≡ S.opening + gathered.1.staged) × (gathered.0.view.told ≡ T.opening + gathered.1.told)) }
+    ensures handed_back { IfErr result (λ back. (back.0 ≡ shared) × (back.1.items ≡ shares.items)) }
+{
+    if shares.len() != shared.workers {
+        return Err((shared, shares));
+    }
+    let Shared {
+        desk,
+        work: _,
+        settled: _,
+        workers: _,
+    } = shared;
+    Ok(merge(desk.into_inner(), shares))
+}
+
+// An empty share for each worker, and a part of each tally that is left.
+fn cut<S: Tally, T: Tally, A: Allocator>(
+    alloc: A,
+    mut staged: Part<S>,
+    mut told: Part<T>,
+    workers: usize,
+) -> Result<(Vec<Share<S, T>, A>, Part<S>, Part<T>), AllocError>
+    requires parts { (staged.parts ≡ workers + 1) × (told.parts ≡ workers + 1) }
+    requires amounts { (staged.amount ≡ 0) × (told.amount ≡ 0) }
+    ensures shares { IfOk result (λ made. vec_len made.0 ≡ workers) }
+    ensures empty { IfOk result (λ made. All (λ share. (share.staged ≡ 0) × (share.told ≡ 0)) made.0.items) }
+    ensures staged { IfOk result (λ made. (made.1.parts ≡ 1) × (made.1.amount ≡ 0)) }
+    ensures told { IfOk result (λ made. (made.2.parts ≡ 1) × (made.2.amount ≡ 0)) }
+{
+    let mut shares = Vec::new(alloc);
+    shares.reserve(workers)?;
+    for _i in 0..workers {
+        shares.push_reserved(Share {
+            counts: Totals { staged: 0, told: 0 },
+            staged: staged.split_off(1, 0),
+            told: told.split_off(1, 0),
+        });
+    }
+    Ok((shares, staged, told))
+}
+
+// The vault, with what all shares count.
+fn merge<D: Device, S: Tally, T: Tally, A: Allocator + Copy>(
+    desk: Desk<D, S, T, A>,
+    shares: Vec<Share<S, T>, A>,
+) -> (Vault<D, A>, Totals)
+    requires { (vec_len shares + 1 ≡ S.parts) × (vec_len shares + 1 ≡ T.parts) }
+    ensures totals { (result.1.staged ≡ sum_by (λ share. share.staged) shares.items) × (result.1.told ≡ sum_by (λ share. share.told) shares.items) }
+    ensures grown { (length_of result.0.view ≡ S.opening + result.1.staged) × (result.0.view.told ≡ T.opening + result.1.told) }
+{
+    let Desk {
+        vault,
+        staged,
+        told,
+        opening,
+        closed: _,
+    } = desk;
+    let _length = vault.len();
+    let _told = vault.told();
+    let totals = add_up(staged, told, opening, shares);
+    (vault, totals)
+}
+
+// What all shares count. With the opening share they have all that the books have.
+fn add_up<S: Tally, T: Tally, A: Allocator>(
+    mut staged: Book<S>,
+    mut told: Book<T>,
+    opening: Share<S, T>,
+    mut shares: Vec<Share<S, T>, A>,
+) -> Totals
+    requires parts { (vec_len shares + 1 ≡ S.parts) × (vec_len shares + 1 ≡ T.parts) }
+    requires bounds { (staged.total < 2 ^ 64) × (told.total < 2 ^ 64) }
+    ensures totals { (result.staged ≡ sum_by (λ share. share.staged) shares.items) × (result.told ≡ sum_by (λ share. share.told) shares.items) }
+    ensures staged { staged.total ≡ opening.staged + result.staged }
+    ensures told { told.total ≡ opening.told + result.told }
+{
+    let Share {
+        counts: _,
+        staged: mut staged_parts,
+        told: mut told_parts,
+    } = opening;
+    let mut totals = Totals { staged: 0, told: 0 };
+    while let Some(share) = shares.pop() {
+        let Share {
+            counts,
+            staged: staged_part,
+            told: told_part,
+        } = share;
+        staged_parts.merge(staged_part);
+        told_parts.merge(told_part);
+        staged.audit(&mut staged_parts);
+        told.audit(&mut told_parts);
+        totals.staged += counts.staged;
+        totals.told += counts.told;
+    }
+    staged.audit(&mut staged_parts);
+    told.audit(&mut told_parts);
+    totals
+}

@@ -1,0 +1,93 @@
+//! Two tallies: how many commands were staged, and how many replies were told.
+ghost use Rattle.std.specs.Prelude.{◌≡◌, ℕ, ◌+◌, ◌≤◌};
+
+use std::marker::{Brand, Model};
+use std::sync::ledger::{Book, Ledger, Share as Part};
+
+/// A ledger that counts for one `Shared`.
+pub trait Tally: Ledger {
+    /// What was counted before it was made.
+    ghost opening: { ℕ };
+
+    /// All its parts: one for each worker, and one for what was counted before.
+    ghost all: { ℕ };
+}
+
+impl Tally for Brand {
+    ghost opening = { 0 };
+
+    ghost all = { 0 };
+}
+
+/// How many commands were staged, and how many replies were told.
+#[derive(Debug, Clone, Copy, PartialEq, Eq)]
+pub struct Totals {
+    /// Commands that got a ticket.
+    pub staged: u64,
+    /// Receipts.
+    pub told: u64,
+}
+
+/// A worker's part of both tallies: it counts the tickets and the receipts that the worker got. It can't be copied, and only
+/// `Shared::new` makes one.
+#[derive(Drop)]
+pub struct Share<S: Tally, T: Tally> {
+    pub(crate) counts: Totals,
+    pub(crate) staged: Part<S>,
+    pub(crate) told: Part<T>,
+}
+
+impl<S: Tally, T: Tally> Model for Share<S, T> {
+    ghost use Rattle.std.specs.Prelude.{◌≡◌};
+    ghost use Rattle.vault_sessions.specs.declared.tally.Totals.{Totals};
+
+    ghost Value = { Totals };
+
+    ghost view = { λ s. s.counts };
+
+    ghost invariant = { λ s. (s.staged.parts ≡ 1) × (s.staged.amount ≡ s.counts.staged) × (s.told.parts ≡ 1) × (s.told.amount ≡ s.counts.told) };
+}
+
+impl<S: Tally, T: Tally> Share<S, T> {
+    /// What it counted.
+    pub fn counts(&self) -> Totals
+        ensures { result ≡ self.now }
+    {
+        self.counts
+    }
+
+    /// What this share and another count lies within the books.
+    pub(crate) fn audit_beside(
+        &mut self,
+        other: &mut Share<S, T>,
+        staged: &mut Book<S>,
+        told: &mut Book<T>,
+    )
+        ensures same { (self.new ≡ self.old) × (other.new ≡ other.old) }
+        ensures books { (staged.new.total ≡ staged.old.total) × (told.new.total ≡ told.old.total) }
+        ensures staged { self.new.staged + other.new.staged ≤ staged.new.total }
+        ensures told { self.new.told + other.new.told ≤ told.new.total }
+    {
+        audit_both(
+            staged,
+            &mut self.staged,
+            &mut other.staged,
+            other.counts.staged,
+        );
+        audit_both(told, &mut self.told, &mut other.told, other.counts.told);
+    }
+}
+
+// What two parts have lies within the book.
+fn audit_both<L: Ledger>(book: &mut Book<L>, mine: &mut Part<L>, other: &mut Part<L>, amount: u64)
+    requires parts { (mine.old.parts ≡ 1) × (other.old.parts ≡ 1) }
+    requires amount { other.old.amount ≡ amount }
+    ensures book { book.new.total ≡ book.old.total }
+    ensures mine { (mine.new.parts ≡ mine.old.parts) × (mine.new.amount ≡ mine.old.amount) }
+    ensures other { (other.new.parts ≡ other.old.parts) × (other.new.amount ≡ other.old.amount) }
+    ensures within { mine.old.amount + other.old.amount ≤ book.old.total }
+{
+    other.give(mine, 1, amount);
+    book.audit(mine);
+    mine.give(other, 1, amount);
+}
