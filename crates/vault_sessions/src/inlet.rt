@@ -140,13 +140,8 @@ impl Inlet {
         let mut is_long = false;
         loop {
             match self.next_byte(reader) {
-                NextByte::Byte(b'\n') => {
-                    return if is_long {
-                        NextLine::TooLong
-                    } else {
-                        NextLine::Whole
-                    };
-                }
+                NextByte::Byte(b'\n') if is_long => return NextLine::TooLong,
+                NextByte::Byte(b'\n') => return NextLine::Whole,
                 NextByte::Byte(byte) => is_long = keep(line, is_long, byte),
                 NextByte::End => return NextLine::End,
                 NextByte::Fault => return NextLine::Fault,
