@@ -1,44 +1,53 @@
 use super::*;
 use std::alloc::{Allocator, Global};
-use std::test::Fail;
+use std::process::Abort;
 use test_memory::Refusing;
 use vault_model::{Draft, Drafts, Listing, NoMemory, PlaceId};
 
 // Drafts of these places, with these contents.
-fn drafts_of(alloc: Global, rows: &[(u32, &[u8])]) -> Result<Drafts<Global>, Fail> {
+fn drafts_of(rt: &impl Abort, alloc: Global, rows: &[(u32, &[u8])]) -> Drafts<Global> {
     let mut drafts = Vec::new(alloc);
     for (place, content) in rows {
-        drafts.push(Draft {
+        let content = Vec::from_slice(alloc, content).expect(rt, "memory");
+        let draft = Draft {
             place: PlaceId(*place),
-            content: Listing::from_vec(Vec::from_slice(alloc, content)?),
-        })?;
+            content: Listing::from_vec(content),
+        };
+        assert!(rt; drafts.push(draft).is_ok());
     }
-    Ok(Listing::from_vec(drafts))
+    Listing::from_vec(drafts)
 }
 
 // As many drafts of one place, each with a content of as many bytes.
-fn alike(alloc: Global, count: usize, place: u32, len: usize) -> Result<Drafts<Global>, Fail> {
+fn alike(rt: &impl Abort, alloc: Global, count: usize, place: u32, len: usize) -> Drafts<Global> {
     let mut drafts = Vec::new(alloc);
     for _ in 0..count {
-        let content = vec![in alloc; b'x'; len]?;
-        drafts.push(Draft {
+        let content = vec![in alloc; b'x'; len].expect(rt, "memory");
+        let draft = Draft {
             place: PlaceId(place),
             content: Listing::from_vec(content),
-        })?;
+        };
+        assert!(rt; drafts.push(draft).is_ok());
     }
-    Ok(Listing::from_vec(drafts))
+    Listing::from_vec(drafts)
 }
 
 // Whether these drafts are refused at a limit, and come back.
 fn is_limit<A: Allocator + Copy>(
     shelf: &mut Shelf<A>,
     drafts: Drafts<Global>,
-    same: &Drafts<Global>,
+    same: Drafts<Global>,
 ) -> bool {
-    match shelf.append_all(drafts) {
-        Err(NotAppended::Limit(back)) => back == *same,
+    let is_back = match shelf.append_all(drafts) {
+        Err(NotAppended::Limit(back)) => {
+            let is_back = back == same;
+            drop(back);
+            is_back
+        }
         Ok(()) | Err(NotAppended::NoMemory(_)) => false,
-    }
+    };
+    drop(same);
+    is_back
 }
 
 // Whether two shelves answer alike about the first eight places.
@@ -57,18 +66,23 @@ fn is_same<A: Allocator, B: Allocator>(one: &Shelf<A>, other: &Shelf<B>) -> bool
     one.weight() == other.weight()
 }
 
+// Whether all these drafts are appended.
+fn is_appended<A: Allocator + Copy>(shelf: &mut Shelf<A>, drafts: Drafts<Global>) -> bool {
+    shelf.append_all(drafts).is_ok()
+}
+
 #[test]
-fn versions_are_fetched(rt: HostRuntime) -> Result<(), Fail> {
+fn versions_are_fetched(rt: HostRuntime) {
     let alloc = rt.alloc();
     let mut shelf = Shelf::new(alloc);
     assert_eq!(rt; (shelf.weight(), shelf.len()), (0, 0));
-    assert!(rt; shelf.append_all(drafts_of(alloc, &[(3, b"ab")])?).is_ok());
+    assert!(rt; is_appended(&mut shelf, drafts_of(&rt, alloc, &[(3, b"ab")])));
     assert!(rt; shelf.fetch(PlaceId(3), 1) == Some(b"ab".as_slice()));
     assert_eq!(rt; shelf.count(PlaceId(3)), 1);
     assert_eq!(rt; shelf.weight(), 10);
 
-    let more = drafts_of(alloc, &[(3, b"c"), (1, b""), (3, b"")])?;
-    assert!(rt; shelf.append_all(more).is_ok());
+    let more: [(u32, &[u8]); 3] = [(3, b"c"), (1, b""), (3, b"")];
+    assert!(rt; is_appended(&mut shelf, drafts_of(&rt, alloc, &more)));
     let rows: [(u32, u32, Option<&[u8]>); 10] = [
         (3, 0, None),
         (3, 1, Some(b"ab")),
@@ -88,132 +102,129 @@ fn versions_are_fetched(rt: HostRuntime) -> Result<(), Fail> {
         assert_eq!(rt; shelf.count(PlaceId(place)), count);
     }
     assert_eq!(rt; (shelf.weight(), shelf.len()), (35, 4));
-    Ok(())
+    drop(shelf);
+}
+
+// Whether as many drafts of a place, each of as many bytes, are refused at a limit.
+fn are_too_many<A: Allocator + Copy>(
+    rt: &impl Abort,
+    shelf: &mut Shelf<A>,
+    alloc: Global,
+    (count, place, len): (usize, u32, usize),
+) -> bool {
+    let drafts = alike(rt, alloc, count, place, len);
+    is_limit(shelf, drafts, alike(rt, alloc, count, place, len))
 }
 
 #[test]
-fn long_contents_are_refused(rt: HostRuntime) -> Result<(), Fail> {
+fn long_contents_are_refused(rt: HostRuntime) {
     let alloc = rt.alloc();
     let mut shelf = Shelf::new(alloc);
-    assert!(rt;
-        is_limit(
-            &mut shelf,
-            alike(alloc, 1, 3, 1025)?,
-            &alike(alloc, 1, 3, 1025)?
-        )
-    );
+    assert!(rt; are_too_many(&rt, &mut shelf, alloc, (1, 3, 1025)));
     assert_eq!(rt; shelf.weight(), 0);
-    assert!(rt; shelf.append_all(alike(alloc, 1, 3, 1024)?).is_ok());
+    assert!(rt; is_appended(&mut shelf, alike(&rt, alloc, 1, 3, 1024)));
     assert_eq!(rt; shelf.weight(), 1032);
-    Ok(())
+    drop(shelf);
 }
 
 #[test]
-fn weight_is_limited(rt: HostRuntime) -> Result<(), Fail> {
+fn weight_is_limited(rt: HostRuntime) {
     let alloc = rt.alloc();
     let mut shelf = Shelf::new(alloc);
-    assert!(rt; shelf.append_all(alike(alloc, 16256, 3, 1024)?).is_ok());
+    assert!(rt; is_appended(&mut shelf, alike(&rt, alloc, 16256, 3, 1024)));
     assert_eq!(rt; shelf.weight(), 16_776_192);
-    assert!(rt;
-        is_limit(
-            &mut shelf,
-            alike(alloc, 1, 4, 1017)?,
-            &alike(alloc, 1, 4, 1017)?
-        )
-    );
+    assert!(rt; are_too_many(&rt, &mut shelf, alloc, (1, 4, 1017)));
     assert_eq!(rt; shelf.count(PlaceId(4)), 0);
-    assert!(rt; shelf.append_all(alike(alloc, 1, 4, 1016)?).is_ok());
+    assert!(rt; is_appended(&mut shelf, alike(&rt, alloc, 1, 4, 1016)));
     assert_eq!(rt; shelf.weight(), 16_777_216);
-    assert!(rt; is_limit(&mut shelf, alike(alloc, 1, 5, 0)?, &alike(alloc, 1, 5, 0)?));
+    assert!(rt; are_too_many(&rt, &mut shelf, alloc, (1, 5, 0)));
     assert_eq!(rt; shelf.weight(), 16_777_216);
     assert_eq!(rt; shelf.count(PlaceId(3)), 16256);
     assert_eq!(rt; shelf.count(PlaceId(4)), 1);
-    Ok(())
+    drop(shelf);
 }
 
 #[test]
-fn versions_are_limited(rt: HostRuntime) -> Result<(), Fail> {
+fn versions_are_limited(rt: HostRuntime) {
     let alloc = rt.alloc();
     let mut shelf = Shelf::new(alloc);
-    assert!(rt;
-        is_limit(
-            &mut shelf,
-            alike(alloc, 65536, 3, 0)?,
-            &alike(alloc, 65536, 3, 0)?
-        )
-    );
+    assert!(rt; are_too_many(&rt, &mut shelf, alloc, (65536, 3, 0)));
     assert_eq!(rt; shelf.count(PlaceId(3)), 0);
-    assert!(rt; shelf.append_all(alike(alloc, 65535, 3, 0)?).is_ok());
+    assert!(rt; is_appended(&mut shelf, alike(&rt, alloc, 65535, 3, 0)));
     assert_eq!(rt; shelf.count(PlaceId(3)), 65535);
     assert!(rt; shelf.fetch(PlaceId(3), 65535) == Some(b"".as_slice()));
     assert!(rt; shelf.fetch(PlaceId(3), 65536).is_none());
 
     // One more is refused, also behind a draft of another place, and that draft with it.
     let rows: [(u32, &[u8]); 2] = [(4, b"a"), (3, b"")];
-    assert!(rt;
-        is_limit(
-            &mut shelf,
-            drafts_of(alloc, &rows)?,
-            &drafts_of(alloc, &rows)?
-        )
-    );
+    let drafts = drafts_of(&rt, alloc, &rows);
+    assert!(rt; is_limit(&mut shelf, drafts, drafts_of(&rt, alloc, &rows)));
     assert_eq!(rt; shelf.count(PlaceId(4)), 0);
-    assert!(rt; shelf.append_all(drafts_of(alloc, &[(4, b"a")])?).is_ok());
+    assert!(rt; is_appended(&mut shelf, drafts_of(&rt, alloc, &[(4, b"a")])));
     assert_eq!(rt; shelf.count(PlaceId(4)), 1);
     assert_eq!(rt; shelf.weight(), 65535 * 8 + 9);
-    Ok(())
+    drop(shelf);
 }
 
-// Whether all these drafts are appended.
-fn is_appended<A: Allocator + Copy>(shelf: &mut Shelf<A>, drafts: Drafts<Global>) -> bool {
-    shelf.append_all(drafts).is_ok()
+const FIRST: [(u32, &[u8]); 2] = [(3, b"ab"), (1, b"")];
+
+const SECOND: [(u32, &[u8]); 5] = [
+    (3, b"cdefghijkl"),
+    (5, b"e"),
+    (3, b"fg"),
+    (0, b""),
+    (7, b"h"),
+];
+
+// Whether the answer hands these drafts back for want of memory, and appends them at the next call.
+fn comes_back<A: Allocator + Copy>(
+    shelf: &mut Shelf<A>,
+    answer: Result<(), NotAppended>,
+    drafts: Drafts<Global>,
+) -> bool {
+    let is_same = match answer {
+        Err(NotAppended::NoMemory(back)) => {
+            let is_same = back == drafts;
+            is_same & is_appended(shelf, back)
+        }
+        Ok(()) | Err(NotAppended::Limit(_)) => false,
+    };
+    drop(drafts);
+    is_same
 }
 
-// Appends drafts where the request for memory with this number is refused. The first answer says
-// whether it came; the second, whether then all stayed as it was and the drafts came back to be
-// appended by the next call, and else whether all were appended.
-fn append_without(alloc: Global, number: u64) -> Result<(bool, bool), Fail> {
-    let first: [(u32, &[u8]); 2] = [(3, b"ab"), (1, b"")];
-    let rows: [(u32, &[u8]); 5] = [
-        (3, b"cdefghijkl"),
-        (5, b"e"),
-        (3, b"fg"),
-        (0, b""),
-        (7, b"h"),
-    ];
-    let drafts = drafts_of(alloc, &rows)?;
+// Appends drafts where the request for memory with this number is refused. The answer is `None` where
+// something is wrong, and else whether the request came: then all stayed as it was, and the
+// drafts came back to be appended by the next call; and else all were appended.
+fn append_without(rt: &impl Abort, alloc: Global, number: u64) -> Option<bool> {
     let memory = Refusing::new(alloc);
     let mut shelf = Shelf::new(&memory);
     let mut ample = Shelf::new(alloc);
-    let begun = is_appended(&mut shelf, drafts_of(alloc, &first)?)
-        && is_appended(&mut ample, drafts_of(alloc, &first)?);
+    assert!(rt; is_appended(&mut shelf, drafts_of(rt, alloc, &FIRST)));
+    assert!(rt; is_appended(&mut ample, drafts_of(rt, alloc, &FIRST)));
     memory.refuse(number);
-    let answer = shelf.append_all(drafts_of(alloc, &rows)?);
-    let is_waiting = memory.is_waiting();
+    let answer = shelf.append_all(drafts_of(rt, alloc, &SECOND));
+    let is_refused = !memory.is_waiting();
     memory.refuse(0);
-    let is_refused = match answer {
-        Ok(()) => false,
-        Err(NotAppended::NoMemory(back)) => {
-            if is_waiting || back != drafts || !is_same(&shelf, &ample) {
-                return Ok((true, false));
-            }
-            if !is_appended(&mut shelf, back) {
-                return Ok((true, false));
-            }
-            true
-        }
-        Err(NotAppended::Limit(_)) => return Ok((false, false)),
-    };
-    let is_whole = is_appended(&mut ample, drafts) && is_same(&shelf, &ample);
-    Ok((is_refused, begun && is_whole && is_waiting != is_refused))
+    let mut is_right = answer.is_err() == is_refused;
+    if is_refused {
+        is_right &= is_same(&shelf, &ample);
+        is_right &= comes_back(&mut shelf, answer, drafts_of(rt, alloc, &SECOND));
+    } else {
+        drop(answer);
+    }
+    is_right &= is_appended(&mut ample, drafts_of(rt, alloc, &SECOND));
+    is_right &= is_same(&shelf, &ample);
+    drop(shelf);
+    drop(ample);
+    is_right.then_some(is_refused)
 }
 
 #[test]
-fn appends_are_refused_each_request_in_turn(rt: HostRuntime) -> Result<(), Fail> {
+fn appends_are_refused_each_request_in_turn(rt: HostRuntime) {
     let mut refused = 0u64;
     for number in 1..100u64 {
-        let (is_refused, is_right) = append_without(rt.alloc(), number)?;
-        assert!(rt; is_right);
+        let is_refused = append_without(&rt, rt.alloc(), number).expect(&rt, "all as it should be");
         if !is_refused {
             break;
         }
@@ -223,50 +234,60 @@ fn appends_are_refused_each_request_in_turn(rt: HostRuntime) -> Result<(), Fail>
     // The bytes of place 3 grow twice, those of 5 and 7 begin, so do the ends of 5, 0 and 7, and the
     // list of parts grows.
     assert!(rt; refused >= 8 && refused < 99);
-    Ok(())
 }
 
-#[test]
-fn copies_are_refused_each_request_in_turn(rt: HostRuntime) -> Result<(), Fail> {
-    let alloc = rt.alloc();
+// Copies a shelf where the request for memory with this number is refused: whether it came, or
+// `None` where something is wrong.
+fn copy_without(rt: &impl Abort, alloc: Global, number: u64) -> Option<bool> {
     let rows: [(u32, &[u8]); 3] = [(3, b"ab"), (1, b""), (3, b"c")];
     let memory = Refusing::new(alloc);
     let mut shelf = Shelf::new(&memory);
     let mut ample = Shelf::new(alloc);
-    assert!(rt; is_appended(&mut shelf, drafts_of(alloc, &rows)?));
-    assert!(rt; is_appended(&mut ample, drafts_of(alloc, &rows)?));
+    assert!(rt; is_appended(&mut shelf, drafts_of(rt, alloc, &rows)));
+    assert!(rt; is_appended(&mut ample, drafts_of(rt, alloc, &rows)));
+    memory.refuse(number);
+    let copy = shelf.copy();
+    let is_refused = !memory.is_waiting();
+    memory.refuse(0);
+    let is_right = match copy {
+        Ok(copy) => {
+            let is_right = !is_refused & is_same(&copy, &ample);
+            drop(copy);
+            is_right
+        }
+        Err(NoMemory) => is_refused,
+    };
+    let is_right = is_right & is_same(&shelf, &ample);
+    drop(shelf);
+    drop(ample);
+    is_right.then_some(is_refused)
+}
+
+#[test]
+fn copies_are_refused_each_request_in_turn(rt: HostRuntime) {
     let mut refused = 0;
     for number in 1..10u64 {
-        memory.refuse(number);
-        let copy = shelf.copy();
-        let is_waiting = memory.is_waiting();
-        memory.refuse(0);
-        assert!(rt; is_same(&shelf, &ample));
-        match copy {
-            Ok(copy) => {
-                assert!(rt; is_waiting && is_same(&copy, &ample));
-                break;
-            }
-            Err(NoMemory) => {
-                assert!(rt; !is_waiting);
-                refused = number;
-            }
+        let is_refused = copy_without(&rt, rt.alloc(), number).expect(&rt, "all as it should be");
+        if !is_refused {
+            break;
         }
+        refused = number;
     }
     assert_eq!(rt;
         refused,
         4,
         "the parts, the end of place 1, the bytes and the ends of place 3"
     );
-    Ok(())
 }
 
 #[test]
-fn a_new_shelf_takes_no_memory(rt: HostRuntime) -> Result<(), Fail> {
+fn a_new_shelf_takes_no_memory(rt: HostRuntime) {
     let memory = Refusing::new(rt.alloc());
     memory.refuse(1);
     let shelf = Shelf::new(&memory);
     assert!(rt; memory.is_waiting());
-    assert!(rt; is_same(&shelf, &Shelf::new(rt.alloc())));
-    Ok(())
+    let other = Shelf::new(rt.alloc());
+    assert!(rt; is_same(&shelf, &other));
+    drop(shelf);
+    drop(other);
 }

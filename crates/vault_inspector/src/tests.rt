@@ -2,7 +2,7 @@ ghost use Rattle.std.specs.Prelude.{◌<◌, ◌≤◌, length};
 
 use super::*;
 use std::alloc::Global;
-use std::test::Fail;
+use std::process::Abort;
 use test_memory::Refusing;
 use vault_device::{Device, MemDevice};
 
@@ -24,67 +24,70 @@ const QUEUED_TEXT: &[u8; 168] =
     b"file a: open, generation 3, frames 0, tail 98\nfile b: older, generation 1\nplaces 4, versions 1, claims 2, drafts 1\nc3 anna held w:/e/b/p\nc2 ben queued behind c3 r:/e/b\n";
 
 // A device with these bytes.
-fn holding(alloc: Global, bytes: &[u8]) -> Result<MemDevice, Fail>
+fn holding(rt: &impl Abort, alloc: Global, bytes: &[u8]) -> MemDevice
     requires { length bytes.now < 200 }
 {
-    let mut device = MemDevice::new(alloc)?;
-    device.write_at(0, bytes)?;
-    device.sync()?;
-    Ok(device)
+    let mut device = MemDevice::new(alloc).expect(rt, "a device");
+    assert!(rt; device.write_at(0, bytes).is_ok());
+    assert!(rt; device.sync().is_ok());
+    device
 }
 
 // Whether a report on files with these bytes has this text.
-fn tells(alloc: Global, first: &[u8], second: &[u8], text: &[u8]) -> Result<bool, Fail>
+fn tells(rt: &impl Abort, alloc: Global, first: &[u8], second: &[u8], text: &[u8]) -> bool
     requires first { length first.now < 200 }
     requires second { length second.now < 200 }
 {
-    let mut a = holding(alloc, first)?;
-    let mut b = holding(alloc, second)?;
-    let report = inspect(alloc, &mut a, &mut b)?;
+    let mut a = holding(rt, alloc, first);
+    let mut b = holding(rt, alloc, second);
+    let report = inspect(alloc, &mut a, &mut b).expect(rt, "a report");
     let mut printed = Vec::new(alloc);
-    print(&report, &mut printed)?;
-    Ok(printed.as_slice() == text)
+    assert!(rt; print(&report, &mut printed).is_ok());
+    let is_text = printed.as_slice() == text;
+    drop(report);
+    drop(a);
+    drop(b);
+    is_text
 }
 
 #[test]
-fn reports_on_vaults(rt: HostRuntime) -> Result<(), Fail> {
+fn reports_on_vaults(rt: HostRuntime) {
     let alloc = rt.alloc();
     let text =
         b"file a: open, generation 1, frames 1, tail 46\nfile b: closed\nplaces 2, versions 0, claims 0, drafts 0\n";
-    assert!(rt; tells(alloc, WITH_E, b"", text)?);
+    assert!(rt; tells(&rt, alloc, WITH_E, b"", text));
     let text =
         b"file a: older, generation 1\nfile b: open, generation 2, frames 0, tail 56\nplaces 2, versions 0, claims 1, drafts 0\nc1 anna held w:/e\n";
-    assert!(rt; tells(alloc, WITH_E, CHECKED_OUT, text)?);
-    assert!(rt; tells(alloc, QUEUED, NEW, QUEUED_TEXT)?);
-    Ok(())
+    assert!(rt; tells(&rt, alloc, WITH_E, CHECKED_OUT, text));
+    assert!(rt; tells(&rt, alloc, QUEUED, NEW, QUEUED_TEXT));
 }
 
 // Two closed files; two alike; a frame that is cut off; a wrong head beside a right one, first or second; a wrong body beside an
 // older file.
 #[test]
-fn reports_on_no_vault(rt: HostRuntime) -> Result<(), Fail> {
+fn reports_on_no_vault(rt: HostRuntime) {
     let alloc = rt.alloc();
     assert!(rt;
         tells(
+            &rt,
             alloc,
             b"",
             b"\x01",
             b"file a: closed\nfile b: closed\nno vault\n"
-        )?
+        )
     );
     let text = b"file a: open, generation 1, frames 0, tail 34\nfile b: damaged at 12\nno vault\n";
-    assert!(rt; tells(alloc, NEW, NEW, text)?);
+    assert!(rt; tells(&rt, alloc, NEW, NEW, text));
     let text = b"file a: damaged at 34\nfile b: closed\nno vault\n";
-    assert!(rt; tells(alloc, &WITH_E[..40], b"", text)?);
+    assert!(rt; tells(&rt, alloc, &WITH_E[..40], b"", text));
     let mut other = *NEW;
     other[11] = 2;
     let text = b"file a: damaged at 8\nfile b: open, generation 1, frames 0, tail 34\nno vault\n";
-    assert!(rt; tells(alloc, &other, NEW, text)?);
+    assert!(rt; tells(&rt, alloc, &other, NEW, text));
     let text = b"file a: open, generation 1, frames 1, tail 46\nfile b: damaged at 8\nno vault\n";
-    assert!(rt; tells(alloc, WITH_E, &other, text)?);
+    assert!(rt; tells(&rt, alloc, WITH_E, &other, text));
     let text = b"file a: older, generation 1\nfile b: damaged at 20\nno vault\n";
-    assert!(rt; tells(alloc, NEW, &CHECKED_OUT[..56], text)?);
-    Ok(())
+    assert!(rt; tells(&rt, alloc, NEW, &CHECKED_OUT[..56], text));
 }
 
 // Whether a writer with room for so many bytes fails, and then holds the first of the text.
@@ -98,68 +101,78 @@ fn is_cut(report: &Report, room: usize) -> bool
 }
 
 #[test]
-fn a_writer_that_fails(rt: HostRuntime) -> Result<(), Fail> {
-    let mut a = holding(rt.alloc(), QUEUED)?;
-    let mut b = holding(rt.alloc(), NEW)?;
-    let report = inspect(rt.alloc(), &mut a, &mut b)?;
+fn a_writer_that_fails(rt: HostRuntime) {
+    let mut a = holding(&rt, rt.alloc(), QUEUED);
+    let mut b = holding(&rt, rt.alloc(), NEW);
+    let report = inspect(rt.alloc(), &mut a, &mut b).expect(&rt, "a report");
     for room in 0..168 {
         assert!(rt; is_cut(&report, room), "{room}");
     }
-    Ok(())
+    drop(report);
+    drop(a);
+    drop(b);
 }
 
 // What an inspection answers whose nth call of one of the devices fails.
-fn failing(alloc: Global, first_call: u64, second_call: u64) -> Result<Option<InspectError>, Fail> {
-    let mut a = holding(alloc, WITH_E)?;
-    let mut b = holding(alloc, NEW)?;
+fn failing(
+    rt: &impl Abort,
+    alloc: Global,
+    first_call: u64,
+    second_call: u64,
+) -> Option<InspectError> {
+    let mut a = holding(rt, alloc, WITH_E);
+    let mut b = holding(rt, alloc, NEW);
     a.fail_at(first_call);
     b.fail_at(second_call);
-    Ok(inspect(alloc, &mut a, &mut b).err())
+    let end = inspect(alloc, &mut a, &mut b).err();
+    drop(a);
+    drop(b);
+    end
 }
 
 // Two calls read a head; seven more read the active file, its snapshot, its frame and its tail gate.
 #[test]
-fn each_device_call_fails(rt: HostRuntime) -> Result<(), Fail> {
+fn each_device_call_fails(rt: HostRuntime) {
     for call in 1..=9 {
         assert_eq!(rt;
-            failing(rt.alloc(), call, 0)?,
+            failing(&rt, rt.alloc(), call, 0),
             Some(InspectError::Device),
             "{call}"
         );
     }
     for call in 1..=2 {
         assert_eq!(rt;
-            failing(rt.alloc(), 0, call)?,
+            failing(&rt, rt.alloc(), 0, call),
             Some(InspectError::Device),
             "{call}"
         );
     }
-    assert_eq!(rt; failing(rt.alloc(), 10, 3)?, None);
-    Ok(())
+    assert_eq!(rt; failing(&rt, rt.alloc(), 10, 3), None);
 }
 
 // More requests than an inspection makes.
 const MANY: u64 = 40;
 
 // What an inspection answers whose nth request for memory is refused, where it is made.
-fn wanting(alloc: Global, request: u64) -> Result<Option<Option<InspectError>>, Fail> {
+fn wanting(rt: &impl Abort, alloc: Global, request: u64) -> Option<Option<InspectError>> {
     let memory = Refusing::new(alloc);
-    let mut a = holding(alloc, QUEUED)?;
-    let mut b = holding(alloc, NEW)?;
+    let mut a = holding(rt, alloc, QUEUED);
+    let mut b = holding(rt, alloc, NEW);
     memory.refuse(request);
     let end = inspect(&memory, &mut a, &mut b).err();
-    Ok(if memory.is_waiting() { None } else { Some(end) })
+    drop(a);
+    drop(b);
+    if memory.is_waiting() { None } else { Some(end) }
 }
 
 #[test]
-fn each_request_for_memory_is_refused(rt: HostRuntime) -> Result<(), Fail> {
+fn each_request_for_memory_is_refused(rt: HostRuntime) {
     let mut requests = 0;
     for request in 1..=MANY {
-        if let Some(end) = wanting(rt.alloc(), request)? {
+        if let Some(end) = wanting(&rt, rt.alloc(), request) {
             assert!(rt; end == Some(InspectError::NoMemory), "{request}");
             requests = request;
         }
     }
     assert!(rt; 10 < requests && requests < MANY);
-    Ok(())
 }

@@ -1,5 +1,5 @@
-//! Tests that cross crates: scripts worked out by hand, run whole; the book, told line by line; the files of a store, stopped
-//! at each call; and readers, writers and memory that misbehave.
+//! Tests that cross crates: the book, told line by line; the files of a store, stopped at each call; and readers, writers and
+//! memory that misbehave. Scripts worked out by hand are data of `vault_scripts`.
 #![tactic(auto)]
 
 #[cfg(test)]
@@ -8,10 +8,6 @@ mod book;
 mod lines;
 #[cfg(test)]
 mod memory;
-#[cfg(test)]
-mod scripts;
-#[cfg(test)]
-mod stops;
 #[cfg(test)]
 mod store;
 #[cfg(test)]

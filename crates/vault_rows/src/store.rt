@@ -6,7 +6,7 @@ mod real_files;
 mod stopped;
 
 use std::alloc::Global;
-use std::test::Fail;
+use std::process::Abort;
 use vault_device::{Device, MemDevice};
 use vault_model::EffectIn;
 use vault_store::{Advanced, Store};
@@ -15,16 +15,15 @@ use vault_store::{Advanced, Store};
 const CREATION: u64 = 7;
 
 /// A store of a new vault, the nth device call behind whose creation is to fail.
-fn new_store(alloc: Global, failing: u64) -> Result<Store<MemDevice>, Fail> {
-    let mut first = MemDevice::new(alloc)?;
-    let second = MemDevice::new(alloc)?;
+fn new_store(rt: &impl Abort, alloc: Global, failing: u64) -> Store<MemDevice> {
+    let mut first = MemDevice::new(alloc).expect(rt, "a device");
+    let second = MemDevice::new(alloc).expect(rt, "a device");
     if failing > 0 {
         first.fail_at(failing.saturating_add(CREATION));
     }
-    match Store::create(alloc, first, second) {
-        Ok(store) => Ok(store),
-        Err(_) => Err("a new vault".into()),
-    }
+    Store::create(alloc, first, second)
+        .ok()
+        .expect(rt, "a new vault")
 }
 
 /// Notes where there is room, and says whether there was.

@@ -108,6 +108,8 @@ fn effects_make_the_durable_book(rt: HostRuntime) {
     assert!(rt; are_alike(&talk.book, &durable));
     assert_eq!(rt; durable.line().len(), 2);
     assert_eq!(rt; durable.line().standing(C3), Some(Standing::Held));
+    drop(talk);
+    drop(durable);
 }
 
 #[test]
@@ -143,6 +145,8 @@ fn drafts_are_durable(rt: HostRuntime) {
     ];
     talk.hear(&rt, &lines);
     opened.hear(&rt, &lines);
+    drop(talk);
+    drop(opened);
 }
 
 #[test]
@@ -152,6 +156,7 @@ fn claims_are_not_judged_again(rt: HostRuntime) {
     assert_eq!(rt; book.apply(&extended), Ok(()));
     assert_eq!(rt; book.line().standing(C2), Some(Standing::Held));
     assert_eq!(rt; book.line().standing(C1), Some(Standing::Queued(C2)));
+    drop(book);
 }
 
 /// Whether none of these effects is applicable.
@@ -188,6 +193,7 @@ fn what_is_not_applicable_changes_nothing(rt: HostRuntime) {
     assert!(rt; are_refused(&mut book, &effects));
     assert_eq!(rt; (book.tree().len(), book.line().len()), (5, 4));
     assert_eq!(rt; book.line().last_long(), 4);
+    drop(book);
 }
 
 #[test]
@@ -212,23 +218,42 @@ fn drafts_that_are_not_applicable_change_nothing(rt: HostRuntime) {
     let checked_in: Effect = Effect::CheckedIn(3);
     assert_eq!(rt; book.apply(&checked_in), Ok(()));
     assert_eq!(rt; book.apply(&checked_in), Err(ApplyError::NotApplicable));
+    drop(book);
 }
 
-/// How many requests of memory an effect makes: each is refused in turn, and the book is then as it was.
+/// Whether the nth request of memory that an effect makes is refused: the book is then as it was.
+fn is_refused(
+    rt: &impl Abort,
+    memory: &Refusing<Global>,
+    ample: Global,
+    effect: &Effect,
+    number: u64,
+) -> bool {
+    let mut book = durable_book(rt, memory, ample);
+    memory.refuse(number);
+    let applied = book.apply(effect);
+    let is_waiting = memory.is_waiting();
+    memory.refuse(0);
+    if applied.is_ok() {
+        assert!(rt; is_waiting);
+        drop(book);
+        return false;
+    }
+    assert!(rt; applied == Err(ApplyError::NoMemory) && !is_waiting);
+    let same = durable_book(rt, ample, ample);
+    assert!(rt; are_alike(&book, &same));
+    drop(same);
+    assert_eq!(rt; book.apply(effect), Ok(()));
+    drop(book);
+    true
+}
+
+/// How many requests of memory an effect makes: each is refused in turn.
 fn requests(rt: &impl Abort, memory: &Refusing<Global>, ample: Global, effect: &Effect) -> u64 {
     for number in 1..20u64 {
-        let mut book = durable_book(rt, memory, ample);
-        memory.refuse(number);
-        let applied = book.apply(effect);
-        let is_waiting = memory.is_waiting();
-        memory.refuse(0);
-        if applied.is_ok() {
-            assert!(rt; is_waiting);
+        if !is_refused(rt, memory, ample, effect, number) {
             return number - 1;
         }
-        assert!(rt; applied == Err(ApplyError::NoMemory) && !is_waiting);
-        assert!(rt; are_alike(&book, &durable_book(rt, ample, ample)));
-        assert_eq!(rt; book.apply(effect), Ok(()));
     }
     0
 }

@@ -13,12 +13,14 @@ fn two_designers_and_siblings(rt: HostRuntime) {
         (2, "checkout r:/e", "OK queued c2 behind c1"),
     ];
     talk.hear(&rt, &lines);
+    drop(talk);
     let mut talk = started(&rt, rt.alloc());
     let lines = [
         (1, "checkout w:/e/b/p1", "OK held c1"),
         (2, "checkout w:/e/b/p2", "OK held c2"),
     ];
     talk.hear(&rt, &lines);
+    drop(talk);
 }
 
 #[test]
@@ -30,6 +32,7 @@ fn look_at_an_assembly_and_change_of_a_part(rt: HostRuntime) {
         (2, "checkout r:/e/b/p1", "OK queued c3 behind c1"),
     ];
     talk.hear(&rt, &lines);
+    drop(talk);
 }
 
 #[test]
@@ -44,6 +47,7 @@ fn the_line_moves_up(rt: HostRuntime) {
         (1, "state c3", "OK queued c3 behind c2"),
     ];
     talk.hear(&rt, &lines);
+    drop(talk);
 }
 
 #[test]
@@ -57,6 +61,7 @@ fn extension_in_the_way(rt: HostRuntime) {
         (2, "state c2", "OK held c2"),
     ];
     talk.hear(&rt, &lines);
+    drop(talk);
 }
 
 #[test]
@@ -76,6 +81,7 @@ fn extension_to_the_front(rt: HostRuntime) {
         (1, "state c3", "OK queued c3 behind c2"),
     ];
     talk.hear(&rt, &lines);
+    drop(talk);
 }
 
 #[test]
@@ -91,6 +97,7 @@ fn places_made_under_claims(rt: HostRuntime) {
         (2, "make /f", "OK place 6"),
     ];
     talk.hear(&rt, &lines);
+    drop(talk);
 }
 
 #[test]
@@ -108,6 +115,7 @@ fn a_hold_before_a_check_out(rt: HostRuntime) {
         (1, "state h1", "ERR 30"),
     ];
     talk.hear(&rt, &lines);
+    drop(talk);
 }
 
 #[test]
@@ -124,4 +132,5 @@ fn holds_are_released_and_end(rt: HostRuntime) {
         (1, "state h2", "ERR 30"),
     ];
     talk.hear(&rt, &lines);
+    drop(talk);
 }

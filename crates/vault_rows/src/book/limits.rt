@@ -24,6 +24,7 @@ fn a_library_is_full_of_projects(rt: HostRuntime) {
         (1, "make /64 c1", "ERR 50"),
     ];
     talk.hear(&rt, &lines);
+    drop(talk);
 }
 
 #[test]
@@ -42,6 +43,7 @@ fn a_65th_session_waits_for_one_to_leave(rt: HostRuntime) {
         (65, "make /e", "OK place 1"),
     ];
     talk.hear(&rt, &lines);
+    drop(talk);
 }
 
 #[test]
@@ -65,4 +67,5 @@ fn a_257th_claim_waits_for_one_to_go(rt: HostRuntime) {
         (1, "hold r:/e", "OK held h2"),
     ];
     talk.hear(&rt, &lines);
+    drop(talk);
 }

@@ -22,6 +22,7 @@ fn holds_end_with_their_session(rt: HostRuntime) {
         (3, "abandon c1", "OK abandoned"),
     ];
     talk.hear(&rt, &lines);
+    drop(talk);
 }
 
 #[test]
@@ -59,6 +60,7 @@ fn check_outs_outlive_a_restart(rt: HostRuntime) {
         (0, "hello anna", "OK session 2"),
     ];
     talk.hear(&rt, &lines);
+    drop(talk);
 }
 
 #[test]
@@ -83,4 +85,5 @@ fn the_line_is_read(rt: HostRuntime) {
     assert_eq!(rt; owner, Owner::Session(2));
     assert_eq!(rt; items.len(), 2);
     assert_eq!(rt; line.get(H1).expect(&rt, "a claim").items, items);
+    drop(talk);
 }

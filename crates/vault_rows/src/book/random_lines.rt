@@ -195,4 +195,5 @@ fn random_lines_stand_as_pairs_say(rt: HostRuntime) {
         stopped |= matches!(reply, Reply::Refused(Refusal::Overlaps(_)));
     }
     assert!(rt; covered && extended && stopped);
+    drop(talk);
 }

@@ -43,6 +43,7 @@ fn sessions_are_refused_in_order(rt: HostRuntime) {
     for command in &commands {
         refused(&rt, &mut talk, 0, command, NoSession);
     }
+    drop(talk);
 }
 
 #[test]
@@ -61,6 +62,7 @@ fn places_are_refused_in_order(rt: HostRuntime) {
         (1, "list /e/x", "ERR 20"),
     ];
     talk.hear(&rt, &lines);
+    drop(talk);
 }
 
 #[test]
@@ -84,6 +86,7 @@ fn places_for_a_claim_are_refused_in_order(rt: HostRuntime) {
         (2, "make /e/c c2", "OK place 5"),
     ];
     talk.hear(&rt, &lines);
+    drop(talk);
 }
 
 #[test]
@@ -109,6 +112,7 @@ fn claims_are_refused_in_order(rt: HostRuntime) {
         (2, "state h1", "ERR 30"),
     ];
     talk.hear(&rt, &lines);
+    drop(talk);
 }
 
 #[test]
@@ -153,6 +157,7 @@ fn extensions_are_refused_in_order(rt: HostRuntime) {
         (1, "extend h1 w:/f", "ERR 33 c1"),
     ];
     talk.hear(&rt, &lines);
+    drop(talk);
 }
 
 #[test]
@@ -166,6 +171,7 @@ fn a_claim_has_eight_items_at_most(rt: HostRuntime) {
         (1, "extend c1 r:/x", "ERR 36"),
     ];
     talk.hear(&rt, &lines);
+    drop(talk);
 }
 
 #[test]
@@ -196,4 +202,5 @@ fn holds_are_refused_in_order(rt: HostRuntime) {
         (1, "quit", "ERR 11"),
     ];
     talk.hear(&rt, &lines);
+    drop(talk);
 }

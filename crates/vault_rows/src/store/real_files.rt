@@ -19,13 +19,16 @@ const SECOND: &str = "second_of_a_test";
 
 // A vault in two new files, with one project committed.
 fn write(rt: &HostRuntime) -> Result<bool, Fail> {
+    let made: EffectIn<Global> = Effect::Made(PlaceId(0), Name::read(b"e").ok_or("a name")?);
     let first = FileDevice::over(File::create_new(rt, FIRST)?);
     let second = FileDevice::over(File::create_new(rt, SECOND)?);
     let Ok(mut store) = Store::create(rt.alloc(), first, second) else {
         return Ok(false);
     };
-    let made: EffectIn<Global> = Effect::Made(PlaceId(0), Name::read(b"e").ok_or("a name")?);
-    Ok(note_within(&mut store, &made) && settled_after(&mut store, 4))
+    let is_settled = note_within(&mut store, &made) && settled_after(&mut store, 4);
+    drop(store);
+    drop(made);
+    Ok(is_settled)
 }
 
 // The place at this path in the vault of the files.
@@ -35,7 +38,12 @@ fn find(rt: &HostRuntime, path: &Path) -> Result<Option<PlaceId>, Fail> {
     let first = FileDevice::over(options.open(rt, FIRST)?);
     let second = FileDevice::over(options.open(rt, SECOND)?);
     match Store::open(rt.alloc(), first, second) {
-        Ok((_store, book)) => Ok(book.tree().find(path)),
+        Ok((store, book)) => {
+            let found = book.tree().find(path);
+            drop(store);
+            drop(book);
+            Ok(found)
+        }
         Err(_) => Err("a vault".into()),
     }
 }

@@ -1,7 +1,7 @@
 //! A commit stopped before and after each of its device calls, and what the files then open as.
 use crate::store::{new_store, note_within, settled_after};
 use std::alloc::Global;
-use std::test::Fail;
+use std::process::Abort;
 use vault_device::{MemDevice, Pick};
 use vault_model::{Effect, EffectIn, Intent, Item, Items, Name, PlaceId};
 use vault_store::{Phase, Store};
@@ -24,7 +24,9 @@ fn asked(store: &mut Store<MemDevice>) -> bool {
         place: PlaceId(2),
     });
     let effect: EffectIn<Global> = Effect::Asked(1, anna, items);
-    note_within(store, &effect)
+    let is_noted = note_within(store, &effect);
+    drop(effect);
+    is_noted
 }
 
 // How many places and claims there are, and bytes of frames, in what the files open as after a crash.
@@ -34,19 +36,22 @@ fn left(alloc: Global, store: Store<MemDevice>, pick: Pick) -> Option<(usize, us
     first.crash(pick);
     second.crash(pick);
     let (store, book) = Store::open(alloc, first, second).ok()?;
-    Some((book.tree().len(), book.line().len(), store.journal_len()))
+    let counts = (book.tree().len(), book.line().len(), store.journal_len());
+    drop(store);
+    drop(book);
+    Some(counts)
 }
 
 // Whether so many steps of the second commit come to this phase, and a crash then leaves all of that commit or nothing.
 fn leaves(
+    rt: &impl Abort,
     alloc: Global,
-    steps: u8,
-    failing: u64,
+    (steps, failing): (u8, u64),
     phase: Phase,
     pick: Pick,
     all: bool,
-) -> Result<bool, Fail> {
-    let mut store = new_store(alloc, failing)?;
+) -> bool {
+    let mut store = new_store(rt, alloc, failing);
     let first = made(&mut store, b"e") && settled_after(&mut store, 4);
     let second = made(&mut store, b"f") && asked(&mut store);
     let mut faults = 0u8;
@@ -56,11 +61,12 @@ fn leaves(
     let stops = store.phase() == phase && (faults == 1) == (5..=8).contains(&failing);
     let lost = made(&mut store, b"g");
     let expected = if all { (3, 1, 40) } else { (2, 0, 12) };
-    Ok(first && second && stops && lost && left(alloc, store, pick) == Some(expected))
+    let is_left = left(alloc, store, pick) == Some(expected);
+    first && second && stops && lost && is_left
 }
 
 #[test]
-fn commit_stopped_at_each_call(rt: HostRuntime) -> Result<(), Fail> {
+fn commit_stopped_at_each_call(rt: HostRuntime) {
     // How many steps of the second commit, which device call behind the creation fails, the phase, whether all is settled.
     let stops = [
         (0, 0, Phase::Idle, false),
@@ -87,10 +93,9 @@ fn commit_stopped_at_each_call(rt: HostRuntime) -> Result<(), Fail> {
         for (pick, opens) in picks {
             let all = settled || phase == Phase::Opening && opens;
             assert!(rt;
-                leaves(rt.alloc(), steps, failing, phase, pick, all)?,
+                leaves(&rt, rt.alloc(), (steps, failing), phase, pick, all),
                 "{steps} steps, {failing} fails, {pick:?}"
             );
         }
     }
-    Ok(())
 }

@@ -4,7 +4,7 @@ ghost use Rattle.std.specs.Prelude.{◌<◌, length};
 use crate::tests::reopening::holding;
 use crate::{Body, BodyError, Head, read_body, read_head};
 use std::alloc::{Allocator, Global};
-use std::test::Fail;
+use std::process::Abort;
 use test_memory::Refusing;
 use vault_checkout::Book;
 use vault_device::MemDevice;
@@ -19,7 +19,7 @@ const LINE: &[u8; 74] =
     b"\0\0\0\x03\0\0\0\x04\0\0\0\0\x01e\0\0\0\x01\x01b\0\0\0\x02\x01p\0\x01\0\x04text\0\x02\0\0\0\x03\x04anna\x01\x01\0\0\0\x03\x01\0\0\0\x03\0\x01x\0\0\0\x02\x03ben\x01\0\0\0\0\x02\0";
 
 // A device with this snapshot, in a file of generation 2 without frames.
-fn keeping(alloc: Global, snapshot: &[u8]) -> Result<MemDevice, Fail>
+fn keeping(rt: &impl Abort, alloc: Global, snapshot: &[u8]) -> MemDevice
     requires { length snapshot.now < 1500 }
 {
     let mut bytes = [0; 1600];
@@ -27,33 +27,45 @@ fn keeping(alloc: Global, snapshot: &[u8]) -> Result<MemDevice, Fail>
     bytes[..20].copy_from_slice(b"\x01LLVAULT\0\0\0\x01\0\0\0\0\0\0\0\x02");
     bytes[20..24].copy_from_slice(&(snapshot.len() as u32).to_be_bytes());
     bytes[24..end].copy_from_slice(snapshot);
-    holding(alloc, &bytes[..end + 1])
+    holding(rt, alloc, &bytes[..end + 1])
 }
 
 // Whether these bytes are no vault's snapshot.
-fn is_damaged(alloc: Global, snapshot: &[u8]) -> Result<bool, Fail>
+fn is_damaged(rt: &impl Abort, alloc: Global, snapshot: &[u8]) -> bool
     requires { length snapshot.now < 1500 }
 {
-    let mut device = keeping(alloc, snapshot)?;
-    Ok(matches!(read_body(alloc, &mut device), Ok(Body::Damaged(24))))
+    let mut device = keeping(rt, alloc, snapshot);
+    let body = read_body(alloc, &mut device);
+    let is_damaged = matches!(&body, Ok(Body::Damaged(24)));
+    drop(body);
+    drop(device);
+    is_damaged
 }
 
-fn is_project(alloc: Global) -> Result<bool, Fail> {
-    let mut device = keeping(alloc, PROJECT)?;
+// The book of a whole body, the bytes of frames behind it, and where they end.
+fn whole(body: Result<Body<Global>, BodyError>) -> Option<(Book<Global>, u64, u64)> {
+    match body {
+        Ok(Body::Whole(book, frames, end)) => Some((book, frames, end)),
+        _ => None,
+    }
+}
+
+fn is_project(rt: &impl Abort, alloc: Global) -> bool {
+    let mut device = keeping(rt, alloc, PROJECT);
     let opened = Head::Open {
         version: 1,
         generation: 2,
     };
     let headed = read_head(&mut device) == Ok(opened);
-    match read_body(alloc, &mut device) {
-        Ok(Body::Whole(book, 0, 56)) => Ok(
-            headed
-                && book.tree().len() == 2
-                && book.line().standing(ClaimId::Long(1)) == Some(Standing::Held)
-                && book.drafts(1).is_empty(),
-        ),
-        _ => Ok(false),
-    }
+    let (book, frames, end) = whole(read_body(alloc, &mut device)).expect(rt, "a body");
+    let is_so = headed
+        && (frames, end) == (0, 56)
+        && book.tree().len() == 2
+        && book.line().standing(ClaimId::Long(1)) == Some(Standing::Held)
+        && book.drafts(1).is_empty();
+    drop(book);
+    drop(device);
+    is_so
 }
 
 fn is_line<A: Allocator + Copy>(book: &Book<A>) -> bool {
@@ -67,80 +79,83 @@ fn is_line<A: Allocator + Copy>(book: &Book<A>) -> bool {
 }
 
 // Whether the line is still that of a vault, with this byte there.
-fn may_be(alloc: Global, at: usize, byte: u8) -> Result<bool, Fail> {
+fn may_be(rt: &impl Abort, alloc: Global, at: usize, byte: u8) -> bool {
     let mut bytes = *LINE;
     if at < bytes.len() {
         bytes[at] = byte;
     }
-    Ok(!is_damaged(alloc, &bytes)?)
+    !is_damaged(rt, alloc, &bytes)
 }
 
 // Whether ben's claim may have a draft of the part, too, if it is for change.
-fn may_have_draft(alloc: Global) -> Result<bool, Fail> {
+fn may_have_draft(rt: &impl Abort, alloc: Global) -> bool {
     let mut bytes = [0; 80];
     bytes[..74].copy_from_slice(LINE);
     bytes[68] = 1;
     bytes[73..].copy_from_slice(b"\x01\0\0\0\x03\0\0");
-    Ok(!is_damaged(alloc, &bytes)?)
+    !is_damaged(rt, alloc, &bytes)
 }
 
 // Whether a part's only version may have so many bytes.
-fn may_be_long(alloc: Global, high: u8, low: u8) -> Result<bool, Fail> {
+fn may_be_long(rt: &impl Abort, alloc: Global, high: u8, low: u8) -> bool {
     let mut bytes = [0; 1100];
     let end = 32 + 256 * usize::from(high) + usize::from(low);
     bytes[..28].copy_from_slice(&LINE[..28]);
     bytes[28..30].copy_from_slice(&[high, low]);
-    Ok(end <= 1100 && !is_damaged(alloc, &bytes[..end])?)
+    end <= 1100 && !is_damaged(rt, alloc, &bytes[..end])
 }
 
 // Whether this request for memory is made and its refusal told.
-fn wants_at(alloc: Global, request: u64) -> Result<bool, Fail> {
+fn wants_at(rt: &impl Abort, alloc: Global, request: u64) -> bool {
     let memory = Refusing::new(alloc);
-    let mut device = keeping(alloc, LINE)?;
+    let mut device = keeping(rt, alloc, LINE);
     memory.refuse(request);
-    let wanted = matches!(read_body(&memory, &mut device), Err(BodyError::NoMemory));
-    Ok(wanted && !memory.is_waiting())
+    let body = read_body(&memory, &mut device);
+    let is_wanted = matches!(&body, Err(BodyError::NoMemory)) && !memory.is_waiting();
+    drop(body);
+    drop(device);
+    is_wanted
 }
 
 // How many requests are refused one after another, until the line is read and no more are made.
-fn refusals(alloc: Global) -> Result<u64, Fail> {
+fn refusals(rt: &impl Abort, alloc: Global) -> u64 {
     for request in 1..99 {
-        if !wants_at(alloc, request)? {
-            return Ok(request - 1);
+        if !wants_at(rt, alloc, request) {
+            return request - 1;
         }
     }
-    Ok(99)
+    99
 }
 
-fn is_read(alloc: Global) -> Result<bool, Fail> {
-    let mut device = keeping(alloc, LINE)?;
-    match read_body(alloc, &mut device) {
-        Ok(Body::Whole(book, 0, 98)) => Ok(is_line(&book)),
-        _ => Ok(false),
-    }
+fn is_read(rt: &impl Abort, alloc: Global) -> bool {
+    let mut device = keeping(rt, alloc, LINE);
+    let (book, frames, end) = whole(read_body(alloc, &mut device)).expect(rt, "a body");
+    let is_so = (frames, end) == (0, 98) && is_line(&book);
+    drop(book);
+    drop(device);
+    is_so
 }
 
 #[test]
-fn snapshots(rt: HostRuntime) -> Result<(), Fail> {
+fn snapshots(rt: HostRuntime) {
     let alloc = rt.alloc();
-    assert!(rt; is_project(alloc)? && is_read(alloc)?);
-    assert!(rt; may_be_long(alloc, 4, 0)? && !may_be_long(alloc, 4, 1)?);
+    assert!(rt; is_project(&rt, alloc) && is_read(&rt, alloc));
+    assert!(rt; may_be_long(&rt, alloc, 4, 0) && !may_be_long(&rt, alloc, 4, 1));
     // The last number given, a number, a look, a place and contents that another vault may have.
     for (at, byte) in [(3, 9), (62, 1), (72, 1), (68, 1), (58, b'y')] {
-        assert!(rt; may_be(alloc, at, byte)?);
+        assert!(rt; may_be(&rt, alloc, at, byte));
     }
-    Ok(())
 }
 
 #[test]
-fn damaged_snapshots(rt: HostRuntime) -> Result<(), Fail> {
+fn damaged_snapshots(rt: HostRuntime) {
     let alloc = rt.alloc();
     for end in 0..LINE.len() {
-        assert!(rt; is_damaged(alloc, &LINE[..end])?);
+        assert!(rt; is_damaged(&rt, alloc, &LINE[..end]));
     }
     let mut longer = [0; 75];
     longer[..74].copy_from_slice(LINE);
-    assert!(rt; is_damaged(alloc, &longer)? && !may_have_draft(alloc)?);
+    assert!(rt; is_damaged(&rt, alloc, &longer) && !may_have_draft(&rt, alloc));
 
     // A last number below c3, no library, a project in itself, a name of upper case and an empty one, a part in a part, a number twice or
     // 0, an owner that is no name, no item, an item or a draft of no place, a draft of no part, and one under a look.
@@ -161,15 +176,13 @@ fn damaged_snapshots(rt: HostRuntime) -> Result<(), Fail> {
         (46, 0),
     ];
     for (at, byte) in rows {
-        assert!(rt; !may_be(alloc, at, byte)?);
+        assert!(rt; !may_be(&rt, alloc, at, byte));
     }
     let siblings = b"\0\0\0\0\0\0\0\x03\0\0\0\0\x01e\0\0\0\0\x01e\0\0";
-    assert!(rt; is_damaged(alloc, siblings)?);
-    Ok(())
+    assert!(rt; is_damaged(&rt, alloc, siblings));
 }
 
 #[test]
-fn each_request_of_a_body_for_memory_is_refused(rt: HostRuntime) -> Result<(), Fail> {
-    assert_eq!(rt; refusals(rt.alloc())?, 21);
-    Ok(())
+fn each_request_of_a_body_for_memory_is_refused(rt: HostRuntime) {
+    assert_eq!(rt; refusals(&rt, rt.alloc()), 21);
 }

@@ -1,12 +1,12 @@
 ghost use Rattle.std.specs.Prelude.{◌<◌, length};
 
-use crate::tests::committing::{note_within, settled_after, shows};
+use crate::tests::committing::{makes, settled_after, shows};
 use crate::{File, OpenError, Store};
-use std::alloc::Global;
-use std::test::Fail;
+use std::alloc::{Allocator, Global};
+use std::process::Abort;
 use test_memory::Refusing;
 use vault_device::{Device, MemDevice};
-use vault_model::{ClaimId, Effect, Name, PlaceId, Standing};
+use vault_model::{ClaimId, Standing};
 
 /// A fault of a file.
 pub const fn damaged(file: File, offset: u64) -> OpenError {
@@ -14,88 +14,110 @@ pub const fn damaged(file: File, offset: u64) -> OpenError {
 }
 
 /// A device with these bytes.
-pub fn holding(alloc: Global, bytes: &[u8]) -> Result<MemDevice, Fail>
+pub fn holding(rt: &impl Abort, alloc: Global, bytes: &[u8]) -> MemDevice
     requires { length bytes.now < 2000 }
 {
-    let mut device = MemDevice::new(alloc)?;
-    device.write_at(0, bytes)?;
-    device.sync()?;
-    Ok(device)
+    let mut device = MemDevice::new(alloc).expect(rt, "a device");
+    assert!(rt; device.write_at(0, bytes).is_ok());
+    assert!(rt; device.sync().is_ok());
+    device
 }
 
-// How many places, and bytes of frames, there are in what two devices open as; or why not.
-fn counted(alloc: Global, first: MemDevice, second: MemDevice) -> Result<(usize, u64), OpenError> {
-    match Store::open(alloc, first, second) {
-        Ok((store, book)) => Ok((book.tree().len(), store.journal_len())),
-        Err(refused) => Err(refused.why),
+/// How many places, and bytes of frames, there are in what two devices open as; or why not.
+pub fn counted<A: Allocator + Copy>(
+    memory: A,
+    first: MemDevice,
+    second: MemDevice,
+) -> Result<(usize, u64), OpenError> {
+    match Store::open(memory, first, second) {
+        Ok((store, book)) => {
+            let counts = (book.tree().len(), store.journal_len());
+            drop(store);
+            drop(book);
+            Ok(counts)
+        }
+        Err(refused) => {
+            let why = refused.why;
+            drop(refused);
+            Err(why)
+        }
     }
 }
 
 /// Whether files with these bytes open so.
 pub fn opens(
+    rt: &impl Abort,
     alloc: Global,
     first: &[u8],
     second: &[u8],
     so: Result<(usize, u64), OpenError>,
-) -> Result<bool, Fail>
+) -> bool
     requires first { length first.now < 2000 }
     requires second { length second.now < 2000 }
 {
-    let first = holding(alloc, first)?;
-    let second = holding(alloc, second)?;
-    Ok(counted(alloc, first, second) == so)
+    let first = holding(rt, alloc, first);
+    let second = holding(rt, alloc, second);
+    counted(alloc, first, second) == so
+}
+
+// Whether an opening of these devices is refused so, and the same devices then open.
+fn is_refused<A: Allocator + Copy>(
+    memory: A,
+    (first, second): (MemDevice, MemDevice),
+    why: OpenError,
+) -> bool {
+    match Store::open(memory, first, second) {
+        Ok((store, book)) => {
+            drop(store);
+            drop(book);
+            false
+        }
+        Err(refused) => {
+            let is_so = refused.why == why;
+            is_so & counted(memory, refused.first, refused.second).is_ok()
+        }
+    }
 }
 
 /// Whether a failing call of one of the devices is answered as a fault, and the same devices then open.
 pub fn fails_at(
+    rt: &impl Abort,
     alloc: Global,
     bytes: &[u8],
     first_call: u64,
     second_call: u64,
-) -> Result<bool, Fail>
+) -> bool
     requires { length bytes.now < 2000 }
 {
-    let mut first = holding(alloc, bytes)?;
-    let mut second = MemDevice::new(alloc)?;
+    let mut first = holding(rt, alloc, bytes);
+    let mut second = MemDevice::new(alloc).expect(rt, "a device");
     first.fail_at(first_call);
     second.fail_at(second_call);
-    match Store::open(alloc, first, second) {
-        Ok(_) => Ok(false),
-        Err(refused) => Ok(
-            refused.why == OpenError::Device
-                && Store::open(alloc, refused.first, refused.second).is_ok(),
-        ),
-    }
+    is_refused(alloc, (first, second), OpenError::Device)
 }
 
 // Whether a refused request for memory is answered so, and the same devices then open.
-fn wants_at(alloc: Global, bytes: &[u8], request: u64) -> Result<bool, Fail>
+fn wants_at(rt: &impl Abort, alloc: Global, bytes: &[u8], request: u64) -> bool
     requires { length bytes.now < 2000 }
 {
     let memory = Refusing::new(alloc);
-    let first = holding(alloc, bytes)?;
-    let second = MemDevice::new(alloc)?;
+    let first = holding(rt, alloc, bytes);
+    let second = MemDevice::new(alloc).expect(rt, "a device");
     memory.refuse(request);
-    match Store::open(&memory, first, second) {
-        Ok(_) => Ok(false),
-        Err(refused) => Ok(
-            refused.why == OpenError::NoMemory
-                && !memory.is_waiting()
-                && Store::open(&memory, refused.first, refused.second).is_ok(),
-        ),
-    }
+    let wants = is_refused(&memory, (first, second), OpenError::NoMemory);
+    wants && !memory.is_waiting()
 }
 
 /// How many requests for memory are refused one after another, until there are no more.
-pub fn refusals(alloc: Global, bytes: &[u8]) -> Result<u64, Fail>
+pub fn refusals(rt: &impl Abort, alloc: Global, bytes: &[u8]) -> u64
     requires { length bytes.now < 2000 }
 {
     for request in 1..99 {
-        if !wants_at(alloc, bytes, request)? {
-            return Ok(request - 1);
+        if !wants_at(rt, alloc, bytes, request) {
+            return request - 1;
         }
     }
-    Ok(99)
+    99
 }
 
 /// The bytes with another there.
@@ -108,18 +130,21 @@ pub fn with<const N: usize>(bytes: &[u8; N], at: usize, byte: u8) -> [u8; N] {
 }
 
 /// Whether the second file is the active one, with c1 held, and a commit of `make /f` is written behind its tail gate.
-pub fn committed(alloc: Global, first: &[u8; 47], second: &[u8; 57]) -> Result<bool, Fail> {
-    let Ok((mut store, book)) = Store::open(alloc, holding(alloc, first)?, holding(alloc, second)?)
-    else {
-        return Ok(false);
-    };
-    let name = Name::read(b"f").ok_or("a name")?;
-    let held = book.line().standing(ClaimId::Long(1)) == Some(Standing::Held);
-    let noted = note_within(&mut store, &Effect::Made(PlaceId(0), name));
+pub fn committed(rt: &impl Abort, alloc: Global, first: &[u8; 47], second: &[u8; 57]) -> bool {
+    let opened = Store::open(alloc, holding(rt, alloc, first), holding(rt, alloc, second));
+    let (mut store, book) = opened.ok().expect(rt, "a vault");
+    assert_eq!(rt;
+        book.line().standing(ClaimId::Long(1)),
+        Some(Standing::Held)
+    );
+    drop(book);
+    assert!(rt; makes(rt, &mut store, b"f"));
     let settled = settled_after(&mut store, 4) && store.journal_len() == 12;
     let (mut one, mut other) = store.into_devices();
     let frame = b"\0\0\0\x07\x01\0\0\0\0\x01f\0";
-    let written = shows(alloc, &mut one, &[first])?
-        && shows(alloc, &mut other, &[&second[..56], &[1], frame])?;
-    Ok(held && noted && settled && written)
+    let written = shows(rt, alloc, &mut one, &[first])
+        && shows(rt, alloc, &mut other, &[&second[..56], &[1], frame]);
+    drop(one);
+    drop(other);
+    settled && written
 }

@@ -43,4 +43,5 @@ fn a_check_out_has_64_drafts_at_most(rt: HostRuntime) {
     let shelf = talk.book.shelf();
     assert_eq!(rt; (shelf.weight(), shelf.count(PlaceId(68))), (64 * 9 + 1, 1));
     assert!(rt; shelf.fetch(PlaceId(68), 1) == Some(b"yz".as_slice()));
+    drop(talk);
 }

@@ -46,8 +46,45 @@ pub(super) fn are_alike<A: Allocator + Copy>(
         && shelf.weight() == other_shelf.weight()
 }
 
-/// How many requests of memory a command makes after others, if it ends. Each is refused in turn: the
-/// book is then as one that only heard the others, and the command is heard once memory is there.
+/// Whether the nth request of memory that a command makes after others is refused. The book is then as a twin that only heard
+/// the others, and the command is heard once memory is there. Else the twin hears the command, too, and is told the same.
+fn is_refused(
+    rt: &impl Abort,
+    refusing: &Refusing<Global>,
+    twin: &mut Talk<&Refusing<Global>>,
+    before: &[(u32, Command)],
+    number: u64,
+    last: (u32, &Command),
+) -> bool {
+    let (session, command) = last;
+    let mut talk = Talk::new(rt, refusing);
+    talk.hear(rt, before);
+    refusing.refuse(number);
+    let told = talk.tell(session, command);
+    let waits = refusing.is_waiting();
+    refusing.refuse(0);
+    match told {
+        Ok((reply, effect)) => {
+            let same = twin.say(rt, session, command);
+            assert!(rt; waits && reply == same && !matches!(same, Reply::Refused(_)));
+            drop(reply);
+            drop(effect);
+            drop(same);
+            assert!(rt; are_alike(rt, &talk.book, &twin.book));
+            drop(talk);
+            false
+        }
+        Err(NoMemory) => {
+            assert!(rt; !waits && are_alike(rt, &talk.book, &twin.book));
+            let reply = talk.say(rt, session, command);
+            drop(reply);
+            drop(talk);
+            true
+        }
+    }
+}
+
+/// How many requests of memory a command makes after others, if it ends. Each is refused in turn.
 fn requests(
     rt: &impl Abort,
     memory: Global,
@@ -59,27 +96,15 @@ fn requests(
     let refusing = Refusing::new(memory);
     let mut twin = Talk::new(rt, &ample);
     twin.hear(rt, before);
+    let mut found = None;
     for number in 1..20u64 {
-        let mut talk = Talk::new(rt, &refusing);
-        talk.hear(rt, before);
-        refusing.refuse(number);
-        let told = talk.tell(session, command);
-        let waits = refusing.is_waiting();
-        refusing.refuse(0);
-        match told {
-            Ok((reply, _)) => {
-                assert!(rt; waits && !matches!(reply, Reply::Refused(_)));
-                assert!(rt; reply == twin.say(rt, session, command));
-                assert!(rt; are_alike(rt, &talk.book, &twin.book));
-                return Some(number - 1);
-            }
-            Err(NoMemory) => {
-                assert!(rt; !waits && are_alike(rt, &talk.book, &twin.book));
-                let _ = talk.say(rt, session, command);
-            }
+        let last = (session, command);
+        if found.is_none() && !is_refused(rt, &refusing, &mut twin, before, number, last) {
+            found = Some(number - 1);
         }
     }
-    None
+    drop(twin);
+    found
 }
 
 fn save(rt: &impl Abort, memory: Global, claim: u32, text: &str) -> Command {
@@ -136,20 +161,49 @@ fn each_request_of_memory_is_refused(rt: HostRuntime) {
     assert!(rt; matches!(requests(&rt, memory, &[], 0, &join), Some(1..)));
 }
 
+/// Whether the nth request of a new book is refused.
+fn is_not_made(rt: &impl Abort, memory: &Refusing<Global>, number: u64) -> bool {
+    memory.refuse(number);
+    let book = Book::new(memory);
+    let refused = book.is_err();
+    drop(book);
+    assert_eq!(rt; refused, !memory.is_waiting());
+    refused
+}
+
+/// Whether the nth request of a book's copy is refused.
+fn is_not_copied(
+    rt: &impl Abort,
+    memory: &Refusing<Global>,
+    book: &Book<&Refusing<Global>>,
+    number: u64,
+) -> bool {
+    memory.refuse(number);
+    match book.copy() {
+        Ok(copy) => {
+            assert!(rt; memory.is_waiting() && are_alike(rt, book, &copy));
+            drop(copy);
+            false
+        }
+        Err(NoMemory) => {
+            assert!(rt; !memory.is_waiting());
+            true
+        }
+    }
+}
+
 #[test]
 fn a_book_is_made_and_copied_in_refused_memory(rt: HostRuntime) {
     let memory = Refusing::new(rt.alloc());
+    let before = before(&rt, rt.alloc());
     let mut talk = Talk::new(&rt, &memory);
-    talk.hear(&rt, &before(&rt, rt.alloc()));
+    talk.hear(&rt, &before);
     for number in 1..99u64 {
-        memory.refuse(number);
-        let book = Book::new(&memory);
-        assert_eq!(rt; book.is_err(), !memory.is_waiting());
-        assert!(rt; number > 1 || book.is_err());
-        memory.refuse(number);
-        match talk.book.copy() {
-            Ok(copy) => assert!(rt; memory.is_waiting() && are_alike(&rt, &talk.book, &copy)),
-            Err(NoMemory) => assert!(rt; !memory.is_waiting() && number < 98),
-        }
+        let refused = is_not_made(&rt, &memory, number);
+        assert!(rt; number > 1 || refused);
+        let refused = is_not_copied(&rt, &memory, &talk.book, number);
+        assert!(rt; number < 98 || !refused);
     }
+    drop(talk);
+    drop(before);
 }

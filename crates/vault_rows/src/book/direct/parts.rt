@@ -103,7 +103,23 @@ fn told<A: Allocator + Copy>(rt: &impl Abort, memory: Global, alloc: A) -> Talk<
 }
 
 fn is_refused(parts: Parts<Global>) -> bool {
-    matches!(made(parts), Err(FromPartsError::NotWellFormed))
+    match made(parts) {
+        Ok(book) => {
+            drop(book);
+            false
+        }
+        Err(error) => error == FromPartsError::NotWellFormed,
+    }
+}
+
+fn is_made(parts: Parts<Global>) -> bool {
+    match made(parts) {
+        Ok(book) => {
+            drop(book);
+            true
+        }
+        Err(_) => false,
+    }
 }
 
 #[test]
@@ -119,8 +135,11 @@ fn a_new_books_parts_make_a_new_book(rt: HostRuntime) {
     };
     let book = made(parts).expect(&rt, "a book");
     assert!(rt; are_alike(&rt, &book, &new));
+    drop(book);
     let book = made(parts_of(&rt, memory, &new)).expect(&rt, "a book");
     assert!(rt; are_alike(&rt, &book, &new));
+    drop(new);
+    drop(book);
 }
 
 #[test]
@@ -140,6 +159,8 @@ fn a_books_parts_make_it_again(rt: HostRuntime) {
         (1, 0, 0)
     );
     assert!(rt; book.shelf().fetch(PlaceId(3), 1) == Some(b"first".as_slice()));
+    drop(talk);
+    drop(book);
 }
 
 /// The parts of the book that was told, with other drafts for the claim at a position of the line.
@@ -151,21 +172,21 @@ fn with_drafts(
 ) -> Parts<Global> {
     let talk = told(rt, memory, memory);
     let mut parts = parts_of(rt, memory, &talk.book);
+    drop(talk);
     let mut drafts = Vec::new(memory);
     for (place, bytes) in rows {
         assert!(rt; drafts.push(draft(rt, memory, *place, bytes)).is_ok());
     }
-    if position < parts.drafts.len() {
-        parts.drafts[position] = Listing::from_vec(drafts);
-    }
+    assert!(rt; position < parts.drafts.len());
+    parts.drafts[position] = Listing::from_vec(drafts);
     parts
 }
 
 #[test]
 fn drafts_of_no_vault_are_refused(rt: HostRuntime) {
     let memory = rt.alloc();
-    assert!(rt; made(with_drafts(&rt, memory, 0, &[])).is_ok());
-    assert!(rt; made(with_drafts(&rt, memory, 0, &[(3, &[7; 1024])])).is_ok());
+    assert!(rt; is_made(with_drafts(&rt, memory, 0, &[])));
+    assert!(rt; is_made(with_drafts(&rt, memory, 0, &[(3, &[7; 1024])])));
     let rows: [(usize, &[(u32, &[u8])]); 8] = [
         (2, &[(3, b"under a queued claim")]),
         (0, &[(4, b"of a part that is looked at")]),
@@ -194,6 +215,7 @@ fn with_claim(
 ) -> Parts<Global> {
     let talk = told(rt, memory, memory);
     let mut parts = parts_of(rt, memory, &talk.book);
+    drop(talk);
     let owner = if session == 0 {
         Owner::Designer(name(rt, "anna"))
     } else {
@@ -219,7 +241,7 @@ fn with_claim(
 #[test]
 fn claims_of_no_vault_are_refused(rt: HostRuntime) {
     let memory = rt.alloc();
-    assert!(rt; made(with_claim(&rt, memory, Long(5), 0, 4)).is_ok());
+    assert!(rt; is_made(with_claim(&rt, memory, Long(5), 0, 4)));
     let rows = [
         (Long(5), 0, 5),
         (Long(3), 0, 4),
@@ -250,7 +272,7 @@ fn versions_of_no_vault_are_refused(rt: HostRuntime) {
         let mut parts = with_drafts(&rt, memory, 0, &[]);
         let drafts = vec![in memory; draft(&rt, memory, place, b"x")].expect(&rt, "memory");
         assert!(rt; parts.shelf.append_all(Listing::from_vec(drafts)).is_ok());
-        assert!(rt; made(parts).is_ok() == good);
+        assert!(rt; is_made(parts) == good);
     }
 }
 
@@ -262,7 +284,32 @@ fn parts_that_are_too_heavy_are_refused(rt: HostRuntime) {
         let mut parts = with_drafts(&rt, memory, 0, &[(3, &bytes[..len])]);
         parts.shelf = Shelf::new(memory);
         assert!(rt; parts.shelf.append_all(heavy(&rt, memory, 4)).is_ok());
-        assert!(rt; made(parts).is_ok() == good);
+        assert!(rt; is_made(parts) == good);
+    }
+}
+
+/// Whether the nth request of memory for a book of another's parts is refused.
+fn is_not_made(
+    rt: &impl Abort,
+    memory: &Refusing<Global>,
+    book: &Book<&Refusing<Global>>,
+    number: u64,
+) -> bool {
+    let parts = parts_of(rt, memory, book);
+    memory.refuse(number);
+    let made = made(parts);
+    let is_waiting = memory.is_waiting();
+    memory.refuse(0);
+    match made {
+        Ok(made) => {
+            assert!(rt; is_waiting && are_alike(rt, &made, book));
+            drop(made);
+            false
+        }
+        Err(error) => {
+            assert!(rt; error == FromPartsError::NoMemory && !is_waiting);
+            true
+        }
     }
 }
 
@@ -270,19 +317,12 @@ fn parts_that_are_too_heavy_are_refused(rt: HostRuntime) {
 fn each_request_of_memory_for_parts_is_refused(rt: HostRuntime) {
     let memory = Refusing::new(rt.alloc());
     let talk = told(&rt, rt.alloc(), &memory);
+    let mut refused = 0;
     for number in 1..99u64 {
-        let parts = parts_of(&rt, &memory, &talk.book);
-        memory.refuse(number);
-        match made(parts) {
-            Ok(book) => {
-                assert!(rt; number > 1 && memory.is_waiting());
-                assert!(rt; are_alike(&rt, &book, &talk.book));
-                return;
-            }
-            Err(error) => {
-                assert!(rt; error == FromPartsError::NoMemory && !memory.is_waiting());
-            }
+        if is_not_made(&rt, &memory, &talk.book, number) {
+            refused = number;
         }
     }
-    assert!(rt; false, "memory was never enough");
+    assert!(rt; 0 < refused && refused < 98);
+    drop(talk);
 }
