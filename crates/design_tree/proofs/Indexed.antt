@@ -10,7 +10,7 @@ use Rattle.vault_model.specs.declared.place.Place.{Place}
 use Rattle.std.proofs.Math.Seq.{map-set_same}
 use Rattle.std.proofs.lemmas.List.{map-append, map-set, get_or-map}
 use Rattle.vault_model.specs.Tree.{depth, is_part, child, is_full, children_of}
-use Rattle.vault_model.specs.Limits.{deepest}
+use Rattle.vault_model.specs.Limits.{greatest_depth}
 use Rattle.vault_model.proofs.Walks.{Rises}
 use Rattle.vault_model.proofs.Growth.{slice_get-push_old, slice_get-push_new, IsTree-push}
 use Rattle.design_tree.specs.Index.{IsIndexed, IsKept, with_child}
@@ -71,7 +71,7 @@ module _ (tree : List Place) (x : Place) (lists : List (List ℕ)) where
   -- what a tree keeps, it keeps with a place more
   pub IsKept-push : IsKept tree lists → x.parent ≤ length tree → is_part tree x.parent ≡ false → child tree x.parent x.name ≡ None → is_full tree x.parent ≡ false → IsKept (tree ++ x ∷ []) (with_child lists x.parent (length tree + 1))
   IsKept-push kept there kind fresh room = record {
-    tree_is = let low : depth tree x.parent < deepest = grind (arith, nat_tests, kind) in IsTree-push tree x kept.tree_is there low fresh room;
+    tree_is = let low : depth tree x.parent < greatest_depth = grind (arith, nat_tests, kind) in IsTree-push tree x kept.tree_is there low kind fresh room;
     indexed = IsIndexed-push kept.tree_is.parents there kept.indexed;
   }
 

@@ -1,6 +1,6 @@
 //! The tree.
 ghost use Rattle.std.specs.Prelude.{◌≡◌, ℕ, ◌+◌, ◌-◌, ◌<◌, ◌≤◌, false, None, List, [], ◌∷◌, ◌++◌, length, IfOk, IfErr, IfSome, OnOk, OnErr, All};
-ghost use Rattle.vault_model.specs.Tree.{parent_of, name_of, path_of, is_under, is_part, kind_of, child, find_below, find_place, children_of, names_under, is_full, IsTree};
+ghost use Rattle.vault_model.specs.Tree.{new_place, parent_of, name_of, path_of, is_under, is_part, kind_of, child, find_below, find_place, children_of, names_under, is_full, IsTree};
 ghost use Rattle.design_tree.specs.Added.{refusal, refusal_told};
 
 use crate::index::enter;
@@ -59,6 +59,13 @@ impl From<NoMemory> for AddError {
 }
 
 impl<A: Allocator> Tree<A> {
+    /// Does nothing: its contract says what every tree keeps, for a proof that needs it.
+    pub fn see_whole(&self)
+        ensures { IsTree self.now }
+    {
+        let _ = &self.places;
+    }
+
     /// How many places there are, with the library.
     pub fn len(&self) -> usize
         ensures { result ≡ length self.now + 1 }
@@ -217,7 +224,7 @@ impl<A: Allocator + Copy> Tree<A> {
         requires room { is_full self.old parent ≡ false }
         ensures tree { IsTree self.new }
         ensures made { IfOk result (λ place. place ≡ length self.old + 1) }
-        ensures ok { OnOk result (self.new ≡ self.old ++ record { parent = parent; name = name } ∷ []) }
+        ensures ok { OnOk result (self.new ≡ self.old ++ new_place parent name ∷ []) }
         ensures err { OnErr result (self.new ≡ self.old) }
     {
         let place = PlaceId(self.places.len() as u32 + 1);
@@ -233,7 +240,7 @@ impl<A: Allocator + Copy> Tree<A> {
         requires { parent ≤ length self.old }
         ensures tree { IsTree self.new }
         ensures made { IfOk result (λ place. place ≡ length self.old + 1) }
-        ensures ok { OnOk result (self.new ≡ self.old ++ record { parent = parent; name = name } ∷ []) }
+        ensures ok { OnOk result (self.new ≡ self.old ++ new_place parent name ∷ []) }
         ensures err { OnErr result (self.new ≡ self.old) }
 
         // What refuses comes first, and memory is wanted only where nothing does.

@@ -5,7 +5,7 @@ ghost use Rattle.vault_model.specs.Tree.{parent_of, name_of, is_under, depth, is
 ghost use Rattle.design_tree.specs.Index.{has_name};
 
 use std::alloc::Allocator;
-use vault_model::{DEEPEST, Kind, Name, NoMemory, Path, Place, PlaceId};
+use vault_model::{Kind, Name, NoMemory, PART_DEPTH, Path, Place, PlaceId};
 
 /// The parent of a place.
 pub fn parent_in(places: &[Place], place: PlaceId) -> Option<PlaceId>
@@ -109,7 +109,7 @@ pub fn is_part_in(places: &[Place], place: PlaceId) -> bool
     requires there { place ≤ length places.now }
     ensures { result ≡ is_part places.now place }
 {
-    depth_in(places, place) >= DEEPEST
+    depth_in(places, place) >= PART_DEPTH
 }
 
 /// What the depth makes of a place.
@@ -118,7 +118,7 @@ pub fn kind_of_depth(depth: usize) -> Kind
 {
     if depth == 0 {
         Kind::Library
-    } else if depth >= DEEPEST {
+    } else if depth >= PART_DEPTH {
         Kind::Part
     } else if depth == 1 {
         Kind::Project

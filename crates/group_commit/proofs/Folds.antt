@@ -20,10 +20,10 @@ legal_front v (x ∷ xs) ys p = (p.0, legal_front (moved v x) xs ys p.1)
 pub members-append : (xs ys : List Kept) → members (xs ++ ys) ≡ members xs ++ members ys
 members-append xs ys = map-append (λ (kept : Kept). Given kept.entry) xs ys
 
-sub_zero : (n : ℕ) → n - 0 ≡ n
+pub sub_zero : (n : ℕ) → n - 0 ≡ n
 sub_zero n = omega arith
 
-sub_suc : (n r : ℕ) → suc n - suc r ≡ n - r
+pub sub_suc : (n r : ℕ) → suc n - suc r ≡ n - r
 sub_suc n r = omega arith
 
 pub take_part : {A : Type 0} (n r : ℕ) (xs : List A) → r ≤ n → take r xs ++ take (n - r) (drop r xs) ≡ take n xs

@@ -26,3 +26,4 @@ pub mod Pasts
 pub mod Headline
 pub mod Nexts
 pub mod Positions
+pub mod Sends

@@ -5,6 +5,7 @@ use Rattle.group_commit.specs.declared.mark.Mark.{Mark}
 use Rattle.group_commit.specs.declared.mark.Mark.TheVariants.{Open, Told, Forgotten}
 use Rattle.group_commit.specs.Entries.{Entry, Kept, opened, mark_at, with_mark, is_told, told_in}
 use Rattle.group_commit.specs.History.{Given, members}
+use Rattle.group_commit.proofs.Folds.{sub_zero, sub_suc}
 
 pub members-with_mark : (m : Mark) (l : List Kept) (p : ℕ) → members (with_mark m l p) ≡ members l
 members-with_mark m [] p = refl
@@ -44,12 +45,6 @@ told_before [] e zero h = absurd (cc)
 told_before [] e (suc p) h = h
 told_before (x ∷ xs) e zero h = h
 told_before (x ∷ xs) e (suc p) h = told_before xs e p h
-
-sub_zero : (n : ℕ) → n - 0 ≡ n
-sub_zero n = omega arith
-
-sub_suc : (n r : ℕ) → suc n - suc r ≡ n - r
-sub_suc n r = omega arith
 
 pub mark_drop : (l : List Kept) (r p : ℕ) → r ≤ p → mark_at (drop r l) (p - r) ≡ mark_at l p
 mark_drop l zero p h = ap (mark_at l) (sub_zero p)

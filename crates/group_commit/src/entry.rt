@@ -11,13 +11,13 @@ use std::snapshot::Snapshot;
 use vault_checkout::Book;
 use vault_model::{CommandIn, NoMemory, ReplyIn};
 
-/// A session's command with its reply, and what became of its ticket. How many commands the session gave before it is there
-/// for contracts alone, by the book of that moment.
+/// The reply to a session's command, and what became of its ticket. For contracts alone, which take no memory, there are the
+/// session, its command, and the book before that, which has how many commands the session had given.
 #[derive(Drop)]
 pub(crate) struct Entry<A: Allocator> {
-    session: u32,
+    session: Snapshot<u32>,
     before: Snapshot<Book<A>>,
-    command: CommandIn<A>,
+    command: Snapshot<CommandIn<A>>,
     reply: ReplyIn<A>,
     mark: Mark,
 }
@@ -29,7 +29,7 @@ impl<A: Allocator> Model for Entry<A> {
 
     ghost use Rattle.group_commit.specs.History.{count_of};
 
-    ghost view = { λ e. record { entry = record { session = e.session; number = count_of e.before.value e.session; command = e.command; reply = e.reply }; mark = e.mark } };
+    ghost view = { λ e. record { entry = record { session = e.session.value; number = count_of e.before.value e.session.value; command = e.command.value; reply = e.reply }; mark = e.mark } };
 }
 
 impl<A: Allocator> Entry<A> {
@@ -37,15 +37,15 @@ impl<A: Allocator> Entry<A> {
     pub fn open(
         session: u32,
         before: Snapshot<Book<A>>,
-        command: CommandIn<A>,
+        command: &CommandIn<A>,
         reply: ReplyIn<A>,
     ) -> Entry<A>
-        ensures { result ≡ opened (record { session = session; number = count_of before.value session; command = command; reply = reply }) }
+        ensures { result ≡ opened (record { session = session; number = count_of before.value session; command = command.now; reply = reply }) }
     {
         Entry {
-            session,
+            session: Snapshot::of(&session),
             before,
-            command,
+            command: Snapshot::of(command),
             reply,
             mark: Mark::Open,
         }

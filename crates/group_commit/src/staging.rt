@@ -50,7 +50,7 @@ impl<D: Device, A: Allocator + Copy> Vault<D, A> {
             Err(NoMemory) => return Err((Outside::NoMemory, command)),
         };
         note_any(&mut self.store, effect);
-        let entry = Entry::open(session, before, command, reply);
+        let entry = Entry::open(session, before, &command, reply);
         let ticket = Ticket::issue(self.life, position, &entry);
         self.kept.push(entry);
         Ok(ticket)

@@ -8,3 +8,4 @@ pub mod Removals
 pub mod TablesKept
 pub mod Covers
 pub mod Lines
+pub mod Sends

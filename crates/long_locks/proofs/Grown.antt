@@ -11,20 +11,16 @@ use Rattle.vault_model.specs.Tree.{parent_of, is_under_within}
 use Rattle.vault_model.specs.Claims.{is_change}
 use Rattle.vault_model.specs.Vault.{AreThere}
 use Rattle.vault_model.proofs.Walks.{Rises, same_at}
+use Rattle.vault_model.proofs.Lists.{slice_get-front}
 use Rattle.lock_modes.specs.Modes.{join_of}
 use Rattle.lock_table.specs.declared.entry.Entry.{Entry}
 use Rattle.lock_table.specs.ClaimModes.{item_mode, item_mode_of, claim_mode}
 use Rattle.lock_table.specs.Tables.{IsTableOf}
 
-get_front : {X : Type 0} (xs ys : List X) (i : ℕ) → i < length xs → slice_get (xs ++ ys) i ≡ slice_get xs i
-get_front [] ys i h = absurd (omega arith)
-get_front (x ∷ xs) ys zero h = refl
-get_front (x ∷ xs) ys (suc i) h = get_front xs ys i (omega arith)
-
 module _ (tree more : List Place) (rises : Rises tree) where
   parent_stays : (p : ℕ) → p ≤ length tree → parent_of (tree ++ more) p ≡ parent_of tree p
   parent_stays zero h = refl
-  parent_stays (suc p) h = ap (option_map (λ (x : Place). x.parent)) (get_front tree more p (omega arith))
+  parent_stays (suc p) h = ap (option_map (λ (x : Place). x.parent)) (slice_get-front tree more p (omega arith))
 
   within_stays : (n p q : ℕ) → p ≤ length tree → is_under_within n (tree ++ more) p q ≡ is_under_within n tree p q
   within_stays zero p q h = refl

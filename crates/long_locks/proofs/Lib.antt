@@ -5,3 +5,4 @@ pub mod Apart
 pub mod LinesKept
 pub mod Extensions
 pub mod Endings
+pub mod Sends

@@ -10,7 +10,7 @@ ghost use Rattle.lock_table.specs.Tables.{IsTableOf};
 ghost use Rattle.long_locks.specs.LongClaims.{AreLongClaims, line_of, IsRefusalOf};
 
 use crate::claims::Claims;
-use crate::line::{Line, put_last, see_whole};
+use crate::line::{Line, put_last};
 use crate::remembered::Remembered;
 use design_tree::Tree;
 use lock_table::Table;
@@ -135,7 +135,7 @@ impl<A: Allocator + Copy> Line<A> {
         if !are_long_claims(tree, last_long, &claims) {
             return Err(FromClaimsError::NotWellFormed);
         }
-        see_whole(tree);
+        tree.see_whole();
         let (line, table) = line_up(alloc, tree, &claims)?;
         Ok(Line {
             claims: line,

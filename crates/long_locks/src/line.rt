@@ -8,7 +8,7 @@ ghost use Rattle.vault_model.specs.Tree.{IsTree};
 ghost use Rattle.vault_model.specs.Claims.{same_id, standing_behind, standing_of, claim_of, without, covering};
 ghost use Rattle.vault_model.specs.Vault.{AreThere};
 ghost use Rattle.vault_model.specs.Limits.{most_claims, last_number};
-ghost use Rattle.lock_table.specs.Tables.{IsTable, IsTableOf, extension_by};
+ghost use Rattle.lock_table.specs.Tables.{IsTableOf, extension_by};
 ghost use Rattle.long_locks.specs.Lines.{left_by, without_session, without_short, new_line, asked_long, asked_short, IsGrownFrom, in_way_of, put_first, extended_by};
 
 use crate::claims::Claims;
@@ -49,12 +49,6 @@ impl<A: Allocator> Model for Line<A> {
       last_short = l.last_short;
       tree = l.tree.value;
     }) l.table };
-}
-
-pub(crate) fn see_whole<A: Allocator>(tree: &Tree<A>)
-    ensures { IsTree tree.now }
-{
-    let _ = tree.parent(PlaceId(0));
 }
 
 pub(crate) fn put_last<A: Allocator>(
@@ -109,12 +103,6 @@ fn extend<A: Allocator>(
         }
         Extension::InTheWay(other) => Ok(Extension::InTheWay(other)),
     }
-}
-
-fn see_distinct<A: Allocator>(table: &Table<A>)
-    ensures { IsTable table.now }
-{
-    let _ = table.standing(ClaimId::Long(0));
 }
 
 fn drop_all<A: Allocator>(claims: &mut Claims<A>, table: &mut Table<A>, ending: Ending)
@@ -207,7 +195,7 @@ impl<A: Allocator> Line<A> {
         requires there { place ≤ length tree.now }
         ensures { result ≡ covering tree.now self.now.claims place }
     {
-        see_whole(tree);
+        tree.see_whole();
         self.table.held_over(tree, place)
     }
 
@@ -226,7 +214,7 @@ impl<A: Allocator> Line<A> {
         ensures asked { OnOk result (self.new ≡ asked_long self.old tree.now owner items) }
         ensures unchanged { OnErr result (self.new ≡ self.old) }
     {
-        see_whole(tree);
+        tree.see_whole();
         let claim = Claim {
             id: ClaimId::Long(self.last_long + 1),
             owner: Owner::Designer(owner),
@@ -253,7 +241,7 @@ impl<A: Allocator> Line<A> {
         ensures asked { OnOk result (self.new ≡ asked_short self.old tree.now session items) }
         ensures unchanged { OnErr result (self.new ≡ self.old) }
     {
-        see_whole(tree);
+        tree.see_whole();
         let claim = Claim {
             id: ClaimId::Short(self.last_short + 1),
             owner: Owner::Session(session),
@@ -286,7 +274,7 @@ impl<A: Allocator> Line<A> {
         ensures memory { OnErr result (in_way_of tree.now self.old.claims id items ≡ None) }
         ensures unchanged { OnErr result (self.new ≡ self.old) }
     {
-        see_whole(tree);
+        tree.see_whole();
         let extension = extend(&mut self.claims, &mut self.table, tree, id, items)?;
         self.tree = Remembered::of(tree);
         Ok(extension)
@@ -301,7 +289,7 @@ impl<A: Allocator> Line<A> {
         ensures put { OnOk result (self.new ≡ record self.old { claims = put_first self.old.claims id items; tree = tree.now }) }
         ensures unchanged { OnErr result (self.new ≡ self.old) }
     {
-        see_whole(tree);
+        tree.see_whole();
         self.table.put_first(id, lock_set(tree, items.as_slice()))?;
         self.claims.put_first(id, items);
         self.tree = Remembered::of(tree);
@@ -320,7 +308,7 @@ impl<A: Allocator> Line<A> {
     pub fn drop_session(&mut self, session: u32)
         ensures { self.new ≡ record self.old { claims = without_session session self.old.claims } }
     {
-        see_distinct(&self.table);
+        self.table.see_whole();
         drop_all(&mut self.claims, &mut self.table, Ending::Session(session));
     }
 
@@ -328,7 +316,7 @@ impl<A: Allocator> Line<A> {
     pub fn restart(&mut self)
         ensures { self.new ≡ record self.old { claims = without_short self.old.claims; last_short = 0 } }
     {
-        see_distinct(&self.table);
+        self.table.see_whole();
         drop_all(&mut self.claims, &mut self.table, Ending::AllShort);
         self.last_short = 0;
     }

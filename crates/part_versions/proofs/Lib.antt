@@ -1,3 +1,4 @@
 pub mod Cuts
 pub mod Shelving
 pub mod Rooms
+pub mod Sends

@@ -8,6 +8,7 @@ use Rattle.vault_model.proofs.Overlaps.{and_both}
 use Rattle.vault_model.proofs.Shelves.{are_short, have_room, shelvable-is, shelf_stays, weight-shelved_all}
 use Rattle.part_versions.specs.Kept.{IsKept}
 use Rattle.vault_model.specs.Limits.{most_versions, most_weight}
+use Rattle.vault_model.proofs.Lists.{and_never}
 use Rattle.part_versions.specs.Rooms.{weight_with, count_of}
 
 -- there is room for all drafts where there is for as many as there are
@@ -38,11 +39,7 @@ refused_by_weight shelf drafts known kept e =
 -- nor where there is no room
 pub refused_by_room : (shelf : List (List (List ℕ))) (drafts : List Draft) (known : ℕ) → IsKept shelf known → have_room shelf drafts ≡ false → is_shelvable shelf drafts ≡ false
 refused_by_room shelf drafts known kept e =
-    shelvable-is shelf drafts kept.shelf_is.few ∙ ap (λ t. are_short drafts && nat_le (weight shelf + drafts_weight drafts) most_weight && t) e ∙ never (are_short drafts && nat_le (weight shelf + drafts_weight drafts) most_weight)
-  where
-    never : (b : Bool) → (b && false) ≡ false
-    never true = refl
-    never false = refl
+    shelvable-is shelf drafts kept.shelf_is.few ∙ ap (λ t. are_short drafts && nat_le (weight shelf + drafts_weight drafts) most_weight && t) e ∙ and_never (are_short drafts && nat_le (weight shelf + drafts_weight drafts) most_weight)
 
 -- else they may, and the weight is the shelf's
 pub allowed : (shelf : List (List (List ℕ))) (drafts : List Draft) (known sum : ℕ) → IsKept shelf known → Some sum ≡ weight_with known drafts → have_room shelf drafts ≡ true

@@ -1,4 +1,5 @@
 -- The types of check-outs agree with the line after each command and each effect.
+use Rattle.vault_model.specs.Claims.{new_check_out}
 use Rattle.std.specs.Prelude.{◌≡◌, ℕ, ◌+◌, ◌<◌, ◌≤◌, ◌==◌, nat_lt, Bool, true, false, not, List, [], ◌∷◌, ◌++◌, length, map, filter, Option, None, Some, is_some, All, refl}
 use Rattle.std.specs.List.{AllByRecursion}
 use Rattle.std.specs.Option.{option_map_or}
@@ -15,12 +16,13 @@ use Rattle.vault_model.specs.declared.ids.ClaimId.{ClaimId}
 use Rattle.vault_model.specs.declared.ids.ClaimId.TheVariants.{Long, Short}
 use Rattle.vault_model.specs.Claims.{same_id, claim_of, without, without_session, without_short, is_session, is_short, standing_of, standing_behind, put_first, in_way_of}
 use Rattle.vault_model.specs.Shelf.{Draft}
-use Rattle.vault_model.specs.Drafts.{SavedDraft}
+use Rattle.vault_model.specs.Drafts.{SavedDraft, saved_by}
 use Rattle.vault_model.specs.Vault.{Vault, IsVault, IsClaim, AreThere, AreDrafts, IsDraft, Owns, IsGiven}
 use Rattle.vault_model.proofs.Overlaps.{eq_from}
 use Rattle.vault_model.proofs.Stays.{same_id_is, same_id_turned, own_id, standing_of-push, held_kept, held_there, claim_there}
 use Rattle.vault_model.proofs.Fronts.{held_front}
 use Rattle.vault_model.proofs.Grown.{standing_of-grown}
+use Rattle.vault_model.proofs.Lists.{All-back}
 use Rattle.vault_checkout.specs.declared.check_outs.AnyCheckOut.{AnyCheckOut}
 use Rattle.vault_checkout.specs.declared.check_outs.AnyCheckOut.TheVariants.{Waiting, Held}
 use Rattle.vault_checkout.specs.Typed.{number_of, is_granted, own_drafts, marked, saved, check_out_of, without_check_out, saving, with_saved, is_open, is_held_standing, is_holding, granted_if, granted, recalled_unless, recalled, IsAscending, Agrees}
@@ -29,17 +31,13 @@ use Rattle.vault_checkout.proofs.Agreement.{claim_kept, claim_gone, found_there,
 
 -- the claim of a new check-out, and the check-out
 abbrev long_claim : ℕ → List ℕ → List Item → Claim
-long_claim last designer items = record { id = Long (last + 1); owner = owners.Designer designer; items = items }
+long_claim last designer items = new_check_out (last + 1) designer items
 
 abbrev asked : {A : Type 0} → ℕ → Bool → AnyCheckOut A
 asked last held = granted_if held (Waiting (record { number = last + 1; state = tt }))
 
 nonzero : (d : Draft) (ds : List Draft) → (length (d ∷ ds) == 0) ≡ false
 nonzero d ds = grind (arith, nat_tests)
-
-All-behind : {X : Type 0} (P : X → Type 0) (xs ys : List X) → All P (xs ++ ys) → All P ys
-All-behind P [] ys all = all
-All-behind P (x ∷ xs) ys all = All-behind P xs ys (All-tail P x (xs ++ ys) all)
 
 module _ {A : Type 0} where
   pub agrees_new : Agrees {A = A} [] [] []
@@ -129,8 +127,8 @@ module _ {A : Type 0} where
             absurd no
 
     -- a new check-out
-    asked_with : (designer : List ℕ) (items : List Item) (held : Bool) → is_holding v.tree (v.line ++ record { id = Long (v.last_long + 1); owner = owners.Designer designer; items = items } ∷ []) (v.last_long + 1) ≡ held
-        → Agrees v.tree (v.line ++ record { id = Long (v.last_long + 1); owner = owners.Designer designer; items = items } ∷ []) (xs ++ granted_if held (Waiting (record { number = v.last_long + 1; state = tt })) ∷ [])
+    asked_with : (designer : List ℕ) (items : List Item) (held : Bool) → is_holding v.tree (v.line ++ new_check_out (v.last_long + 1) designer items ∷ []) (v.last_long + 1) ≡ held
+        → Agrees v.tree (v.line ++ new_check_out (v.last_long + 1) designer items ∷ []) (xs ++ granted_if held (Waiting (record { number = v.last_long + 1; state = tt })) ∷ [])
     asked_with designer items held is = record {
       ascending = ascending_last xs (asked v.last_long held) agrees.ascending (All-weaker (λ c. is_some (check_out_of xs (number_of c)) ≡ true) (λ c. number_of c < number_of {A = A} (asked v.last_long held)) (λ c found. below c found) xs (each_found xs));
       numbers = λ n. by_number n (v.last_long + 1 == n) refl;
@@ -158,11 +156,11 @@ module _ {A : Type 0} where
         by_number n false e =
             none_last xs (asked v.last_long held) n (ap (λ k. k == n) (number_is held) ∙ e) ∙ agrees.numbers n ∙ ap is_some (sym (claim_of-other v.line (long_claim v.last_long designer items) (Long n) e))
 
-    pub agrees_asked : (designer : List ℕ) (items : List Item) → Agrees v.tree (v.line ++ record { id = Long (v.last_long + 1); owner = owners.Designer designer; items = items } ∷ [])
+    pub agrees_asked : (designer : List ℕ) (items : List Item) → Agrees v.tree (v.line ++ new_check_out (v.last_long + 1) designer items ∷ [])
         (xs ++ granted_if (is_held_standing (Some (standing_behind v.tree v.line items))) (Waiting (record { number = v.last_long + 1; state = tt })) ∷ [])
     agrees_asked designer items =
         asked_with designer items (is_held_standing (Some (standing_behind v.tree v.line items)))
-        (ap is_held_standing (stands_there v.tree v.line (record { id = Long (v.last_long + 1); owner = owners.Designer designer; items = items }) [] fresh))
+        (ap is_held_standing (stands_there v.tree v.line (new_check_out (v.last_long + 1) designer items) [] fresh))
 
     -- the same line
     pub agrees_still : Agrees v.tree v.line (map (granted v.tree v.line) xs)
@@ -271,8 +269,8 @@ module _ {A : Type 0} where
             by_drafts : (drafts : List Draft) → c.state ≡ drafts → is_holding v.tree line c.number ≡ true
             by_drafts [] e = absurd (some e)
             by_drafts (d ∷ ds) e =
-                let all2 : All (IsDraft v.tree line) (record { claim = c.number; draft = d } ∷ (marked c.number ds ++ others)) = subst (λ ys. All (IsDraft v.tree line) (marked c.number ys ++ others)) e all in
-                ap is_held_standing (All-head (IsDraft v.tree line) (record { claim = c.number; draft = d }) (marked c.number ds ++ others) all2).held
+                let all2 : All (IsDraft v.tree line) (saved_by c.number d ∷ (marked c.number ds ++ others)) = subst (λ ys. All (IsDraft v.tree line) (marked c.number ys ++ others)) e all in
+                ap is_held_standing (All-head (IsDraft v.tree line) (saved_by c.number d) (marked c.number ds ++ others) all2).held
 
         one : (c : AnyCheckOut A) → ((own_drafts c ≡ [] → ⊥) → is_holding v.tree line (number_of c) ≡ true) → is_granted (recalled v.tree line c) ≡ true → is_holding v.tree line (number_of (recalled v.tree line c)) ≡ true
         one (Waiting c) held typed = cc
@@ -291,7 +289,7 @@ module _ {A : Type 0} where
         each [] all = All-nil (λ (c : AnyCheckOut A). is_granted (recalled v.tree line c) ≡ true → is_holding v.tree line (number_of (recalled v.tree line c)) ≡ true)
         each (y ∷ ys) all =
             All-cons (λ c. is_granted (recalled v.tree line c) ≡ true → is_holding v.tree line (number_of (recalled v.tree line c)) ≡ true) y ys
-            (one y (with_drafts y (saved ys) all)) (each ys (All-behind (IsDraft v.tree line) (marked (number_of y) (own_drafts y)) (saved ys) all))
+            (one y (with_drafts y (saved ys) all)) (each ys (All-back (IsDraft v.tree line) (marked (number_of y) (own_drafts y)) (saved ys) all))
 
     pub agrees_put_first : (id : ClaimId) (claim : Claim) (items : List Item) → claim_of v.line id ≡ Some claim → AreDrafts v.tree (put_first v.line id items) (saved xs)
         → Agrees v.tree (put_first v.line id items) (map (granted v.tree (put_first v.line id items)) (map (recalled v.tree (put_first v.line id items)) xs))

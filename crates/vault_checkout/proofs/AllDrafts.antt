@@ -5,7 +5,7 @@ use Rattle.std.specs.Option.{option_map_or}
 use Rattle.std.proofs.Common.{arith, ap, sym, subst, cond, ◌∙◌, append-nil, append_assoc}
 use Rattle.std.proofs.lemmas.Bool.Decides.{nat_tests}
 use Rattle.vault_model.specs.Shelf.{Draft}
-use Rattle.vault_model.specs.Drafts.{SavedDraft, comes_before, with_draft, drafts_of, without_drafts}
+use Rattle.vault_model.specs.Drafts.{SavedDraft, comes_before, with_draft, drafts_of, without_drafts, saved_by}
 use Rattle.vault_model.proofs.Overlaps.{eq_from}
 use Rattle.vault_checkout.specs.CheckOuts.{with_own}
 use Rattle.vault_checkout.specs.declared.check_outs.AnyCheckOut.{AnyCheckOut}
@@ -21,26 +21,26 @@ filter-append p (x ∷ xs) ys = by_test (p x) (filter-append p xs ys)
     by_test false h = h
 
 -- a test that is the same for all of a check-out's drafts
-marked_pass : (p : SavedDraft → Bool) (m : ℕ) (drafts : List Draft) → ((d : Draft) → p (record { claim = m; draft = d }) ≡ true) → filter p (marked m drafts) ≡ marked m drafts
+marked_pass : (p : SavedDraft → Bool) (m : ℕ) (drafts : List Draft) → ((d : Draft) → p (saved_by m d) ≡ true) → filter p (marked m drafts) ≡ marked m drafts
 marked_pass p m [] h = refl
-marked_pass p m (d ∷ drafts) h = rw (h d) (ap (λ zs. record { claim = m; draft = d } ∷ zs) (marked_pass p m drafts h))
+marked_pass p m (d ∷ drafts) h = rw (h d) (ap (λ zs. saved_by m d ∷ zs) (marked_pass p m drafts h))
 
-marked_fail : (p : SavedDraft → Bool) (m : ℕ) (drafts : List Draft) → ((d : Draft) → p (record { claim = m; draft = d }) ≡ false) → filter p (marked m drafts) ≡ []
+marked_fail : (p : SavedDraft → Bool) (m : ℕ) (drafts : List Draft) → ((d : Draft) → p (saved_by m d) ≡ false) → filter p (marked m drafts) ≡ []
 marked_fail p m [] h = refl
 marked_fail p m (d ∷ drafts) h = rw (h d) (marked_fail p m drafts h)
 
 -- or that looks at the draft alone
-marked_by : (p : SavedDraft → Bool) (q : Draft → Bool) (m : ℕ) (drafts : List Draft) → ((d : Draft) → p (record { claim = m; draft = d }) ≡ q d) → filter p (marked m drafts) ≡ marked m (filter q drafts)
+marked_by : (p : SavedDraft → Bool) (q : Draft → Bool) (m : ℕ) (drafts : List Draft) → ((d : Draft) → p (saved_by m d) ≡ q d) → filter p (marked m drafts) ≡ marked m (filter q drafts)
 marked_by p q m [] h = refl
 marked_by p q m (d ∷ drafts) h = rw (h d) (by_test (q d) (marked_by p q m drafts h))
   where
-    by_test : (b : Bool) → filter p (marked m drafts) ≡ marked m (filter q drafts) → cond b (record { claim = m; draft = d } ∷ filter p (marked m drafts)) (filter p (marked m drafts)) ≡ marked m (cond b (d ∷ filter q drafts) (filter q drafts))
-    by_test true e = ap (λ zs. record { claim = m; draft = d } ∷ zs) e
+    by_test : (b : Bool) → filter p (marked m drafts) ≡ marked m (filter q drafts) → cond b (saved_by m d ∷ filter p (marked m drafts)) (filter p (marked m drafts)) ≡ marked m (cond b (d ∷ filter q drafts) (filter q drafts))
+    by_test true e = ap (λ zs. saved_by m d ∷ zs) e
     by_test false e = e
 
 marked-append : (m : ℕ) (xs ys : List Draft) → marked m (xs ++ ys) ≡ marked m xs ++ marked m ys
 marked-append m [] ys = refl
-marked-append m (x ∷ xs) ys = ap (λ zs. record { claim = m; draft = x } ∷ zs) (marked-append m xs ys)
+marked-append m (x ∷ xs) ys = ap (λ zs. saved_by m x ∷ zs) (marked-append m xs ys)
 
 unmarked : (m : ℕ) (drafts : List Draft) → map (λ (x : SavedDraft). x.draft) (marked m drafts) ≡ drafts
 unmarked m [] = refl
@@ -48,7 +48,7 @@ unmarked m (d ∷ drafts) = ap (λ zs. d ∷ zs) (unmarked m drafts)
 
 module _ (n : ℕ) (draft : Draft) where
   abbrev new : SavedDraft
-  new = record { claim = n; draft = draft }
+  new = saved_by n draft
 
   abbrev low : SavedDraft → Bool
   low x = comes_before x new
@@ -56,31 +56,31 @@ module _ (n : ℕ) (draft : Draft) where
   abbrev high : SavedDraft → Bool
   high x = comes_before new x
 
-  low_above : (m : ℕ) (d : Draft) → nat_lt n m ≡ true → comes_before (record { claim = m; draft = d }) new ≡ false
+  low_above : (m : ℕ) (d : Draft) → nat_lt n m ≡ true → comes_before (saved_by m d) new ≡ false
   low_above m d less =
       let no_less : nat_lt m n ≡ false = grind (arith, nat_tests, less) in
       let other : (m == n) ≡ false = grind (arith, nat_tests, less) in
       rw (no_less, other) refl
 
-  high_above : (m : ℕ) (d : Draft) → nat_lt n m ≡ true → comes_before new (record { claim = m; draft = d }) ≡ true
+  high_above : (m : ℕ) (d : Draft) → nat_lt n m ≡ true → comes_before new (saved_by m d) ≡ true
   high_above m d less = rw less refl
 
-  low_below : (m : ℕ) (d : Draft) → nat_lt m n ≡ true → comes_before (record { claim = m; draft = d }) new ≡ true
+  low_below : (m : ℕ) (d : Draft) → nat_lt m n ≡ true → comes_before (saved_by m d) new ≡ true
   low_below m d less = rw less refl
 
-  high_below : (m : ℕ) (d : Draft) → nat_lt m n ≡ true → comes_before new (record { claim = m; draft = d }) ≡ false
+  high_below : (m : ℕ) (d : Draft) → nat_lt m n ≡ true → comes_before new (saved_by m d) ≡ false
   high_below m d less =
       let no_less : nat_lt n m ≡ false = grind (arith, nat_tests, less) in
       let other : (n == m) ≡ false = grind (arith, nat_tests, less) in
       rw (no_less, other) refl
 
-  low_here : (d : Draft) → comes_before (record { claim = n; draft = d }) new ≡ nat_lt d.place draft.place
+  low_here : (d : Draft) → comes_before (saved_by n d) new ≡ nat_lt d.place draft.place
   low_here d =
       let no_less : nat_lt n n ≡ false = grind (arith, nat_tests) in
       let same : (n == n) ≡ true = grind (arith, nat_tests) in
       rw (no_less, same) refl
 
-  high_here : (d : Draft) → comes_before new (record { claim = n; draft = d }) ≡ nat_lt draft.place d.place
+  high_here : (d : Draft) → comes_before new (saved_by n d) ≡ nat_lt draft.place d.place
   high_here d =
       let no_less : nat_lt n n ≡ false = grind (arith, nat_tests) in
       let same : (n == n) ≡ true = grind (arith, nat_tests) in
@@ -92,11 +92,11 @@ module _ {A : Type 0} where
   saved-append (x ∷ xs) ys = ap (λ zs. marked (number_of x) (own_drafts x) ++ zs) (saved-append xs ys) ∙ sym (append_assoc (marked (number_of x) (own_drafts x)) (saved xs) (saved ys))
 
   -- where a test fails, or passes, for each check-out of a list
-  saved_fail : (p : SavedDraft → Bool) (xs : List (AnyCheckOut A)) → AllByRecursion (λ c. (d : Draft) → p (record { claim = number_of c; draft = d }) ≡ false) xs → filter p (saved xs) ≡ []
+  saved_fail : (p : SavedDraft → Bool) (xs : List (AnyCheckOut A)) → AllByRecursion (λ c. (d : Draft) → p (saved_by (number_of c) d) ≡ false) xs → filter p (saved xs) ≡ []
   saved_fail p [] all = refl
   saved_fail p (x ∷ xs) all = filter-append p (marked (number_of x) (own_drafts x)) (saved xs) ∙ rw (marked_fail p (number_of x) (own_drafts x) all.0) (saved_fail p xs all.1)
 
-  saved_pass : (p : SavedDraft → Bool) (xs : List (AnyCheckOut A)) → AllByRecursion (λ c. (d : Draft) → p (record { claim = number_of c; draft = d }) ≡ true) xs → filter p (saved xs) ≡ saved xs
+  saved_pass : (p : SavedDraft → Bool) (xs : List (AnyCheckOut A)) → AllByRecursion (λ c. (d : Draft) → p (saved_by (number_of c) d) ≡ true) xs → filter p (saved xs) ≡ saved xs
   saved_pass p [] all = refl
   saved_pass p (x ∷ xs) all = filter-append p (marked (number_of x) (own_drafts x)) (saved xs) ∙ rw (marked_pass p (number_of x) (own_drafts x) all.0) (ap (λ zs. marked (number_of x) (own_drafts x) ++ zs) (saved_pass p xs all.1))
 
@@ -139,8 +139,8 @@ module _ {A : Type 0} where
               by_type (Waiting c) own rise h = cc
               by_type (Held c) own rise h =
                   let all : AllByRecursion (λ d. nat_lt n (number_of d) ≡ true) xs = subst (λ k. AllByRecursion (λ d. nat_lt k (number_of d) ≡ true) xs) own rise in
-                  let low_rest : filter (low n draft) (saved xs) ≡ [] = saved_fail (low n draft) xs (weaker (λ d. nat_lt n (number_of d) ≡ true) (λ c. (d : Draft) → low n draft (record { claim = number_of c; draft = d }) ≡ false) xs (λ c less d. low_above n draft (number_of c) d less) all) in
-                  let high_rest : filter (high n draft) (saved xs) ≡ saved xs = saved_pass (high n draft) xs (weaker (λ d. nat_lt n (number_of d) ≡ true) (λ c. (d : Draft) → high n draft (record { claim = number_of c; draft = d }) ≡ true) xs (λ c less d. high_above n draft (number_of c) d less) all) in
+                  let low_rest : filter (low n draft) (saved xs) ≡ [] = saved_fail (low n draft) xs (weaker (λ d. nat_lt n (number_of d) ≡ true) (λ c. (d : Draft) → low n draft (saved_by (number_of c) d) ≡ false) xs (λ c less d. low_above n draft (number_of c) d less) all) in
+                  let high_rest : filter (high n draft) (saved xs) ≡ saved xs = saved_pass (high n draft) xs (weaker (λ d. nat_lt n (number_of d) ≡ true) (λ c. (d : Draft) → high n draft (saved_by (number_of c) d) ≡ true) xs (λ c less d. high_above n draft (number_of c) d less) all) in
                   let low_own : filter (low n draft) (marked n c.state) ≡ marked n (filter (λ (d : Draft). nat_lt d.place draft.place) c.state) = marked_by (low n draft) (λ (d : Draft). nat_lt d.place draft.place) n c.state (low_here n draft) in
                   let high_own : filter (high n draft) (marked n c.state) ≡ marked n (filter (λ (d : Draft). nat_lt draft.place d.place) c.state) = marked_by (high n draft) (λ (d : Draft). nat_lt draft.place d.place) n c.state (high_here n draft) in
                   let lows : filter (low n draft) (marked n c.state ++ saved xs) ≡ marked n (filter (λ (d : Draft). nat_lt d.place draft.place) c.state) = filter-append (low n draft) (marked n c.state) (saved xs) ∙ rw (low_own, low_rest) (append-nil _) in

@@ -10,13 +10,15 @@ use Rattle.vault_model.specs.Vault.{Vault, AreThere}
 use Rattle.vault_model.specs.After.{only_if, are_there, may_ask, may_make, may_extend, drafts_held, after_extended, after_saved, after_checked_in}
 use Rattle.vault_model.specs.declared.claims.Claim.{Claim}
 use Rattle.vault_model.specs.declared.ids.ClaimId.TheVariants.{Long}
-use Rattle.vault_model.specs.Claims.{claim_of, is_held, change_set, put_first, without}
-use Rattle.vault_model.specs.Shelf.{is_shelvable, shelved_all}
-use Rattle.vault_model.specs.Drafts.{with_draft, drafts_of, without_drafts}
+use Rattle.vault_model.specs.Claims.{claim_of, is_held, change_set, put_first}
+use Rattle.vault_model.specs.Shelf.{is_shelvable}
+use Rattle.vault_model.specs.Drafts.{drafts_of, new_draft}
 use Rattle.vault_model.specs.Step.{may_save}
+use Rattle.vault_model.specs.Changes.{with_items, with_content, with_versions}
 use Rattle.vault_checkout.specs.Applied.{held_at}
 use Rattle.vault_model.proofs.Overlaps.{eq_from, and_both}
 use Rattle.vault_model.proofs.Durable.{there_all}
+use Rattle.vault_model.proofs.Lists.{not_false}
 
 pub record MayAsk (w : Vault) (number : ℕ) (items : List Item) : Type 0 where
   pub next : number ≡ w.last_long + 1
@@ -37,10 +39,6 @@ pub record MayMake (w : Vault) (parent : ℕ) (name : List ℕ) : Type 0 where
   pub fresh : child w.tree parent name ≡ None
   pub room : is_full w.tree parent ≡ false
 
-turned : (b : Bool) → not b ≡ true → b ≡ false
-turned true e = cc
-turned false e = refl
-
 none_there : (o : Option ℕ) → not (is_some o) ≡ true → o ≡ None
 none_there None e = refl
 none_there (Some p) e = cc
@@ -50,7 +48,7 @@ may_make_is w parent name e =
     let room = and_both (nat_le parent (length w.tree) && not (is_part w.tree parent) && not (is_some (child w.tree parent name))) (not (is_full w.tree parent)) e in
     let fresh = and_both (nat_le parent (length w.tree) && not (is_part w.tree parent)) (not (is_some (child w.tree parent name))) room.0 in
     let kind = and_both (nat_le parent (length w.tree)) (not (is_part w.tree parent)) fresh.0 in
-    record { there = let low = kind.0 in grind (arith, nat_tests, low); kind = turned (is_part w.tree parent) kind.1; fresh = none_there (child w.tree parent name) fresh.1; room = turned (is_full w.tree parent) room.1 }
+    record { there = let low = kind.0 in grind (arith, nat_tests, low); kind = not_false (is_part w.tree parent) kind.1; fresh = none_there (child w.tree parent name) fresh.1; room = not_false (is_full w.tree parent) room.1 }
 
 -- an effect of a claim, where none of the number is held
 module _ (w : Vault) (n : ℕ) (none : held_at w n ≡ None) where
@@ -64,39 +62,39 @@ module _ (w : Vault) (n : ℕ) (none : held_at w n ≡ None) where
 
   pub extended_none : (items : List Item) → after_extended w n items ≡ None
   unfolding after_extended
-  extended_none items = by_claim (λ (c : Claim). only_if (may_extend w c items && drafts_held w.tree (put_first w.line (Long n) (c.items ++ items)) w.drafts) (record w { line = put_first w.line (Long n) (c.items ++ items) })) (λ (c : Claim). None) (λ c h. rw h refl) (claim_of w.line (Long n)) none
+  extended_none items = by_claim (λ (c : Claim). only_if (may_extend w c items && drafts_held w.tree (put_first w.line (Long n) (c.items ++ items)) w.drafts) (with_items w (Long n) (c.items ++ items))) (λ (c : Claim). None) (λ c h. rw h refl) (claim_of w.line (Long n)) none
 
   pub saved_none : (place : ℕ) (content : List ℕ) → after_saved w n place content ≡ None
   unfolding after_saved
   saved_none place content =
-      by_claim (λ (c : Claim). only_if (is_held w.tree w.line c && nat_le place (length w.tree) && is_part w.tree place && change_set w.tree c.items place && may_save w (record { claim = n; draft = record { place = place; content = content } })) (record w { drafts = with_draft w.drafts (record { claim = n; draft = record { place = place; content = content } }) }))
+      by_claim (λ (c : Claim). only_if (is_held w.tree w.line c && nat_le place (length w.tree) && is_part w.tree place && change_set w.tree c.items place && may_save w (new_draft n place content)) (with_content w n place content))
       (λ (c : Claim). None) (λ c h. rw h refl) (claim_of w.line (Long n)) none
 
   pub checked_in_none : after_checked_in w n ≡ None
   unfolding after_checked_in
   checked_in_none =
-      by_claim (λ (c : Claim). only_if (is_held w.tree w.line c && is_shelvable w.shelf (drafts_of w.drafts n)) (record w { shelf = shelved_all w.shelf (drafts_of w.drafts n); line = without w.line (Long n); drafts = without_drafts w.drafts n }))
+      by_claim (λ (c : Claim). only_if (is_held w.tree w.line c && is_shelvable w.shelf (drafts_of w.drafts n)) (with_versions w n))
       (λ (c : Claim). None) (λ c h. rw h refl) (claim_of w.line (Long n)) none
 
 -- and where one is
 module _ (w : Vault) (n : ℕ) (claim : Claim) (found : claim_of w.line (Long n) ≡ Some claim) (held : is_held w.tree w.line claim ≡ true) where
   pub extended_as : (items : List Item) (may held_then : Bool) → (nat_le (length claim.items + length items) most_items && are_there w.tree items) ≡ may → drafts_held w.tree (put_first w.line (Long n) (claim.items ++ items)) w.drafts ≡ held_then
-      → after_extended w n items ≡ only_if (may && held_then) (record w { line = put_first w.line (Long n) (claim.items ++ items) })
+      → after_extended w n items ≡ only_if (may && held_then) (with_items w (Long n) (claim.items ++ items))
   unfolding after_extended
   extended_as items may held_then e f =
-      ap (option_and_then (λ (c : Claim). only_if (may_extend w c items && drafts_held w.tree (put_first w.line (Long n) (c.items ++ items)) w.drafts) (record w { line = put_first w.line (Long n) (c.items ++ items) }))) found
-      ∙ ap (λ b. only_if b (record w { line = put_first w.line (Long n) (claim.items ++ items) })) (tests may e)
+      ap (option_and_then (λ (c : Claim). only_if (may_extend w c items && drafts_held w.tree (put_first w.line (Long n) (c.items ++ items)) w.drafts) (with_items w (Long n) (c.items ++ items)))) found
+      ∙ ap (λ b. only_if b (with_items w (Long n) (claim.items ++ items))) (tests may e)
     where
       tests : (b : Bool) → (nat_le (length claim.items + length items) most_items && are_there w.tree items) ≡ b → (may_extend w claim items && drafts_held w.tree (put_first w.line (Long n) (claim.items ++ items)) w.drafts) ≡ (b && held_then)
       tests b g = rw (held, g, f) refl
 
-  pub saved_as : (place : ℕ) (content : List ℕ) (change may : Bool) → (nat_le place (length w.tree) && is_part w.tree place && change_set w.tree claim.items place) ≡ change → may_save w (record { claim = n; draft = record { place = place; content = content } }) ≡ may
-      → after_saved w n place content ≡ only_if (change && may) (record w { drafts = with_draft w.drafts (record { claim = n; draft = record { place = place; content = content } }) })
+  pub saved_as : (place : ℕ) (content : List ℕ) (change may : Bool) → (nat_le place (length w.tree) && is_part w.tree place && change_set w.tree claim.items place) ≡ change → may_save w (new_draft n place content) ≡ may
+      → after_saved w n place content ≡ only_if (change && may) (with_content w n place content)
   unfolding after_saved
   saved_as place content change may e f = rw (found, held, e, f) refl
 
   pub checked_in_as : (shelvable : Bool) → is_shelvable w.shelf (drafts_of w.drafts n) ≡ shelvable
-      → after_checked_in w n ≡ only_if shelvable (record w { shelf = shelved_all w.shelf (drafts_of w.drafts n); line = without w.line (Long n); drafts = without_drafts w.drafts n })
+      → after_checked_in w n ≡ only_if shelvable (with_versions w n)
   unfolding after_checked_in
   checked_in_as shelvable e = rw (found, held, e) refl
 

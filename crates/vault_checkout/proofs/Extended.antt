@@ -9,6 +9,7 @@ use Rattle.vault_model.specs.Limits.{most_items}
 use Rattle.vault_model.specs.Claims.{claim_of, standing_of, in_way_of, put_first}
 use Rattle.vault_model.specs.Vault.{Vault, AreThere, AreDrafts, IsClaim, IsVault}
 use Rattle.vault_model.specs.After.{drafts_held}
+use Rattle.vault_model.specs.Changes.{with_items}
 use Rattle.vault_model.proofs.Kept.{kept_first}
 use Rattle.vault_model.proofs.DraftsKept.{drafts_first, drafts_put_first}
 use Rattle.vault_model.proofs.Stays.{held_there, claim_there}
@@ -57,10 +58,10 @@ module _ (v : Vault) (kept : IsVault v) (id : ClaimId) (items : List Item) (foun
           subst (λ (all : List Item). AreDrafts v.tree (put_first v.line id all) v.drafts) (sym its.1)
           (drafts_put_first v.tree v.line id claim its.0 v.drafts kept.apart at (subst (λ (all : List Item). drafts_held v.tree (put_first v.line id all) v.drafts ≡ true) its.1 held) kept.drafts)
 
-  pub kept_put : length items ≤ most_items → AreThere v.tree items → drafts_held v.tree (put_first v.line id items) v.drafts ≡ true → IsVault (record v { line = put_first v.line id items })
+  pub kept_put : length items ≤ most_items → AreThere v.tree items → drafts_held v.tree (put_first v.line id items) v.drafts ≡ true → IsVault (with_items v id items)
   kept_put few there held = by_claim (claim_of v.line id) refl found
     where
-      by_claim : (o : Option Claim) → claim_of v.line id ≡ o → is_some o ≡ true → IsVault (record v { line = put_first v.line id items })
+      by_claim : (o : Option Claim) → claim_of v.line id ≡ o → is_some o ≡ true → IsVault (with_items v id items)
       by_claim None at e = cc
       by_claim (Some claim) at e =
           let own = claim_there (IsClaim v.tree v.sessions v.last_long v.last_short) v.line id kept.claims claim at in

@@ -9,6 +9,7 @@ use Rattle.std.proofs.lemmas.List.{get_or_default}
 use Rattle.std.proofs.lemmas.List.Sorted.{IsNonDecreasingBy-from_default}
 use Rattle.std.proofs.lemmas.Bool.Decides.{nat_tests}
 use Rattle.vault_model.specs.Shelf.{Draft}
+use Rattle.vault_model.proofs.Lists.{filter_passes}
 use Rattle.vault_checkout.specs.CheckOuts.{IsRising, with_own}
 
 -- a test that holds up to an index, and not from there on, cuts the list there
@@ -124,14 +125,6 @@ all_kept P keep (x ∷ xs) all = by_test (keep x) (all_kept P keep xs all.1)
     by_test true rest = (all.0, rest)
     by_test false rest = rest
 
-all_pass : (test : Draft → Bool) (xs : List Draft) → AllByRecursion (λ x. test x ≡ true) (filter test xs)
-all_pass test [] = tt
-all_pass test (x ∷ xs) = by_test (test x) refl (all_pass test xs)
-  where
-    by_test : (b : Bool) → test x ≡ b → AllByRecursion (λ y. test y ≡ true) (filter test xs) → AllByRecursion (λ y. test y ≡ true) (cond b (x ∷ filter test xs) (filter test xs))
-    by_test true e rest = (e, rest)
-    by_test false e rest = rest
-
 rising_kept : (keep : Draft → Bool) (xs : List Draft) → IsRising xs → IsRising (filter keep xs)
 rising_kept keep [] rising = tt
 rising_kept keep (x ∷ xs) rising = by_test (keep x) (rising_kept keep xs rising.1)
@@ -156,8 +149,8 @@ rising_joined new (x ∷ xs) ys first low rest high = (ahead xs first.0, rising_
 pub rising_with : (xs : List Draft) (new : Draft) → IsRising xs → IsRising (with_own xs new)
 rising_with xs new rising =
     rising_joined new (filter (λ (x : Draft). nat_lt x.place new.place) xs) (filter (λ (x : Draft). nat_lt new.place x.place) xs)
-    (rising_kept (λ (x : Draft). nat_lt x.place new.place) xs rising) (all_pass (λ (x : Draft). nat_lt x.place new.place) xs)
-    (rising_kept (λ (x : Draft). nat_lt new.place x.place) xs rising) (all_pass (λ (x : Draft). nat_lt new.place x.place) xs)
+    (rising_kept (λ (x : Draft). nat_lt x.place new.place) xs rising) (filter_passes (λ (x : Draft). nat_lt x.place new.place) xs)
+    (rising_kept (λ (x : Draft). nat_lt new.place x.place) xs rising) (filter_passes (λ (x : Draft). nat_lt new.place x.place) xs)
 
 pub insert_rising : {E : Type 0} (xs ys zs ws : List Draft) (result : Result (Unit {0}) E) → zs ≡ (if is_ok result then ys else xs) → ys ≡ ws → IsRising xs → IsRising ws → IsRising zs
 insert_rising xs ys zs ws (Ok done) e f old new = subst IsRising (sym (e ∙ f)) new

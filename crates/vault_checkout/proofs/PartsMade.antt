@@ -14,7 +14,7 @@ use Rattle.vault_model.specs.Limits.{most_drafts}
 use Rattle.vault_model.specs.Tree.{IsTree}
 use Rattle.vault_model.specs.Claims.{same_id, is_short, claim_of, change_set, blocker, standing_of, standing_by, without_short}
 use Rattle.vault_model.specs.Shelf.{Draft}
-use Rattle.vault_model.specs.Drafts.{SavedDraft, comes_before, IsOrdered}
+use Rattle.vault_model.specs.Drafts.{SavedDraft, comes_before, IsOrdered, saved_by}
 use Rattle.vault_model.specs.Vault.{Vault, IsClaim, IsGiven, IsDraft, AreDrafts}
 use Rattle.vault_model.proofs.Kept.{kept_new}
 use Rattle.vault_model.proofs.Stays.{ids}
@@ -61,7 +61,7 @@ module _ (tree : List Place) (line : List Claim) (distinct : IsDistinct same_id 
     stands : blocker tree before c.items ≡ None → standing_of tree line (Long (number_in c.id)) ≡ Some Stands
     stands none = subst (λ id. standing_of tree line id ≡ Some Stands) long (stands_in tree line before c more distinct is ∙ ap (λ o. Some (standing_by o)) none)
 
-    draft_is : (x : Draft) → blocker tree before c.items ≡ None → MayBe tree c.items x → IsDraft tree line (record { claim = number_in c.id; draft = x })
+    draft_is : (x : Draft) → blocker tree before c.items ≡ None → MayBe tree c.items x → IsDraft tree line (saved_by (number_in c.id) x)
     draft_is x none may = record {
       held = stands none;
       changed = λ d got. changed d (sym found ∙ got);
@@ -76,7 +76,7 @@ module _ (tree : List Place) (line : List Claim) (distinct : IsDistinct same_id 
     drafts_are_good : (own : List Draft) → blocker tree before c.items ≡ None → All (MayBe tree c.items) own → All (IsDraft tree line) (marked (number_in c.id) own)
     drafts_are_good [] none all = All-nil (IsDraft tree line)
     drafts_are_good (x ∷ own) none all =
-        All-cons (IsDraft tree line) (record { claim = number_in c.id; draft = x }) (marked (number_in c.id) own) (draft_is x none (All-head (MayBe tree c.items) x own all))
+        All-cons (IsDraft tree line) (saved_by (number_in c.id) x) (marked (number_in c.id) own) (draft_is x none (All-head (MayBe tree c.items) x own all))
         (drafts_are_good own none (All-tail (MayBe tree c.items) x own all))
 
     good_one : (own : List Draft) → MayHave tree before c.items own → IsGood tree line c own
@@ -132,7 +132,7 @@ module _ {A : Type 0} where
   ordered_saved [] ascending rising = tt
   ordered_saved (x ∷ xs) ascending rising = behind (own_drafts x) (All-head (λ x. IsRising (own_drafts x)) x xs rising) (ordered_saved xs ascending.1 (All-tail (λ x. IsRising (own_drafts x)) x xs rising))
     where
-      of_one : (m : ℕ) (d : Draft) (own : List Draft) → nat_lt (number_of x) m ≡ true → AllByRecursion (λ y. comes_before (record { claim = number_of x; draft = d }) y ≡ true) (marked m own)
+      of_one : (m : ℕ) (d : Draft) (own : List Draft) → nat_lt (number_of x) m ≡ true → AllByRecursion (λ y. comes_before (saved_by (number_of x) d) y ≡ true) (marked m own)
       of_one m d [] less = tt
       of_one m d (y ∷ own) less = (rw less refl, of_one m d own less)
 
@@ -140,23 +140,23 @@ module _ {A : Type 0} where
       joined_to P [] zs first others = others
       joined_to P (y ∷ ys) zs first others = (first.0, joined_to P ys zs first.1 others)
 
-      later : (d : Draft) (ys : List (AnyCheckOut A)) → AllByRecursion (λ y. nat_lt (number_of x) (number_of y) ≡ true) ys → AllByRecursion (λ y. comes_before (record { claim = number_of x; draft = d }) y ≡ true) (saved ys)
+      later : (d : Draft) (ys : List (AnyCheckOut A)) → AllByRecursion (λ y. nat_lt (number_of x) (number_of y) ≡ true) ys → AllByRecursion (λ y. comes_before (saved_by (number_of x) d) y ≡ true) (saved ys)
       later d [] all = tt
-      later d (y ∷ ys) all = joined_to (λ y. comes_before (record { claim = number_of x; draft = d }) y ≡ true) (marked (number_of y) (own_drafts y)) (saved ys) (of_one (number_of y) d (own_drafts y) all.0) (later d ys all.1)
+      later d (y ∷ ys) all = joined_to (λ y. comes_before (saved_by (number_of x) d) y ≡ true) (marked (number_of y) (own_drafts y)) (saved ys) (of_one (number_of y) d (own_drafts y) all.0) (later d ys all.1)
 
-      same_claim : (d y : Draft) → nat_lt d.place y.place ≡ true → comes_before (record { claim = number_of x; draft = d }) (record { claim = number_of x; draft = y }) ≡ true
+      same_claim : (d y : Draft) → nat_lt d.place y.place ≡ true → comes_before (saved_by (number_of x) d) (saved_by (number_of x) y) ≡ true
       same_claim d y less =
           let no_less : nat_lt (number_of x) (number_of x) ≡ false = grind (arith, nat_tests) in
           let same : (number_of x == number_of x) ≡ true = grind (arith, nat_tests) in
           rw (no_less, same, less) refl
 
-      ahead : (d : Draft) (own : List Draft) → AllByRecursion (λ (y : Draft). nat_lt d.place y.place ≡ true) own → AllByRecursion (λ y. comes_before (record { claim = number_of x; draft = d }) y ≡ true) (marked (number_of x) own)
+      ahead : (d : Draft) (own : List Draft) → AllByRecursion (λ (y : Draft). nat_lt d.place y.place ≡ true) own → AllByRecursion (λ y. comes_before (saved_by (number_of x) d) y ≡ true) (marked (number_of x) own)
       ahead d [] all = tt
       ahead d (y ∷ own) all = (same_claim d y all.0, ahead d own all.1)
 
       behind : (own : List Draft) → IsRising own → IsOrdered (saved xs) → IsOrdered (marked (number_of x) own ++ saved xs)
       behind [] r rest = rest
-      behind (d ∷ own) r rest = (joined_to (λ y. comes_before (record { claim = number_of x; draft = d }) y ≡ true) (marked (number_of x) own) (saved xs) (ahead d own r.0) (later d xs ascending.0), behind own r.1 rest)
+      behind (d ∷ own) r rest = (joined_to (λ y. comes_before (saved_by (number_of x) d) y ≡ true) (marked (number_of x) own) (saved xs) (ahead d own r.0) (later d xs ascending.0), behind own r.1 rest)
 
   all_saved : (P : SavedDraft → Type 0) (xs : List (AnyCheckOut A)) → All (λ x. All P (marked (number_of x) (own_drafts x))) xs → All P (saved xs)
   all_saved P [] all = All-nil P

@@ -13,7 +13,7 @@ use Rattle.vault_model.specs.declared.ids.ClaimId.{ClaimId}
 use Rattle.vault_model.specs.declared.ids.ClaimId.TheVariants.{Long}
 use Rattle.vault_model.specs.Claims.{same_id, overlap, blocker, standing_behind, claim_of, before, without, is_held, standing_of, put_first}
 use Rattle.vault_model.specs.Shelf.{Draft}
-use Rattle.vault_model.specs.Drafts.{SavedDraft}
+use Rattle.vault_model.specs.Drafts.{SavedDraft, saved_by}
 use Rattle.vault_model.specs.Vault.{IsDraft}
 use Rattle.vault_model.specs.After.{drafts_held}
 use Rattle.vault_model.proofs.Stays.{ids, stood, take_while-cons, same_id_itself, same_id_turned, own_id, held_none, claim_of-kept, held_kept, kept_there}
@@ -113,13 +113,13 @@ module _ (tree : List Place) (line : List Claim) (n : ℕ) (items : List Item) (
 
       by_claim : (o : Option Claim) → claim_of line (Long n) ≡ o → is_some o ≡ true → option_map_or (λ c. is_held tree (put_first line (Long n) items) c) (claim_of (put_first line (Long n) items) (Long m)) false ≡ not (overlap tree d.items items)
       by_claim None f e = cc
-      by_claim (Some c) f e = other_held tree line (Long n) items distinct c f (Long m) other d at (All-head (IsDraft tree line) (record { claim = m; draft = x }) (marked m xs) all).held
+      by_claim (Some c) f e = other_held tree line (Long n) items distinct c f (Long m) other d at (All-head (IsDraft tree line) (saved_by m x) (marked m xs) all).held
 
   -- a check-out with drafts has a claim
   pub none_stays : (m : ℕ) (drafts : List Draft) → (drafts ≡ [] → ⊥) → All (IsDraft tree line) (marked m drafts) → claim_of line (Long m) ≡ None → ⊥
   none_stays m [] some all at = some refl
   none_stays m (x ∷ xs) some all at =
-      let held = (All-head (IsDraft tree line) (record { claim = m; draft = x }) (marked m xs) all).held in
+      let held = (All-head (IsDraft tree line) (saved_by m x) (marked m xs) all).held in
       let none : standing_of tree line (Long m) ≡ None = rw at refl in
       let clash : Some standings.Held ≡ None = sym held ∙ none in
       cc
@@ -131,11 +131,3 @@ from_one (y ∷ xs) zero x e high = ap (λ z. marked (number_of z) (own_drafts z
 from_one (y ∷ xs) (suc i) x e high =
     let next : suc i + 1 ≡ suc (i + 1) = omega arith in
     from_one xs i x e (omega arith) ∙ ap (λ k. marked (number_of x) (own_drafts x) ++ saved (drop k (y ∷ xs))) (sym next)
-
-pub All-front : {X : Type 0} (P : X → Type 0) (xs ys : List X) → All P (xs ++ ys) → All P xs
-All-front P [] ys all = All-nil P
-All-front P (x ∷ xs) ys all = All-cons P x xs (All-head P x (xs ++ ys) all) (All-front P xs ys (All-tail P x (xs ++ ys) all))
-
-pub All-back : {X : Type 0} (P : X → Type 0) (xs ys : List X) → All P (xs ++ ys) → All P ys
-All-back P [] ys all = all
-All-back P (x ∷ xs) ys all = All-back P xs ys (All-tail P x (xs ++ ys) all)

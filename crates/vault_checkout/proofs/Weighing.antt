@@ -4,8 +4,8 @@ use Rattle.std.specs.Option.{option_map_or}
 use Rattle.std.proofs.Common.{arith, ap, sym, cond, ◌∙◌, length-append}
 use Rattle.std.proofs.lemmas.List.Sums.{sum_by-cons, length-filter}
 use Rattle.std.proofs.lemmas.Bool.Decides.{nat_tests}
-use Rattle.vault_model.specs.Shelf.{Draft, content_weight, drafts_weight, weight}
-use Rattle.vault_model.specs.Drafts.{SavedDraft, with_draft, drafts_of, saved_weight}
+use Rattle.vault_model.specs.Shelf.{Draft, content_weight, drafts_weight, weight, draft_at}
+use Rattle.vault_model.specs.Drafts.{SavedDraft, with_draft, drafts_of, saved_weight, saved_by}
 use Rattle.vault_model.specs.Limits.{longest_content, most_drafts, most_weight, extra_weight}
 use Rattle.vault_model.specs.Vault.{Vault, new_vault, weight_of}
 use Rattle.vault_model.specs.Step.{may_save}
@@ -128,10 +128,10 @@ module _ {A : Type 0} where
     vault = record new_vault { shelf = shelf; drafts = saved xs }
 
     abbrev draft : Draft
-    draft = record { place = place; content = content }
+    draft = draft_at place content
 
     abbrev new : SavedDraft
-    new = record { claim = n; draft = draft }
+    new = saved_by n draft
 
     count_is : length (drafts_of (with_draft (saved xs) new) n) ≡ suc (length (beside (drafts_at xs n) place))
     count_is =

@@ -9,7 +9,7 @@ use Rattle.vault_model.specs.declared.claims.Standing.TheVariants as standings
 use Rattle.vault_model.specs.declared.ids.ClaimId.TheVariants.{Long}
 use Rattle.vault_model.specs.Claims.{claim_of, standing_of}
 use Rattle.vault_model.specs.Shelf.{Draft}
-use Rattle.vault_model.specs.Drafts.{SavedDraft}
+use Rattle.vault_model.specs.Drafts.{SavedDraft, saved_by}
 use Rattle.vault_checkout.specs.CheckOuts.{with_own}
 use Rattle.vault_checkout.specs.declared.check_outs.AnyCheckOut.{AnyCheckOut}
 use Rattle.vault_checkout.specs.declared.check_outs.AnyCheckOut.TheVariants.{Waiting, Held}
@@ -29,7 +29,7 @@ own_drafts (Held c) = c.state
 
 -- drafts as those of the check-out of this number
 abbrev pub marked : ℕ → List Draft → List SavedDraft
-marked number drafts = map (λ (draft : Draft). record { claim = number; draft = draft }) drafts
+marked number drafts = map (λ (draft : Draft). saved_by number draft) drafts
 
 -- all drafts of some check-outs
 abbrev pub saved : {A : Type 0} → List (AnyCheckOut A) → List SavedDraft

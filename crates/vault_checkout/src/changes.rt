@@ -1,18 +1,17 @@
 //! The changes of claims and drafts that commands and effects make alike.
-ghost use Rattle.std.specs.Prelude.{◌≡◌, ℕ, ◌+◌, ◌<◌, ◌≤◌, true, false, List, map, length, [], ◌∷◌, ◌++◌, None, Some, IsSome, IfSome, is_some, All, IfOk, IfErr, OnOk, OnErr};
-ghost use Rattle.std.specs.List.{IsDistinct};
+ghost use Rattle.std.specs.Prelude.{◌≡◌, ℕ, ◌+◌, ◌<◌, ◌≤◌, true, false, List, length, ◌++◌, None, Some, IsSome, IfSome, is_some, All, IfOk, IfErr, OnOk, OnErr};
 ghost use Rattle.vault_model.specs.declared.claims.Claim.{Claim};
 ghost use Rattle.vault_model.specs.declared.claims.Item.{Item};
-ghost use Rattle.vault_model.specs.declared.claims.Owner.TheVariants as owners;
 ghost use Rattle.vault_model.specs.declared.claims.Standing.TheVariants as standings;
 ghost use Rattle.vault_model.specs.declared.ids.ClaimId.TheVariants.{Long, Short};
-ghost use Rattle.vault_model.specs.Tree.{IsTree, child, is_part, is_full};
-ghost use Rattle.vault_model.specs.Claims.{same_id, claim_of, without, put_first, overlap, in_way_of, change_set, standing_of, standing_behind};
+ghost use Rattle.vault_model.specs.Tree.{child, is_part, is_full};
+ghost use Rattle.vault_model.specs.Claims.{claim_of, put_first, overlap, in_way_of, change_set, standing_of, standing_behind};
 ghost use Rattle.vault_model.specs.Limits.{most_items, most_claims, last_number};
-ghost use Rattle.vault_model.specs.Shelf.{is_shelvable, shelved_all};
-ghost use Rattle.vault_model.specs.Drafts.{with_draft, drafts_of, without_drafts};
-ghost use Rattle.vault_model.specs.Vault.{AreThere, IsDraft};
+ghost use Rattle.vault_model.specs.Shelf.{is_shelvable};
+ghost use Rattle.vault_model.specs.Drafts.{drafts_of, new_draft};
+ghost use Rattle.vault_model.specs.Vault.{AreThere, IsDraft, IsVault};
 ghost use Rattle.vault_model.specs.After.{drafts_held};
+ghost use Rattle.vault_model.specs.Changes.{with_place, with_check_out, with_items, with_content, with_versions, without_check_out, without_hold};
 ghost use Rattle.vault_checkout.specs.Applied.{held_at};
 ghost use Rattle.vault_checkout.specs.Typed.{number_of, own_drafts, marked, saved};
 ghost use Rattle.vault_model.specs.Step.{may_save};
@@ -30,18 +29,12 @@ use lock_table::{Extension, lock_set};
 use std::alloc::Allocator;
 use vault_model::{Claim, ClaimId, Draft, Items, Listing, Name, NoMemory, PlaceId, Standing};
 
-pub(crate) fn see_whole<A: Allocator>(tree: &Tree<A>)
-    ensures { IsTree tree.now }
-{
-    let _ = tree.parent(PlaceId(0));
-}
-
 pub(crate) fn overlaps<A: Allocator>(tree: &Tree<A>, items: &Items, others: &Items) -> bool
     requires items { AreThere tree.now items.now }
     requires others { AreThere tree.now others.now }
     ensures { result ≡ overlap tree.now items.now others.now }
 {
-    see_whole(tree);
+    tree.see_whole();
     lock_set(tree, items.as_slice()).conflicts(&lock_set(tree, others.as_slice()))
 }
 
@@ -60,7 +53,7 @@ impl<A: Allocator + Copy> Book<A> {
         requires fresh { child self.old.tree parent name ≡ None }
         requires room { is_full self.old.tree parent ≡ false }
         ensures place { IfOk result (λ place. place ≡ length self.old.tree + 1) }
-        ensures made { OnOk result (self.new ≡ record self.old { tree = self.old.tree ++ record { parent = parent; name = name } ∷ [] }) }
+        ensures made { OnOk result (self.new ≡ with_place self.old parent name) }
         ensures unchanged { OnErr result (self.new ≡ self.old) }
     {
         let place = self.tree.push(parent, name)?;
@@ -75,10 +68,7 @@ impl<A: Allocator + Copy> Book<A> {
         requires few { length items.now ≤ most_items }
         requires there { AreThere self.old.tree items.now }
         ensures standing { IfOk result (λ standing. standing ≡ standing_behind self.old.tree self.old.line items.now) }
-        ensures asked { OnOk result (self.new ≡ record self.old {
-          line = self.old.line ++ record { id = Long (self.old.last_long + 1); owner = owners.Designer designer; items = items.now } ∷ [];
-          last_long = self.old.last_long + 1;
-        }) }
+        ensures asked { OnOk result (self.new ≡ with_check_out self.old (self.old.last_long + 1) designer items.now) }
         ensures unchanged { OnErr result (self.new ≡ self.old) }
     {
         self.check_outs.reserve(1)?;
@@ -90,10 +80,7 @@ impl<A: Allocator + Copy> Book<A> {
     /// Takes a long claim out of the line, and its check-out with its drafts; check-outs that are now
     /// held are granted.
     pub(crate) fn withdraw(&mut self, number: u32)
-        ensures { self.new ≡ record self.old {
-          line = without self.old.line (Long number);
-          drafts = without_drafts self.old.drafts number;
-        } }
+        ensures { self.new ≡ without_check_out self.old number }
     {
         withdraw_at(&mut self.check_outs, number);
         self.line.drop_claim(ClaimId::Long(number));
@@ -102,7 +89,7 @@ impl<A: Allocator + Copy> Book<A> {
 
     /// Takes a short claim out of the line; check-outs that are now held are granted.
     pub(crate) fn drop_hold(&mut self, number: u32)
-        ensures { self.new ≡ record self.old { line = without self.old.line (Short number) } }
+        ensures { self.new ≡ without_hold self.old number }
     {
         self.line.drop_claim(ClaimId::Short(number));
         grant_held(&mut self.check_outs, &self.line);
@@ -138,8 +125,9 @@ impl<A: Allocator + Copy> Book<A> {
         Some(*claim)
     }
 
-    fn see_apart(&self)
-        ensures { IsDistinct same_id (map (λ (c : Claim). c.id) self.now.line) }
+    /// Does nothing: its contract says what every vault keeps, for a proof that needs it.
+    fn see_whole(&self)
+        ensures { IsVault self.now }
     {
         let _ = &self.line;
     }
@@ -151,7 +139,7 @@ impl<A: Allocator + Copy> Book<A> {
         requires there { AreThere self.now.tree items.now }
         ensures { result ≡ drafts_held self.now.tree (put_first self.now.line (Long number) items.now) (marked (number_of check_out.now) (own_drafts check_out.now)) }
     {
-        self.see_apart();
+        self.see_whole();
         if check_out.drafts().is_empty() {
             return true;
         }
@@ -195,7 +183,7 @@ impl<A: Allocator + Copy> Book<A> {
         requires few { length items.now ≤ most_items }
         requires there { AreThere self.old.tree items.now }
         requires held { drafts_held self.old.tree (put_first self.old.line (Long number) items.now) self.old.drafts ≡ true }
-        ensures put { OnOk result (self.new ≡ record self.old { line = put_first self.old.line (Long number) items.now }) }
+        ensures put { OnOk result (self.new ≡ with_items self.old (Long number) items.now) }
         ensures unchanged { OnErr result (self.new ≡ self.old) }
     {
         self.line
@@ -211,11 +199,7 @@ impl<A: Allocator + Copy> Book<A> {
         requires { standing_of self.old.tree self.old.line (Long number) ≡ Some standings.Held }
         ensures allowed { OnOk result (is_shelvable self.old.shelf (drafts_of self.old.drafts number) ≡ true) }
         ensures count { IfOk result (λ count. count ≡ length (drafts_of self.old.drafts number)) }
-        ensures closed { OnOk result (self.new ≡ record self.old {
-          shelf = shelved_all self.old.shelf (drafts_of self.old.drafts number);
-          line = without self.old.line (Long number);
-          drafts = without_drafts self.old.drafts number;
-        }) }
+        ensures closed { OnOk result (self.new ≡ with_versions self.old number) }
         ensures refused { IfErr result (IsCloseRefusal (is_shelvable self.old.shelf (drafts_of self.old.drafts number))) }
         ensures unchanged { OnErr result (self.new ≡ self.old) }
     {
@@ -231,7 +215,7 @@ impl<A: Allocator + Copy> Book<A> {
     /// Whether a held check-out may save this content of a place.
     pub(crate) fn may_save(&self, number: u32, place: PlaceId, content: &[u8]) -> bool
         requires { standing_of self.now.tree self.now.line (Long number) ≡ Some standings.Held }
-        ensures { result ≡ may_save self.now (record { claim = number; draft = record { place = place; content = content.now } }) }
+        ensures { result ≡ may_save self.now (new_draft number place content.now) }
     {
         may_save(&self.shelf, &self.check_outs, number, place, content)
     }
@@ -247,10 +231,8 @@ impl<A: Allocator + Copy> Book<A> {
         requires changed { (c : Claim) → claim_of self.old.line (Long number) ≡ Some c → change_set self.old.tree c.items place ≡ true }
         requires there { place ≤ length self.old.tree }
         requires part { is_part self.old.tree place ≡ true }
-        requires may { may_save self.old (record { claim = number; draft = record { place = place; content = content.now } }) ≡ true }
-        ensures saved { OnOk result (self.new ≡ record self.old {
-          drafts = with_draft self.old.drafts (record { claim = number; draft = record { place = place; content = content.now } });
-        }) }
+        requires may { may_save self.old (new_draft number place content.now) ≡ true }
+        ensures saved { OnOk result (self.new ≡ with_content self.old number place content.now) }
         ensures unchanged { OnErr result (self.new ≡ self.old) }
     {
         let alloc = *self.check_outs.allocator();

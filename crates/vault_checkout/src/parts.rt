@@ -6,7 +6,7 @@ ghost use Rattle.vault_checkout.specs.CheckOuts.{IsRising};
 ghost use Rattle.vault_checkout.specs.Parts.{AreAllThere, OverlapsNone, MayBe, MayHave, EachMayHave, AreLight, AreFit};
 
 use crate::apply::{are_there, may_change};
-use crate::changes::{overlaps, see_whole};
+use crate::changes::overlaps;
 use design_tree::Tree;
 use part_versions::Shelf;
 use std::alloc::Allocator;
@@ -23,7 +23,7 @@ fn has_places<A: Allocator>(tree: &Tree<A>, claim: &Claim) -> bool
 fn are_of_parts<A: Allocator>(tree: &Tree<A>, shelf: &Shelf<A>) -> bool
     ensures { IsTrue result ↔ AreVersions tree.now shelf.now }
 {
-    see_whole(tree);
+    tree.see_whole();
     if shelf.len() > tree.len() {
         return false;
     }

@@ -2,7 +2,7 @@
 ghost use Rattle.std.specs.Prelude.{◌≡◌, ℕ, ◌+◌, ◌≤◌, ◌==◌, true, not, count_by};
 ghost use Rattle.vault_model.specs.Limits.{most_weight};
 ghost use Rattle.vault_model.specs.Shelf.{Draft, weight, drafts_weight};
-ghost use Rattle.vault_model.specs.Drafts.{saved_weight};
+ghost use Rattle.vault_model.specs.Drafts.{saved_weight, new_draft};
 ghost use Rattle.vault_model.specs.Vault.{new_vault};
 ghost use Rattle.vault_model.specs.Step.{may_save};
 ghost use Rattle.vault_checkout.specs.CheckOuts.{beside};
@@ -69,7 +69,7 @@ pub(crate) fn may_save<A: Allocator>(
     requires ascending { IsAscending check_outs.now }
     requires held { is_open check_outs.now number ≡ true }
     requires light { weight shelf.now + saved_weight (saved check_outs.now) ≤ most_weight }
-    ensures { result ≡ may_save (record new_vault { shelf = shelf.now; drafts = saved check_outs.now }) (record { claim = number; draft = record { place = place; content = content.now } }) }
+    ensures { result ≡ may_save (record new_vault { shelf = shelf.now; drafts = saved check_outs.now }) (new_draft number place content.now) }
 {
     if content.len() > LONGEST_CONTENT {
         return false;

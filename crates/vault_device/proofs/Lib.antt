@@ -1,7 +1,7 @@
 pub mod Torn
 pub mod Moments
 pub mod Picks
-mod Gates
+pub mod Gates
 mod Parts
 mod Done
 mod Since

@@ -17,8 +17,7 @@ use Rattle.vault_model.specs.Claims.{same_id, claim_of}
 use Rattle.vault_model.specs.Drafts.{SavedDraft, drafts_of}
 use Rattle.vault_model.specs.Shelf.{versions_of}
 use Rattle.vault_model.specs.Vault.{Vault, IsVault, IsDraft}
-use Rattle.vault_model.proofs.Stays.{ids, same_id_is, same_id_itself}
-use Rattle.vault_model.proofs.DraftsKept.{stands}
+use Rattle.vault_model.proofs.Stays.{ids, same_id_is, same_id_itself, held_there}
 use Rattle.vault_inspector.specs.Counts.{version_count, own_drafts, CountsAreTotals}
 
 -- the sum over one more of a list
@@ -101,7 +100,7 @@ sum_all tree line [] distinct all = sum_none line
 sum_all tree line (x ∷ drafts) distinct all =
     let held = (All-head (IsDraft tree line) x drafts all).held in
     let more = sum_more x drafts line in
-    let one = one_has (Long x.claim) line distinct (stands tree line (Long x.claim) held) in
+    let one = one_has (Long x.claim) line distinct (held_there tree line (Long x.claim) held) in
     let rest = sum_all tree line drafts distinct (All-tail (IsDraft tree line) x drafts all) in
     omega (arith, more, one, rest)
 

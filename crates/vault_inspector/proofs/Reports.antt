@@ -9,7 +9,7 @@ use Rattle.vault_store.specs.declared.front.Head.{Head}
 use Rattle.vault_store.specs.declared.front.Head.TheVariants as heads
 use Rattle.vault_store.specs.declared.opening.File.TheVariants.{First, Second}
 use Rattle.vault_store.specs.declared.opening.OpenError.TheVariants as why
-use Rattle.vault_store.specs.Files.{head_of, snapshot_bytes, frames_bytes, Holds, HasHead, IsSpare}
+use Rattle.vault_store.specs.Files.{snapshot_bytes, frames_bytes, Holds, IsSpare, current_head, HasCurrentHead}
 use Rattle.vault_store.specs.Parts.{IsHead, IsWhole}
 use Rattle.vault_store.specs.Read.{AreReads}
 use Rattle.vault_inspector.specs.declared.report.FileState.{FileState}
@@ -22,14 +22,14 @@ use Rattle.vault_inspector.proofs.Choices.{first_chosen, second_chosen, none_cho
 
 -- what is read behind reads that changed nothing
 pub read_behind : (old mid : Disk) (g : ℕ) (state : FileState) (vault : Option Vault) → AreReads old mid → IsTrue old.honest
-    → (IsTrue mid.honest → HasHead g mid.shown → IsActiveRead g mid.shown state vault) → HasHead g old.shown → IsActiveRead g old.shown state vault
+    → (IsTrue mid.honest → HasCurrentHead g mid.shown → IsActiveRead g mid.shown state vault) → HasCurrentHead g old.shown → IsActiveRead g old.shown state vault
 read_behind old mid g state vault reads honest read head =
     let shown = (reads.read honest).shown in
     subst (λ (file : List ℕ). IsActiveRead g file state vault) shown
-    (read (subst IsTrue (sym reads.called.same_honesty) honest) (subst (HasHead g) (sym shown) head))
+    (read (subst IsTrue (sym reads.called.same_honesty) honest) (subst (HasCurrentHead g) (sym shown) head))
 
 -- a whole file with a right head is read
-holds : (file : List ℕ) (g : ℕ) (vault : Vault) (frames tail : ℕ) → HasHead g file → (whole : IsWhole g file vault frames tail)
+holds : (file : List ℕ) (g : ℕ) (vault : Vault) (frames tail : ℕ) → HasCurrentHead g file → (whole : IsWhole g file vault frames tail)
     → Holds file (record { vault = vault; generation = g; tail = tail; journal = length (frames_bytes whole.list) })
 holds file g vault frames tail head whole = record {
   front = front;
@@ -52,13 +52,13 @@ holds file g vault frames tail head whole = record {
 }
   where
     front : List ℕ
-    front = (head_of g ++ snapshot_bytes whole.base) ++ frames_bytes whole.list
+    front = (current_head g ++ snapshot_bytes whole.base) ++ frames_bytes whole.list
 
 -- a head beside that of the active file: closed, right and of a smaller generation, of the same one, or faulty
 module _ (first second : List ℕ) (a b : Head) (is_a : IsHead first a) (is_b : IsHead second b) where
   -- the first file is the active one
   module _ (g : ℕ) (chosen : active_among (generation_in a) (generation_in b) ≡ active.First g) where
-    pub first_head : HasHead g first
+    pub first_head : HasCurrentHead g first
     first_head = head_there first a g is_a (first_chosen (generation_in a) (generation_in b) g chosen).0
 
     first_newest : (other : ℕ) → generation_in b ≡ Some other → other ≤ g
@@ -78,10 +78,10 @@ module _ (first second : List ℕ) (a b : Head) (is_a : IsHead first a) (is_b : 
     pub second_beside : (h : Head) → IsHead second h → ((other : ℕ) → generation_in h ≡ Some other → other ≤ g) → IsSecondState first second (beside h g)
     second_beside heads.Closed is newest = is
     second_beside (heads.Damaged at) is newest = inl is
-    second_beside (heads.Open version own) is newest = by_test (own == g) refl
+    second_beside (heads.Open v own) is newest = by_test (own == g) refl
       where
         by_test : (t : Bool) → (own == g) ≡ t → IsSecondState first second (cond t (Damaged 12) (Older own))
-        by_test true same = let equal : own ≡ g = grind (arith, nat_tests, same) in inr (inl (refl, (g, first_head, subst (λ (k : ℕ). HasHead k second) equal is.1)))
+        by_test true same = let equal : own ≡ g = grind (arith, nat_tests, same) in inr (inl (refl, (g, first_head, subst (λ (k : ℕ). HasCurrentHead k second) equal is.1)))
         by_test false other = let less : own < g = (let most = newest own refl in grind (arith, nat_tests, other, most)) in (is.1, (g, less, first_head))
 
     first_vault : (state : FileState) (vault : Option Vault) → IsActiveRead g first state vault → IsSpare g second → IsVaultFound first second vault
@@ -96,10 +96,10 @@ module _ (first second : List ℕ) (a b : Head) (is_a : IsHead first a) (is_b : 
         → (state : FileState) (vault : Option Vault) → IsActiveRead g first state vault → IsVaultFound first second (found vault (beside h g))
     vault_of_first heads.Closed is newest state vault read = first_vault state vault read (inl is)
     vault_of_first (heads.Damaged at) is newest state vault read = (why.Damaged Second at, tt, inl (inr (g, first_head), is))
-    vault_of_first (heads.Open version own) is newest state vault read = by_test (own == g) refl
+    vault_of_first (heads.Open v own) is newest state vault read = by_test (own == g) refl
       where
         by_test : (t : Bool) → (own == g) ≡ t → IsVaultFound first second (found vault (cond t (Damaged 12) (Older own)))
-        by_test true same = let equal : own ≡ g = grind (arith, nat_tests, same) in (why.Damaged Second 12, tt, inr (inl (g, first_head, subst (λ (k : ℕ). HasHead k second) equal is.1, refl)))
+        by_test true same = let equal : own ≡ g = grind (arith, nat_tests, same) in (why.Damaged Second 12, tt, inr (inl (g, first_head, subst (λ (k : ℕ). HasCurrentHead k second) equal is.1, refl)))
         by_test false other = let less : own < g = (let most = newest own refl in grind (arith, nat_tests, other, most)) in first_vault state vault read (inr (own, less, is.1))
 
     pub second_is : IsSecondState first second (beside b g)
@@ -110,7 +110,7 @@ module _ (first second : List ℕ) (a b : Head) (is_a : IsHead first a) (is_b : 
 
   -- the second file is the active one
   module _ (g : ℕ) (chosen : active_among (generation_in a) (generation_in b) ≡ active.Second g) where
-    pub second_head : HasHead g second
+    pub second_head : HasCurrentHead g second
     second_head = head_there second b g is_b (second_chosen (generation_in a) (generation_in b) g chosen).0
 
     second_newest : (other : ℕ) → generation_in a ≡ Some other → other < g
@@ -133,7 +133,7 @@ module _ (first second : List ℕ) (a b : Head) (is_a : IsHead first a) (is_b : 
     first_beside : (h : Head) → IsHead first h → ((other : ℕ) → generation_in h ≡ Some other → other < g) → IsFirstState first second (beside h g)
     first_beside heads.Closed is newest = is
     first_beside (heads.Damaged at) is newest = inl is
-    first_beside (heads.Open version own) is newest = by_test (own == g) refl
+    first_beside (heads.Open v own) is newest = by_test (own == g) refl
       where
         by_test : (t : Bool) → (own == g) ≡ t → IsFirstState first second (cond t (Damaged 12) (Older own))
         by_test true same = absurd (not_same own (newest own refl) same)
@@ -151,7 +151,7 @@ module _ (first second : List ℕ) (a b : Head) (is_a : IsHead first a) (is_b : 
         → (state : FileState) (vault : Option Vault) → IsActiveRead g second state vault → IsVaultFound first second (found vault (beside h g))
     vault_of_second heads.Closed is newest state vault read = second_vault state vault read (inl is)
     vault_of_second (heads.Damaged at) is newest state vault read = (why.Damaged First at, tt, inl is)
-    vault_of_second (heads.Open version own) is newest state vault read = by_test (own == g) refl
+    vault_of_second (heads.Open v own) is newest state vault read = by_test (own == g) refl
       where
         by_test : (t : Bool) → (own == g) ≡ t → IsVaultFound first second (found vault (cond t (Damaged 12) (Older own)))
         by_test true same = absurd (not_same own (newest own refl) same)
@@ -167,19 +167,19 @@ module _ (first second : List ℕ) (a b : Head) (is_a : IsHead first a) (is_b : 
 none_found : (first second : List ℕ) (a b : Head) → IsHead first a → IsHead second b → generation_in a ≡ None → generation_in b ≡ None → IsVaultFound first second None
 none_found first second heads.Closed heads.Closed is_a is_b no_a no_b = (why.NoVault, tt, (is_a, is_b))
 none_found first second heads.Closed (heads.Damaged at) is_a is_b no_a no_b = (why.Damaged Second at, tt, inl (inl is_a, is_b))
-none_found first second heads.Closed (heads.Open version own) is_a is_b no_a no_b = cc
+none_found first second heads.Closed (heads.Open v own) is_a is_b no_a no_b = cc
 none_found first second (heads.Damaged at) b is_a is_b no_a no_b = (why.Damaged First at, tt, inl is_a)
-none_found first second (heads.Open version own) b is_a is_b no_a no_b = cc
+none_found first second (heads.Open v own) b is_a is_b no_a no_b = cc
 
 head_first : (first second : List ℕ) (a : Head) → IsHead first a → generation_in a ≡ None → IsFirstState first second (head_state a)
 head_first first second heads.Closed is lacks = is
 head_first first second (heads.Damaged at) is lacks = inl is
-head_first first second (heads.Open version own) is lacks = cc
+head_first first second (heads.Open v own) is lacks = cc
 
 head_second : (first second : List ℕ) (b : Head) → IsHead second b → generation_in b ≡ None → IsSecondState first second (head_state b)
 head_second first second heads.Closed is lacks = is
 head_second first second (heads.Damaged at) is lacks = inl is
-head_second first second (heads.Open version own) is lacks = cc
+head_second first second (heads.Open v own) is lacks = cc
 
 module _ (first second : List ℕ) (a b : Head) (is_a : IsHead first a) (is_b : IsHead second b) (chosen : active_among (generation_in a) (generation_in b) ≡ active.Neither) where
   pub no_active : IsFirstState first second (head_state a) × IsSecondState first second (head_state b) × IsVaultFound first second None

@@ -2,7 +2,7 @@
 use Rattle.std.specs.Prelude.{◌≡◌, ◌⊎◌, ℕ, ◌<◌, ◌≤◌, List, Option, None, Some}
 use Rattle.vault_model.specs.Vault.{Vault}
 use Rattle.vault_store.specs.declared.opening.OpenError.{OpenError}
-use Rattle.vault_store.specs.Files.{IsClosedFile, HasHead, StandFor}
+use Rattle.vault_store.specs.Files.{IsClosedFile, StandFor, HasCurrentHead}
 use Rattle.vault_store.specs.Faults.{IsDamagedHead, IsBodyFault}
 use Rattle.vault_store.specs.Opening.{IsFound, IsNotOpened}
 use Rattle.vault_store.specs.Parts.{IsWhole}
@@ -11,13 +11,13 @@ use Rattle.vault_inspector.specs.declared.report.FileState.TheVariants.{Closed, 
 
 -- The first file is read as the active one: its head is right, and no right head of the second has a greater generation.
 pub record IsFirstActive (first second : List ℕ) (generation : ℕ) : Type 0 where
-  pub head : HasHead generation first
-  pub newest : (other : ℕ) → HasHead other second → other ≤ generation
+  pub head : HasCurrentHead generation first
+  pub newest : (other : ℕ) → HasCurrentHead other second → other ≤ generation
 
 -- The second file is read as the active one: its head is right, and each right head of the first has a smaller generation.
 pub record IsSecondActive (first second : List ℕ) (generation : ℕ) : Type 0 where
-  pub head : HasHead generation second
-  pub newest : (other : ℕ) → HasHead other first → other < generation
+  pub head : HasCurrentHead generation second
+  pub newest : (other : ℕ) → HasCurrentHead other first → other < generation
 
 -- a file is whole behind its head, with so many frames and its tail gate there
 abbrev pub IsWholeFile : ℕ → List ℕ → ℕ → ℕ → Type 0
@@ -25,11 +25,11 @@ IsWholeFile generation file frames tail = (vault : Vault) × IsWhole generation 
 
 -- a file's head is right, and the other's is right and of a greater generation
 abbrev pub IsOlder : ℕ → List ℕ → List ℕ → Type 0
-IsOlder generation file other = HasHead generation file × ((newer : ℕ) × (generation < newer) × HasHead newer other)
+IsOlder generation file other = HasCurrentHead generation file × ((newer : ℕ) × (generation < newer) × HasCurrentHead newer other)
 
 -- both heads are right and of one generation
 abbrev pub AreAlike : List ℕ → List ℕ → Type 0
-AreAlike first second = (generation : ℕ) × HasHead generation first × HasHead generation second
+AreAlike first second = (generation : ℕ) × HasCurrentHead generation first × HasCurrentHead generation second
 
 -- what the first file is found to be
 abbrev pub IsFirstState : List ℕ → List ℕ → FileState → Type 0

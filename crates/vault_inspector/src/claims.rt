@@ -40,7 +40,7 @@ fn print_owner<W: Write>(writer: &mut W, owner: &Owner) -> Result<(), PrintError
 fn standing_in<A: Allocator + Copy>(book: &Book<A>, id: ClaimId) -> Option<Standing>
     ensures { result ≡ standing_of book.now.tree book.now.line id }
 {
-    let _ = book.tree().parent(PlaceId(0));
+    book.tree().see_whole();
     book.line().standing(id)
 }
 

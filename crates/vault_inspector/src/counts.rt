@@ -12,7 +12,7 @@ pub(crate) fn version_count<A: Allocator + Copy>(book: &Book<A>) -> usize
     ensures { result ≡ version_count book.now }
 {
     let (tree, shelf) = (book.tree(), book.shelf());
-    let _ = tree.parent(PlaceId(0));
+    tree.see_whole();
     let mut total = 0;
     for place in 0..tree.len() {
         total += shelf.count(PlaceId(place as u32)) as usize;

@@ -1,7 +1,7 @@
 //! Reading two files for a report.
 ghost use Rattle.std.specs.Prelude.{◌≡◌, ◌⊎◌, IsTrue, IfOk, IfErr};
 ghost use Rattle.vault_store.specs.Calls.{HasCause};
-ghost use Rattle.vault_store.specs.Files.{HasHead};
+ghost use Rattle.vault_store.specs.Files.{HasCurrentHead};
 ghost use Rattle.vault_store.specs.Read.{AreReads};
 ghost use Rattle.vault_inspector.specs.Found.{IsActiveRead, active_among, beside, found, generation_in, head_state};
 ghost use Rattle.vault_inspector.specs.States.{IsFirstState, IsSecondState, IsVaultFound};
@@ -128,7 +128,7 @@ fn read_active<D: Device, A: Allocator + Copy>(
     generation: u64,
 ) -> Result<Read<A>, InspectError>
     ensures reads { AreReads (D.disk device.old) (D.disk device.new) }
-    ensures read { IsTrue (D.disk device.old).honest → HasHead generation (D.disk device.old).shown → IfOk result (λ read. IsActiveRead generation (D.disk device.old).shown read.state read.book) }
+    ensures read { IsTrue (D.disk device.old).honest → HasCurrentHead generation (D.disk device.old).shown → IfOk result (λ read. IsActiveRead generation (D.disk device.old).shown read.state read.book) }
     ensures cause { IfErr result (λ why. why ≡ DeviceFailed → HasCause (D.disk device.old) (D.disk device.new)) }
 {
     match read_body(alloc, device)? {

@@ -41,6 +41,3 @@ opens_none gate old x stands only image = opens gate old x stands only (x, image
 pub same_but : (gate : ℕ) (old x y : List ℕ) → SameBut gate old x → SameBut gate old y → SameBut gate y x
 same_but gate old x y from_x from_y =
     from_x ∙ sym (set-set old gate (get_or y gate 0) (get_or x gate 0)) ∙ ap (λ (l : List ℕ). set l gate (get_or x gate 0)) (sym from_y)
-
-pub honest_on : {A E : Type 0} (old new : Disk) (result : Result A E) → IsOneCall old new result → IsTrue old.honest → IsTrue new.honest
-honest_on old new result call honest = subst IsTrue (sym call.same_honesty) honest

@@ -7,3 +7,4 @@ mod ItemLoop
 mod Sealed
 pub mod Images
 pub mod OneSpelling
+pub mod Sends

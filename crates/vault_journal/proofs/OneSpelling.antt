@@ -31,7 +31,7 @@ fields_are_spelled = record {
 pub effects_are_spelled : EffectsAreSpelled
 effects_are_spelled = record { reads = λ e rest has. effect_again e rest has; spelled = λ bytes e rest fits is. let t = effect_takes bytes e rest fits is in (t.0.parts, t.1) }
 
-name_is_short : (name : List ℕ) → IsName name → length name ≤ 32
+pub name_is_short : (name : List ℕ) → IsName name → length name ≤ 32
 name_is_short name is = let known : is_name name ≡ true = is in grind (arith, nat_tests)
 
 pub records_are_short : RecordsAreShort

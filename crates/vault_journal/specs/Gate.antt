@@ -2,10 +2,11 @@
 use Rattle.std.specs.Prelude.{◌≡◌, ◌≢◌, ◌⊎◌, ℕ, ◌+◌, ◌<◌, List, [], ◌∷◌, ◌++◌, length, take, slice_index, slice_set}
 use Rattle.vault_device.specs.Disk.{Disk, overwritten}
 use Rattle.vault_journal.specs.Spelling.{in_four}
+use Rattle.vault_journal.specs.declared.frame.TheConstants.{FRAME_ROOM}
 
 -- the most bytes of a frame's records, their length and the gate behind them
 abbrev pub frame_room : ℕ
-frame_room = 262144
+frame_room = FRAME_ROOM
 
 -- what a commit writes behind the gate: the records' length, the records and a closed gate
 abbrev pub body_of : List ℕ → List ℕ

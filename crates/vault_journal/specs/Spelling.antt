@@ -10,6 +10,7 @@ use Rattle.vault_model.specs.declared.effects.Effect.TheVariants.{Made, Asked, E
 use Rattle.vault_model.specs.declared.ids.Intent.{Intent}
 use Rattle.vault_model.specs.declared.ids.Intent.TheVariants.{Look, Change}
 use Rattle.vault_model.specs.declared.claims.Item.{Item}
+use Rattle.vault_journal.specs.declared.records.TheConstants.{LONGEST_RECORD}
 
 -- a number in two bytes, the higher first
 abbrev pub in_two : ℕ → List ℕ
@@ -59,7 +60,7 @@ records_of effects = flat_map record_of effects
 
 -- the most bytes of a record
 abbrev pub longest_record : ℕ
-longest_record = 1035
+longest_record = LONGEST_RECORD
 
 -- the number of a claim
 pub record IsClaimNumber (claim : ℕ) : Type 0 where

@@ -13,26 +13,19 @@ use Rattle.vault_model.specs.declared.claims.Standing.{Standing}
 use Rattle.vault_model.specs.declared.claims.Standing.TheVariants.{Held}
 use Rattle.vault_model.specs.declared.ids.ClaimId.{ClaimId}
 use Rattle.vault_model.specs.declared.ids.ClaimId.TheVariants.{Long}
-use Rattle.vault_model.specs.Limits.{most_drafts, deepest}
+use Rattle.vault_model.specs.Limits.{most_drafts}
 use Rattle.vault_model.specs.Tree.{is_under}
 use Rattle.vault_model.specs.Claims.{same_id, is_change, claim_of, change_set, standing_of, without, is_held, in_way_of, put_first}
 use Rattle.vault_model.specs.Drafts.{SavedDraft, comes_before, with_draft, drafts_of, IsOrdered}
 use Rattle.vault_model.specs.Vault.{AreThere, IsDraft, AreDrafts}
 use Rattle.vault_model.proofs.Overlaps.{eq_from, or_cases, or_left, or_right, and_both, and_intro}
 use Rattle.vault_model.proofs.Walks.{Rises}
-use Rattle.vault_model.proofs.Growth.{is_under-push, depth-push}
+use Rattle.vault_model.proofs.Growth.{is_under-push, is_part-push}
 use Rattle.vault_model.proofs.Fronts.{held_front, held_claim, stands_held}
 use Rattle.vault_model.specs.After.{drafts_held}
 use Rattle.vault_model.proofs.Grown.{standing_of-grown}
-use Rattle.vault_model.proofs.Stays.{ids, own_id, same_id_is, claim_of-push, standing_of-push, claim_of-kept, held_kept}
-
-held_some : (tree : List Place) (line : List Claim) (id : ClaimId) (o : Option Claim) → (f : Claim → Standing) → option_map f o ≡ Some Held → is_some o ≡ true
-held_some tree line id None f e = cc
-held_some tree line id (Some c) f e = refl
-
--- a held claim is in the line
-pub stands : (tree : List Place) (line : List Claim) (id : ClaimId) → standing_of tree line id ≡ Some Held → is_some (claim_of line id) ≡ true
-stands tree line id held = held_some tree line id (claim_of line id) _ held
+use Rattle.vault_model.proofs.Stays.{ids, own_id, same_id_is, claim_of-push, standing_of-push, claim_of-kept, held_kept, held_there}
+use Rattle.vault_model.proofs.Lists.{filter_passes}
 
 -- what a change of the line keeps of the claims with drafts
 pub record Keeps (tree : List Place) (line others : List Claim) (number : ℕ) : Type 0 where
@@ -63,7 +56,7 @@ drafts_asked tree line c drafts are = drafts_moved tree line (line ++ c ∷ []) 
   where
     moves : (number : ℕ) → standing_of tree line (Long number) ≡ Some Held → Keeps tree line (line ++ c ∷ []) number
     moves number held =
-        let there = stands tree line (Long number) held in
+        let there = held_there tree line (Long number) held in
         record {
           held = standing_of-push tree line c (Long number) there ∙ held;
           wider = λ d found. (d, sym (claim_of-push line c (Long number) there) ∙ found, λ p h. h);
@@ -146,7 +139,7 @@ module _ (tree : List Place) (x : Place) (rises : Rises tree) (parent : x.parent
         held = standing_of-grown tree x rises parent line (Long d.claim) there ∙ h.held;
         changed = λ c found. changed_grown c.items d.draft.place h.there ∙ h.changed c found;
         there = let longer = length-append tree (x ∷ []) in let within = h.there in omega arith;
-        part = ap (nat_le deepest) (depth-push tree x d.draft.place rises h.there) ∙ h.part;
+        part = is_part-push tree x d.draft.place rises h.there ∙ h.part;
         short = h.short;
       }
 
@@ -238,7 +231,7 @@ pub all_held : (tree : List Place) (line : List Claim) (drafts : List SavedDraft
 all_held tree line [] all = refl
 all_held tree line (x ∷ xs) all =
     let h = All-head (IsDraft tree line) x xs all in
-    and_intro (option_map_or (λ c. is_held tree line c) (claim_of line (Long x.claim)) false) (drafts_held tree line xs) (by_claim (claim_of line (Long x.claim)) refl (stands tree line (Long x.claim) h.held) h.held) (all_held tree line xs (All-tail (IsDraft tree line) x xs all))
+    and_intro (option_map_or (λ c. is_held tree line c) (claim_of line (Long x.claim)) false) (drafts_held tree line xs) (by_claim (claim_of line (Long x.claim)) refl (held_there tree line (Long x.claim) h.held) h.held) (all_held tree line xs (All-tail (IsDraft tree line) x xs all))
   where
     by_claim : (o : Option Claim) → claim_of line (Long x.claim) ≡ o → is_some o ≡ true → standing_of tree line (Long x.claim) ≡ Some Held → option_map_or (λ c. is_held tree line c) o false ≡ true
     by_claim None at e held = cc
@@ -309,20 +302,12 @@ ordered_saved new (x ∷ xs) ys first low rest high = (ahead xs first.0, ordered
     ahead [] h = (low.0, behind ys high)
     ahead (z ∷ zs) h = (h.0, ahead zs h.1)
 
-all_pass : (test : SavedDraft → Bool) (xs : List SavedDraft) → AllByRecursion (λ x. test x ≡ true) (filter test xs)
-all_pass test [] = tt
-all_pass test (x ∷ xs) = by_test (test x) refl (all_pass test xs)
-  where
-    by_test : (b : Bool) → test x ≡ b → AllByRecursion (λ y. test y ≡ true) (filter test xs) → AllByRecursion (λ y. test y ≡ true) (cond b (x ∷ filter test xs) (filter test xs))
-    by_test true e rest = (e, rest)
-    by_test false e rest = rest
-
 -- one draft more, or in place of another
 pub drafts_saved : (tree : List Place) (line : List Claim) (drafts : List SavedDraft) (new : SavedDraft) → AreDrafts tree line drafts → IsDraft tree line new → length (drafts_of (with_draft drafts new) new.claim) ≤ most_drafts → AreDrafts tree line (with_draft drafts new)
 drafts_saved tree line drafts new are fits room = record {
   each = All-append (IsDraft tree line) (filter (λ x. comes_before x new) drafts) (new ∷ filter (λ x. comes_before new x) drafts) (All-filter (λ x. comes_before x new) (IsDraft tree line) drafts are.each) (All-cons (IsDraft tree line) new (filter (λ x. comes_before new x) drafts) fits (All-filter (λ x. comes_before new x) (IsDraft tree line) drafts are.each));
   few = λ number. few number (new.claim == number) refl;
-  ordered = ordered_saved new (filter (λ x. comes_before x new) drafts) (filter (λ x. comes_before new x) drafts) (ordered_filter (λ x. comes_before x new) drafts are.ordered) (all_pass (λ x. comes_before x new) drafts) (ordered_filter (λ x. comes_before new x) drafts are.ordered) (all_pass (λ x. comes_before new x) drafts);
+  ordered = ordered_saved new (filter (λ x. comes_before x new) drafts) (filter (λ x. comes_before new x) drafts) (ordered_filter (λ x. comes_before x new) drafts are.ordered) (filter_passes (λ x. comes_before x new) drafts) (ordered_filter (λ x. comes_before new x) drafts are.ordered) (filter_passes (λ x. comes_before new x) drafts);
 }
   where
     few : (number : ℕ) (b : Bool) → (new.claim == number) ≡ b → length (drafts_of (with_draft drafts new) number) ≤ most_drafts

@@ -1,34 +1,44 @@
 -- A claim that is held and still stands after a step is held there.
-use Rattle.std.specs.Prelude.{◌≡◌, Bool, true, false, not, List, [], ◌∷◌, Some, is_some, find, ◌⊎◌, refl}
+use Rattle.std.specs.Prelude.{◌++◌, Option, ◌≡◌, Bool, true, false, not, List, [], ◌∷◌, Some, is_some, find, ◌⊎◌, refl}
 use Rattle.std.proofs.Common.{sym, subst, ◌∙◌, cond, inl, inr}
 use Rattle.std.proofs.lemmas.List.Elements.{All-weaker}
 use Rattle.vault_model.specs.declared.place.Place.{Place}
 use Rattle.vault_model.specs.declared.claims.Claim.{Claim}
 use Rattle.vault_model.specs.declared.claims.Standing.TheVariants.{Held}
 use Rattle.vault_model.specs.declared.ids.ClaimId.{ClaimId}
-use Rattle.vault_model.specs.declared.ids.ClaimId.TheVariants.{Long}
-use Rattle.vault_model.specs.Claims.{is_short, same_id, overlap, standing_behind, claim_of, before, standing_of}
+use Rattle.vault_model.specs.declared.ids.ClaimId.TheVariants.{Long, Short}
+use Rattle.vault_model.specs.Claims.{is_session, is_short, same_id, overlap, standing_behind, claim_of, before, standing_of}
 use Rattle.vault_model.specs.Vault.{Vault, AreThere, IsClaim, IsVault}
-use Rattle.vault_model.specs.Step.{step}
+use Rattle.vault_model.specs.Said.{Effect}
+use Rattle.vault_model.specs.Tree.{new_place}
 use Rattle.vault_model.specs.Laws.{HeldStays, HeldIsDurable, HeldAreApart}
 use Rattle.vault_model.proofs.Grown.{standing_of-grown}
 use Rattle.vault_model.proofs.Stays.{held_there, stood, take_while-cons, standing_of-push, find-filter, held_none, held_kept, kept_there, same_id_is}
 use Rattle.vault_model.proofs.Fronts.{none_passes, held_front}
 use Rattle.vault_model.proofs.Meetings.{symmetric}
-use Rattle.vault_model.proofs.Moves.{Moves, stays, grows, asks, loses, fronts, step_moves}
+use Rattle.vault_model.proofs.Transitions.{Transition, left, made, asked, taken, extended, checked_in, abandoned, released, by_transition, by_count}
 
-by_move : (v w : Vault) (id : ClaimId) → IsVault v → standing_of v.tree v.line id ≡ Some Held → is_some (claim_of w.line id) ≡ true → Moves v w → standing_of w.tree w.line id ≡ Some Held
-by_move v w id kept held stands (stays tree line) = rw (tree, line) held
-by_move v w id kept held stands (grows x parent tree line) =
-    rw (tree, line) (standing_of-grown v.tree x kept.tree.parents parent v.line id (All-weaker (IsClaim v.tree v.sessions v.last_long v.last_short) (λ (c : Claim). AreThere v.tree c.items) (λ c h. h.there) v.line kept.claims) ∙ held)
-by_move v w id kept held stands (asks c tree line) =
-    rw (tree, line) (standing_of-push v.tree v.line c id (held_there v.tree v.line id held) ∙ held)
-by_move v w id kept held stands (loses keep tree line) =
-    rw (tree, line) (held_kept keep v.tree v.line id kept.apart (subst (λ (claims : List Claim). is_some (claim_of claims id) ≡ true) line stands) held)
-by_move v w id kept held stands (fronts first items claim found free tree line) = rw (tree, line) (held_front v.tree v.line first items kept.apart (rw found refl) free id held)
+-- a claim is held, if it stands
+abbrev IsHeldIn : ClaimId → Vault → Type 0
+IsHeldIn id w = is_some (claim_of w.line id) ≡ true → standing_of w.tree w.line id ≡ Some Held
+
+-- held stays held under each change
+module _ (v : Vault) (id : ClaimId) (kept : IsVault v) (held : standing_of v.tree v.line id ≡ Some Held) where
+  transition_held : (effect : Option Effect) (w : Vault) → Transition v effect w → IsHeldIn id w
+  transition_held effect w (made parent name can) stands =
+      standing_of-grown v.tree (new_place parent name) kept.tree.parents can.there v.line id (All-weaker (IsClaim v.tree v.sessions v.last_long v.last_short) (λ (c : Claim). AreThere v.tree c.items) (λ c h. h.there) v.line kept.claims) ∙ held
+  transition_held effect w (asked designer items can) stands = standing_of-push v.tree v.line _ id (held_there v.tree v.line id held) ∙ held
+  transition_held effect w (taken session items owner can) stands = standing_of-push v.tree v.line _ id (held_there v.tree v.line id held) ∙ held
+  transition_held effect w (extended first claim items can) stands = held_front v.tree v.line first (claim.items ++ items) kept.apart (rw can.used.found refl) can.free id held
+  transition_held effect w (left session) stands = held_kept (λ (c : Claim). not (is_session session c.owner)) v.tree v.line id kept.apart stands held
+  transition_held effect w (checked_in number claim used fits) stands = held_kept (λ (c : Claim). not (same_id c.id (Long number))) v.tree v.line id kept.apart stands held
+  transition_held effect w (abandoned number claim found) stands = held_kept (λ (c : Claim). not (same_id c.id (Long number))) v.tree v.line id kept.apart stands held
+  transition_held effect w (released number) stands = held_kept (λ (c : Claim). not (same_id c.id (Short number))) v.tree v.line id kept.apart stands held
+  transition_held effect w change stands = held
 
 pub held_stays : HeldStays
-held_stays v n command id kept held stands = by_move v (step v n command).vault id kept held stands (step_moves v n command)
+held_stays v n command id kept held =
+    by_transition (λ effect w. IsHeldIn id w) v n command (λ effect w change. let h = transition_held v id kept held effect w change in by_count (IsHeldIn id) n w h h)
 
 -- a long claim that is held is held in the durable vault
 pub held_is_durable : HeldIsDurable

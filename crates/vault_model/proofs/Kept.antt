@@ -16,22 +16,23 @@ use Rattle.vault_model.specs.declared.session.Session.{Session}
 use Rattle.vault_model.specs.Tree.{IsTree, is_part, parent_of, find_place}
 use Rattle.vault_model.proofs.Walks.{depth-top}
 use Rattle.std.specs.List.{IsDistinct, AllByRecursion}
-use Rattle.vault_model.specs.Claims.{same_id, claim_of, without, without_session, without_short, is_session, is_short, put_first}
+use Rattle.vault_model.specs.Changes.{with_check_out, with_hold}
+use Rattle.vault_model.specs.Claims.{new_check_out, new_hold, same_id, claim_of, without, without_session, without_short, is_session, is_short, put_first}
 use Rattle.vault_model.specs.Limits.{most_items, most_claims, most_sessions}
 use Rattle.vault_model.specs.Vault.{Vault, weight_of, IsDraft, AreDrafts, AreThere, IsGiven, Owns, IsClaim, AreSessions, IsVault, new_vault, durable, session_of, one_more, counted_in, CountsBelow}
 use Rattle.vault_model.specs.declared.claims.PathItem.{PathItem}
 use Rattle.vault_model.specs.Step.{placed}
 use Rattle.std.specs.Option.{option_map, option_and_then}
 use Rattle.std.proofs.lemmas.List.Sums.{sum_by-cons}
-use Rattle.vault_model.specs.Limits.{deepest, most_drafts, most_weight}
+use Rattle.vault_model.specs.Limits.{most_drafts, most_weight}
 use Rattle.vault_model.specs.Shelf.{Draft, content_weight, drafts_weight, versions_of, shelved_all, is_shelvable}
 use Rattle.vault_model.specs.Drafts.{SavedDraft, saved_weight, with_draft, drafts_of, without_drafts, IsOrdered}
-use Rattle.vault_model.proofs.Growth.{depth-push, AreThere-push}
+use Rattle.vault_model.proofs.Growth.{is_part-push, AreThere-push}
 use Rattle.vault_model.proofs.Shelves.{none_shelved, shelf_stays, weight-shelved_all, versions_of-shelved_all}
-use Rattle.vault_model.proofs.DraftsKept.{stands, drafts_grown, drafts_left, drafts_asked, drafts_saved, fewer_drafts}
+use Rattle.vault_model.proofs.DraftsKept.{drafts_grown, drafts_left, drafts_asked, drafts_saved, fewer_drafts}
 use Rattle.vault_model.proofs.Distinct.{IsDistinct-push, IsDistinct-filter}
 use Rattle.vault_model.proofs.Overlaps.{eq_from}
-use Rattle.vault_model.proofs.Stays.{ids, own_id, same_id_turned, kept_there, claim_there}
+use Rattle.vault_model.proofs.Stays.{ids, own_id, same_id_turned, kept_there, claim_there, held_there}
 
 -- what holds of members that pass a test
 pub All-kept : {X : Type 0} (P Q : X → Type 0) (keep : X → Bool) (xs : List X) → ((x : X) → P x → keep x ≡ true → Q x) → All P xs → All Q (filter keep xs)
@@ -198,7 +199,7 @@ module _ (v : Vault) (kept : IsVault v) where
           let old = kept.versions.parts place some in
           let within = old.0 in
           let longer = length-append v.tree (x ∷ []) in
-          (omega arith, ap (nat_le deepest) (depth-push v.tree x place kept.tree.parents old.0) ∙ old.1);
+          (omega arith, is_part-push v.tree x place kept.tree.parents old.0 ∙ old.1);
     };
     drafts = drafts_grown v.tree x kept.tree.parents parent v.line (All-weaker (IsClaim v.tree v.sessions v.last_long v.last_short) (λ (c : Claim). AreThere v.tree c.items) (λ c h. h.there) v.line kept.claims) v.drafts kept.drafts;
     light = kept.light;
@@ -227,7 +228,7 @@ module _ (v : Vault) (kept : IsVault v) where
       still [] all = All-nil (λ (x : SavedDraft). is_some (claim_of (without v.line (Short number)) (Long x.claim)) ≡ true)
       still (x ∷ xs) all =
           All-cons (λ (x : SavedDraft). is_some (claim_of (without v.line (Short number)) (Long x.claim)) ≡ true) x xs
-          (kept_there (λ c. not (same_id c.id (Short number))) v.line (Long x.claim) (λ c own. rw own refl) (stands v.tree v.line (Long x.claim) (All-head (IsDraft v.tree v.line) x xs all).held))
+          (kept_there (λ c. not (same_id c.id (Short number))) v.line (Long x.claim) (λ c own. rw own refl) (held_there v.tree v.line (Long x.claim) (All-head (IsDraft v.tree v.line) x xs all).held))
           (still xs (All-tail (IsDraft v.tree v.line) x xs all))
 
   -- without a check-out and its drafts
@@ -238,7 +239,7 @@ module _ (v : Vault) (kept : IsVault v) where
     where
       still : (xs : List SavedDraft) → All (IsDraft v.tree v.line) xs → All (λ (x : SavedDraft). is_some (claim_of (without v.line (Long number)) (Long x.claim)) ≡ true) (without_drafts xs number)
       still xs all = All-kept (IsDraft v.tree v.line) (λ (x : SavedDraft). is_some (claim_of (without v.line (Long number)) (Long x.claim)) ≡ true) (λ (x : SavedDraft). not (x.claim == number)) xs
-          (λ x h e. kept_there (λ c. not (same_id c.id (Long number))) v.line (Long x.claim) (λ c own. rw own e) (stands v.tree v.line (Long x.claim) h.held)) all
+          (λ x h e. kept_there (λ c. not (same_id c.id (Long number))) v.line (Long x.claim) (λ c own. rw own e) (held_there v.tree v.line (Long x.claim) h.held)) all
 
   pub kept_without : (number : ℕ) → IsVault (record v { line = without v.line (Long number); drafts = without_drafts v.drafts number })
   kept_without number = kept_left (λ c. not (same_id c.id (Long number))) (without_drafts v.drafts number) (drafts_without number) (lighter_drafts (λ (x : SavedDraft). not (x.claim == number)) v.drafts)
@@ -264,16 +265,16 @@ module _ (v : Vault) (kept : IsVault v) where
       later (Short k) h = let low = h.0 in let high = h.1 in (omega arith, omega arith)
 
   pub kept_asked_long : (designer : List ℕ) (items : List Item) → length v.line < most_claims → 0 < length items → length items ≤ most_items → AreThere v.tree items
-      → IsVault (record v { line = v.line ++ record { id = Long (v.last_long + 1); owner = owners.Designer designer; items = items } ∷ []; last_long = v.last_long + 1 })
-  kept_asked_long designer items room some few there = kept_asked (record { id = Long (v.last_long + 1); owner = owners.Designer designer; items = items }) (v.last_long + 1) v.last_short (omega arith) (omega arith) (omega arith, omega arith) fresh tt room some few there
+      → IsVault (with_check_out v (v.last_long + 1) designer items)
+  kept_asked_long designer items room some few there = kept_asked (new_check_out (v.last_long + 1) designer items) (v.last_long + 1) v.last_short (omega arith) (omega arith) (omega arith, omega arith) fresh tt room some few there
     where
       fresh : (id : ClaimId) → IsGiven v.last_long v.last_short id → same_id id (Long (v.last_long + 1)) ≡ false
       fresh (Long n) h = let high = h.1 in grind (arith, nat_tests)
       fresh (Short n) h = refl
 
   pub kept_asked_short : (session : ℕ) (items : List Item) → is_some (session_of v.sessions session) ≡ true → length v.line < most_claims → 0 < length items → length items ≤ most_items → AreThere v.tree items
-      → IsVault (record v { line = v.line ++ record { id = Short (v.last_short + 1); owner = owners.Session session; items = items } ∷ []; last_short = v.last_short + 1 })
-  kept_asked_short session items stands room some few there = kept_asked (record { id = Short (v.last_short + 1); owner = owners.Session session; items = items }) v.last_long (v.last_short + 1) (omega arith) (omega arith) (omega arith, omega arith) fresh stands room some few there
+      → IsVault (with_hold v (v.last_short + 1) session items)
+  kept_asked_short session items stands room some few there = kept_asked (new_hold (v.last_short + 1) session items) v.last_long (v.last_short + 1) (omega arith) (omega arith) (omega arith, omega arith) fresh stands room some few there
     where
       fresh : (id : ClaimId) → IsGiven v.last_long v.last_short id → same_id id (Short (v.last_short + 1)) ≡ false
       fresh (Long n) h = refl
@@ -360,7 +361,7 @@ module _ (v : Vault) (kept : IsVault v) where
       still [] all = All-nil (λ (x : SavedDraft). is_some (claim_of (without_session gone v.line) (Long x.claim)) ≡ true)
       still (x ∷ xs) all =
           All-cons (λ (x : SavedDraft). is_some (claim_of (without_session gone v.line) (Long x.claim)) ≡ true) x xs
-          (of_claim x.claim (claim_of v.line (Long x.claim)) refl (stands v.tree v.line (Long x.claim) (All-head (IsDraft v.tree v.line) x xs all).held))
+          (of_claim x.claim (claim_of v.line (Long x.claim)) refl (held_there v.tree v.line (Long x.claim) (All-head (IsDraft v.tree v.line) x xs all).held))
           (still xs (All-tail (IsDraft v.tree v.line) x xs all))
 
       turned : (b : Bool) → not b ≡ true → b ≡ false
@@ -391,7 +392,7 @@ module _ (v : Vault) (kept : IsVault v) where
       still [] all = All-nil (λ (x : SavedDraft). is_some (claim_of (without_short v.line) (Long x.claim)) ≡ true)
       still (x ∷ xs) all =
           All-cons (λ (x : SavedDraft). is_some (claim_of (without_short v.line) (Long x.claim)) ≡ true) x xs
-          (kept_there (λ (c : Claim). not (is_short c.id)) v.line (Long x.claim) (λ c own. rw own refl) (stands v.tree v.line (Long x.claim) (All-head (IsDraft v.tree v.line) x xs all).held))
+          (kept_there (λ (c : Claim). not (is_short c.id)) v.line (Long x.claim) (λ c own. rw own refl) (held_there v.tree v.line (Long x.claim) (All-head (IsDraft v.tree v.line) x xs all).held))
           (still xs (All-tail (IsDraft v.tree v.line) x xs all))
 
       by_id : (id : ClaimId) → not (is_short id) ≡ true → IsGiven v.last_long v.last_short id → IsGiven v.last_long 0 id
@@ -495,6 +496,7 @@ tree_new = record {
   few = omega arith;
   parents = λ p parent e. nowhere p parent e;
   shallow = λ p. rw (depth-top [] p (no_parent p)) (omega arith);
+  no_parts_above = λ p parent e. let none = no_parent p in cc;
   siblings = λ i j a b e. cc;
   narrow = λ p. omega arith;
 }

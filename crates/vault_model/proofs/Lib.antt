@@ -4,10 +4,11 @@ pub mod FirstPart
 pub mod Paths
 pub mod Growth
 pub mod Overlaps
+pub mod Lists
 pub mod Stays
 pub mod Fronts
 pub mod Kept
-pub mod Moves
+pub mod Transitions
 pub mod HeldStays
 pub mod WellFormed
 pub mod Meetings
@@ -19,3 +20,4 @@ pub mod Shelves
 pub mod Counts
 pub mod DraftsKept
 pub mod Grown
+pub mod Sends

@@ -5,7 +5,7 @@ use Rattle.std.specs.List.{list_all, slice_split, flat_map, join_with_byte, AllB
 use Rattle.std.proofs.lemmas.Bool.Decides.{nat_tests}
 use Rattle.std.proofs.lemmas.List.Elements.{All-nil, All-cons}
 use Rattle.std.proofs.lemmas.List.Splits.{join_with_byte-slice_split, length-slice_split}
-use Rattle.vault_model.specs.Limits.{deepest}
+use Rattle.vault_model.specs.Limits.{most_names}
 use Rattle.vault_model.specs.Name.{is_name_byte, is_name, IsName}
 use Rattle.vault_model.specs.Path.{IsPath, path_text, names_of, names_in, behind_slash, path_in}
 use Rattle.vault_model.specs.Laws.{PathIsItsText}
@@ -45,18 +45,18 @@ joined_text name (next ∷ names) = ap (λ xs. name ++ (47 ∷ xs)) (joined_text
 -- forth
 
 spelled : (text : List ℕ) (words names : List (List ℕ)) → join_with_byte 47 words ≡ text → (0 < length words) → names_of words ≡ Some names → IsPath names × (path_text names ≡ 47 ∷ text)
-spelled text words names joined some e = by_test (nat_le (length words) deepest && list_all is_name words) refl e
+spelled text words names joined some e = by_test (nat_le (length words) most_names && list_all is_name words) refl e
   where
     by_words : (words : List (List ℕ)) → join_with_byte 47 words ≡ text → 0 < length words → path_text words ≡ 47 ∷ text
     by_words [] j h = absurd (omega arith)
     by_words (word ∷ words) j h = ap (λ xs. 47 ∷ xs) (sym (joined_text word words) ∙ j)
 
-    by_test : (b : Bool) → (nat_le (length words) deepest && list_all is_name words) ≡ b → cond b (Some words) None ≡ Some names → IsPath names × (path_text names ≡ 47 ∷ text)
+    by_test : (b : Bool) → (nat_le (length words) most_names && list_all is_name words) ≡ b → cond b (Some words) None ≡ Some names → IsPath names × (path_text names ≡ 47 ∷ text)
     by_test false k h = cc
     by_test true k h =
         let same : words ≡ names = cc in
-        let both = and_both (nat_le (length words) deepest) (list_all is_name words) k in
-        let few : length words ≤ deepest = grind (arith, nat_tests, both.0) in
+        let both = and_both (nat_le (length words) most_names) (list_all is_name words) k in
+        let few : length words ≤ most_names = grind (arith, nat_tests, both.0) in
         subst (λ (ns : List (List ℕ)). IsPath ns × (path_text ns ≡ 47 ∷ text)) same (record { short = few; each = each_named words both.1 }, by_words words joined some)
 
 some_parts : (text : List ℕ) → 0 < length (slice_split (λ b. b == 47) text)

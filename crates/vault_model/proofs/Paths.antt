@@ -4,7 +4,7 @@ use Rattle.std.proofs.Common.{ap, arith, cond, sym, ◌∙◌, length-append, ap
 use Rattle.std.proofs.lemmas.List.Folds.{list_all-append}
 use Rattle.std.specs.List.{list_all}
 use Rattle.std.proofs.lemmas.Bool.Decides.{nat_tests}
-use Rattle.vault_model.specs.Limits.{deepest}
+use Rattle.vault_model.specs.Limits.{most_names}
 use Rattle.vault_model.specs.Name.{is_name, name_in}
 use Rattle.vault_model.specs.Path.{names_of}
 
@@ -23,19 +23,19 @@ and_false false b e = refl
 -- one word that is no name
 pub names_bad : (before : List (List ℕ)) (word : List ℕ) (more : List (List ℕ)) → is_name word ≡ false → names_of (before ++ word ∷ more) ≡ None
 names_bad before word more e =
-    let none : (nat_le (length (before ++ word ∷ more)) deepest && list_all is_name (before ++ word ∷ more)) ≡ false = and_false _ _ (named_before before word more e) in
+    let none : (nat_le (length (before ++ word ∷ more)) most_names && list_all is_name (before ++ word ∷ more)) ≡ false = and_false _ _ (named_before before word more e) in
     ap (λ b. cond b (Some (before ++ word ∷ more)) None) none
 
 -- too many words
-pub names_many : (words : List (List ℕ)) → deepest < length words → names_of words ≡ None
+pub names_many : (words : List (List ℕ)) → most_names < length words → names_of words ≡ None
 names_many words h =
-    let many : nat_le (length words) deepest ≡ false = grind (arith, nat_tests) in
+    let many : nat_le (length words) most_names ≡ false = grind (arith, nat_tests) in
     ap (λ b. cond (b && list_all is_name words) (Some words) None) many
 
 -- few words, each a name
-pub names_good : (words : List (List ℕ)) → length words ≤ deepest → list_all is_name words ≡ true → names_of words ≡ Some words
+pub names_good : (words : List (List ℕ)) → length words ≤ most_names → list_all is_name words ≡ true → names_of words ≡ Some words
 names_good words h e =
-    let few : nat_le (length words) deepest ≡ true = grind (arith, nat_tests) in
+    let few : nat_le (length words) most_names ≡ true = grind (arith, nat_tests) in
     ap (λ b. cond (b && list_all is_name words) (Some words) None) few ∙ ap (λ b. cond b (Some words) None) e
 
 -- what reading a word says of it
@@ -58,10 +58,10 @@ pub no_more : (words path rest : List (List ℕ)) (word : List ℕ) → words �
 no_more words path rest word all none = sym (ap names_of all ∙ names_bad path word rest (no_name word none))
 
 -- as many as a path has are read, and there is one more
-pub too_many : (words path rest : List (List ℕ)) (word : List ℕ) → words ≡ path ++ word ∷ rest → length path ≡ deepest → None ≡ names_of words
+pub too_many : (words path rest : List (List ℕ)) (word : List ℕ) → words ≡ path ++ word ∷ rest → length path ≡ most_names → None ≡ names_of words
 too_many words path rest word all full =
     let longer = length-append path (word ∷ rest) in
-    let many : deepest < length (path ++ word ∷ rest) = omega arith in
+    let many : most_names < length (path ++ word ∷ rest) = omega arith in
     sym (ap names_of all ∙ names_many (path ++ word ∷ rest) many)
 
 -- one more is read
@@ -75,5 +75,5 @@ still_named path next word name read more named =
     ap (list_all is_name) more ∙ list_all-append is_name path (name ∷ []) ∙ ap (λ b. b && (is_name name && true)) named ∙ ap (λ b. b && true) is
 
 -- all are read
-pub all_read : (words path : List (List ℕ)) → words ≡ path ++ [] → length path ≤ deepest → list_all is_name path ≡ true → Some path ≡ names_of words
+pub all_read : (words path : List (List ℕ)) → words ≡ path ++ [] → length path ≤ most_names → list_all is_name path ≡ true → Some path ≡ names_of words
 all_read words path all few named = sym (ap names_of (all ∙ append-nil path) ∙ names_good path few named)

@@ -1,5 +1,5 @@
 -- What an effect changes in a durable vault, where it may be made there. Claims are not judged again. This project's own.
-use Rattle.std.specs.Prelude.{◌≡◌, ℕ, ◌+◌, Bool, true, false, not, ◌&&◌, ◌==◌, nat_le, nat_lt, List, [], ◌∷◌, ◌++◌, length, Option, None, Some, is_some}
+use Rattle.std.specs.Prelude.{◌≡◌, ℕ, ◌+◌, Bool, true, false, not, ◌&&◌, ◌==◌, nat_le, nat_lt, List, ◌++◌, length, Option, None, Some, is_some}
 use Rattle.std.specs.List.{list_all}
 use Rattle.std.specs.Option.{option_and_then, option_map_or}
 use Rattle.vault_model.specs.Said.{Effect}
@@ -7,15 +7,15 @@ use Rattle.vault_model.specs.declared.effects.Effect.TheVariants as effects
 use Rattle.vault_model.specs.declared.place.Place.{Place}
 use Rattle.vault_model.specs.declared.claims.Item.{Item}
 use Rattle.vault_model.specs.declared.claims.Claim.{Claim}
-use Rattle.vault_model.specs.declared.claims.Owner.TheVariants as owners
 use Rattle.vault_model.specs.declared.ids.ClaimId.TheVariants.{Long}
 use Rattle.vault_model.specs.Limits.{most_items, most_claims}
 use Rattle.vault_model.specs.Tree.{child, is_part, is_full}
-use Rattle.vault_model.specs.Claims.{claim_of, without, is_held, change_set, put_first}
-use Rattle.vault_model.specs.Shelf.{shelved_all, is_shelvable}
-use Rattle.vault_model.specs.Drafts.{SavedDraft, with_draft, drafts_of, without_drafts}
+use Rattle.vault_model.specs.Claims.{claim_of, is_held, change_set, put_first}
+use Rattle.vault_model.specs.Shelf.{is_shelvable}
+use Rattle.vault_model.specs.Drafts.{SavedDraft, new_draft, drafts_of}
 use Rattle.vault_model.specs.Step.{may_save}
 use Rattle.vault_model.specs.Vault.{Vault, durable}
+use Rattle.vault_model.specs.Changes.{with_place, with_check_out, with_items, with_content, with_versions, without_check_out}
 
 -- a vault, where a test holds
 abbrev pub only_if : Bool → Vault → Option Vault
@@ -44,17 +44,17 @@ abbrev pub drafts_held : List Place → List Claim → List SavedDraft → Bool
 drafts_held tree line drafts = list_all (λ (x : SavedDraft). option_map_or (λ c. is_held tree line c) (claim_of line (Long x.claim)) false) drafts
 
 unfoldable pub after_made : Vault → ℕ → List ℕ → Option Vault
-after_made w parent name = only_if (may_make w parent name) (record w { tree = w.tree ++ record { parent = parent; name = name } ∷ [] })
+after_made w parent name = only_if (may_make w parent name) (with_place w parent name)
 
 unfoldable pub after_asked : Vault → ℕ → List ℕ → List Item → Option Vault
 after_asked w number designer items =
     only_if (may_ask w number items)
-    (record w { line = w.line ++ record { id = Long number; owner = owners.Designer designer; items = items } ∷ []; last_long = number })
+    (with_check_out w number designer items)
 
 unfoldable pub after_extended : Vault → ℕ → List Item → Option Vault
 after_extended w number items =
     option_and_then
-    (λ (claim : Claim). only_if (may_extend w claim items && drafts_held w.tree (put_first w.line (Long number) (claim.items ++ items)) w.drafts) (record w { line = put_first w.line (Long number) (claim.items ++ items) }))
+    (λ (claim : Claim). only_if (may_extend w claim items && drafts_held w.tree (put_first w.line (Long number) (claim.items ++ items)) w.drafts) (with_items w (Long number) (claim.items ++ items)))
     (claim_of w.line (Long number))
 
 -- a draft may be saved: the claim is held, the place is a part of its change set, and the limits hold
@@ -63,8 +63,8 @@ after_saved w number place content =
     option_and_then
     (λ (claim : Claim).
     only_if
-    (is_held w.tree w.line claim && nat_le place (length w.tree) && is_part w.tree place && change_set w.tree claim.items place && may_save w (record { claim = number; draft = record { place = place; content = content } }))
-    (record w { drafts = with_draft w.drafts (record { claim = number; draft = record { place = place; content = content } }) }))
+    (is_held w.tree w.line claim && nat_le place (length w.tree) && is_part w.tree place && change_set w.tree claim.items place && may_save w (new_draft number place content))
+    (with_content w number place content))
     (claim_of w.line (Long number))
 
 -- drafts may become versions: the claim is held, and the shelf takes them
@@ -73,14 +73,14 @@ after_checked_in w number =
     option_and_then
     (λ (claim : Claim).
     only_if (is_held w.tree w.line claim && is_shelvable w.shelf (drafts_of w.drafts number))
-    (record w { shelf = shelved_all w.shelf (drafts_of w.drafts number); line = without w.line (Long number); drafts = without_drafts w.drafts number }))
+    (with_versions w number))
     (claim_of w.line (Long number))
 
 -- one that stands may be given up
 unfoldable pub after_abandoned : Vault → ℕ → Option Vault
-after_abandoned w number = only_if (is_some (claim_of w.line (Long number))) (record w { line = without w.line (Long number); drafts = without_drafts w.drafts number })
+after_abandoned w number = only_if (is_some (claim_of w.line (Long number))) (without_check_out w number)
 
--- The durable vault after an effect, where that is applicable. No command of today saves drafts or checks in.
+-- The durable vault after an effect, where that is applicable.
 unfoldable pub after : Vault → Effect → Option Vault
 after w (effects.Made parent name) = after_made w parent name
 after w (effects.Asked number designer items) = after_asked w number designer items

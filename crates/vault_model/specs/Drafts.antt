@@ -1,12 +1,20 @@
 -- The drafts that check-outs saved: at most one of each part in a check-out. This project's own.
 use Rattle.std.specs.Prelude.{◌≡◌, ℕ, true, Bool, ◌&&◌, ◌||◌, ◌==◌, not, nat_lt, List, [], ◌∷◌, ◌++◌, map, filter}
 use Rattle.std.specs.List.{AllByRecursion}
-use Rattle.vault_model.specs.Shelf.{Draft, drafts_weight}
+use Rattle.vault_model.specs.Shelf.{Draft, draft_at, drafts_weight}
 
 -- a draft, with the number of the check-out that saved it
 pub record SavedDraft : Type 0 where
   pub claim : ℕ
   pub draft : Draft
+
+-- a draft of the check-out of this number
+abbrev pub saved_by : ℕ → Draft → SavedDraft
+saved_by number draft = record { claim = number; draft = draft }
+
+-- a new content of a place, for the check-out of this number
+abbrev pub new_draft : ℕ → ℕ → List ℕ → SavedDraft
+new_draft number place content = saved_by number (draft_at place content)
 
 -- drafts stand in the order of their check-outs' numbers, and of places in each check-out
 abbrev pub comes_before : SavedDraft → SavedDraft → Bool

@@ -1,54 +1,63 @@
--- The vault's limits, each named here once. This project's own.
+-- The vault's limits; `src/limits.rt` has the numbers. This project's own.
 use Rattle.std.specs.Prelude.{ℕ}
+use Rattle.vault_model.specs.declared.limits.TheConstants.{GREATEST_DEPTH, MOST_NAMES, PART_DEPTH, LONGEST_NAME, MOST_PLACES, MOST_CHILDREN, MOST_ITEMS, MOST_CLAIMS, MOST_SESSIONS, LAST_NUMBER, LONGEST_CONTENT, MOST_VERSIONS, MOST_WEIGHT, EXTRA_WEIGHT, MOST_DRAFTS}
 
--- how deep the tree is, and so how many names a path has at most
-abbrev pub deepest : ℕ
-deepest = 3
+-- how many places above it a place has at most
+abbrev pub greatest_depth : ℕ
+greatest_depth = GREATEST_DEPTH
+
+-- the most names of a path: one for each step down
+abbrev pub most_names : ℕ
+most_names = MOST_NAMES
+
+-- the depth of parts
+abbrev pub part_depth : ℕ
+part_depth = PART_DEPTH
 
 -- the most bytes of a name
 abbrev pub longest_name : ℕ
-longest_name = 32
+longest_name = LONGEST_NAME
 
 -- the most places of a tree, with the library
 abbrev pub most_places : ℕ
-most_places = 4096
+most_places = MOST_PLACES
 
 -- the most children of a place
 abbrev pub most_children : ℕ
-most_children = 64
+most_children = MOST_CHILDREN
 
 -- the most items of a claim
 abbrev pub most_items : ℕ
-most_items = 8
+most_items = MOST_ITEMS
 
 -- the most claims that stand, of both kinds
 abbrev pub most_claims : ℕ
-most_claims = 256
+most_claims = MOST_CLAIMS
 
 -- the most sessions at once, the door not counted
 abbrev pub most_sessions : ℕ
-most_sessions = 64
+most_sessions = MOST_SESSIONS
 
 -- the last number that a session or a claim may get
 abbrev pub last_number : ℕ
-last_number = 4294967295
+last_number = LAST_NUMBER
 
 -- the most bytes of a content
 abbrev pub longest_content : ℕ
-longest_content = 1024
+longest_content = LONGEST_CONTENT
 
 -- the most versions of a part
 abbrev pub most_versions : ℕ
-most_versions = 65535
+most_versions = MOST_VERSIONS
 
 -- the most that all contents weigh together
 abbrev pub most_weight : ℕ
-most_weight = 16777216
+most_weight = MOST_WEIGHT
 
 -- what a content weighs beside its bytes
 abbrev pub extra_weight : ℕ
-extra_weight = 8
+extra_weight = EXTRA_WEIGHT
 
 -- the most drafts of a check-out
 abbrev pub most_drafts : ℕ
-most_drafts = 64
+most_drafts = MOST_DRAFTS

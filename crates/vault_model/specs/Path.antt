@@ -2,12 +2,12 @@
 use Rattle.std.specs.Prelude.{◌≡◌, ℕ, ◌-◌, ◌≤◌, ◌&&◌, ◌==◌, nat_le, if◌then◌else◌, List, [], ◌∷◌, length, ◌++◌, take, replicate, slice_get, Option, None, Some}
 use Rattle.std.specs.List.{list_all, slice_split, flat_map, AllByRecursion}
 use Rattle.std.proofs.Common.{sym, length-take-le}
-use Rattle.vault_model.specs.Limits.{deepest}
+use Rattle.vault_model.specs.Limits.{most_names}
 use Rattle.vault_model.specs.Name.{is_name, IsName}
 
 -- names that are a path
 pub record IsPath (names : List (List ℕ)) : Type 0 where
-  pub short : length names ≤ deepest
+  pub short : length names ≤ most_names
   pub each : AllByRecursion IsName names
 
 -- how a path is spelled: a slash before each name, or a slash alone for the library
@@ -17,7 +17,7 @@ path_text (name ∷ names) = flat_map (λ n. 47 ∷ n) (name ∷ names)
 
 -- words that are few enough and each a name
 abbrev pub names_of : List (List ℕ) → Option (List (List ℕ))
-names_of words = if nat_le (length words) deepest && list_all is_name words then Some words else None
+names_of words = if nat_le (length words) most_names && list_all is_name words then Some words else None
 
 -- the names between the slashes of a text
 abbrev pub names_in : List ℕ → Option (List (List ℕ))
@@ -47,12 +47,12 @@ blank = 95 ∷ []
 
 -- names, and behind them spare room
 abbrev pub filled : List (List ℕ) → List (List ℕ)
-filled names = names ++ replicate (deepest - length names) blank
+filled names = names ++ replicate (most_names - length names) blank
 
 -- the room holds this many names, and is spare behind them
 pub record IsFilled (room : List (List ℕ)) (len : ℕ) : Type 0 where
   pub within : len ≤ length room
-  pub whole : length room ≡ deepest
+  pub whole : length room ≡ most_names
   pub spare : room ≡ filled (take len room)
 
 pub inverse_of_filled : (room : List (List ℕ)) (len : ℕ) → IsFilled room len → (filled (take len room) ≡ room) × (length (take len room) ≡ len)

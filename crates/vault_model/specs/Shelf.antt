@@ -8,6 +8,9 @@ use Rattle.vault_model.specs.Limits.{longest_content, most_versions, most_weight
 abbrev pub Draft : Type 0
 Draft = DraftOver (List ℕ)
 
+abbrev pub draft_at : ℕ → List ℕ → Draft
+draft_at place content = record { place = place; content = content }
+
 -- the contents of a place's versions, in order
 abbrev pub versions_of : List (List (List ℕ)) → ℕ → List (List ℕ)
 versions_of shelf place = slice_index_or shelf place []

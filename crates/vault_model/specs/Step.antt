@@ -1,6 +1,6 @@
 -- What each command does: its refusals in order, the first that applies, and else its reply, change and effect.
 -- This project's own.
-use Rattle.std.specs.Prelude.{ℕ, ◌+◌, Bool, true, false, not, ◌||◌, ◌&&◌, ◌==◌, nat_le, nat_lt, if◌then◌else◌, List, [], ◌∷◌, ◌++◌, length, filter, Option, None, Some, is_some, Result, Ok, Err}
+use Rattle.std.specs.Prelude.{ℕ, ◌+◌, Bool, true, false, not, ◌||◌, ◌&&◌, ◌==◌, nat_le, nat_lt, if◌then◌else◌, List, [], ◌∷◌, ◌++◌, length, Option, None, Some, is_some, Result, Ok, Err}
 use Rattle.std.specs.Option.{option_map, option_and_then, ok_or}
 use Rattle.vault_model.specs.Said.{Command, Reply, Effect}
 use Rattle.vault_model.specs.declared.commands.Command.TheVariants as commands
@@ -22,11 +22,12 @@ use Rattle.vault_model.specs.declared.session.Session.{Session}
 use Rattle.std.specs.Str.{bytes_eq}
 use Rattle.vault_model.specs.Path.{front, last}
 use Rattle.vault_model.specs.Limits.{most_items, most_claims, most_sessions, last_number, longest_content, most_drafts, most_weight}
-use Rattle.vault_model.specs.Shelf.{versions_of, numbered, shelved_all, is_shelvable}
-use Rattle.vault_model.specs.Drafts.{SavedDraft, with_draft, drafts_of, without_drafts}
+use Rattle.vault_model.specs.Shelf.{versions_of, numbered, is_shelvable}
+use Rattle.vault_model.specs.Drafts.{SavedDraft, new_draft, with_draft, drafts_of}
 use Rattle.vault_model.specs.Tree.{find_place, child, names_under, is_part, is_full}
-use Rattle.vault_model.specs.Claims.{claim_of, without, without_session, is_held, is_session, in_way_of, put_first, change_set, covering, standing_behind, standing_of}
+use Rattle.vault_model.specs.Claims.{claim_of, is_held, is_session, in_way_of, change_set, covering, standing_behind, standing_of}
 use Rattle.vault_model.specs.Vault.{Vault, weight_of, session_of, counted}
+use Rattle.vault_model.specs.Changes.{with_session, gone, with_place, with_check_out, with_hold, with_items, with_content, with_versions, without_check_out, without_hold}
 
 -- a reply, the vault after it, and what has changed for good
 pub record Outcome : Type 0 where
@@ -61,7 +62,7 @@ join v name = do
   let next = v.last_session + 1
   Ok (record {
     reply = replies.Session next;
-    vault = record v { sessions = v.sessions ++ record { number = next; name = name; count = 0 } ∷ []; last_session = next };
+    vault = with_session v name;
     effect = None;
   })
 
@@ -100,7 +101,7 @@ make v session path claim = do
   _ ← refuse_if (is_full v.tree parent) Limit
   Ok (record {
     reply = replies.Place (length v.tree + 1);
-    vault = record v { tree = v.tree ++ record { parent = parent; name = name } ∷ [] };
+    vault = with_place v parent name;
     effect = Some (effects.Made parent name);
   })
 
@@ -123,7 +124,7 @@ check_out v designer wanted = do
   let number = v.last_long + 1
   Ok (record {
     reply = asked (Long number) (standing_behind v.tree v.line items);
-    vault = record v { line = v.line ++ record { id = Long number; owner = owners.Designer designer; items = items } ∷ []; last_long = number };
+    vault = with_check_out v number designer items;
     effect = Some (effects.Asked number designer items);
   })
 
@@ -141,7 +142,7 @@ extend v session id wanted = do
   _ ← refuse_by (in_way_of v.tree v.line id (claim.items ++ items)) Overlaps
   Ok (record {
     reply = replies.Held id;
-    vault = record v { line = put_first v.line id (claim.items ++ items) };
+    vault = with_items v id (claim.items ++ items);
     effect = extension id items;
   })
 
@@ -159,11 +160,10 @@ save v session number path content = do
   place ← ok_or (find_place v.tree path) NoPlace
   _ ← refuse_if (not (is_part v.tree place)) WrongKind
   _ ← refuse_if (not (change_set v.tree claim.items place)) NotCovered
-  let new : SavedDraft = record { claim = number; draft = record { place = place; content = content } }
-  _ ← refuse_if (not (may_save v new)) Limit
+  _ ← refuse_if (not (may_save v (new_draft number place content))) Limit
   Ok (record {
     reply = replies.Saved;
-    vault = record v { drafts = with_draft v.drafts new };
+    vault = with_content v number place content;
     effect = Some (effects.Saved number place content);
   })
 
@@ -175,7 +175,7 @@ check_in v session number = do
   _ ← refuse_if (not (is_shelvable v.shelf drafts)) Limit
   Ok (record {
     reply = replies.CheckedIn (length drafts);
-    vault = record v { shelf = shelved_all v.shelf drafts; line = without v.line (Long number); drafts = without_drafts v.drafts number };
+    vault = with_versions v number;
     effect = Some (effects.CheckedIn number);
   })
 
@@ -209,7 +209,7 @@ abandon v designer number = do
   _ ← refuse_if (not (is_designer designer claim.owner)) NotYours
   Ok (record {
     reply = replies.Abandoned;
-    vault = record v { line = without v.line (Long number); drafts = without_drafts v.drafts number };
+    vault = without_check_out v number;
     effect = Some (effects.Abandoned number);
   })
 
@@ -222,7 +222,7 @@ hold v session wanted = do
   let number = v.last_short + 1
   Ok (record {
     reply = asked (Short number) (standing_behind v.tree v.line items);
-    vault = record v { line = v.line ++ record { id = Short number; owner = owners.Session session.number; items = items } ∷ []; last_short = number };
+    vault = with_hold v number session.number items;
     effect = None;
   })
 
@@ -233,7 +233,7 @@ release v session number = do
   _ ← refuse_if (not (is_owned_by session claim.owner)) NotYours
   Ok (record {
     reply = replies.Released;
-    vault = record v { line = without v.line (Short number) };
+    vault = without_hold v number;
     effect = None;
   })
 
@@ -261,26 +261,20 @@ list v path = do
 abbrev pub leave : Vault → Session → Outcome
 leave v session = record {
   reply = replies.Left;
-  vault = record v { line = without_session session.number v.line; sessions = filter (λ (s : Session). not (s.number == session.number)) v.sessions };
+  vault = gone v session.number;
   effect = None;
 }
 
+-- the name that one joins by
+abbrev pub joining : Command → Option (List ℕ)
+joining (commands.Join name) = Some name
+joining command = None
+
 -- at the door, session 0, one may only join
 abbrev pub at_door : Vault → Command → Result Outcome Refusal
-at_door v (commands.Join name) = join v name
-at_door v (commands.Make path claim) = Err NoSession
-at_door v (commands.CheckOut items) = Err NoSession
-at_door v (commands.Extend id items) = Err NoSession
-at_door v (commands.Save number path content) = Err NoSession
-at_door v (commands.CheckIn number) = Err NoSession
-at_door v (commands.Abandon number) = Err NoSession
-at_door v (commands.Hold items) = Err NoSession
-at_door v (commands.Release number) = Err NoSession
-at_door v (commands.State id) = Err NoSession
-at_door v (commands.List path) = Err NoSession
-at_door v (commands.Fetch path version) = Err NoSession
-at_door v (commands.Count path) = Err NoSession
-at_door v commands.Leave = Err NoSession
+at_door v command = do
+  name ← ok_or (joining command) NoSession
+  join v name
 
 -- a command of a session that stands
 abbrev pub in_session : Vault → Session → Command → Result Outcome Refusal

@@ -6,7 +6,11 @@ use Rattle.std.specs.Str.{bytes_eq}
 use Rattle.vault_model.specs.declared.place.Place.{Place}
 use Rattle.vault_model.specs.declared.place.Kind.{Kind}
 use Rattle.vault_model.specs.declared.place.Kind.TheVariants.{Library, Project, Assembly, Part}
-use Rattle.vault_model.specs.Limits.{deepest, most_places, most_children}
+use Rattle.vault_model.specs.Limits.{greatest_depth, part_depth, most_places, most_children}
+
+-- a new place
+abbrev pub new_place : ℕ → List ℕ → Place
+new_place parent name = record { parent = parent; name = name }
 
 -- the parent of a place; the library has none
 abbrev pub parent_of : List Place → ℕ → Option ℕ
@@ -35,15 +39,15 @@ depth tree p = depth_within p tree p
 abbrev pub is_child : ℕ → List ℕ → Place → Bool
 is_child parent name place = (place.parent == parent) && bytes_eq place.name name
 
--- whether a place is as deep as places are: the deepest are parts
+-- whether a place is as deep as parts are
 abbrev pub is_part : List Place → ℕ → Bool
-is_part tree p = nat_le deepest (depth tree p)
+is_part tree p = nat_le part_depth (depth tree p)
 
--- the library, then projects, assemblies between, and parts where places are deepest
+-- the library, then projects, parts as deep as parts are, and assemblies between
 abbrev pub kind_of_depth : ℕ → Kind
 kind_of_depth d =
     if d == 0 then Library
-    else if nat_le deepest d then Part
+    else if nat_le part_depth d then Part
     else if d == 1 then Project
     else Assembly
 
@@ -101,8 +105,9 @@ pub record IsTree (tree : List Place) : Type 0 where
   pub few : length tree < most_places
   -- a parent has a smaller number
   pub parents : (p parent : ℕ) → parent_of tree p ≡ Some parent → parent < p
-  -- nothing stands under a part
-  pub shallow : (p : ℕ) → depth tree p ≤ deepest
+  pub shallow : (p : ℕ) → depth tree p ≤ greatest_depth
+  -- a parent is no part
+  pub no_parts_above : (p parent : ℕ) → parent_of tree p ≡ Some parent → is_part tree parent ≡ false
   -- siblings differ in name
   pub siblings : (i j : ℕ) (a b : Place) → slice_get tree i ≡ Some a → slice_get tree j ≡ Some b → a.parent ≡ b.parent → a.name ≡ b.name → i ≡ j
   pub narrow : (p : ℕ) → children_count tree p ≤ most_children

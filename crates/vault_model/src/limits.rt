@@ -1,7 +1,13 @@
-//! The vault's limits. `specs/Limits.antt` has the same numbers, for the definitions.
+//! The vault's limits. The definitions take them from here, by `specs/Limits.antt`.
 
-/// How deep the tree is, and so how many names a path has at most.
-pub const DEEPEST: usize = 3;
+/// How many places above it a place has at most.
+pub const GREATEST_DEPTH: usize = 3;
+
+/// The most names of a path: one for each step down.
+pub const MOST_NAMES: usize = GREATEST_DEPTH;
+
+/// The depth of parts.
+pub const PART_DEPTH: usize = GREATEST_DEPTH;
 
 /// The most bytes of a name.
 pub const LONGEST_NAME: usize = 32;

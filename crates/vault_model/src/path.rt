@@ -4,17 +4,17 @@ ghost use Rattle.std.specs.Option.{option_map};
 ghost use Rattle.std.specs.Cmp.Lexicographic.{pointwise, lists_per, lists_equiv};
 ghost use Rattle.std.specs.Cmp.Rules.{comparing};
 ghost use Rattle.std.proofs.Common.{rules};
-ghost use Rattle.vault_model.specs.Limits.{deepest};
+ghost use Rattle.vault_model.specs.Limits.{most_names};
 ghost use Rattle.vault_model.specs.Path.{front, last, path_in, names_in};
 
 use crate::split::cut;
-use crate::{DEEPEST, Name};
+use crate::{MOST_NAMES, Name};
 use std::marker::Model;
 
-/// A path from the library: the names on the way, at most `DEEPEST`. The library's own path has none.
+/// A path from the library: the names on the way, at most `MOST_NAMES`. The library's own path has none.
 #[derive(Clone, Copy, Debug)]
 pub struct Path {
-    names: [Name; DEEPEST],
+    names: [Name; MOST_NAMES],
     len: usize,
 }
 
@@ -42,7 +42,7 @@ impl Path {
         ensures { result ≡ [] }
     {
         Path {
-            names: [Name::blank(); DEEPEST],
+            names: [Name::blank(); MOST_NAMES],
             len: 0,
         }
     }
@@ -69,7 +69,7 @@ impl Path {
         while let Some(text) = rest {
             let (word, behind) = cut(text, b'/');
             let name = Name::read(word)?;
-            if path.len() == DEEPEST {
+            if path.len() == MOST_NAMES {
                 return None;
             }
             path.push(name);
@@ -81,7 +81,7 @@ impl Path {
     /// How many names there are.
     pub fn len(&self) -> usize
         ensures len { result ≡ length self.now }
-        ensures short { result ≤ deepest }
+        ensures short { result ≤ most_names }
     {
         self.len
     }
@@ -89,7 +89,7 @@ impl Path {
     /// The names on the way.
     pub fn names(&self) -> &[Name]
         ensures names { result.now ≡ self.now }
-        ensures short { length self.now ≤ deepest }
+        ensures short { length self.now ≤ most_names }
     {
         &self.names[..self.len]
     }
@@ -108,7 +108,7 @@ impl Path {
 
     /// The path of what has this name under this path's place.
     pub fn joined(&self, name: Name) -> Path
-        requires { length self.now < deepest }
+        requires { length self.now < most_names }
         ensures { result ≡ self.now ++ name ∷ [] }
     {
         let mut names = self.names;
@@ -121,7 +121,7 @@ impl Path {
 
     /// Goes on to what has this name.
     fn push(&mut self, name: Name)
-        requires { length self.old < deepest }
+        requires { length self.old < most_names }
         ensures { self.new ≡ self.old ++ name ∷ [] }
     {
         *self = self.joined(name);

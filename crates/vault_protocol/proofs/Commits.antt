@@ -18,7 +18,8 @@ use Rattle.group_commit.specs.Seen.{snapshot_length}
 use Rattle.group_commit.specs.Laws.{IsReachable}
 use Rattle.group_commit.proofs.Sound.{IsSound, after_run}
 use Rattle.group_commit.proofs.ViewLaw.{len_is}
-use Rattle.vault_protocol.specs.Talk.{Line, Known, Awaited, Talk, Said, told, said_of, said, pumped, pumps, most_steps, committed}
+use Rattle.vault_protocol.specs.Limits.{most_steps}
+use Rattle.vault_protocol.specs.Talk.{Line, Known, Awaited, Talk, Said, told, said_of, said, pumped, pumps, committed}
 use Rattle.vault_protocol.proofs.OpenLines.{AreBelow, open_below}
 use Rattle.vault_protocol.proofs.ScriptRuns.{is_commit, IsSoundTalk}
 

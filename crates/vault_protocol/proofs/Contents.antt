@@ -12,9 +12,10 @@ use Rattle.hex.specs.declared.error.FromHexError.{FromHexError}
 use Rattle.hex.proofs.Pairs.{cons_byte, decode_pairs-ok_pair}
 use Rattle.hex.proofs.HexLemmas.{decode_of-encode_lower, decode_of-even, decode_of-ok, decode_pairs-ok, length-encode_with}
 use Rattle.vault_model.proofs.Joined.{IsFree}
+use Rattle.vault_journal.proofs.Takes.{chosen}
 use Rattle.vault_protocol.specs.Words.{content_in}
 use Rattle.vault_protocol.specs.Spelling.{DigitsSpell, DigitsSpellAll, ContentSpells, ToldAsSpelled}
-use Rattle.vault_protocol.proofs.Steps.{along, chosen}
+use Rattle.vault_protocol.proofs.Steps.{along}
 
 -- Results.
 

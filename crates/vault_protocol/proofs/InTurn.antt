@@ -10,7 +10,8 @@ use Rattle.group_commit.specs.History.{entry_of}
 use Rattle.group_commit.specs.View.{length_of, book_of}
 use Rattle.group_commit.proofs.Marks.{length-with_mark}
 use Rattle.vault_protocol.specs.Grammar.{command_of}
-use Rattle.vault_protocol.specs.Talk.{Line, Known, Awaited, Talk, Said, told, said_of, said, with_text, pumped, pumps, most_steps, committed, is_full, staged, is_awaited, is_known, crashed}
+use Rattle.vault_protocol.specs.Limits.{most_steps}
+use Rattle.vault_protocol.specs.Talk.{Line, Known, Awaited, Talk, Said, told, said_of, said, with_text, pumped, pumps, committed, is_full, staged, is_awaited, is_known, crashed}
 use Rattle.vault_protocol.specs.Script.{is_skipped, connection_line, crash_line, answered, ready, heard_of, said_with, said_for}
 use Rattle.vault_protocol.specs.ScriptLaws.{talk_after}
 use Rattle.vault_protocol.proofs.ScriptRuns.{either}

@@ -11,16 +11,13 @@ use Rattle.group_commit.specs.Seen.{Seen, snapshot_length}
 use Rattle.group_commit.specs.Calls.{AreNumbers, gained}
 use Rattle.vault_protocol.specs.Talk.{Line, Talk, pumped, pumps}
 use Rattle.vault_protocol.proofs.Staging.{talk_of}
+use Rattle.vault_model.proofs.Lists.{refuted}
 
 -- one of the pumps that are left was made
 pub one_pump : (n i : ℕ) (talk next all : Talk) → i < n → pumps (n - i) talk ≡ all → next ≡ pumped talk → pumps (n - (i + 1)) next ≡ all
 one_pump n i talk next all h is e =
     let left : n - i ≡ suc (n - (i + 1)) = omega arith in
     ap (pumps (n - (i + 1))) e ∙ sym (ap (λ k. pumps k talk) left) ∙ is
-
-whole : (broken : Bool) → (broken ≡ true → ⊥) → broken ≡ false
-whole true h = absurd (h refl)
-whole false h = refl
 
 same_answer : (a b : Pumped) (e : ◌≡◌ {A = Result Pumped Fault} (Ok a) (Ok b)) → a ≡ b
 same_answer a b e = cc e
@@ -40,7 +37,7 @@ pub pumped_talk : {D : Type 0} (old new : Seen D) (answer : Pumped) (sessions as
     → talk_of new sessions asked lines ≡ pumped now
 unfolding pumped
 pumped_talk old new answer sessions asked lines now is answered broken row view numbers =
-    let good : old.view.broken ≡ false = whole old.view.broken (λ b. answered (same_answer answer answers.Broken (broken b))) in
+    let good : old.view.broken ≡ false = refuted old.view.broken (λ b. answered (same_answer answer answers.Broken (broken b))) in
     subst (λ (t : Talk). talk_of new sessions asked lines ≡ pumped t) is (λ i. record {
       view = view good i;
       buffer = (ap length numbers.buffer ∙ ap (λ b. length (cond (is_idle old.view.phase && not b) [] old.store.buffer)) good ∙ emptied (is_idle old.view.phase) old.store.buffer) i;

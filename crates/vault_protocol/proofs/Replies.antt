@@ -11,7 +11,8 @@ use Rattle.group_commit.specs.Entries.{Kept, with_mark}
 use Rattle.group_commit.specs.View.{View}
 use Rattle.group_commit.proofs.Marks.{entry_there, length-with_mark}
 use Rattle.vault_protocol.specs.Grammar.{command_of}
-use Rattle.vault_protocol.specs.Talk.{Line, Known, Awaited, Talk, Said, reply_at, told, told_text, said_of, said, with_text, pumped, pumps, most_steps, committed, is_full, is_awaited, is_known, crashed}
+use Rattle.vault_protocol.specs.Limits.{most_steps}
+use Rattle.vault_protocol.specs.Talk.{Line, Known, Awaited, Talk, Said, reply_at, told, told_text, said_of, said, with_text, pumped, pumps, committed, is_full, is_awaited, is_known, crashed}
 use Rattle.vault_protocol.specs.Script.{is_skipped, connection_line, crash_line, answered, ready, heard, heard_of, said_by, said_with, said_for}
 use Rattle.vault_protocol.specs.ScriptLaws.{talk_after, IsOutside, IsToldAt, AreTold, joined, IsMadeOfTold}
 use Rattle.vault_protocol.specs.Saying.{known_texts}

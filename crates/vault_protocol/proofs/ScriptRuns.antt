@@ -17,7 +17,8 @@ use Rattle.group_commit.specs.View.{View, opened_view, view_at, book_of, ViewAll
 use Rattle.group_commit.specs.Seen.{snapshot_length}
 use Rattle.vault_device.specs.Picks.{gives_one}
 use Rattle.vault_protocol.specs.Grammar.{command_of}
-use Rattle.vault_protocol.specs.Talk.{Line, Known, Awaited, Talk, Said, told, told_text, reply_at, behind, said_of, said, with_text, pumped, pumps, most_steps, committed, is_full, staged, is_awaited, crashed}
+use Rattle.vault_protocol.specs.Limits.{most_steps}
+use Rattle.vault_protocol.specs.Talk.{Line, Known, Awaited, Talk, Said, told, told_text, reply_at, behind, said_of, said, with_text, pumped, pumps, committed, is_full, staged, is_awaited, crashed}
 use Rattle.vault_protocol.specs.Script.{is_skipped, connection_line, crash_line, answered, ready, heard, heard_of, said_by, said_with, said_for}
 use Rattle.vault_protocol.specs.ScriptLaws.{talk_after}
 use Rattle.vault_protocol.proofs.OpenLines.{AreOpen, none_open, open_from, with_known, still_open, with_awaited}

@@ -2,9 +2,10 @@
 use Rattle.std.proofs.Common.{◌≡◌, ℕ, ◌+◌, ◌-◌, ◌^◌, ◌<◌, ◌==◌, ◌||◌, ◌&&◌, Bool, true, false, cond, List, [], ◌∷◌, ◌++◌, length, refl, sym, ap, ◌∙◌, arith, inl, inr, eq-eqb, slice_set, length-append, subst}
 use Rattle.std.specs.Prelude.{nat_le, nat_lt, slice_index, Option, Some, None}
 use Rattle.std.proofs.lemmas.Bool.{cond-false, leb-true, ltb-true, eqb-true, leb-false, ltb-false, le-leb, lt-ltb, and_from}
-use Rattle.vault_model.proofs.WellFormed.{neither}
+use Rattle.vault_model.proofs.Overlaps.{neither}
 use Rattle.vault_model.specs.Said.{Command, Effect}
 use Rattle.vault_model.specs.Step.{step}
+use Rattle.vault_model.proofs.Lists.{refuted, and_never}
 use Rattle.vault_journal.specs.Spelling.{record_of}
 use Rattle.vault_store.specs.Seen.{Seen as StoreSeen, has_room, most_noted, last_tail}
 use Rattle.group_commit.specs.World.{Stage}
@@ -30,14 +31,6 @@ noted_tail (Some effect) store = refl
 one_longer : (v : View) (session : ℕ) (command : Command) → length_of (view_acted snapshot_length v (Stage session command)) ≡ length_of v + 1
 one_longer v session command = omega (arith, length-append v.kept (opened (entry_of (book_of v) session command) ∷ []))
 
-refuted : (b : Bool) → (b ≡ true → ⊥) → b ≡ false
-refuted true h = absurd (h refl)
-refuted false h = refl
-
-no_room : (b : Bool) → (b && false) ≡ false
-no_room true = refl
-no_room false = refl
-
 -- a vault that isn't busy isn't full
 pub not_full : {D : Type 0} (seen : Seen D) (sessions asked : List ℕ) (lines : List Line) → (IsBusy seen → ⊥) → is_full (talk_of seen sessions asked lines) ≡ false
 not_full seen sessions asked lines h =
@@ -46,7 +39,7 @@ not_full seen sessions asked lines h =
     let buffer : nat_lt most_noted (length seen.store.buffer) ≡ false =
     refuted _ (λ t. h (inr (inl (ap (λ b. b && nat_lt seen.store.tail last_tail) (refuted (nat_le (length seen.store.buffer) most_noted) (λ u. let below = ltb-true _ _ t in let above = leb-true _ _ u in omega arith)))))) in
     let tail : nat_le last_tail seen.store.tail ≡ false =
-    refuted _ (λ t. h (inr (inl (ap (λ b. nat_le (length seen.store.buffer) most_noted && b) (refuted (nat_lt seen.store.tail last_tail) (λ u. let below = leb-true _ _ t in let above = ltb-true _ _ u in omega arith)) ∙ no_room _)))) in
+    refuted _ (λ t. h (inr (inl (ap (λ b. nat_le (length seen.store.buffer) most_noted && b) (refuted (nat_lt seen.store.tail last_tail) (λ u. let below = leb-true _ _ t in let above = ltb-true _ _ u in omega arith)) ∙ and_never _)))) in
     ap (λ b. b || (length_of seen.view == 2 ^ 64 - 1) || nat_lt most_noted (length seen.store.buffer) || nat_le last_tail seen.store.tail) kept
     ∙ ap (λ b. b || nat_lt most_noted (length seen.store.buffer) || nat_le last_tail seen.store.tail) last
     ∙ ap (λ b. b || nat_le last_tail seen.store.tail) buffer ∙ tail

@@ -3,6 +3,7 @@ use Rattle.std.proofs.Common.{◌≡◌, Bool, true, false, cond, List, [], ◌�
 use Rattle.std.specs.Prelude.{◌⊎◌, find}
 use Rattle.std.specs.Option.{option_and_then, option_map}
 use Rattle.vault_protocol.specs.Reading.{◌>>=◌}
+use Rattle.vault_journal.proofs.Takes.{chosen}
 
 pub along : {A : Type 0} (P : A → Type 0) {x y : A} → x ≡ y → P x → P y
 along P e p = subst P e p
@@ -12,20 +13,10 @@ pub bind_some : {A B : Type 0} (o : Option A) (f : A → Option B) (y : B)
 bind_some (Some x) f y h = (x, refl, h)
 bind_some None f y h = cc h
 
-pub and_then_some : {A B : Type 0} (o : Option A) (f : A → Option B) (y : B)
-    → option_and_then f o ≡ Some y → (x : A) × (o ≡ Some x) × (f x ≡ Some y)
-and_then_some (Some x) f y h = (x, refl, h)
-and_then_some None f y h = cc h
-
 pub map_some : {A B : Type 0} (o : Option A) (f : A → B) (y : B)
     → option_map f o ≡ Some y → (x : A) × (o ≡ Some x) × (f x ≡ y)
 map_some (Some x) f y h = (x, refl, cc)
 map_some None f y h = cc h
-
--- a test that went one way or the other
-pub chosen : {A : Type 0} (b : Bool) (x y z : A) → cond b x y ≡ z → ((b ≡ true) × (x ≡ z)) ⊎ ((b ≡ false) × (y ≡ z))
-chosen true x y z h = inl (refl, h)
-chosen false x y z h = inr (refl, h)
 
 -- what is found passes the test
 pub find_passes : {A : Type 0} (test : A → Bool) (xs : List A) (found : A) → find test xs ≡ Some found → test found ≡ true

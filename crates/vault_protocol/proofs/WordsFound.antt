@@ -18,6 +18,8 @@ use Rattle.vault_model.specs.declared.ids.ClaimId.{ClaimId}
 use Rattle.vault_model.specs.declared.ids.ClaimId.TheVariants.{Long, Short}
 use Rattle.vault_model.specs.declared.claims.PathItem.{PathItem}
 use Rattle.vault_model.proofs.PathTexts.{path_is_its_text}
+use Rattle.vault_model.proofs.Lists.{and_then_some}
+use Rattle.vault_journal.proofs.Takes.{chosen}
 use Rattle.vault_protocol.specs.Reading.{each_in}
 use Rattle.vault_protocol.specs.Words.{number_in, positive_in, long_in, short_in, claim_in, content_in}
 use Rattle.vault_protocol.specs.Items.{intent_in, item_in, items_in}
@@ -28,7 +30,7 @@ use Rattle.vault_protocol.specs.Spelling.{IsClaimNumber, IsClaimId, AreItems, in
 use Rattle.vault_protocol.specs.declared.keyword.Keyword.{Keyword}
 use Rattle.vault_protocol.specs.declared.keyword.Keyword.TheVariants as keywords
 use Rattle.vault_protocol.proofs.Contents.{content_found}
-use Rattle.vault_protocol.proofs.Steps.{along, bind_some, and_then_some, map_some, chosen, find_passes}
+use Rattle.vault_protocol.proofs.Steps.{along, bind_some, map_some, find_passes}
 
 name_found : (word name : List ℕ) → name_in word ≡ Some name → IsName name × (word ≡ name)
 name_found word name e =

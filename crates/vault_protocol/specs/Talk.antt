@@ -16,7 +16,7 @@ use Rattle.group_commit.specs.World.{Stage, Pump, Tell}
 use Rattle.group_commit.specs.View.{View, opened_view, length_of, view_at, book_of, view_row, view_acted}
 use Rattle.group_commit.specs.Seen.{snapshot_length, most_kept, effects_between}
 use Rattle.group_commit.specs.Calls.{gained}
-use Rattle.vault_protocol.specs.Limits.{last_connection}
+use Rattle.vault_protocol.specs.Limits.{last_connection, most_steps}
 use Rattle.vault_protocol.specs.Texts.{reply_text}
 
 -- a line that isn't printed yet: its text, or its connection and the position of its entry
@@ -116,10 +116,6 @@ pumped talk = record talk {
 abbrev pub pumps : ℕ → Talk → Talk
 pumps zero talk = talk
 pumps (suc n) talk = pumps n (pumped talk)
-
--- how many steps a commit under way may have left, and one behind it has
-abbrev pub most_steps : ℕ
-most_steps = 7
 
 -- Pumps until all is settled and no commit is under way: a pump that finds nothing to do changes nothing.
 unfoldable pub committed : Talk → Talk

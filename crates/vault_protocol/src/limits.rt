@@ -1,5 +1,4 @@
-//! The limits of lines and scripts.
-//! Those that the definitions name, too, stand in `specs/Limits.antt` under the same names.
+//! The limits of lines and scripts. The definitions take them from here, by `specs/Limits.antt`.
 
 /// The most bytes of a line, without the line feed at its end.
 pub const LONGEST_LINE: usize = 4096;

@@ -15,18 +15,13 @@ use Rattle.vault_sessions.specs.Serving.{Fits, IsAnswer, with_feed, HeardSoFar, 
 use Rattle.vault_sessions.specs.declared.report.Out.{Out}
 use Rattle.vault_sessions.specs.declared.report.Ended.{Ended}
 use Rattle.vault_sessions.specs.declared.report.Ended.TheVariants as ends
+use Rattle.long_locks.proofs.Zips.{zip_push}
 
 -- a line that is too long spells no command
 pub long_is_bad : (line : List ℕ) → longest_line < length line → command_of line ≡ None
 long_is_bad line long =
     let no : nat_le (length line) longest_line ≡ false = grind (arith, nat_tests) in
     rw no refl
-
-all_zip_more : {X Y : Type 0} (R : X → Y → Type 0) (xs : List X) (ys : List Y) (x : X) (y : Y) → AllZip R xs ys → R x y → AllZip R (xs ++ x ∷ []) (ys ++ y ∷ [])
-all_zip_more R [] [] x y all r = (r, tt)
-all_zip_more R [] (b ∷ ys) x y all r = absurd all
-all_zip_more R (a ∷ xs) [] x y all r = absurd all
-all_zip_more R (a ∷ xs) (b ∷ ys) x y all r = (all.0, all_zip_more R xs ys x y all.1 r)
 
 lines_more : (lines : List (List ℕ)) (line : List ℕ) → flat_map with_feed (lines ++ line ∷ []) ≡ flat_map with_feed lines ++ with_feed line
 lines_more lines line = flat_map-append with_feed lines (line ∷ []) ∙ ap (λ l. flat_map with_feed lines ++ l) (append-nil (with_feed line))
@@ -54,7 +49,7 @@ hears_line start mid new old next outs more line out heard consumes cut fits =
     ap length all ∙ (length-append text (with_feed line) ∙ ap (λ n. length text + n) (length-append line (10 ∷ []))) in (
       given ++ more,
       lines ++ line ∷ [],
-      record { given_is = Consumes-trans _ _ _ _ _ hears.given_is consumes; lines_are = whole; answered = all_zip_more IsAnswer lines outs line out hears.answered (cut.one, fits) },
+      record { given_is = Consumes-trans _ _ _ _ _ hears.given_is consumes; lines_are = whole; answered = zip_push IsAnswer lines outs line out hears.answered (cut.one, fits) },
       omega (arith, size, cut.taken, count),
       cut.within,
     )

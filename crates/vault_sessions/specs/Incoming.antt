@@ -9,14 +9,16 @@ use Rattle.vault_sessions.specs.declared.inlet.NextLine.{NextLine}
 use Rattle.vault_sessions.specs.declared.inlet.NextLine.TheVariants as lines
 use Rattle.vault_sessions.specs.declared.inlet.Filled.{Filled}
 use Rattle.vault_sessions.specs.declared.inlet.Filled.TheVariants as filled
+use Rattle.vault_sessions.specs.declared.inlet.TheConstants.{MOST_BYTES}
+use Rattle.vault_protocol.specs.declared.limits.TheConstants.{MOST_READS}
 
 -- the most bytes of a connection that are taken
 abbrev pub most_bytes : ℕ
-most_bytes = 16777216
+most_bytes = MOST_BYTES
 
 -- the most calls of a connection's reader
 abbrev pub most_reads : ℕ
-most_reads = 33554432
+most_reads = MOST_READS
 
 -- no line feed is among the bytes
 abbrev pub IsOneLine : List ℕ → Type 0

@@ -14,10 +14,11 @@ use Rattle.vault_sessions.specs.declared.report.Out.TheVariants.{Told, Refused}
 use Rattle.vault_sessions.specs.declared.report.Ended.{Ended}
 use Rattle.vault_sessions.specs.declared.report.Ended.TheVariants as ends
 use Rattle.vault_sessions.specs.declared.tally.Totals.{Totals}
+use Rattle.vault_sessions.specs.declared.serve.TheConstants.{MOST_LINES}
 
 -- the most lines of a connection that are answered
 abbrev pub most_lines : ℕ
-most_lines = 4096
+most_lines = MOST_LINES
 
 -- The answer fits the line: a receipt shows the command that the line spells, and the line is answered as bad exactly where it
 -- spells none; but memory for reading it may have been refused.

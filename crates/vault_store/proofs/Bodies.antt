@@ -9,7 +9,7 @@ use Rattle.vault_journal.specs.Spelling.{in_four}
 use Rattle.vault_journal.specs.Gate.{IsClosed}
 use Rattle.vault_store.specs.declared.body.ReadError.{ReadError}
 use Rattle.vault_store.specs.Snapshot.{snapshot_of}
-use Rattle.vault_store.specs.Files.{header, head_length, head_of, snapshot_bytes, frames_bytes, Holds, HasHead}
+use Rattle.vault_store.specs.Files.{header, head_length, snapshot_bytes, frames_bytes, Holds, current_head, HasCurrentHead}
 use Rattle.vault_store.specs.Faults.{IsSnapshotFault}
 use Rattle.vault_store.specs.Parts.{IsWhole}
 use Rattle.vault_store.specs.Read.{AreReads, IsWhy, IsBaseRead, IsFrameWrong, AreAllRead, AreContents, IsFaultBehindHead}
@@ -90,9 +90,9 @@ snapshot_wrong old one three first result why refused is =
     (why_behind old one three (IsSnapshotFault one.shown) (IsFaultBehindHead old.shown) first (λ at honest fault generation head. inl (subst (λ (file : List ℕ). IsSnapshotFault file at) (first.read honest).shown fault)) why refused)
 
 -- what stands behind a right head is a whole file
-module _ (disk : Disk) (v : Vault) (frames tail journal generation : ℕ) (contents : AreContents disk v frames tail journal) (honest : IsTrue disk.honest) (head : HasHead generation disk.shown) where
+module _ (disk : Disk) (v : Vault) (frames tail journal generation : ℕ) (contents : AreContents disk v frames tail journal) (honest : IsTrue disk.honest) (head : HasCurrentHead generation disk.shown) where
   abbrev front : List ℕ
-  front = (head_of generation ++ snapshot_bytes contents.base) ++ frames_bytes contents.list
+  front = (current_head generation ++ snapshot_bytes contents.base) ++ frames_bytes contents.list
 
   tail_there : tail ≡ length front
   tail_there =
@@ -100,7 +100,7 @@ module _ (disk : Disk) (v : Vault) (frames tail journal generation : ℕ) (conte
         arith,
         contents.tail_is,
         contents.journal_is,
-        length-append (head_of generation ++ snapshot_bytes contents.base) (frames_bytes contents.list),
+        length-append (current_head generation ++ snapshot_bytes contents.base) (frames_bytes contents.list),
         length-append (in_four (length (snapshot_of contents.base))) (snapshot_of contents.base),
       )
 

@@ -2,7 +2,7 @@
 use Rattle.std.proofs.Common.{◌≡◌, ℕ, ◌+◌, ◌<◌, ◌≤◌, ◌^◌, List, [], ◌∷◌, ◌++◌, length, Option, Some, None, sym, ◌∙◌, ap, subst, arith, append_assoc}
 use Rattle.std.specs.List.{flat_map}
 use Rattle.vault_model.specs.Limits.{most_drafts}
-use Rattle.vault_model.specs.Shelf.{Draft}
+use Rattle.vault_model.specs.Shelf.{Draft, draft_at}
 use Rattle.vault_journal.specs.Laws.{AreBytes, IsInverse}
 use Rattle.vault_journal.specs.Reading.{u8_at, u32_at, content_at}
 use Rattle.vault_journal.specs.Spelling.{in_four, content_bytes, longest_content}
@@ -33,14 +33,14 @@ module _ (bytes : List ℕ) where
       let numbers = one_read in_four (λ n. n < 2 ^ 32) u32_at fields_are_spelled.in_four bytes place draft.place after (content_bytes draft.content ++ rest) got has.place (same ∙ append_assoc (in_four draft.place) (content_bytes draft.content) rest) in
       none_read content_bytes (λ content. length content ≤ longest_content) content_at fields_are_spelled.content after draft.content rest none has.content numbers.1
 
-  pub draft_read : AreBytes bytes → (place : ℕ) (after content rest : List ℕ) → u32_at bytes ≡ Some (place, after) → content_at after ≡ Some (content, rest) → (old new : List Draft) (given : List ℕ) → new ≡ old ++ record { place = place; content = given } ∷ [] → given ≡ content → IsDraftRead old new bytes rest
+  pub draft_read : AreBytes bytes → (place : ℕ) (after content rest : List ℕ) → u32_at bytes ≡ Some (place, after) → content_at after ≡ Some (content, rest) → (old new : List Draft) (given : List ℕ) → new ≡ old ++ draft_at place given ∷ [] → given ≡ content → IsDraftRead old new bytes rest
   draft_read are place after content rest got_place got_content old new given pushed is =
       let here = u32_takes bytes place after are got_place in
       let there = fields_are_spelled.content.spelled after content rest here.0.rest_fits got_content in
       record {
-        draft = record { place = place; content = content };
+        draft = draft_at place content;
         has = record { place = here.1; content = there.1 };
-        pushed = pushed ∙ ap (λ (c : List ℕ). old ++ record { place = place; content = c } ∷ []) is;
+        pushed = pushed ∙ ap (λ (c : List ℕ). old ++ draft_at place c ∷ []) is;
         spelled = here.0.parts ∙ ap (λ (l : List ℕ). in_four place ++ l) there.0 ∙ sym (append_assoc (in_four place) (content_bytes content) rest);
       }
 

@@ -7,10 +7,11 @@ use Rattle.std.proofs.lemmas.List.{take_at, drop_more}
 use Rattle.std.proofs.lemmas.List.Concat.{flat_map-cons}
 use Rattle.vault_model.specs.Said.{Effect}
 use Rattle.vault_model.specs.Vault.{Vault}
+use Rattle.vault_model.proofs.Lists.{and_then_some}
 use Rattle.vault_journal.specs.Spelling.{in_four, records_of}
 use Rattle.vault_journal.proofs.OneSpelling.{one_row}
 use Rattle.vault_store.specs.Snapshot.{snapshot_of, HasSnapshot}
-use Rattle.vault_store.specs.Files.{header, head_of, snapshot_bytes, frame_of, frames_bytes, IsFrame, applied, after_frames, Reading, Holds, HasHead, IsSpare}
+use Rattle.vault_store.specs.Files.{header, snapshot_bytes, frame_of, frames_bytes, IsFrame, applied, after_frames, Reading, Holds, IsSpare, current_head, HasCurrentHead}
 use Rattle.vault_store.specs.Faults.{snapshot_length, snapshot_in, IsSnapshotFault, IsFrameFault, IsBodyFault}
 use Rattle.vault_store.specs.declared.opening.File.TheVariants.{First, Second}
 use Rattle.vault_store.specs.declared.opening.OpenError.{OpenError}
@@ -21,11 +22,6 @@ use Rattle.vault_store.proofs.Short.{spelled_short}
 use Rattle.vault_store.proofs.OneReading.{same_reading, snapshots, holds_whole, one_number, same_front, frames_split}
 use Rattle.vault_store.proofs.Rights.{head_right, head_open, not_both, one_generation, spare_older, spare_right, holds_head, one_base}
 use Rattle.vault_store.proofs.Spelled.{snapshot_tells}
-
--- the first of two steps that gave something
-pub first_gave : {A B : Type 0} (o : Option A) (f : A → Option B) (b : B) → option_and_then f o ≡ Some b → (a : A) × (o ≡ Some a) × (f a ≡ Some b)
-first_gave None f b e = absurd (cc)
-first_gave (Some a) f b e = (a, refl, e)
 
 -- a frame stands here, with a byte behind it, and its effects may be made
 pub record HasFrame (v : Vault) (bytes : List ℕ) : Type 0 where
@@ -42,7 +38,7 @@ pub frame_there : (fs hs : List (List Effect)) (s t : List ℕ) (y : ℕ) (w v l
     → after_frames w fs ≡ Some v → after_frames w hs ≡ Some last → HasFrame v (1 ∷ s)
 frame_there [] [] s t y w v last are_fs are_hs shut same leads ends = absurd (shut (let e = same in cc))
 frame_there [] (h ∷ hs) s t y w v last are_fs are_hs shut same leads ends =
-    let one = first_gave (applied w h) (λ (u : Vault). after_frames u hs) last ends in
+    let one = and_then_some (applied w h) (λ (u : Vault). after_frames u hs) last ends in
     let is : w ≡ v = cc in record {
       frame = h;
       next = one.0;
@@ -59,9 +55,9 @@ frame_there (f ∷ fs) (h ∷ hs) s t y w v last are_fs are_hs shut same leads e
     let sizes = one_number (length (records_of f)) (length (records_of h)) (records_of f ++ (frames_bytes fs ++ 1 ∷ s)) (records_of h ++ (frames_bytes hs ++ y ∷ t)) (omega (arith, are_fs.0.few)) (omega (arith, are_hs.0.few)) behind in
     let parts = same_front (records_of f) (records_of h) (frames_bytes fs ++ 1 ∷ s) (frames_bytes hs ++ y ∷ t) sizes.0 sizes.1 in
     let first : f ≡ h = one_row f h (records_of f) (record { each = are_fs.0.each; whole = refl }) (record { each = are_hs.0.each; whole = parts.0 }) in
-    let one = first_gave (applied w f) (λ (u : Vault). after_frames u fs) v leads in
+    let one = and_then_some (applied w f) (λ (u : Vault). after_frames u fs) v leads in
     let ends_too : after_frames w (f ∷ hs) ≡ Some last = subst (λ (k : List Effect). after_frames w (k ∷ hs) ≡ Some last) (sym first) ends in
-    let other = first_gave (applied w f) (λ (u : Vault). after_frames u hs) last ends_too in
+    let other = and_then_some (applied w f) (λ (u : Vault). after_frames u hs) last ends_too in
     let same_next : other.0 ≡ one.0 = let e = sym other.1 ∙ one.1 in cc in
     frame_there fs hs s t y one.0 v last are_fs.1 are_hs.1 shut parts.1 one.2 (subst (λ (u : Vault). after_frames u hs ≡ Some last) same_next other.2)
 
@@ -70,19 +66,19 @@ module _ (x : List ℕ) (at : ℕ) (fault : IsFrameFault x at) where
   pub here : drop at x ≡ 1 ∷ drop (at + 1) x
   here = drop_more x at 0 fault.within ∙ ap (λ (b : ℕ). b ∷ drop (at + 1) x) fault.gate
 
-  pub fault_whole : x ≡ head_of fault.generation ++ (in_four (length (snapshot_of fault.base)) ++ (snapshot_of fault.base ++ (frames_bytes fault.frames ++ 1 ∷ drop (at + 1) x)))
+  pub fault_whole : x ≡ current_head fault.generation ++ (in_four (length (snapshot_of fault.base)) ++ (snapshot_of fault.base ++ (frames_bytes fault.frames ++ 1 ∷ drop (at + 1) x)))
   fault_whole =
       sym (take-append-drop at x) ∙ ap (λ (l : List ℕ). l ++ drop at x) fault.begins
-      ∙ ap (λ (l : List ℕ). ((head_of fault.generation ++ snapshot_bytes fault.base) ++ frames_bytes fault.frames) ++ l) here
-      ∙ append_assoc (head_of fault.generation ++ snapshot_bytes fault.base) (frames_bytes fault.frames) behind
-      ∙ append_assoc (head_of fault.generation) (snapshot_bytes fault.base) (frames_bytes fault.frames ++ behind)
-      ∙ ap (λ (l : List ℕ). head_of fault.generation ++ l) (append_assoc (in_four (length (snapshot_of fault.base))) (snapshot_of fault.base) (frames_bytes fault.frames ++ behind))
+      ∙ ap (λ (l : List ℕ). ((current_head fault.generation ++ snapshot_bytes fault.base) ++ frames_bytes fault.frames) ++ l) here
+      ∙ append_assoc (current_head fault.generation ++ snapshot_bytes fault.base) (frames_bytes fault.frames) behind
+      ∙ append_assoc (current_head fault.generation) (snapshot_bytes fault.base) (frames_bytes fault.frames ++ behind)
+      ∙ ap (λ (l : List ℕ). current_head fault.generation ++ l) (append_assoc (in_four (length (snapshot_of fault.base))) (snapshot_of fault.base) (frames_bytes fault.frames ++ behind))
     where
       behind : List ℕ
       behind = 1 ∷ drop (at + 1) x
 
 -- the snapshot of a file that has one
-module _ (x : List ℕ) (g : ℕ) (base : Vault) (rest : List ℕ) (spelled : HasSnapshot base) (some : 1 ≤ length rest) (whole : x ≡ head_of g ++ (in_four (length (snapshot_of base)) ++ (snapshot_of base ++ rest))) where
+module _ (x : List ℕ) (g : ℕ) (base : Vault) (rest : List ℕ) (spelled : HasSnapshot base) (some : 1 ≤ length rest) (whole : x ≡ current_head g ++ (in_four (length (snapshot_of base)) ++ (snapshot_of base ++ rest))) where
   size_is : snapshot_length x ≡ length (snapshot_of base)
   size_is = ap snapshot_length whole ∙ from_be_bytes-to_be_bytes_4 (length (snapshot_of base)) (spelled_short base spelled)
 
@@ -145,14 +141,14 @@ one_spelling v w has_v has_w same = snapshot_tells v w has_v has_w same
 
 -- a file that is read, beside its spare
 module _ (x y : List ℕ) (r : Reading) (h : Holds x r) (spare : IsSpare r.generation y) where
-  head : HasHead r.generation x
+  head : HasCurrentHead r.generation x
   head = holds_head x r h
 
   -- the other isn't the newer one, nor of the same generation
-  not_newer : (g : ℕ) → HasHead g y → IsSpare g x → ⊥
+  not_newer : (g : ℕ) → HasCurrentHead g y → IsSpare g x → ⊥
   not_newer g right older = absurd (omega (arith, spare_older y r.generation g spare right, spare_older x g r.generation older head))
 
-  not_same : (g : ℕ) → HasHead g x → HasHead g y → ⊥
+  not_same : (g : ℕ) → HasCurrentHead g x → HasCurrentHead g y → ⊥
   not_same g one other = absurd (omega (arith, spare_older y r.generation g spare other, one_generation x g r.generation one head))
 
 not_wrong_first : (first second : List ℕ) (r : Reading) (why : OpenError) → IsFound why → Holds first r → IsSpare r.generation second → IsNotOpened first second why → ⊥

@@ -9,7 +9,7 @@ use Rattle.vault_model.specs.After.{after, IsDurable}
 use Rattle.vault_model.proofs.Durable.{durable_stays}
 use Rattle.vault_journal.specs.Spelling.{in_four, record_of, records_of, HasRecord}
 use Rattle.vault_journal.specs.Rows.{AreRecordsOf}
-use Rattle.vault_store.specs.Files.{frame_extra, frame_bytes, frame_of, frames_bytes, IsFrame, applied, after_frames, Reading, IsFront, head_of, snapshot_bytes}
+use Rattle.vault_store.specs.Files.{frame_extra, frame_bytes, frame_of, frames_bytes, IsFrame, applied, after_frames, Reading, IsFront, snapshot_bytes, current_head}
 
 pub each_more : {X : Type 0} (P : X → Type 0) (xs : List X) (x : X) → AllByRecursion P xs → P x → AllByRecursion P (xs ++ x ∷ [])
 each_more P [] x each here = (here, tt)
@@ -73,7 +73,7 @@ longer_front front r effects next tail journal is_front frame e tail_is journal_
   given = is_front.given;
   fits = is_front.fits;
   each = each_more IsFrame is_front.frames effects is_front.each frame;
-  bytes = ap (λ (l : List ℕ). l ++ frame_of effects) is_front.bytes ∙ flat_map_more frame_of (head_of r.generation ++ snapshot_bytes is_front.base) is_front.frames effects;
+  bytes = ap (λ (l : List ℕ). l ++ frame_of effects) is_front.bytes ∙ flat_map_more frame_of (current_head r.generation ++ snapshot_bytes is_front.base) is_front.frames effects;
   leads = frames_more is_front.base r.vault next is_front.frames effects is_front.leads e;
   tail_is = omega (arith, tail_is, is_front.tail_is, length-append front (frame_of effects), length-frame (records_of effects));
   journal_is =

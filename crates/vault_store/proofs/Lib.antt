@@ -13,7 +13,7 @@ mod SpelledLists
 mod SpelledPlaces
 mod SpelledClaims
 mod Spelled
-mod Rights
+pub mod Rights
 mod Exact
 mod OneFault
 mod Heads
@@ -36,3 +36,4 @@ mod PlacesRead
 mod DraftsRead
 mod ClaimsRead
 mod SnapshotRead
+pub mod Sends

@@ -5,16 +5,11 @@ use Rattle.std.proofs.lemmas.List.{take_at, drop_at, length_push, append-nil}
 use Rattle.std.proofs.lemmas.List.Concat.{flat_map-append, flat_map-cons}
 use Rattle.std.proofs.lemmas.List.Elements.{All-nil, All-head, All-take, All-drop, All-push}
 use Rattle.vault_store.proofs.SpelledLists.{Tells, lists_tell}
+use Rattle.vault_model.proofs.Lists.{All-back, All-front}
 
--- what is so of all is so of the first ones, of the last ones, and of one between
-pub all_front : {X : Type 0} (P : X → Type 0) (xs ys : List X) → All P (xs ++ ys) → All P xs
-all_front {X} P xs ys all = subst (λ (l : List X). All P l) (take_at xs ys (length xs) refl) (All-take P (length xs) (xs ++ ys) all)
-
-pub all_back : {X : Type 0} (P : X → Type 0) (xs ys : List X) → All P (xs ++ ys) → All P ys
-all_back {X} P xs ys all = subst (λ (l : List X). All P l) (drop_at xs ys (length xs) refl) (All-drop P (length xs) (xs ++ ys) all)
-
+-- what is so of all is so of one between
 pub all_next : {X : Type 0} (P : X → Type 0) (xs ys : List X) (x : X) → All P (xs ++ x ∷ ys) → P x
-all_next P xs ys x all = All-head P x ys (all_back P xs (x ∷ ys) all)
+all_next P xs ys x all = All-head P x ys (All-back P xs (x ∷ ys) all)
 
 -- a list, cut at one of its items
 pub record IsCutAt {X : Type 0} (xs : List X) (n : ℕ) : Type 0 where
@@ -64,7 +59,7 @@ next_item {X} spell Has tells items n bytes rest so xs behind within has same =
     ap (λ (l : List X). flat_map spell l ++ behind) cut.parts ∙ regroup cut.before cut.here cut.behind in
     let has_cut = subst (λ (l : List X). All Has l) cut.parts has in
     let told =
-    lists_tell spell Has tells items cut.before rest (spell cut.here ++ (flat_map spell cut.behind ++ behind)) (so.size ∙ sym cut.size) so.each (all_front Has cut.before (cut.here ∷ cut.behind) has_cut)
+    lists_tell spell Has tells items cut.before rest (spell cut.here ++ (flat_map spell cut.behind ++ behind)) (so.size ∙ sym cut.size) so.each (All-front Has cut.before (cut.here ∷ cut.behind) has_cut)
     (sym so.spelled ∙ same ∙ split) in
     record {
       here = cut.here;

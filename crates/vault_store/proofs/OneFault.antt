@@ -5,17 +5,18 @@ use Rattle.std.proofs.lemmas.List.{length-take-le}
 use Rattle.std.proofs.lemmas.List.Concat.{flat_map-cons}
 use Rattle.vault_model.specs.Said.{Effect}
 use Rattle.vault_model.specs.Vault.{Vault}
+use Rattle.vault_model.proofs.Lists.{and_then_some}
 use Rattle.vault_journal.specs.Spelling.{in_four, records_of}
 use Rattle.vault_journal.proofs.OneSpelling.{one_row}
 use Rattle.vault_store.specs.declared.opening.File.TheVariants.{First, Second}
 use Rattle.vault_store.specs.declared.opening.OpenError.TheVariants.{NoVault, Damaged, Device, NoMemory}
 use Rattle.vault_store.specs.Snapshot.{snapshot_of}
-use Rattle.vault_store.specs.Files.{header, head_of, snapshot_bytes, frame_of, frames_bytes, IsFrame, applied, after_frames, IsClosedFile, HasHead, IsSpare}
+use Rattle.vault_store.specs.Files.{header, snapshot_bytes, frame_of, frames_bytes, IsFrame, applied, after_frames, IsClosedFile, IsSpare, current_head, HasCurrentHead}
 use Rattle.vault_store.specs.Faults.{IsHeadFault, IsDamagedHead, IsSnapshotFault, IsFrameFault, IsBodyFault}
 use Rattle.vault_store.specs.Opening.{HasNoHeadFault, IsFirstFault, IsSecondFault}
 use Rattle.vault_store.specs.Laws.{OneFault}
 use Rattle.vault_store.proofs.OneReading.{one_number, same_front, frames_split}
-use Rattle.vault_store.proofs.Exact.{HasFrame, first_gave, here, fault_whole, snapshot_right}
+use Rattle.vault_store.proofs.Exact.{HasFrame, here, fault_whole, snapshot_right}
 use Rattle.vault_store.proofs.Rights.{head_right, head_open, not_both, one_generation, spare_older, spare_right, one_base}
 
 one_head_fault : (x : List ℕ) (a b : ℕ) → IsHeadFault x a → IsHeadFault x b → a ≡ b
@@ -38,7 +39,7 @@ one_snapshot_fault x a b (inr one) (inr other) = one.0 ∙ sym other.0
 -- a frame of a row stands at its front
 frame_here : (h : List Effect) (hs : List (List Effect)) (s t : List ℕ) (w v u : Vault) → IsFrame h → 1 ∷ s ≡ frames_bytes (h ∷ hs) ++ 1 ∷ t → Some w ≡ Some v → after_frames w (h ∷ hs) ≡ Some u → HasFrame v (1 ∷ s)
 frame_here h hs s t w v u is_frame same leads ends =
-    let one = first_gave (applied w h) (λ (k : Vault). after_frames k hs) u ends in
+    let one = and_then_some (applied w h) (λ (k : Vault). after_frames k hs) u ends in
     let is : w ≡ v = cc in record {
       frame = h;
       next = one.0;
@@ -61,9 +62,9 @@ frames_meet (f ∷ fs) (h ∷ hs) s t w v u are_fs are_hs same leads ends =
     let sizes = one_number (length (records_of f)) (length (records_of h)) (records_of f ++ (frames_bytes fs ++ 1 ∷ s)) (records_of h ++ (frames_bytes hs ++ 1 ∷ t)) (omega (arith, are_fs.0.few)) (omega (arith, are_hs.0.few)) behind in
     let parts = same_front (records_of f) (records_of h) (frames_bytes fs ++ 1 ∷ s) (frames_bytes hs ++ 1 ∷ t) sizes.0 sizes.1 in
     let first : f ≡ h = one_row f h (records_of f) (record { each = are_fs.0.each; whole = refl }) (record { each = are_hs.0.each; whole = parts.0 }) in
-    let one = first_gave (applied w f) (λ (k : Vault). after_frames k fs) v leads in
+    let one = and_then_some (applied w f) (λ (k : Vault). after_frames k fs) v leads in
     let ends_too : after_frames w (f ∷ hs) ≡ Some u = subst (λ (k : List Effect). after_frames w (k ∷ hs) ≡ Some u) (sym first) ends in
-    let other = first_gave (applied w f) (λ (k : Vault). after_frames k hs) u ends_too in
+    let other = and_then_some (applied w f) (λ (k : Vault). after_frames k hs) u ends_too in
     let same_next : other.0 ≡ one.0 = let e = sym other.1 ∙ one.1 in cc in
     elim (frames_meet fs hs s t one.0 v u are_fs.1 are_hs.1 parts.1 one.2 (subst (λ (k : Vault). after_frames k hs ≡ Some u) same_next other.2)) [
       | inl is ↦ inl (ap (λ (g : List Effect). g ∷ fs) first ∙ ap (λ (gs : List (List Effect)). h ∷ gs) is)
@@ -79,7 +80,7 @@ at_is x at fault =
       within,
       length-take-le at x,
       ap length fault.begins,
-      length-append (head_of fault.generation ++ snapshot_bytes fault.base) (frames_bytes fault.frames),
+      length-append (current_head fault.generation ++ snapshot_bytes fault.base) (frames_bytes fault.frames),
       length-append (in_four (length (snapshot_of fault.base))) (snapshot_of fault.base),
     )
 
@@ -111,11 +112,11 @@ sound_head x at (inl closed) damaged = not_both x closed damaged.0
 sound_head x at (inr (g, right)) damaged = head_right x g at right damaged.1
 
 -- of two open files one is the newer
-one_newer : (x y : List ℕ) (g k : ℕ) → HasHead g x → IsSpare g y → HasHead k y → IsSpare k x → ⊥
+one_newer : (x y : List ℕ) (g k : ℕ) → HasCurrentHead g x → IsSpare g y → HasCurrentHead k y → IsSpare k x → ⊥
 one_newer x y g k one spare other spare_too = absurd (omega (arith, spare_older x k g spare_too one, spare_older y g k spare other))
 
 -- no file is a spare of its own generation
-not_own : (x y : List ℕ) (g k : ℕ) → HasHead g x → IsSpare g y → HasHead k x → HasHead k y → ⊥
+not_own : (x y : List ℕ) (g k : ℕ) → HasCurrentHead g x → IsSpare g y → HasCurrentHead k x → HasCurrentHead k y → ⊥
 not_own x y g k one spare also other = absurd (omega (arith, spare_older y g k spare other, one_generation x g k one also))
 
 no_first : (first second : List ℕ) (at : ℕ) → IsClosedFile first → IsFirstFault first second at → ⊥

@@ -11,7 +11,7 @@ use Rattle.vault_journal.specs.Reading.{u32_at, u64_at}
 use Rattle.vault_journal.proofs.OneSpelling.{fields_are_spelled, one_row}
 use Rattle.vault_store.specs.Snapshot.{snapshot_of}
 use Rattle.vault_store.proofs.Short.{spelled_short}
-use Rattle.vault_store.specs.Files.{head_of, frame_of, frames_bytes, IsFrame, after_frames, Reading, Holds, snapshot_bytes}
+use Rattle.vault_store.specs.Files.{version, head_of, frame_of, frames_bytes, IsFrame, after_frames, Reading, Holds, snapshot_bytes, current_head}
 
 pub some_pair : {X : Type 0} (x y : X) (a b : List ℕ) → ◌≡◌ {A = Option (X × List ℕ)} (Some (x, a)) (Some (y, b)) → (x ≡ y) × (a ≡ b)
 some_pair {X} x y a b e = let p : ◌≡◌ {A = X × List ℕ} (x, a) (y, b) = cc in (ap (λ (q : X × List ℕ). q.0) p, ap (λ (q : X × List ℕ). q.1) p)
@@ -52,21 +52,21 @@ one_frames (f ∷ fs) (h ∷ hs) x y s t are_fs are_hs shut_x shut_y same =
 
 -- a file from its head to its end
 pub holds_whole : (x : List ℕ) (r : Reading) (h : Holds x r)
-    → x ≡ head_of r.generation ++ (in_four (length (snapshot_of h.is_front.base)) ++ (snapshot_of h.is_front.base ++ (frames_bytes h.is_front.frames ++ get_or x (length h.front) 0 ∷ drop (length h.front + 1) x)))
+    → x ≡ current_head r.generation ++ (in_four (length (snapshot_of h.is_front.base)) ++ (snapshot_of h.is_front.base ++ (frames_bytes h.is_front.frames ++ get_or x (length h.front) 0 ∷ drop (length h.front + 1) x)))
 holds_whole x r h =
     sym (take-append-drop (length h.front) x)
     ∙ ap (λ (l : List ℕ). l ++ drop (length h.front) x) (h.ends.begins ∙ h.is_front.bytes)
-    ∙ ap (λ (l : List ℕ). ((head_of r.generation ++ snapshot_bytes h.is_front.base) ++ frames_bytes h.is_front.frames) ++ l) (drop_more x (length h.front) 0 h.ends.closed.stands)
-    ∙ append_assoc (head_of r.generation ++ snapshot_bytes h.is_front.base) (frames_bytes h.is_front.frames) rest
-    ∙ append_assoc (head_of r.generation) (snapshot_bytes h.is_front.base) (frames_bytes h.is_front.frames ++ rest)
-    ∙ ap (λ (l : List ℕ). head_of r.generation ++ l) (append_assoc (in_four (length (snapshot_of h.is_front.base))) (snapshot_of h.is_front.base) (frames_bytes h.is_front.frames ++ rest))
+    ∙ ap (λ (l : List ℕ). ((current_head r.generation ++ snapshot_bytes h.is_front.base) ++ frames_bytes h.is_front.frames) ++ l) (drop_more x (length h.front) 0 h.ends.closed.stands)
+    ∙ append_assoc (current_head r.generation ++ snapshot_bytes h.is_front.base) (frames_bytes h.is_front.frames) rest
+    ∙ append_assoc (current_head r.generation) (snapshot_bytes h.is_front.base) (frames_bytes h.is_front.frames ++ rest)
+    ∙ ap (λ (l : List ℕ). current_head r.generation ++ l) (append_assoc (in_four (length (snapshot_of h.is_front.base))) (snapshot_of h.is_front.base) (frames_bytes h.is_front.frames ++ rest))
   where
     rest : List ℕ
     rest = get_or x (length h.front) 0 ∷ drop (length h.front + 1) x
 
 -- a head is of one generation
-pub one_head : (g k : ℕ) (a b : List ℕ) → g < 2 ^ 64 → k < 2 ^ 64 → head_of g ++ a ≡ head_of k ++ b → (g ≡ k) × (a ≡ b)
-one_head g k a b fits_g fits_k same =
+pub one_head : (v w g k : ℕ) (a b : List ℕ) → g < 2 ^ 64 → k < 2 ^ 64 → head_of v g ++ a ≡ head_of w k ++ b → (g ≡ k) × (a ≡ b)
+one_head v w g k a b fits_g fits_k same =
     let behind : in_eight g ++ a ≡ in_eight k ++ b = ap (λ (l : List ℕ). drop 12 l) same in
     one_spelled in_eight (λ n. n < 2 ^ 64) u64_at fields_are_spelled.in_eight g k a b fits_g fits_k behind
 
@@ -80,7 +80,7 @@ module _ (x : List ℕ) (r q : Reading) (one : Holds x r) (two : Holds x q) wher
 
   heads : (r.generation ≡ q.generation) × (in_four (length (snapshot_of one.is_front.base)) ++ (snapshot_of one.is_front.base ++ (frames_bytes one.is_front.frames ++ rest_one)) ≡ in_four (length (snapshot_of two.is_front.base)) ++ (snapshot_of two.is_front.base ++ (frames_bytes two.is_front.frames ++ rest_two)))
   heads =
-      one_head r.generation q.generation _ _ one.is_front.fits two.is_front.fits (sym (holds_whole x r one) ∙ holds_whole x q two)
+      one_head version version r.generation q.generation _ _ one.is_front.fits two.is_front.fits (sym (holds_whole x r one) ∙ holds_whole x q two)
 
   sizes : (length (snapshot_of one.is_front.base) ≡ length (snapshot_of two.is_front.base)) × (snapshot_of one.is_front.base ++ (frames_bytes one.is_front.frames ++ rest_one) ≡ snapshot_of two.is_front.base ++ (frames_bytes two.is_front.frames ++ rest_two))
   sizes =
@@ -100,8 +100,8 @@ module _ (x : List ℕ) (r q : Reading) (one : Holds x r) (two : Holds x q) wher
     where
       fronts : one.front ≡ two.front
       fronts =
-          one.is_front.bytes ∙ ap (λ (g : ℕ). (head_of g ++ snapshot_bytes one.is_front.base) ++ frames_bytes one.is_front.frames) heads.0 ∙ ap (λ (v : Vault). (head_of q.generation ++ snapshot_bytes v) ++ frames_bytes one.is_front.frames) base_is
-          ∙ ap (λ (fs : List (List Effect)). (head_of q.generation ++ snapshot_bytes two.is_front.base) ++ frames_bytes fs) same_frames ∙ sym two.is_front.bytes
+          one.is_front.bytes ∙ ap (λ (g : ℕ). (current_head g ++ snapshot_bytes one.is_front.base) ++ frames_bytes one.is_front.frames) heads.0 ∙ ap (λ (v : Vault). (current_head q.generation ++ snapshot_bytes v) ++ frames_bytes one.is_front.frames) base_is
+          ∙ ap (λ (fs : List (List Effect)). (current_head q.generation ++ snapshot_bytes two.is_front.base) ++ frames_bytes fs) same_frames ∙ sym two.is_front.bytes
 
       vaults : r.vault ≡ q.vault
       vaults =

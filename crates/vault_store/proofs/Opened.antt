@@ -12,7 +12,7 @@ use Rattle.vault_store.specs.declared.opening.OpenError.TheVariants.{NoVault, Da
 use Rattle.vault_store.specs.declared.phase.Phase.TheVariants.{Idle}
 use Rattle.vault_store.specs.declared.opening.File.{File}
 use Rattle.vault_store.specs.declared.opening.File.TheVariants.{First, Second}
-use Rattle.vault_store.specs.Files.{applied, after_frames, Reading, Holds, HasHead, EndsBehind, IsSpare, AreRead}
+use Rattle.vault_store.specs.Files.{applied, after_frames, Reading, Holds, EndsBehind, IsSpare, AreRead, HasCurrentHead}
 use Rattle.vault_store.specs.Faults.{IsBodyFault}
 use Rattle.vault_store.specs.OnDisk.{IsSettled}
 use Rattle.vault_store.specs.Opening.{IsNewer, IsNotOpened, IsHandedOn}
@@ -94,7 +94,7 @@ module _ {D : Type 0} (disk : D → Disk) (which : File) (first second one two a
       let newer = found honest other in
       let shown = active_shown honest other in
       let fault : IsBodyFault (of_file which (disk first).shown (disk second).shown) at =
-      subst (λ (l : List ℕ). IsBodyFault l at) shown (is.1 (active_honest honest other) g (subst (HasHead g) (sym shown) newer.0)) in
+      subst (λ (l : List ℕ). IsBodyFault l at) shown (is.1 (active_honest honest other) g (subst (HasCurrentHead g) (sym shown) newer.0)) in
       subst (λ (f : File). IsNotOpened (disk first).shown (disk second).shown (Damaged f at)) (sym is.0) (active_fault which (disk first).shown (disk second).shown g at newer fault)
   opened_refused Device is honest other = tt
   opened_refused NoMemory is honest other = tt
@@ -109,7 +109,7 @@ module _ {D : Type 0} (disk : D → Disk) (which : File) (first second one two a
     active_holds : IsTrue (disk first).honest → IsTrue (disk second).honest → Holds (disk active).shown reading
     active_holds honest other =
         let newer = found honest other in
-        holds_read (disk active) v frames tail journal g contents (active_honest honest other) (subst (HasHead g) (sym (active_shown honest other)) newer.0)
+        holds_read (disk active) v frames tail journal g contents (active_honest honest other) (subst (HasCurrentHead g) (sym (active_shown honest other)) newer.0)
 
     -- the files are read so
     pub opened_read : IsTrue (disk first).honest → IsTrue (disk second).honest → AreRead (disk first).shown (disk second).shown reading

@@ -1,17 +1,16 @@
 -- One place, read with its versions.
+use Rattle.vault_model.specs.Tree.{new_place}
 use Rattle.std.proofs.Common.{◌≡◌, ◌≢◌, ℕ, suc, ◌+◌, ◌<◌, ◌≤◌, ◌^◌, Bool, true, false, cond, List, [], ◌∷◌, ◌++◌, length, Some, None, refl, sym, ◌∙◌, ap, subst, arith, append_assoc, inl, inr}
-use Rattle.std.specs.Prelude.{nat_le}
 use Rattle.std.proofs.lemmas.Bool.{cases_lt}
 use Rattle.std.proofs.lemmas.Bool.Decides.{eqb_tells}
 use Rattle.std.proofs.lemmas.List.{append-nil, length_push}
 use Rattle.vault_model.specs.declared.place.Place.{Place}
-use Rattle.vault_model.specs.Limits.{deepest}
 use Rattle.vault_model.specs.Name.{IsName}
 use Rattle.vault_model.specs.Tree.{is_part, IsTree}
 use Rattle.vault_model.specs.Shelf.{versions_of}
 use Rattle.vault_model.specs.Vault.{AreVersions}
 use Rattle.vault_model.proofs.Walks.{Rises}
-use Rattle.vault_model.proofs.Growth.{depth-push}
+use Rattle.vault_model.proofs.Growth.{is_part-push}
 use Rattle.vault_journal.specs.Laws.{AreBytes}
 use Rattle.vault_journal.specs.Reading.{u32_at, name_at}
 use Rattle.vault_journal.specs.Spelling.{in_four, name_bytes}
@@ -83,9 +82,9 @@ module _ (tree : List Place) (bytes : List ℕ) where
           by_why unmade.Limit none same = cc
           by_why unmade.NoMemory none same = cc
 
-      pub place_added : (new : List Place) → new ≡ tree ++ record { parent = parent; name = name } ∷ [] → IsTree new → IsPlaceAdded tree new bytes rest
+      pub place_added : (new : List Place) → new ≡ tree ++ new_place parent name ∷ [] → IsTree new → IsPlaceAdded tree new bytes rest
       place_added new is is_tree = record {
-        place = record { parent = parent; name = name };
+        place = new_place parent name;
         named = there.1;
         grown = is;
         tree_is = is_tree;
@@ -97,10 +96,6 @@ module _ (tree : List Place) (bytes : List ℕ) where
 -- a place that isn't there has no versions
 pub no_versions_past : (tree : List Place) (shelf : List (List (List ℕ))) → AreVersions tree shelf → (p : ℕ) → length tree < p → versions_of shelf p ≡ []
 no_versions_past tree shelf are p past = no_versions shelf p (λ some. let there = are.parts p some in omega (arith, there.0, past))
-
--- one more place makes no other one a part
-pub part-push : (tree : List Place) (place : Place) (p : ℕ) → Rises tree → p ≤ length tree → is_part (tree ++ place ∷ []) p ≡ is_part tree p
-part-push tree place p rises within = ap (nat_le deepest) (depth-push tree place p rises within)
 
 module _ (tree : List Place) (shelf : List (List (List ℕ))) (are : AreVersions tree shelf) (bytes : List ℕ) where
   -- where no name stands no place does
@@ -119,7 +114,7 @@ module _ (tree : List Place) (shelf : List (List (List ℕ))) (are : AreVersions
     longer = ap length added.grown ∙ length_push tree added.place
 
     still_part : (p : ℕ) → p ≤ length tree → is_part tree p ≡ true → is_part new p ≡ true
-    still_part p within part = ap (λ (t : List Place). is_part t p) added.grown ∙ part-push tree added.place p rises within ∙ part
+    still_part p within part = ap (λ (t : List Place). is_part t p) added.grown ∙ is_part-push tree added.place p rises within ∙ part
 
     still_versions : (p : ℕ) → versions_of shelf p ≢ [] → (p ≤ length new) × (is_part new p ≡ true)
     still_versions p some = let there = are.parts p some in (omega (arith, there.0, longer), still_part p there.0 there.1)
@@ -179,7 +174,7 @@ module _ (tree : List Place) (shelf : List (List (List ℕ))) (are : AreVersions
           one_number added.place.parent place.parent (name_bytes added.place.name ++ mid) (name_bytes place.name ++ (versions ++ rest)) (parent_fits tree [] added.place (subst IsTree added.grown added.tree_is)) (parent_fits tree [] place one)
           (sym (append_assoc (in_four added.place.parent) (name_bytes added.place.name) mid) ∙ whole_is ∙ append_assoc (in_four place.parent) (name_bytes place.name) (versions ++ rest)) in
           let names = name_tells added.place.name place.name mid (versions ++ rest) added.named named parents.1 in
-          let new_is : new ≡ tree ++ place ∷ [] = added.grown ∙ ap (λ (p : ℕ). tree ++ record { parent = p; name = added.place.name } ∷ []) parents.0 ∙ ap (λ (l : List ℕ). tree ++ record { parent = place.parent; name = l } ∷ []) names.0 in
+          let new_is : new ≡ tree ++ place ∷ [] = added.grown ∙ ap (λ (p : ℕ). tree ++ new_place p added.place.name ∷ []) parents.0 ∙ ap (λ (l : List ℕ). tree ++ new_place place.parent l ∷ []) names.0 in
           let same_part : is_part grown (suc (length tree)) ≡ is_part new (suc (length tree)) =
           part_same grown new (tree ++ place ∷ []) more [] (suc (length tree)) (sym (append_assoc tree (place ∷ []) more)) (new_is ∙ sym (append-nil (tree ++ place ∷ []))) is.tree_is.parents (omega (arith, length_push tree place)) in
           let versions_are : versions ≡ versions_bytes (versions_of whole (suc (length tree))) = ap (λ (b : Bool). cond b (versions_bytes (versions_of whole (suc (length tree)))) []) (same_part ∙ part) in

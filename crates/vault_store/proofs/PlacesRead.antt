@@ -21,9 +21,11 @@ use Rattle.vault_store.proofs.OneReading.{one_number}
 use Rattle.vault_store.proofs.SpelledPlaces.{AreTold, places_tell, one_shelf, part_same}
 use Rattle.vault_store.proofs.Spelled.{places_have, contents_of, snapshot_split}
 use Rattle.vault_store.proofs.TreeFronts.{tree_front}
-use Rattle.vault_store.proofs.ListsRead.{all_front, cut_at}
+use Rattle.vault_store.proofs.ListsRead.{cut_at}
 use Rattle.vault_store.proofs.ShelfFronts.{no_versions}
-use Rattle.vault_store.proofs.PlaceRead.{no_versions_past, part-push}
+use Rattle.vault_model.proofs.Growth.{is_part-push}
+use Rattle.vault_model.proofs.Lists.{All-front}
+use Rattle.vault_store.proofs.PlaceRead.{no_versions_past}
 
 -- ---- spellings of places
 
@@ -86,7 +88,7 @@ one_place_more tree shelf new shelf_new bytes rest after so one = record {
     front : places_bytes (vault_with tree shelf) 1 tree ≡ places_bytes (vault_with new shelf_new) 1 tree
     front =
         places_same (vault_with tree shelf) (vault_with new shelf_new) 1 (suc (length tree)) tree (omega arith)
-        (λ p above below. (sym (ap (λ (t : List Place). is_part t p) one.grown ∙ part-push tree one.place p so.are.tree_is.parents (omega (arith, below))), sym (one.kept p (omega (arith, below)))))
+        (λ p above below. (sym (ap (λ (t : List Place). is_part t p) one.grown ∙ is_part-push tree one.place p so.are.tree_is.parents (omega (arith, below))), sym (one.kept p (omega (arith, below)))))
 
     whole : places_bytes (vault_with new shelf_new) 1 new ≡ places_bytes (vault_with new shelf_new) 1 tree ++ place_bytes (vault_with new shelf_new) (suc (length tree)) one.place
     whole =
@@ -113,7 +115,7 @@ module _ (tree : List Place) (shelf : List (List (List ℕ))) (bytes rest : List
     told =
         places_tell (vault_with tree shelf) (vault_with front whole) so.are.tree_is.parents (contents_of shelf so.are.versions.shelf_is) (contents_of whole are.versions.shelf_is) [] tree front rest
         (places_bytes (vault_with (front ++ back) whole) (suc (length front)) back ++ behind) refl refl size (places_have tree so.are.tree_is so.are.named)
-        (places_have front (tree_front front back are.tree_is) (all_front (λ (place : Place). IsName place.name) front back are.named)) (sym so.spelled ∙ first_spelled)
+        (places_have front (tree_front front back are.tree_is) (All-front (λ (place : Place). IsName place.name) front back are.named)) (sym so.spelled ∙ first_spelled)
 
     pub first_places : tree ≡ front
     first_places = told.places

@@ -5,7 +5,7 @@ use Rattle.std.proofs.lemmas.Bool.Decides.{eqb_tells}
 use Rattle.std.proofs.lemmas.List.{append-nil, get_or_default, length-append}
 use Rattle.std.proofs.lemmas.List.Sums.{sum_by-cons, sum_by-append, list_all-from_AllPass}
 use Rattle.vault_model.specs.Limits.{most_versions}
-use Rattle.vault_model.specs.Shelf.{versions_of, shelved, content_weight, versions_weight, weight, is_shelvable, IsShelf}
+use Rattle.vault_model.specs.Shelf.{versions_of, shelved, content_weight, versions_weight, weight, is_shelvable, IsShelf, draft_at}
 use Rattle.vault_model.proofs.Overlaps.{and_intro}
 use Rattle.vault_model.proofs.Shelves.{versions_of-shelved, versions_of-shelved_other, le_true}
 use Rattle.vault_store.specs.Places.{IsFrontOf, shelf_with}
@@ -44,7 +44,7 @@ module _ (shelf whole : List (List (List ℕ))) (part : ℕ) (content : List ℕ
   few_at : (p : ℕ) → length (versions_of (shelved shelf part content) p) ≤ most_versions
   few_at p = omega (arith, (contents_of whole is p).few, ap length (front p).1, length-append (versions_of (shelved shelf part content) p) (front p).0)
 
-  pub next_shelvable : is_shelvable shelf (record { place = part; content = content } ∷ []) ≡ true
+  pub next_shelvable : is_shelvable shelf (draft_at part content ∷ []) ≡ true
   unfolding is_shelvable
   next_shelvable =
       and_intro _ _

@@ -15,6 +15,8 @@ use Rattle.vault_model.specs.Tree.{is_part}
 use Rattle.vault_model.specs.Shelf.{Draft, versions_of, versions_weight, weight, content_weight}
 use Rattle.vault_model.specs.Drafts.{SavedDraft, drafts_of}
 use Rattle.vault_model.specs.Vault.{Vault, IsVault, IsClaim, IsDraft}
+use Rattle.vault_journal.proofs.Sizes.{flat_map-item_bytes}
+use Rattle.vault_journal.proofs.OneSpelling.{name_is_short}
 use Rattle.vault_journal.specs.Spelling.{in_two, in_four, name_bytes, item_bytes, items_bytes, content_bytes}
 use Rattle.vault_store.specs.Laws.{SnapshotsAreShort}
 use Rattle.vault_store.specs.Snapshot.{snapshot_of, versions_bytes, places_bytes, draft_bytes, drafts_bytes, claim_bytes, number_of, designer_of}
@@ -24,9 +26,6 @@ contents_short : (versions : List (List ℕ)) → length (flat_map content_bytes
 contents_short [] = omega arith
 contents_short (content ∷ versions) =
     omega (arith, ap length (flat_map-cons content_bytes content versions), length-append (content_bytes content) (flat_map content_bytes versions), length-append (in_two (length content)) content, sum_by-cons content_weight content versions, contents_short versions)
-
-name_size : (name : List ℕ) → IsName name → length name ≤ 32
-name_size name is = let known : is_name name ≡ true = is in grind (arith, nat_tests)
 
 -- the versions of a part, where it is one
 part_short : (b : Bool) (versions : List (List ℕ)) → length (cond b (versions_bytes versions) []) ≤ 2 + versions_weight versions
@@ -51,15 +50,11 @@ places_short v n (place ∷ places) names =
       arith,
       length-append (place.name ++ of_place) (places_bytes v (suc n) places),
       length-append place.name of_place,
-      name_size place.name (All-head (λ (p : Place). IsName p.name) place places names),
+      name_is_short place.name (All-head (λ (p : Place). IsName p.name) place places names),
       part_short (is_part v.tree n) (versions_of v.shelf n),
       rest_weight v.shelf n,
       places_short v (suc n) places (All-tail (λ (p : Place). IsName p.name) place places names),
     )
-
-items_short : (items : List Item) → length (flat_map item_bytes items) ≡ 5 * length items
-items_short [] = refl
-items_short (item ∷ items) = omega (arith, ap length (flat_map-cons item_bytes item items), length-append (item_bytes item) (flat_map item_bytes items), items_short items)
 
 drafts_short : (drafts : List Draft) → All (λ (draft : Draft). length draft.content ≤ 1024) drafts → length (flat_map draft_bytes drafts) ≤ 1030 * length drafts
 drafts_short [] short = omega arith
@@ -97,8 +92,8 @@ module _ (v : Vault) (is_vault : IsVault v) where
         length-append (in_four (number_of claim.id) ++ name_bytes name ++ of_items) of_drafts,
         length-append (in_four (number_of claim.id) ++ name_bytes name) of_items,
         length-append (in_four (number_of claim.id)) (name_bytes name),
-        name_size name (All-head (λ (c : Claim). IsName (designer_of c.owner)) claim line names),
-        items_short claim.items,
+        name_is_short name (All-head (λ (c : Claim). IsName (designer_of c.owner)) claim line names),
+        flat_map-item_bytes claim.items,
         is.few,
         drafts_of_short (number_of claim.id),
         claims_short line (All-tail (IsClaim v.tree v.sessions v.last_long v.last_short) claim line are) (All-tail (λ (c : Claim). IsName (designer_of c.owner)) claim line names),

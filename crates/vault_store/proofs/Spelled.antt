@@ -16,7 +16,7 @@ use Rattle.vault_model.specs.declared.ids.ClaimId.TheVariants.{Long, Short}
 use Rattle.vault_model.specs.declared.place.Place.{Place}
 use Rattle.vault_model.specs.Name.{IsName}
 use Rattle.vault_model.specs.Limits.{most_versions}
-use Rattle.vault_model.specs.Tree.{is_part, IsTree}
+use Rattle.vault_model.specs.Tree.{is_part, IsTree, new_place}
 use Rattle.vault_model.specs.Claims.{standing_of}
 use Rattle.vault_model.specs.Shelf.{versions_of, IsShelf}
 use Rattle.vault_model.specs.Drafts.{SavedDraft, drafts_of}
@@ -29,14 +29,14 @@ use Rattle.vault_store.specs.Snapshot.{snapshot_of, places_bytes, claim_bytes, n
 use Rattle.vault_store.proofs.OneReading.{one_spelled, one_number}
 use Rattle.vault_store.proofs.SpelledLists.{IsContent, AreContents, HasDraft}
 use Rattle.vault_store.proofs.SpelledPlaces.{HasPlace, AreTold, places_tell, one_shelf}
-use Rattle.vault_store.proofs.SpelledClaims.{HasClaim, drafted, claims_tell, one_line, same_drafts}
+use Rattle.vault_store.proofs.SpelledClaims.{HasClaim, drafted, claims_tell, one_line, same_drafts, regroup}
 
 -- each place of a tree has four bytes for its parent
 pub places_have : (tree : List Place) → IsTree tree → All (λ (place : Place). IsName place.name) tree → All HasPlace tree
 places_have tree is_tree names = All-from_get_or HasPlace tree none (λ i within. record { parent = below i within; name = All-get_or (λ (place : Place). IsName place.name) tree i none within names })
   where
     none : Place
-    none = record { parent = 0; name = [] }
+    none = new_place 0 []
 
     below : (i : ℕ) → i < length tree → (get_or tree i none).parent < 2 ^ 32
     below i within =
@@ -107,9 +107,6 @@ module _ (v : Vault) (has : HasSnapshot v) where
       by_versions : (versions : List (List ℕ)) → versions_of v.shelf p ≡ versions → versions_of v.shelf p ≡ []
       by_versions [] is = is
       by_versions (x ∷ xs) is = absurd (never (has.well_formed.versions.parts p (λ none. let e = sym is ∙ none in cc)))
-
-regroup : (a b p n c : List ℕ) → (((a ++ b) ++ p) ++ n) ++ c ≡ a ++ (b ++ (p ++ (n ++ c)))
-regroup a b p n c = simp append_assoc
 
 abbrev pub behind_places : Vault → List ℕ
 behind_places v = in_two (length v.line) ++ flat_map (claim_bytes v) v.line

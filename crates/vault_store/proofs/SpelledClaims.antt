@@ -11,7 +11,7 @@ use Rattle.vault_model.specs.declared.claims.Standing.TheVariants.{Held}
 use Rattle.vault_model.specs.declared.ids.ClaimId.{ClaimId}
 use Rattle.vault_model.specs.declared.ids.ClaimId.TheVariants.{Long, Short}
 use Rattle.vault_model.specs.declared.place.Place.{Place}
-use Rattle.vault_model.specs.Claims.{same_id, claim_of, standing_of}
+use Rattle.vault_model.specs.Claims.{same_id, claim_of, standing_of, new_check_out}
 use Rattle.vault_model.specs.Drafts.{SavedDraft, drafts_of}
 use Rattle.vault_model.specs.Vault.{Vault}
 use Rattle.vault_journal.specs.Spelling.{in_four, name_bytes, items_bytes}
@@ -24,6 +24,10 @@ use Rattle.vault_store.proofs.SpelledLists.{Tells, name_tells, items_tell, draft
 pub regroup : (n m i d a : List ℕ) → (((n ++ m) ++ i) ++ d) ++ a ≡ n ++ (m ++ (i ++ (d ++ a)))
 regroup n m i d a = simp append_assoc
 
+-- a check-out is told by its number, its designer and its items
+check_out_is : (c : Claim) → c.id ≡ Long (number_of c.id) → c.owner ≡ owners.Designer (designer_of c.owner) → c ≡ new_check_out (number_of c.id) (designer_of c.owner) c.items
+check_out_is c long designer = λ i. record c { id = long i; owner = designer i }
+
 pub claim_tells : Tells drafted_bytes HasClaim
 claim_tells x y a b has_x has_y same =
     let left : drafted_bytes x ++ a ≡ in_four (number_of x.0.id) ++ (name_bytes (designer_of x.0.owner) ++ (items_bytes x.0.items ++ (drafts_bytes x.1 ++ a))) =
@@ -35,9 +39,8 @@ claim_tells x y a b has_x has_y same =
     let names = name_tells (designer_of x.0.owner) (designer_of y.0.owner) (items_bytes x.0.items ++ (drafts_bytes x.1 ++ a)) (items_bytes y.0.items ++ (drafts_bytes y.1 ++ b)) has_x.name has_y.name numbers.1 in
     let items = items_tell x.0.items y.0.items (drafts_bytes x.1 ++ a) (drafts_bytes y.1 ++ b) has_x.items has_y.items names.1 in
     let drafts = drafts_tell x.1 y.1 a b has_x.drafts has_y.drafts items.1 in
-    let ids : x.0.id ≡ y.0.id = has_x.long ∙ ap (λ (n : ℕ). Long n) numbers.0 ∙ sym has_y.long in
-    let owned : x.0.owner ≡ y.0.owner = has_x.designer ∙ ap (λ (n : List ℕ). owners.Designer n) names.0 ∙ sym has_y.designer in
-    (λ i. (record { id = ids i; owner = owned i; items = items.0 i }, drafts.0 i), drafts.1)
+    let claims : x.0 ≡ y.0 = check_out_is x.0 has_x.long has_x.designer ∙ (λ i. new_check_out (numbers.0 i) (names.0 i) (items.0 i)) ∙ sym (check_out_is y.0 has_y.long has_y.designer) in
+    (λ i. (claims i, drafts.0 i), drafts.1)
 
 pub claims_tell : (v w : Vault) (a b : List ℕ) → length v.line ≡ length w.line → All (λ (c : Claim). HasClaim (drafted v.drafts c)) v.line → All (λ (c : Claim). HasClaim (drafted w.drafts c)) w.line
     → flat_map (claim_bytes v) v.line ++ a ≡ flat_map (claim_bytes w) w.line ++ b → map (drafted v.drafts) v.line ≡ map (drafted w.drafts) w.line

@@ -5,6 +5,7 @@ use Rattle.std.proofs.lemmas.List.Concat.{flat_map-cons}
 use Rattle.std.proofs.lemmas.List.Elements.{All-head, All-tail}
 use Rattle.vault_model.specs.Limits.{most_versions}
 use Rattle.vault_model.specs.Name.{IsName}
+use Rattle.vault_model.specs.Shelf.{draft_at}
 use Rattle.vault_journal.specs.Spelling.{in_two, in_four, name_bytes, items_bytes, content_bytes, longest_content, AreItems}
 use Rattle.vault_journal.specs.Reading.{u16_at, name_at, items_at, content_at}
 use Rattle.vault_journal.proofs.OneSpelling.{fields_are_spelled}
@@ -58,7 +59,7 @@ draft_tells x y a b has_x has_y same =
     let whole = sym (append_assoc (in_four x.place) (content_bytes x.content) a) ∙ same ∙ append_assoc (in_four y.place) (content_bytes y.content) b in
     let places = one_number x.place y.place (content_bytes x.content ++ a) (content_bytes y.content ++ b) has_x.place has_y.place whole in
     let contents = content_tells x.content y.content a b has_x.content has_y.content places.1 in
-    (λ i. record { place = places.0 i; content = contents.0 i }, contents.1)
+    (λ i. draft_at (places.0 i) (contents.0 i), contents.1)
 
 pub drafts_tell : Tells drafts_bytes (λ drafts. All HasDraft drafts)
 drafts_tell xs ys a b has_xs has_ys same =

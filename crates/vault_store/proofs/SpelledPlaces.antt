@@ -6,21 +6,17 @@ use Rattle.std.proofs.lemmas.Bool.{cases_lt}
 use Rattle.std.proofs.lemmas.List.{ext_get_or, get_or_past}
 use Rattle.std.proofs.lemmas.List.Elements.{All-head, All-tail}
 use Rattle.vault_model.specs.declared.place.Place.{Place}
-use Rattle.vault_model.specs.Limits.{deepest}
+use Rattle.vault_model.specs.Limits.{part_depth}
 use Rattle.vault_model.specs.Name.{IsName}
-use Rattle.vault_model.specs.Tree.{parent_of, depth_within, is_part}
+use Rattle.vault_model.specs.Tree.{parent_of, depth_within, is_part, new_place}
 use Rattle.vault_model.specs.Shelf.{versions_of, IsShelf}
 use Rattle.vault_model.specs.Vault.{Vault}
 use Rattle.vault_model.proofs.Walks.{Rises, same_at}
+use Rattle.vault_model.proofs.Lists.{slice_get-front}
 use Rattle.vault_journal.specs.Spelling.{in_four, name_bytes}
 use Rattle.vault_store.specs.Snapshot.{versions_bytes, places_bytes}
 use Rattle.vault_store.proofs.OneReading.{one_number}
 use Rattle.vault_store.proofs.SpelledLists.{name_tells, AreContents, versions_tell}
-
-pub slice_get-front : {X : Type 0} (xs ys : List X) (k : ℕ) → k < length xs → slice_get (xs ++ ys) k ≡ slice_get xs k
-slice_get-front [] ys k h = absurd (omega (arith, h))
-slice_get-front (x ∷ xs) ys zero h = refl
-slice_get-front (x ∷ xs) ys (suc k) h = slice_get-front xs ys k (omega (arith, h))
 
 pub parent-front : (xs ys : List Place) (p : ℕ) → p ≤ length xs → parent_of (xs ++ ys) p ≡ parent_of xs p
 parent-front xs ys zero h = refl
@@ -34,7 +30,7 @@ depth_same t u m (suc n) p agree rises h =
     ∙ ap (λ (o : Option ℕ). option_map_or (λ r. suc (depth_within n u r)) o 0) (agree p h)
 
 pub part_same : (t u front xs ys : List Place) (p : ℕ) → t ≡ front ++ xs → u ≡ front ++ ys → Rises t → p ≤ length front → is_part t p ≡ is_part u p
-part_same t u front xs ys p t_is u_is rises h = ap (nat_le deepest) (depth_same t u (length front) p p agree rises h)
+part_same t u front xs ys p t_is u_is rises h = ap (nat_le part_depth) (depth_same t u (length front) p p agree rises h)
   where
     agree : (q : ℕ) → q ≤ length front → parent_of t q ≡ parent_of u q
     agree q le = ap (λ (l : List Place). parent_of l q) t_is ∙ parent-front front xs q le ∙ sym (parent-front front ys q le) ∙ ap (λ (l : List Place). parent_of l q) (sym u_is)
@@ -80,7 +76,7 @@ module _ (v w : Vault) (rises : Rises v.tree) (contents_v : (p : ℕ) → AreCon
       let whole = sym (regroup (in_four x.parent) (name_bytes x.name) of_v (places_bytes v (suc n) xs) a) ∙ same ∙ regroup (in_four y.parent) (name_bytes y.name) of_w (places_bytes w (suc n) ys) b in
       let parents = one_number x.parent y.parent (name_bytes x.name ++ (of_v ++ s)) (name_bytes y.name ++ (of_w ++ t)) first_x.parent first_y.parent whole in
       let names = name_tells x.name y.name (of_v ++ s) (of_w ++ t) first_x.name first_y.name parents.1 in
-      let place_is : x ≡ y = λ i. record { parent = parents.0 i; name = names.0 i } in
+      let place_is : x ≡ y = λ i. new_place (parents.0 i) (names.0 i) in
       let longer : length (front ++ x ∷ []) ≡ n = omega (arith, length-append front (x ∷ [])) in
       let v_too : v.tree ≡ (front ++ x ∷ []) ++ xs = v_is ∙ sym (append_assoc front (x ∷ []) xs) in
       let w_too : w.tree ≡ (front ++ x ∷ []) ++ ys = w_is ∙ ap (λ (z : Place). front ++ z ∷ ys) (sym place_is) ∙ sym (append_assoc front (x ∷ []) ys) in

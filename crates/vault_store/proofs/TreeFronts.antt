@@ -1,6 +1,6 @@
 -- The first places of a tree are a tree, and what follows them may be made there.
-use Rattle.std.proofs.Common.{◌≡◌, ℕ, zero, suc, ◌+◌, ◌<◌, ◌≤◌, ◌==◌, Bool, true, false, not, cond, ltb, List, [], ◌∷◌, ◌++◌, length, get_or, Some, None, refl, ◌∙◌, ap, arith, length-append, inl, inr}
-use Rattle.std.specs.Prelude.{slice_get, position}
+use Rattle.std.proofs.Common.{◌≡◌, ℕ, zero, suc, ◌+◌, ◌<◌, ◌≤◌, ◌==◌, Bool, true, false, not, cond, ltb, List, [], ◌∷◌, ◌++◌, length, get_or, Some, None, refl, sym, ◌∙◌, ap, arith, length-append, inl, inr}
+use Rattle.std.specs.Prelude.{nat_le, slice_get, position}
 use Rattle.std.specs.Option.{option_map}
 use Rattle.std.specs.List.{position_or_len}
 use Rattle.std.specs.Str.{bytes_eq}
@@ -10,13 +10,14 @@ use Rattle.std.proofs.lemmas.Option.{slice_get_past, slice_get_within, slice_get
 use Rattle.std.proofs.lemmas.List.Sums.{prefix_len_is, sum_by-append}
 use Rattle.std.proofs.lemmas.Slice.Eq.{bytes_eq-Decides}
 use Rattle.vault_model.specs.declared.place.Place.{Place}
-use Rattle.vault_model.specs.Limits.{deepest, most_places, most_children}
+use Rattle.vault_model.specs.Limits.{part_depth, most_places, most_children}
 use Rattle.vault_model.specs.Tree.{parent_of, depth, is_part, is_child, child, children_count, is_full, IsTree}
 use Rattle.vault_model.proofs.Walks.{Rises, depth-top}
-use Rattle.vault_model.proofs.Growth.{slice_get-push_old, slice_get-push_new, parent_of-push_new, depth-push_new, children_count-push}
+use Rattle.vault_model.proofs.Growth.{slice_get-push_old, slice_get-push_new, parent_of-push_new, is_part-push, children_count-push}
 use Rattle.vault_model.proofs.Overlaps.{and_both, eq_from, eq_itself}
+use Rattle.vault_model.proofs.Lists.{slice_get-front}
 use Rattle.design_tree.specs.Added.{refusal}
-use Rattle.vault_store.proofs.SpelledPlaces.{slice_get-front, parent-front, depth_same}
+use Rattle.vault_store.proofs.SpelledPlaces.{parent-front, depth_same}
 
 module _ (front rest : List Place) where
   parent_past : (p : ℕ) → length front < p → parent_of front p ≡ None
@@ -43,6 +44,12 @@ module _ (front rest : List Place) where
       | inl past ↦ omega (arith, depth-top front p (parent_past p past))
       | inr within ↦ omega (arith, depth_front is.parents p within, is.shallow p)
     ];
+    no_parts_above = λ p parent e. elim (cases_lt (length front) p) [
+      | inl past ↦ (let none = parent_past p past in absurd (cc))
+      | inr within ↦
+          let whole = parent-front front rest p within ∙ e in
+          ap (nat_le part_depth) (sym (depth_front is.parents parent (omega (arith, is.parents p parent whole, within)))) ∙ is.no_parts_above p parent whole
+    ];
     siblings = λ i j a b at_i at_j parents names. is.siblings i j a b (still_there i a at_i) (still_there j b at_j) parents names;
     narrow = λ p. omega (arith, is.narrow p, sum_by-append (λ (place : Place). cond (place.parent == p) 1 0) front rest);
   }
@@ -67,9 +74,7 @@ module _ (tree : List Place) (x : Place) (is : IsTree (tree ++ x ∷ [])) where
   rises = rises_front tree (x ∷ []) is.parents
 
   no_part : is_part tree x.parent ≡ false
-  no_part =
-      let low : depth tree x.parent < deepest = omega (arith, depth-push_new tree x rises last_parent, is.shallow (suc (length tree))) in
-      grind (arith, nat_tests)
+  no_part = sym (is_part-push tree x x.parent rises last_parent) ∙ is.no_parts_above (suc (length tree)) x.parent (parent_of-push_new tree x)
 
   no_child : child tree x.parent x.name ≡ None
   no_child =

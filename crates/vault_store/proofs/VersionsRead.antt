@@ -3,7 +3,8 @@ use Rattle.std.proofs.Common.{◌≡◌, ℕ, ◌+◌, ◌<◌, ◌≤◌, ◌^�
 use Rattle.std.specs.List.{flat_map}
 use Rattle.std.proofs.lemmas.List.{length-append}
 use Rattle.vault_model.specs.Limits.{most_versions}
-use Rattle.vault_model.specs.Shelf.{Draft, versions_of, shelved, shelved_all, is_shelvable, IsShelf}
+use Rattle.vault_model.specs.Shelf.{Draft, versions_of, shelved, shelved_all, is_shelvable, IsShelf, draft_at}
+use Rattle.vault_model.proofs.Lists.{All-front, All-back}
 use Rattle.vault_journal.specs.Laws.{AreBytes}
 use Rattle.vault_journal.specs.Reading.{u16_at, content_at}
 use Rattle.vault_journal.specs.Spelling.{in_two, content_bytes}
@@ -13,7 +14,7 @@ use Rattle.vault_store.specs.Places.{IsFrontOf, shelf_with, IsVersionRead, Begin
 use Rattle.vault_store.proofs.OneReading.{one_spelled}
 use Rattle.vault_store.proofs.SpelledLists.{IsContent, content_tells}
 use Rattle.vault_store.proofs.Spelled.{contents_of}
-use Rattle.vault_store.proofs.ListsRead.{all_front, all_back, AreItemsRead, no_item_read, one_item_more, next_item}
+use Rattle.vault_store.proofs.ListsRead.{AreItemsRead, no_item_read, one_item_more, next_item}
 use Rattle.vault_store.proofs.ShelfFronts.{next_short, next_shelvable, shelf_with-append, versions_of-shelf_with, fewer_contents}
 
 -- ---- one version
@@ -24,24 +25,24 @@ module _ (part : ℕ) (shelf : List (List (List ℕ))) (bytes : List ℕ) where
       let there = ap content_at same ∙ fields_are_spelled.content.reads content rest (next_short shelf whole part content is front) in
       cc
 
-  pub no_shelving : AreBytes bytes → (content rest : List ℕ) → content_at bytes ≡ Some (content, rest) → (drafts : List Draft) → drafts ≡ record { place = part; content = content } ∷ [] → is_shelvable shelf drafts ≡ false → BeginsWithNoVersion part shelf bytes
+  pub no_shelving : AreBytes bytes → (content rest : List ℕ) → content_at bytes ≡ Some (content, rest) → (drafts : List Draft) → drafts ≡ draft_at part content ∷ [] → is_shelvable shelf drafts ≡ false → BeginsWithNoVersion part shelf bytes
   no_shelving are content rest read drafts is refused other whole behind is_shelf front same =
       let here = fields_are_spelled.content.spelled bytes content rest are read in
       let both = content_tells content other rest behind here.1 (next_short shelf whole part other is_shelf front) (sym here.0 ∙ same) in
       let fits = next_shelvable shelf whole part other is_shelf front in
-      let unfit : is_shelvable shelf (record { place = part; content = other } ∷ []) ≡ false =
-      ap (λ (c : List ℕ). is_shelvable shelf (record { place = part; content = c } ∷ [])) (sym both.0) ∙ ap (is_shelvable shelf) (sym is) ∙ refused in
+      let unfit : is_shelvable shelf (draft_at part other ∷ []) ≡ false =
+      ap (λ (c : List ℕ). is_shelvable shelf (draft_at part c ∷ [])) (sym both.0) ∙ ap (is_shelvable shelf) (sym is) ∙ refused in
       cc
 
-  pub version_read : AreBytes bytes → (new : List (List (List ℕ))) (content rest : List ℕ) → content_at bytes ≡ Some (content, rest) → (drafts : List Draft) → drafts ≡ record { place = part; content = content } ∷ [] → new ≡ shelved_all shelf drafts → IsVersionRead part shelf new bytes rest
+  pub version_read : AreBytes bytes → (new : List (List (List ℕ))) (content rest : List ℕ) → content_at bytes ≡ Some (content, rest) → (drafts : List Draft) → drafts ≡ draft_at part content ∷ [] → new ≡ shelved_all shelf drafts → IsVersionRead part shelf new bytes rest
   version_read are new content rest read drafts is appended =
       let here = fields_are_spelled.content.spelled bytes content rest are read in
       record { content = content; short = here.1; spelled = here.0; shelf_is = appended ∙ ap (shelved_all shelf) is }
 
 -- a list that one draft was put into
-pub one_draft : (part : ℕ) (content given : List ℕ) (drafts items before : List Draft) → drafts ≡ items → items ≡ before ++ record { place = part; content = given } ∷ [] → before ≡ [] → given ≡ content → drafts ≡ record { place = part; content = content } ∷ []
+pub one_draft : (part : ℕ) (content given : List ℕ) (drafts items before : List Draft) → drafts ≡ items → items ≡ before ++ draft_at part given ∷ [] → before ≡ [] → given ≡ content → drafts ≡ draft_at part content ∷ []
 one_draft part content given drafts items before is pushed empty same =
-    is ∙ pushed ∙ ap (λ (l : List Draft). l ++ record { place = part; content = given } ∷ []) empty ∙ ap (λ (c : List ℕ). record { place = part; content = c } ∷ []) same
+    is ∙ pushed ∙ ap (λ (l : List Draft). l ++ draft_at part given ∷ []) empty ∙ ap (λ (c : List ℕ). draft_at part c ∷ []) same
 
 -- ---- all versions
 
@@ -74,7 +75,7 @@ module _ (part : ℕ) (old : List (List (List ℕ))) (bytes : List ℕ) where
 
     short_contents : All IsContent contents
     short_contents =
-        all_back IsContent (versions_of old part) contents (all_front IsContent (versions_of old part ++ contents) (front part).0 (subst (λ (l : List (List ℕ)). All IsContent l) versions (contents_of whole is part).short))
+        All-back IsContent (versions_of old part) contents (All-front IsContent (versions_of old part ++ contents) (front part).0 (subst (λ (l : List (List ℕ)). All IsContent l) versions (contents_of whole is part).short))
 
     next_contents : (after rest : List ℕ) (count : ℕ) → AreBytes bytes → u16_at bytes ≡ Some (count, after) → bytes ≡ versions_bytes contents ++ rest → (count ≡ length contents) × (after ≡ flat_map content_bytes contents ++ rest)
     next_contents after rest count are read same =

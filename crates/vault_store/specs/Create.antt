@@ -4,13 +4,13 @@ use Rattle.vault_model.specs.Vault.{new_vault}
 use Rattle.vault_device.specs.Disk.{Disk}
 use Rattle.vault_store.specs.declared.creation.CreateError.{CreateError}
 use Rattle.vault_store.specs.declared.creation.CreateError.TheVariants.{Exists, Device, NoMemory}
-use Rattle.vault_store.specs.Files.{head_of, snapshot_bytes}
+use Rattle.vault_store.specs.Files.{snapshot_bytes, current_head}
 use Rattle.vault_store.specs.Calls.{HasCause}
 use Rattle.vault_store.specs.OnDisk.{IsSettled}
 
 -- the bytes of a new vault, up to its tail gate and with it
 abbrev pub new_front : List ℕ
-new_front = head_of 1 ++ snapshot_bytes new_vault
+new_front = current_head 1 ++ snapshot_bytes new_vault
 
 abbrev pub new_file : List ℕ
 new_file = new_front ++ 0 ∷ []

@@ -6,7 +6,7 @@ use Rattle.vault_model.specs.Said.{Effect}
 use Rattle.vault_model.specs.Vault.{Vault}
 use Rattle.vault_journal.specs.Spelling.{in_four, in_eight}
 use Rattle.vault_store.specs.Snapshot.{snapshot_of, HasSnapshot}
-use Rattle.vault_store.specs.Files.{header, head_length, mark, version, head_of, snapshot_bytes, frame_of, frames_bytes, IsFrame, applied, after_frames}
+use Rattle.vault_store.specs.Files.{header, head_length, mark, version, snapshot_bytes, frame_of, frames_bytes, IsFrame, applied, after_frames, current_head}
 
 -- the mark of a file, the spelling of its version and of its generation, and the length of its snapshot
 abbrev pub mark_in : List ℕ → List ℕ
@@ -60,7 +60,7 @@ pub record IsFrameFault (file : List ℕ) (at : ℕ) : Type 0 where
   pub vault : Vault
   pub spelled : HasSnapshot base
   pub each : AllByRecursion IsFrame frames
-  pub begins : take at file ≡ (head_of generation ++ snapshot_bytes base) ++ frames_bytes frames
+  pub begins : take at file ≡ (current_head generation ++ snapshot_bytes base) ++ frames_bytes frames
   pub leads : after_frames base frames ≡ Some vault
   pub within : at < length file
   pub gate : slice_index file at ≡ 1

@@ -8,10 +8,12 @@ use Rattle.vault_model.specs.After.{after}
 use Rattle.vault_journal.specs.Spelling.{in_four, in_eight, records_of, HasRecord}
 use Rattle.vault_journal.specs.Gate.{IsClosed}
 use Rattle.vault_store.specs.Snapshot.{snapshot_of, HasSnapshot}
+use Rattle.vault_store.specs.declared.front.TheConstants.{HEADER}
+use Rattle.vault_store.specs.declared.journal.TheConstants.{MOST_RECORDS, FRAME_EXTRA}
 
 -- how many bytes stand before the snapshot
 abbrev pub header : ℕ
-header = 24
+header = HEADER
 
 -- how many of them stand before the snapshot's length
 abbrev pub head_length : ℕ
@@ -21,21 +23,25 @@ head_length = 20
 abbrev pub mark : List ℕ
 mark = codes "LLVAULT"
 
--- the version of its form
+-- the version that is written today
 abbrev pub version : ℕ
 version = 1
 
 -- the most bytes of a frame's records
 abbrev pub most_records : ℕ
-most_records = 262139
+most_records = MOST_RECORDS
 
 -- how many bytes a frame has beside its records: its gate and the records' length
 abbrev pub frame_extra : ℕ
-frame_extra = 5
+frame_extra = FRAME_EXTRA
 
--- the head of an open file: the gate, the mark, the version and the generation
-abbrev pub head_of : ℕ → List ℕ
-head_of generation = 1 ∷ mark ++ in_four version ++ in_eight generation
+-- the head of an open file of a version and a generation: the gate, the mark, and these two
+abbrev pub head_of : ℕ → ℕ → List ℕ
+head_of v generation = 1 ∷ mark ++ in_four v ++ in_eight generation
+
+-- that of the version that is written today
+abbrev pub current_head : ℕ → List ℕ
+current_head generation = head_of version generation
 
 -- a snapshot behind its length
 abbrev pub snapshot_bytes : Vault → List ℕ
@@ -85,7 +91,7 @@ pub record IsFront (front : List ℕ) (reading : Reading) : Type 0 where
   pub given : 1 ≤ reading.generation
   pub fits : reading.generation < 2 ^ 64
   pub each : AllByRecursion IsFrame frames
-  pub bytes : front ≡ (head_of reading.generation ++ snapshot_bytes base) ++ frames_bytes frames
+  pub bytes : front ≡ (current_head reading.generation ++ snapshot_bytes base) ++ frames_bytes frames
   pub leads : after_frames base frames ≡ Some reading.vault
   pub tail_is : reading.tail ≡ length front
   pub journal_is : reading.journal ≡ length (frames_bytes frames)
@@ -105,16 +111,20 @@ pub record Holds (file : List ℕ) (reading : Reading) : Type 0 where
 abbrev pub IsClosedFile : List ℕ → Type 0
 IsClosedFile file = (length file < header) ⊎ (slice_index file 0 ≢ 1)
 
--- an open file with a right head
-pub record HasHead (generation : ℕ) (file : List ℕ) : Type 0 where
+-- an open file with a right head, of this version and this generation
+pub record HasHead (v generation : ℕ) (file : List ℕ) : Type 0 where
   pub long : header ≤ length file
-  pub head : take head_length file ≡ head_of generation
+  pub head : take head_length file ≡ head_of v generation
   pub given : 1 ≤ generation
   pub fits : generation < 2 ^ 64
 
+-- one of the version that is written today
+abbrev pub HasCurrentHead : ℕ → List ℕ → Type 0
+HasCurrentHead generation file = HasHead version generation file
+
 -- the file beside the active one, of which no more is read: closed, or of a smaller generation
 abbrev pub IsSpare : ℕ → List ℕ → Type 0
-IsSpare generation file = IsClosedFile file ⊎ ((older : ℕ) × (older < generation) × HasHead older file)
+IsSpare generation file = IsClosedFile file ⊎ ((older : ℕ) × (older < generation) × HasCurrentHead older file)
 
 -- Two files are read as this: one of them is, and the other is its spare.
 abbrev pub AreRead : List ℕ → List ℕ → Reading → Type 0

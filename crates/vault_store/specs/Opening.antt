@@ -5,16 +5,16 @@ use Rattle.vault_store.specs.declared.opening.File.TheVariants.{First, Second}
 use Rattle.vault_store.specs.declared.opening.OpenError.{OpenError}
 use Rattle.vault_store.specs.declared.opening.OpenError.TheVariants.{NoVault, Damaged, Device, NoMemory}
 use Rattle.vault_store.specs.Calls.{IsCalled}
-use Rattle.vault_store.specs.Files.{IsClosedFile, HasHead, IsSpare}
+use Rattle.vault_store.specs.Files.{IsClosedFile, IsSpare, HasCurrentHead}
 use Rattle.vault_store.specs.Faults.{IsDamagedHead, IsBodyFault}
 
 -- no fault is in the head of a file: it is closed, or right
 abbrev pub HasNoHeadFault : List ℕ → Type 0
-HasNoHeadFault file = IsClosedFile file ⊎ ((generation : ℕ) × HasHead generation file)
+HasNoHeadFault file = IsClosedFile file ⊎ ((generation : ℕ) × HasCurrentHead generation file)
 
 -- the first of two files is the active one, and the other its spare
 abbrev pub IsNewer : ℕ → List ℕ → List ℕ → Type 0
-IsNewer generation first second = HasHead generation first × IsSpare generation second
+IsNewer generation first second = HasCurrentHead generation first × IsSpare generation second
 
 -- The first fault stands in the first file: in its head or, where it is the active one, in its body.
 abbrev pub IsFirstFault : List ℕ → List ℕ → ℕ → Type 0
@@ -25,7 +25,7 @@ IsFirstFault first second at = IsDamagedHead first at ⊎ ((generation : ℕ) ×
 abbrev pub IsSecondFault : List ℕ → List ℕ → ℕ → Type 0
 IsSecondFault first second at =
     (HasNoHeadFault first × IsDamagedHead second at)
-    ⊎ ((generation : ℕ) × HasHead generation first × HasHead generation second × (at ≡ 12))
+    ⊎ ((generation : ℕ) × HasCurrentHead generation first × HasCurrentHead generation second × (at ≡ 12))
     ⊎ ((generation : ℕ) × IsNewer generation second first × IsBodyFault second at)
 
 -- Why two files aren't opened: neither is open, or there is a fault, the first in the order in which they are read.

@@ -9,13 +9,13 @@ use Rattle.vault_store.specs.declared.front.Head.TheVariants.{Closed, Open, Dama
 use Rattle.vault_store.specs.declared.body.Body.{Body}
 use Rattle.vault_store.specs.declared.body.Body.TheVariants as bodies
 use Rattle.vault_store.specs.Snapshot.{HasSnapshot}
-use Rattle.vault_store.specs.Files.{version, head_of, snapshot_bytes, frames_bytes, IsFrame, after_frames, IsClosedFile, HasHead}
+use Rattle.vault_store.specs.Files.{version, snapshot_bytes, frames_bytes, IsFrame, after_frames, IsClosedFile, current_head, HasCurrentHead}
 use Rattle.vault_store.specs.Faults.{IsDamagedHead, IsBodyFault}
 
 -- what the head of a file is: closed, right, or faulty there
 abbrev pub IsHead : List ℕ → Head → Type 0
 IsHead file Closed = IsClosedFile file
-IsHead file (Open v generation) = (v ≡ version) × HasHead generation file
+IsHead file (Open v generation) = (v ≡ version) × HasCurrentHead generation file
 IsHead file (Damaged at) = IsDamagedHead file at
 
 -- A file of this generation is whole: behind its head stand the snapshot of some vault and so many frames, which lead to the vault;
@@ -25,10 +25,10 @@ pub record IsWhole (generation : ℕ) (file : List ℕ) (vault : Vault) (frames 
   pub list : List (List Effect)
   pub spelled : HasSnapshot base
   pub each : AllByRecursion IsFrame list
-  pub begins : take tail file ≡ (head_of generation ++ snapshot_bytes base) ++ frames_bytes list
+  pub begins : take tail file ≡ (current_head generation ++ snapshot_bytes base) ++ frames_bytes list
   pub leads : after_frames base list ≡ Some vault
   pub frames_are : frames ≡ length list
-  pub tail_is : tail ≡ length ((head_of generation ++ snapshot_bytes base) ++ frames_bytes list)
+  pub tail_is : tail ≡ length ((current_head generation ++ snapshot_bytes base) ++ frames_bytes list)
   pub closed : IsClosed tail file
 
 -- what stands behind the head of a file: a vault, or a fault

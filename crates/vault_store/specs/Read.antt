@@ -15,7 +15,7 @@ use Rattle.vault_store.specs.declared.opening.OpenError.TheVariants.{NoVault, Da
 use Rattle.vault_store.specs.declared.body.ReadError.{ReadError}
 use Rattle.vault_store.specs.declared.body.ReadError.TheVariants as errors
 use Rattle.vault_store.specs.Snapshot.{snapshot_of, HasSnapshot}
-use Rattle.vault_store.specs.Files.{header, head_length, most_records, frame_extra, snapshot_bytes, frame_of, frames_bytes, IsFrame, applied, after_frames, IsClosedFile, HasHead}
+use Rattle.vault_store.specs.Files.{header, head_length, most_records, frame_extra, snapshot_bytes, frame_of, frames_bytes, IsFrame, applied, after_frames, IsClosedFile, HasCurrentHead}
 use Rattle.vault_store.specs.Faults.{IsBodyFault}
 use Rattle.vault_store.specs.Opening.{IsNewer}
 use Rattle.vault_store.specs.Seen.{of_file}
@@ -127,12 +127,12 @@ pub record AreContents (disk : Disk) (vault : Vault) (frames tail journal : ℕ)
 
 -- what is wrong behind the head of a file, where that is right
 abbrev pub IsFaultBehindHead : List ℕ → ℕ → Type 0
-IsFaultBehindHead file at = (generation : ℕ) → HasHead generation file → IsBodyFault file at
+IsFaultBehindHead file at = (generation : ℕ) → HasCurrentHead generation file → IsBodyFault file at
 
 -- what a file's head was read as: closed, or right and of this generation
 abbrev pub IsGenerationRead : List ℕ → Option ℕ → Type 0
 IsGenerationRead file None = IsClosedFile file
-IsGenerationRead file (Some generation) = HasHead generation file
+IsGenerationRead file (Some generation) = HasCurrentHead generation file
 
 -- why a part of this file was not read, as opening says it
 abbrev pub IsWhyNot : Disk → Disk → File → (ℕ → Type 0) → OpenError → Type 0

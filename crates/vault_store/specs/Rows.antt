@@ -1,10 +1,10 @@
 -- Files worked out by hand, which the definitions have to give. This project's own.
 use Rattle.std.specs.Prelude.{◌≡◌, [], ◌∷◌, ◌++◌, codes}
-use Rattle.vault_model.specs.declared.claims.Owner.TheVariants as owners
 use Rattle.vault_model.specs.declared.effects.Effect.TheVariants as effects
-use Rattle.vault_model.specs.declared.ids.ClaimId.TheVariants.{Long}
 use Rattle.vault_model.specs.declared.ids.Intent.TheVariants.{Change}
 use Rattle.vault_model.specs.Vault.{Vault, new_vault}
+use Rattle.vault_model.specs.Tree.{new_place}
+use Rattle.vault_model.specs.Claims.{new_check_out}
 use Rattle.vault_store.specs.Snapshot.{snapshot_of}
 use Rattle.vault_store.specs.Files.{frame_of}
 use Rattle.vault_store.specs.Create.{new_front, new_file}
@@ -28,8 +28,8 @@ OneProject =
 abbrev pub checked_out : Vault
 checked_out =
     record new_vault {
-      tree = record { parent = 0; name = codes "e" } ∷ [];
-      line = record { id = Long 1; owner = owners.Designer (codes "anna"); items = record { intent = Change; place = 1 } ∷ [] } ∷ [];
+      tree = new_place 0 (codes "e") ∷ [];
+      line = new_check_out 1 (codes "anna") (record { intent = Change; place = 1 } ∷ []) ∷ [];
       last_long = 1;
     }
 

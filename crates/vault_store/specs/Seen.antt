@@ -13,6 +13,7 @@ use Rattle.vault_store.specs.Files.{most_records, frame_extra, applied, Reading,
 use Rattle.vault_store.specs.Phases.{is_idle, is_opening, may_open}
 use Rattle.vault_store.specs.State.{StoreState}
 use Rattle.vault_store.specs.OnDisk.{IsOnDisk}
+use Rattle.vault_store.specs.declared.store.TheConstants.{MOST_NOTED}
 
 -- the devices of the active file and of its spare, and which file is the active one; the bytes of the records in the open buffer, and
 -- how many bytes the records of the frame under way have; of the active file its generation, where its tail gate stands, and how many
@@ -44,7 +45,7 @@ second_of store = of_file store.which store.spare store.active
 
 -- the most bytes of records in the buffer where there is room for any other record
 abbrev pub most_noted : ℕ
-most_noted = 261104
+most_noted = MOST_NOTED
 
 -- from where on no frame may begin
 abbrev pub last_tail : ℕ

@@ -1,6 +1,7 @@
 use Rattle.vault_device.proofs.Moments.{one_call}
-use Rattle.vault_journal.proofs.Images.{opens, opens_none, same_but, honest_on}
+use Rattle.vault_journal.proofs.Images.{opens, opens_none, same_but}
 use Rattle.vault_journal.proofs.gate.open_gate.Goals as goal
+use Rattle.vault_device.proofs.Gates.{honest_on}
 
 pub returns-clause-moments : goal.returns-clause-moments
 returns-clause-moments g c honest =

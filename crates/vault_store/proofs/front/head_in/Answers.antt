@@ -20,4 +20,4 @@ returns c =
     let fits : AreBytes c.args.bytes.now = c.fits-bytes in
     let mark_is : slice_range c.args.bytes.now 1 8 ≡ mark = search rules in
     let version_is : slice_range c.args.bytes.now 8 12 ≡ in_four version = search rules in
-    (c.from_be_bytes.ensures, right_head c.args.bytes.now c.told-bytes fits c.from_be_bytes-generation.result c.if-bytes-ne1.false mark_is version_is c.from_be_bytes-generation.ensures (omega (arith, c.if-generation-eq0.false)) (omega arith))
+    (c.from_be_bytes.ensures, right_head c.args.bytes.now c.told-bytes fits version c.from_be_bytes-generation.result c.if-bytes-ne1.false mark_is version_is c.from_be_bytes-generation.ensures (omega (arith, c.if-generation-eq0.false)) (omega arith))

@@ -2,7 +2,7 @@ use Rattle.long_locks.proofs.Endings.{distinct_claims, line_restarted}
 use Rattle.long_locks.proofs.line.Line.restart.Goals as goal
 
 pub drop_all-requires : goal.drop_all-requires
-drop_all-requires g c = distinct_claims c.self.inside.tree.value c.self.inside.claims.claims c.self.inside.table c.self.invariant.weighed c.see_distinct.ensures.distinct
+drop_all-requires g c = distinct_claims c.self.inside.tree.value c.self.inside.claims.claims c.self.inside.table c.self.invariant.weighed c.see_whole.ensures.distinct
 
 pub invariant_of-self : goal.invariant_of-self
 invariant_of-self g c =

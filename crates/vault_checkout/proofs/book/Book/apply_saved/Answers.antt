@@ -1,3 +1,4 @@
+use Rattle.vault_model.specs.Drafts.{new_draft}
 use Rattle.std.proofs.Common.{◌≡◌, ◌∙◌, Some, true, false, sym, subst, refl}
 use Rattle.std.specs.Prelude.{nat_le, ◌&&◌, length, IsSome}
 use Rattle.vault_model.specs.Tree.{is_part}
@@ -13,7 +14,7 @@ returns-in_default g c = (saved_none c.args.self.now c.args.number (sym c.held.e
 pub returns-then-not-may_change : goal.returns-then-not-may_change
 returns-then-not-may_change g c =
     let claim = held_is_held c.args.self.now c.args.number c.in-Some.claim (sym c.held.ensures.is ∙ c.in-Some.is) in (
-      saved_as c.args.self.now c.args.number c.in-Some.claim claim.0 claim.1 c.args.place c.args.content.now false (may_save c.args.self.now (record { claim = c.args.number; draft = record { place = c.args.place; content = c.args.content.now } }))
+      saved_as c.args.self.now c.args.number c.in-Some.claim claim.0 claim.1 c.args.place c.args.content.now false (may_save c.args.self.now (new_draft c.args.number c.args.place c.args.content.now))
           (rw (← c.self.view_is) (sym c.may_change.ensures ∙ c.if-not-may_change.true)) refl,
       refl,
     )

@@ -19,7 +19,7 @@ not_empty drafts own b e false_is same none =
 pub returns-then-number : goal.returns-then-number
 returns-then-number g c =
     let same : number_of c.args.check_out.now ≡ c.args.number = sym c.number.ensures ∙ c.if-number.true in
-    rw same (sym (itself_stays c.args.self.now.tree c.args.self.now.line c.args.number c.args.items.now c.see_apart.ensures c.requires.found (own_drafts c.args.check_out.now)))
+    rw same (sym (itself_stays c.args.self.now.tree c.args.self.now.line c.args.number c.args.items.now c.see_whole.ensures.apart c.requires.found (own_drafts c.args.check_out.now)))
 
 pub overlaps-requires-clause-items : goal.overlaps-requires-clause-items
 overlaps-requires-clause-items g c =

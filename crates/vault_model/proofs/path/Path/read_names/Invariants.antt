@@ -1,5 +1,5 @@
 use Rattle.std.proofs.Common.{◌≡◌, ◌==◌, ◌≤◌, ◌++◌, length, true}
-use Rattle.vault_model.specs.Limits.{deepest}
+use Rattle.vault_model.specs.Limits.{most_names}
 use Rattle.std.specs.List.{slice_split, list_all}
 use Rattle.std.specs.Option.{option_copied}
 use Rattle.vault_model.specs.Name.{is_name}
@@ -10,7 +10,7 @@ use Rattle.vault_model.proofs.path.Path.read_names.Given as goal
 abbrev pub invariant-loop-rest : goal.invariant-loop-rest
 invariant-loop-rest l = record {
   words : slice_split (λ b. b == 47) l.fn.text ≡ l.path ++ parts_behind 47 (option_copied l.rest);
-  short : length l.path ≤ deepest;
+  short : length l.path ≤ most_names;
   named : list_all is_name l.path ≡ true;
 }
 

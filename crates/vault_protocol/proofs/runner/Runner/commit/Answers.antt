@@ -1,4 +1,5 @@
-use Rattle.vault_protocol.specs.Talk.{committed, most_steps}
+use Rattle.vault_protocol.specs.Limits.{most_steps}
+use Rattle.vault_protocol.specs.Talk.{committed}
 use Rattle.vault_protocol.proofs.Pumping.{one_pump}
 use Rattle.vault_protocol.proofs.runner.Runner.commit.Goals as goal
 
