@@ -9,3 +9,13 @@ pub mod TablesKept
 pub mod Covers
 pub mod Lines
 pub mod Sends
+pub mod Counts
+pub mod Positions
+pub mod Putting
+pub mod Weighing
+pub mod Queuing
+pub mod Covering
+pub mod Others
+pub mod Seats
+pub mod Stale
+pub mod Blockers

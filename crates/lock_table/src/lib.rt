@@ -1,6 +1,9 @@
 //! Lock sets: the modes that a claim has at places of the tree. Lock tables: how claims stand by them.
 #![tactic(auto)]
 
+mod again;
+mod cell;
+mod cells;
 mod entry;
 pub mod laws;
 mod locks;

@@ -1,47 +1,47 @@
 //! The lock table: the standing of claims by their modes.
-ghost use Rattle.std.specs.Prelude.{◌≡◌, ◌≢◌, IsTrue, ℕ, ◌<◌, ◌≤◌, ◌==◌, nat_le, not, ◌&&◌, true, List, [], ◌∷◌, ◌++◌, length, map, is_some, find, position, IfOk, OnOk, OnErr};
-ghost use Rattle.std.specs.List.{IsDistinct, list_any};
+ghost use Rattle.std.specs.Prelude.{◌≡◌, ◌≢◌, IsTrue, ℕ, ◌+◌, ◌<◌, ◌≤◌, ◌==◌, Bool, nat_le, not, ◌&&◌, true, false, List, [], ◌∷◌, ◌++◌, length, map, is_some, is_none, find, position, slice_get, take, set, vec_len, None, Some, All, IfOk, OnOk, OnErr};
+ghost use Rattle.std.specs.List.{IsDistinct, list_any, remove};
 ghost use Rattle.std.specs.Option.{option_map, option_copied, option_and_then};
 ghost use Rattle.vault_model.specs.Claims.{same_id, standing_by};
 ghost use Rattle.vault_model.specs.Limits.{most_claims};
 ghost use Rattle.lock_table.specs.declared.entry.Entry.{Entry};
+ghost use Rattle.lock_table.specs.Queues.{AreQueues, AreSeated, AreStale, IsWeighing, IsHeldAs, held_by, is_taken, blocker_at, blockers_of, seats_at, room_at, seats_by, queue_of, group_in, held_group_in};
 ghost use Rattle.lock_table.specs.Tables.{IsTable, first_in_way, entry_of, entries_before, entries_without, blocker_in, standing_in, is_held_in, held_in_way, extension_by, put_first, extended_by, locks_cover, held_over_in};
 
-use crate::{Entry, Extension, LockSet};
+use crate::again::Again;
+use crate::cell::Cell;
+use crate::cells::{
+    admit, cover_at, earlier, group_at, held_at, held_in_way, in_way, index_of, place_of, put_last,
+    reserve, stand, take_out,
+};
+use crate::{Entry, Extension, LockSet, cells};
 use design_tree::Tree;
-use lock_modes::Mode;
+use lock_modes::Group;
 use std::alloc::{Allocator, Global};
 use std::marker::Model;
 use vault_model::{ClaimId, MOST_CLAIMS, NoMemory, PlaceId, Standing};
 
-/// Claims in line order, each with its modes. Contracts see the list of its entries.
+/// Claims in line order, each with its modes, beside each what it waits for, and for each place the
+/// queue of those that have a mode there. Contracts see the list of its entries.
 #[derive(Drop)]
 pub struct Table<A: Allocator = Global> {
     entries: Vec<Entry, A>,
+    blockers: Vec<Option<ClaimId>, A>,
+    cells: Vec<Cell<A>, A>,
 }
 
 impl<A: Allocator> Model for Table<A> {
-    ghost use Rattle.std.specs.Prelude.{List};
+    ghost use Rattle.std.specs.Prelude.{◌≡◌, List};
     ghost use Rattle.lock_table.specs.declared.entry.Entry.{Entry};
 
     ghost Value = { List Entry };
 
     ghost use Rattle.lock_table.specs.Tables.{IsTable};
+    ghost use Rattle.lock_table.specs.Queues.{AreQueues, blockers_of};
 
     ghost view = { λ t. t.entries.items };
 
-    ghost invariant = { λ t. IsTable t.entries.items };
-}
-
-fn is_same(id: ClaimId, other: ClaimId) -> bool
-    ensures { result ≡ same_id id other }
-{
-    match (id, other) {
-        (ClaimId::Long(m), ClaimId::Long(n)) => m == n,
-        (ClaimId::Short(m), ClaimId::Short(n)) => m == n,
-        (ClaimId::Long(_), ClaimId::Short(_)) => false,
-        (ClaimId::Short(_), ClaimId::Long(_)) => false,
-    }
+    ghost invariant = { λ t. IsTable t.entries.items × AreQueues t.entries.items t.cells.items × (t.blockers.items ≡ blockers_of t.entries.items) };
 }
 
 fn standing_by(blocker: Option<ClaimId>) -> Standing
@@ -53,74 +53,171 @@ fn standing_by(blocker: Option<ClaimId>) -> Standing
     }
 }
 
-fn index_of(entries: &[Entry], id: ClaimId) -> Option<usize>
-    ensures { result ≡ position (λ (e : Entry). same_id e.id id) entries.now }
+// The id of the claim at a position, where there is one.
+fn id_at(entries: &[Entry], index: Option<usize>) -> Option<ClaimId>
+    ensures { result ≡ option_and_then (λ i. option_map (λ (e : Entry). e.id) (slice_get entries.now i)) index }
 {
-    entries.iter().position(|entry| is_same(entry.id, id))
+    let entry = entries.get(index?)?;
+    Some(entry.id)
 }
 
-fn find_entry(entries: &[Entry], id: ClaimId) -> Option<&Entry>
-    ensures { option_copied result ≡ entry_of entries.now id }
+// The claim before which a claim at this position waits.
+fn blocker_of<A: Allocator>(entries: &[Entry], cells: &[Cell<A>], index: usize) -> Option<ClaimId>
+    requires there { index < length entries.now }
+    requires distinct { IsDistinct same_id (map (λ (e : Entry). e.id) entries.now) }
+    requires seated { AreSeated entries.now cells.now }
+    ensures { (e : Entry) → slice_get entries.now index ≡ Some e → result ≡ first_in_way (take index entries.now) e.locks }
 {
-    entries.iter().find(|entry| is_same(entry.id, id))
+    let first = in_way(entries, cells, &entries[index].locks)?;
+    if first < index {
+        return id_at(entries, Some(first));
+    }
+    None
 }
 
-fn entries_before(entries: &[Entry], id: ClaimId) -> &[Entry]
-    ensures { result.now ≡ entries_before entries.now id }
+// Weighs the claim at a position again.
+fn weigh_at<A: Allocator>(
+    entries: &[Entry],
+    blockers: &mut Vec<Option<ClaimId>, A>,
+    cells: &mut Vec<Cell<A>, A>,
+    index: usize,
+)
+    requires there { index < length entries.now }
+    requires table { IsTable entries.now }
+    requires many { length blockers.old.items ≡ length entries.now }
+    requires seated { AreSeated entries.now cells.old.items }
+    ensures blockers { (e : Entry) → slice_get entries.now index ≡ Some e → blockers.new.items ≡ set blockers.old.items index (first_in_way (take index entries.now) e.locks) }
+    ensures seats { (held : Entry → Bool) (e : Entry) → slice_get entries.now index ≡ Some e → IsHeldAs held e blockers.old.items index → ((p : ℕ) → seats_at cells.old.items p ≡ seats_by held entries.now p) →
+        (p : ℕ) → seats_at cells.new.items p ≡ seats_by (held_by held e.id (is_none (first_in_way (take index entries.now) e.locks))) entries.now p }
+    ensures room { (p : ℕ) → room_at cells.old.items p ≤ room_at cells.new.items p }
 {
-    match index_of(entries, id) {
-        Some(index) => &entries[..index],
-        None => entries,
+    let blocker = blocker_of(entries, cells, index);
+    let was_held = blockers[index].is_none();
+    blockers[index] = blocker;
+    if blocker.is_none() == was_held {
+        return;
+    }
+    let entry = &entries[index];
+    stand(cells, entry.id, &entry.locks, blocker.is_none());
+}
+
+// Weighs the claim at a position again where it has to be.
+fn weigh_next<A: Allocator>(
+    entries: &[Entry],
+    blockers: &mut Vec<Option<ClaimId>, A>,
+    cells: &mut Vec<Cell<A>, A>,
+    again: Again,
+    index: usize,
+)
+    requires there { index < length entries.now }
+    requires table { IsTable entries.now }
+    requires many { length blockers.old.items ≡ length entries.now }
+    requires weighing { IsWeighing again entries.now blockers.old.items cells.old.items index }
+    ensures weighing { IsWeighing again entries.now blockers.new.items cells.new.items (index + 1) }
+    ensures many { length blockers.new.items ≡ length entries.now }
+    ensures room { (p : ℕ) → room_at cells.old.items p ≤ room_at cells.new.items p }
+{
+    let is_taken = again.takes(blockers[index]);
+    if !is_taken {
+        return;
+    }
+    weigh_at(entries, blockers, cells, index);
+}
+
+// Weighs those again that have to be, one after another.
+fn weigh_again<A: Allocator>(
+    entries: &[Entry],
+    blockers: &mut Vec<Option<ClaimId>, A>,
+    cells: &mut Vec<Cell<A>, A>,
+    again: Again,
+)
+    requires table { IsTable entries.now }
+    requires stale { AreStale again entries.now blockers.old.items cells.old.items }
+    ensures blockers { blockers.new.items ≡ blockers_of entries.now }
+    ensures queues { (p : ℕ) → seats_at cells.new.items p ≡ queue_of entries.now p }
+    ensures room { (p : ℕ) → room_at cells.old.items p ≤ room_at cells.new.items p }
+{
+    for index in 0..entries.len() {
+        weigh_next(entries, blockers, cells, again, index);
     }
 }
 
-fn first_in_way(entries: &[Entry], locks: &LockSet) -> Option<ClaimId>
-    ensures { result ≡ first_in_way entries.now locks.now }
+// Takes the claim at a position out of the queues.
+fn leave<A: Allocator>(
+    entries: &[Entry],
+    blockers: &[Option<ClaimId>],
+    cells: &mut Vec<Cell<A>, A>,
+    index: usize,
+)
+    requires there { index < length entries.now }
+    requires table { IsTable entries.now }
+    requires queues { (p : ℕ) → seats_at cells.old.items p ≡ queue_of entries.now p }
+    requires blockers { blockers.now ≡ blockers_of entries.now }
+    ensures seats { (e : Entry) → slice_get entries.now index ≡ Some e → (p : ℕ) → seats_at cells.new.items p ≡ seats_by (is_held_in entries.now) (entries_without entries.now e.id) p }
+    ensures room { (p : ℕ) → room_at cells.old.items p ≤ room_at cells.new.items p }
 {
-    let entry = entries.iter().find(|entry| locks.conflicts(&entry.locks))?;
-    Some(entry.id)
+    let entry = &entries[index];
+    take_out(cells, entry.id, &entry.locks, blockers[index].is_none());
 }
 
-fn is_held(entries: &[Entry], entry: &Entry) -> bool
-    ensures { result ≡ is_held_in entries.now entry.now }
+// Puts an item first, in place of the one at a position.
+fn move_first<T: Drop, A: Allocator>(items: &mut Vec<T, A>, index: usize, item: T)
+    requires { index < vec_len items.old }
+    ensures { items.new.items ≡ item ∷ remove items.old.items index }
 {
-    first_in_way(entries_before(entries, entry.id), &entry.locks).is_none()
+    let _ = items.remove(index);
+    items.insert(0, item).unwrap();
 }
 
-fn held_in_way(entries: &[Entry], id: ClaimId, locks: &LockSet) -> Option<ClaimId>
-    ensures { result ≡ held_in_way entries.now id locks.now }
-{
-    let entry = entries.iter().find(|entry| {
-        !is_same(entry.id, id) && locks.conflicts(&entry.locks) && is_held(entries, entry)
-    })?;
-    Some(entry.id)
-}
-
-fn covers<A: Allocator>(tree: &Tree<A>, locks: &LockSet, place: PlaceId) -> bool
-    requires { place ≤ length tree.now }
-    ensures { result ≡ locks_cover tree.now locks.now place }
-{
-    locks.as_slice().iter().any(|lock| tree.is_under(place, lock.place)
-        && lock.mode.at_least(Mode::S))
-}
-
-fn put_first<A: Allocator>(
+// Takes the claim at a position out of the line.
+fn take_away<A: Allocator>(
     entries: &mut Vec<Entry, A>,
+    blockers: &mut Vec<Option<ClaimId>, A>,
+    cells: &mut Vec<Cell<A>, A>,
+    id: ClaimId,
+    index: usize,
+)
+    requires table { IsTable entries.old.items }
+    requires queues { AreQueues entries.old.items cells.old.items }
+    requires blockers { blockers.old.items ≡ blockers_of entries.old.items }
+    requires there { position (λ (e : Entry). same_id e.id id) entries.old.items ≡ Some index }
+    ensures done { entries.new.items ≡ entries_without entries.old.items id }
+    ensures table { IsTable entries.new.items }
+    ensures queues { AreQueues entries.new.items cells.new.items }
+    ensures blockers { blockers.new.items ≡ blockers_of entries.new.items }
+{
+    leave(entries, blockers, cells, index);
+    let _ = entries.remove(index);
+    let _ = blockers.remove(index);
+    weigh_again(entries, blockers, cells, Again::Behind(id));
+}
+
+fn put_first<A: Allocator + Copy>(
+    entries: &mut Vec<Entry, A>,
+    blockers: &mut Vec<Option<ClaimId>, A>,
+    cells: &mut Vec<Cell<A>, A>,
     id: ClaimId,
     locks: LockSet,
+    again: Again,
 ) -> Result<(), NoMemory>
-    requires distinct { IsDistinct same_id (map (λ (e : Entry). e.id) entries.old.items) }
+    requires table { IsTable entries.old.items }
+    requires queues { AreQueues entries.old.items cells.old.items }
+    requires blockers { blockers.old.items ≡ blockers_of entries.old.items }
     requires there { is_some (entry_of entries.old.items id) ≡ true }
+    requires enough { All (λ (e : Entry). is_taken again (blocker_at entries.old.items e) ≡ false → blocker_at entries.old.items e ≡ blocker_at (put_first entries.old.items id locks) e) (entries_without entries.old.items id) }
     ensures done { OnOk result (entries.new.items ≡ put_first entries.old.items id locks) }
-    ensures many { OnOk result (length entries.new.items ≡ length entries.old.items) }
+    ensures table { IsTable entries.new.items }
+    ensures queues { AreQueues entries.new.items cells.new.items }
+    ensures blockers { blockers.new.items ≡ blockers_of entries.new.items }
     ensures unchanged { OnErr result (entries.new.items ≡ entries.old.items) }
 {
     let index = index_of(entries, id).unwrap();
-    match entries.insert(0, Entry { id, locks }) {
-        Ok(()) => {}
-        Err(_) => return Err(NoMemory),
-    }
-    let _ = entries.remove(index + 1);
+    reserve(cells, &locks)?;
+    leave(entries, blockers, cells, index);
+    cells::put_first(cells, id, &locks);
+    move_first(entries, index, Entry { id, locks });
+    move_first(blockers, index, None);
+    weigh_again(entries, blockers, cells, again);
     Ok(())
 }
 
@@ -131,18 +228,20 @@ impl<A: Allocator + Copy> Table<A> {
         ensures { IfOk result (λ copy. copy ≡ self.now) }
     {
         let alloc = *self.entries.allocator();
+        let entries = Vec::from_clones(alloc, &self.entries)?;
+        let blockers = Vec::from_slice(alloc, &self.blockers)?;
+        let mut cells = Vec::new(alloc);
+        for index in 0..entries.len() {
+            let entry = &entries[index];
+            reserve(&mut cells, &entry.locks)?;
+            let is_held = admit(&cells, &entry.locks);
+            put_last(&mut cells, entry.id, &entry.locks, is_held);
+        }
         Ok(Table {
-            entries: Vec::from_clones(alloc, &self.entries)?,
+            entries,
+            blockers,
+            cells,
         })
-    }
-}
-
-impl<A: Allocator> Table<A> {
-    /// Does nothing: its contract says what every table keeps, for a proof that needs it.
-    pub fn see_whole(&self)
-        ensures { IsTable self.now }
-    {
-        let _ = &self.entries;
     }
 
     /// A table of no claims.
@@ -151,6 +250,8 @@ impl<A: Allocator> Table<A> {
     {
         Ok(Table {
             entries: Vec::new(alloc),
+            blockers: Vec::new(alloc),
+            cells: Vec::new(alloc),
         })
     }
 
@@ -163,7 +264,7 @@ impl<A: Allocator> Table<A> {
 
     /// Puts a new claim last, and says how it stands there.
     ///
-    /// It compares the new modes with each claim's.
+    /// It asks the group of each of its places, and looks through the queues of those that refuse.
     pub fn ask(&mut self, id: ClaimId, locks: LockSet) -> Result<Standing, NoMemory>
         requires new { standing_in self.old id ≡ None }
         requires room { length self.old < most_claims }
@@ -171,17 +272,26 @@ impl<A: Allocator> Table<A> {
         ensures asked { OnOk result (self.new ≡ self.old ++ record { id = id; locks = locks } ∷ []) }
         ensures unchanged { OnErr result (self.new ≡ self.old) }
     {
-        let standing = standing_by(first_in_way(&self.entries, &locks));
-        match self.entries.push(Entry { id, locks }) {
-            Ok(()) => Ok(standing),
-            Err(_) => Err(NoMemory),
-        }
+        self.entries.reserve(1)?;
+        self.blockers.reserve(1)?;
+        reserve(&mut self.cells, &locks)?;
+        let is_held = admit(&self.cells, &locks);
+        let blocker = if is_held {
+            None
+        } else {
+            id_at(&self.entries, in_way(&self.entries, &self.cells, &locks))
+        };
+        put_last(&mut self.cells, id, &locks, is_held);
+        self.entries.push(Entry { id, locks }).unwrap();
+        self.blockers.push(blocker).unwrap();
+        Ok(standing_by(blocker))
     }
 
     /// Gives a held claim another lock set, in place of its own, and the first place in the line, if
     /// no other held claim is in the way.
     ///
-    /// It compares the new modes with each claim's, and each of those in the way with all before it.
+    /// It asks the held group of each of its places, and looks through the queues of those that refuse.
+    /// Done, it looks once along the line, and weighs the queued claims again.
     pub fn extend(&mut self, id: ClaimId, locks: LockSet) -> Result<Extension, NoMemory>
         requires held { standing_in self.old id ≡ Some Standing.Held }
         ensures answer { IfOk result (λ extension. extension ≡ extension_by (held_in_way self.old id locks)) }
@@ -191,10 +301,15 @@ impl<A: Allocator> Table<A> {
         ensures memory { OnErr result (held_in_way self.old id locks ≡ None) }
         ensures unchanged { OnErr result (self.new ≡ self.old) }
     {
-        match held_in_way(&self.entries, id, &locks) {
+        let index = index_of(&self.entries, id).unwrap();
+        let own = &self.entries[index].locks;
+        let first = held_in_way(&self.entries, &self.cells, id, own, &locks);
+        match id_at(&self.entries, first) {
             Some(other) => Ok(Extension::InTheWay(other)),
             None => {
-                put_first(&mut self.entries, id, locks)?;
+                let entries = &mut self.entries;
+                let blockers = &mut self.blockers;
+                put_first(entries, blockers, &mut self.cells, id, locks, Again::Queued)?;
                 Ok(Extension::Done)
             }
         }
@@ -208,33 +323,50 @@ impl<A: Allocator> Table<A> {
         ensures unchanged { OnErr result (self.new ≡ self.old) }
     {
         let entries = &mut self.entries;
-        put_first(entries, id, locks)?;
+        let blockers = &mut self.blockers;
+        let cells = &mut self.cells;
+        put_first(entries, blockers, cells, id, locks, Again::Everyone)?;
         Ok(())
+    }
+}
+
+impl<A: Allocator> Table<A> {
+    /// Does nothing: its contract says what every table keeps, for a proof that needs it.
+    pub fn see_whole(&self)
+        ensures { IsTable self.now }
+    {
+        let _ = &self.entries;
     }
 
     /// Takes a claim out of the table. Where it has none of this id, nothing changes.
+    ///
+    /// It looks through the queues of the claim's places and once along the line, and weighs those
+    /// again that waited for this claim.
     pub fn release(&mut self, id: ClaimId)
         ensures { self.new ≡ entries_without self.old id }
     {
-        self.entries.retain(|entry| !is_same(entry.id, id));
+        let Some(index) = index_of(&self.entries, id) else {
+            return;
+        };
+        let entries = &mut self.entries;
+        take_away(entries, &mut self.blockers, &mut self.cells, id, index);
     }
 
-    /// How a claim stands, if it is there.
+    /// How a claim stands, if it is there. It looks once along the line.
     pub fn standing(&self, id: ClaimId) -> Option<Standing>
         ensures standing { result ≡ standing_in self.now id }
         ensures table { IsTable self.now }
     {
-        let entry = find_entry(&self.entries, id)?;
-        let before = entries_before(&self.entries, id);
-        Some(standing_by(first_in_way(before, &entry.locks)))
+        let index = index_of(&self.entries, id)?;
+        Some(standing_by(self.blockers[index]))
     }
 
     /// The claim behind which a claim is queued.
     pub fn blocker(&self, id: ClaimId) -> Option<ClaimId>
         ensures { result ≡ blocker_in self.now id }
     {
-        let entry = find_entry(&self.entries, id)?;
-        first_in_way(entries_before(&self.entries, id), &entry.locks)
+        let index = index_of(&self.entries, id)?;
+        self.blockers[index]
     }
 
     /// The first held claim that covers a place: it has S, SIX or X there, or at a place above.
@@ -243,8 +375,27 @@ impl<A: Allocator> Table<A> {
         ensures { result ≡ held_over_in tree.now self.now place }
     {
         let entries = self.entries.as_slice();
-        let entry = entries.iter().find(|entry| covers(tree, &entry.locks, place)
-            && is_held(entries, entry))?;
-        Some(entry.id)
+        let cells = self.cells.as_slice();
+        let mut first = place_of(entries, cover_at(cells, place));
+        let mut at = place;
+        while let Some(parent) = tree.parent(at) {
+            first = earlier(first, place_of(entries, cover_at(cells, parent)));
+            at = parent;
+        }
+        id_at(entries, first)
+    }
+
+    /// The group of all claims at a place.
+    pub fn group_at(&self, place: PlaceId) -> Group
+        ensures { result ≡ group_in self.now place }
+    {
+        group_at(&self.cells, place)
+    }
+
+    /// The group of the held claims at a place.
+    pub fn held_at(&self, place: PlaceId) -> Group
+        ensures { result ≡ held_group_in self.now place }
+    {
+        held_at(&self.cells, place)
     }
 }

@@ -142,7 +142,7 @@ const C2: ClaimId = ClaimId::Long(2);
 
 const C3: ClaimId = ClaimId::Long(3);
 
-fn ask<A: Allocator>(
+fn ask<A: Allocator + Copy>(
     rt: &impl Abort,
     table: &mut Table<A>,
     id: ClaimId,
@@ -153,7 +153,7 @@ fn ask<A: Allocator>(
     table.ask(id, locks)
 }
 
-fn extend<A: Allocator>(
+fn extend<A: Allocator + Copy>(
     rt: &impl Abort,
     table: &mut Table<A>,
     id: ClaimId,
@@ -163,7 +163,7 @@ fn extend<A: Allocator>(
     table.extend(id, locks)
 }
 
-fn put_first<A: Allocator>(
+fn put_first<A: Allocator + Copy>(
     rt: &impl Abort,
     table: &mut Table<A>,
     id: ClaimId,
@@ -360,9 +360,8 @@ fn a_copy_is_refused_its_memory(rt: HostRuntime) {
     }
     memory.refuse(1);
     assert!(rt; table.copy().is_err() && !memory.is_waiting());
-    memory.refuse(2);
+    memory.refuse(0);
     let mut copy = table.copy().expect(&rt, "memory");
-    assert!(rt; memory.is_waiting(), "one request, for the entries");
     for table in [&table, &copy] {
         assert_eq!(rt; table.standing(C1), Some(Standing::Held));
         assert_eq!(rt; table.standing(C2), Some(Standing::Queued(C1)));
@@ -410,4 +409,65 @@ fn random_lines_agree_by_modes_and_by_places(rt: HostRuntime) {
             assert_eq!(rt; told.expect(&rt, "memory"), expected, "of c{index}");
         }
     }
+}
+
+#[test]
+fn groups_of_a_line(rt: HostRuntime) {
+    let tree = small_tree(&rt, rt.alloc());
+    let queued = Standing::Queued;
+    let mut table = line_of(
+        &rt,
+        rt.alloc(),
+        &tree,
+        &[
+            (&[look(1)], Standing::Held),
+            (&[change(2)], queued(C1)),
+            (&[look(2)], queued(C2)),
+        ],
+    );
+    let rows = [
+        (0, Some(IX), Some(IS)),
+        (1, Some(SIX), Some(S)),
+        (2, Some(X), None),
+        (3, None, None),
+        (9, None, None),
+    ];
+    for (place, all, held) in rows {
+        assert_eq!(rt; table.group_at(PlaceId(place)).mode(), all);
+        assert_eq!(rt; table.held_at(PlaceId(place)).mode(), held);
+    }
+    table.release(C1);
+    assert_eq!(rt; table.group_at(PlaceId(1)).mode(), Some(IX));
+    assert_eq!(rt; table.held_at(PlaceId(1)).mode(), Some(IX));
+    assert_eq!(rt; table.held_at(PlaceId(2)).mode(), Some(X));
+}
+
+#[test]
+fn a_claim_sent_back_is_counted_as_held_no_more(rt: HostRuntime) {
+    let tree = small_tree(&rt, rt.alloc());
+    let held = Standing::Held;
+    let mut table = line_of(
+        &rt,
+        rt.alloc(),
+        &tree,
+        &[
+            (&[look(2)], held),
+            (&[look(2)], held),
+            (&[change(2)], Standing::Queued(C1)),
+        ],
+    );
+    let told = put_first(&rt, &mut table, C2, locks_of(&rt, &tree, &[change(2)]));
+    assert_eq!(rt; told, Ok(()));
+    assert_eq!(rt; table.blocker(C1), Some(C2));
+    assert_eq!(rt; table.blocker(C3), Some(C2));
+    assert_eq!(rt; table.held_at(PlaceId(2)).mode(), Some(X));
+    assert_eq!(rt; table.held_at(PlaceId(1)).mode(), Some(IX));
+    table.release(C2);
+    assert_eq!(rt; table.held_at(PlaceId(2)).mode(), Some(S));
+    assert_eq!(rt; table.group_at(PlaceId(2)).mode(), Some(X));
+    assert_eq!(rt; table.blocker(C3), Some(C1));
+    table.release(C1);
+    assert_eq!(rt; table.held_at(PlaceId(2)).mode(), Some(X));
+    table.release(C3);
+    assert_eq!(rt; table.group_at(PlaceId(2)).mode(), None);
 }

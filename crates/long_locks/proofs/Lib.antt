@@ -6,3 +6,4 @@ pub mod LinesKept
 pub mod Extensions
 pub mod Endings
 pub mod Sends
+pub mod LinesMade

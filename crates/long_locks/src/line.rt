@@ -51,7 +51,7 @@ impl<A: Allocator> Model for Line<A> {
     }) l.table };
 }
 
-pub(crate) fn put_last<A: Allocator>(
+pub(crate) fn put_last<A: Allocator + Copy>(
     claims: &mut Claims<A>,
     table: &mut Table<A>,
     tree: &Tree<A>,
@@ -76,7 +76,7 @@ pub(crate) fn put_last<A: Allocator>(
     Ok(standing)
 }
 
-fn extend<A: Allocator>(
+fn extend<A: Allocator + Copy>(
     claims: &mut Claims<A>,
     table: &mut Table<A>,
     tree: &Tree<A>,
@@ -198,7 +198,9 @@ impl<A: Allocator> Line<A> {
         tree.see_whole();
         self.table.held_over(tree, place)
     }
+}
 
+impl<A: Allocator + Copy> Line<A> {
     /// Puts a new long claim of a designer last, with the next number, and says how it stands there.
     pub fn ask_long(
         &mut self,
@@ -295,7 +297,9 @@ impl<A: Allocator> Line<A> {
         self.tree = Remembered::of(tree);
         Ok(())
     }
+}
 
+impl<A: Allocator> Line<A> {
     /// Takes a claim out of the line. Where it has none of this id, nothing changes.
     pub fn drop_claim(&mut self, id: ClaimId)
         ensures { self.new ≡ record self.old { claims = without self.old.claims id } }

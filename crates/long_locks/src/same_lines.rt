@@ -43,7 +43,7 @@ fn copies_are_refused_each_request_in_turn(rt: HostRuntime) {
     let line = small_line(&rt, &small_tree(&rt, &memory), &memory);
     let ample = small_line(&rt, &small_tree(&rt, rt.alloc()), rt.alloc());
     let mut refused = 0;
-    for number in 1..10u64 {
+    for number in 1..24u64 {
         memory.refuse(number);
         let copy = line.copy();
         let is_waiting = memory.is_waiting();
@@ -62,8 +62,8 @@ fn copies_are_refused_each_request_in_turn(rt: HostRuntime) {
     }
     assert_eq!(rt;
         refused,
-        5,
-        "four requests for the claims, one for their modes"
+        13,
+        "four requests for the claims, nine for their modes"
     );
 }
 
@@ -151,7 +151,7 @@ fn a_line_of_claims_is_refused_each_request_in_turn(rt: HostRuntime) {
     let tree = small_tree(&rt, &memory);
     let claims = three_claims(&rt);
     let mut refused = 0;
-    for number in 1..10u64 {
+    for number in 1..24u64 {
         let list = Vec::from_slice(&memory, &claims).expect(&rt, "memory");
         memory.refuse(number);
         let made = Line::from_claims(&memory, &tree, 7, list);
@@ -171,8 +171,8 @@ fn a_line_of_claims_is_refused_each_request_in_turn(rt: HostRuntime) {
     }
     assert_eq!(rt;
         refused,
-        5,
-        "four requests for the claims, one for their modes"
+        13,
+        "four requests for the claims, nine for their modes"
     );
 
     // What no line has is told, though no memory is there.

@@ -77,7 +77,7 @@ pub(crate) fn new_line<A: Allocator + Copy>(rt: &impl Abort, alloc: A) -> Line<A
     Line::new(alloc).expect(rt, "memory")
 }
 
-pub(crate) fn check_out<A: Allocator>(
+pub(crate) fn check_out<A: Allocator + Copy>(
     rt: &impl Abort,
     line: &mut Line<A>,
     tree: &Tree<A>,
@@ -93,7 +93,7 @@ pub(crate) fn check_out<A: Allocator>(
     line.ask_long(tree, owner, items)
 }
 
-pub(crate) fn hold<A: Allocator>(
+pub(crate) fn hold<A: Allocator + Copy>(
     rt: &impl Abort,
     line: &mut Line<A>,
     tree: &Tree<A>,
@@ -109,7 +109,7 @@ pub(crate) fn hold<A: Allocator>(
     line.ask_short(tree, session, items)
 }
 
-pub(crate) fn extend<A: Allocator>(
+pub(crate) fn extend<A: Allocator + Copy>(
     rt: &impl Abort,
     line: &mut Line<A>,
     tree: &Tree<A>,
@@ -125,7 +125,7 @@ pub(crate) fn extend<A: Allocator>(
     line.extend(tree, id, items)
 }
 
-fn put_first<A: Allocator>(
+fn put_first<A: Allocator + Copy>(
     rt: &impl Abort,
     line: &mut Line<A>,
     tree: &Tree<A>,
@@ -217,7 +217,7 @@ fn a_claim_put_first_is_not_weighed(rt: HostRuntime) {
     let memory = Refusing::new(rt.alloc());
     let tree = small_tree(&rt, &memory);
     let mut refused = 0;
-    for number in 1..8u32 {
+    for number in 1..24u32 {
         let mut line = new_line(&rt, &memory);
         let first = check_out(&rt, &mut line, &tree, &[look(3)]);
         let second = check_out(&rt, &mut line, &tree, &[look(3)]);
@@ -237,7 +237,7 @@ fn a_claim_put_first_is_not_weighed(rt: HostRuntime) {
         assert_eq!(rt; line.at(0).expect(&rt, "a claim").items.len(), 2);
         assert_eq!(rt; line.standing(C1), Some(Standing::Queued(C2)));
     }
-    assert_eq!(rt; refused, 1, "one request, for its modes");
+    assert_eq!(rt; refused, 4, "four requests, for its modes");
 }
 
 fn covered<A: Allocator>(
@@ -277,7 +277,7 @@ fn each_request_of_memory_of_a_new_claim_is_refused(rt: HostRuntime) {
     let memory = Refusing::new(rt.alloc());
     let tree = small_tree(&rt, &memory);
     let mut refused = (0, 0);
-    for number in 1..8u32 {
+    for number in 1..24u32 {
         let mut line = new_line(&rt, &memory);
         memory.refuse(u64::from(number));
         if check_out(&rt, &mut line, &tree, &[look(1)]).is_err() {
@@ -302,8 +302,8 @@ fn each_request_of_memory_of_a_new_claim_is_refused(rt: HostRuntime) {
     }
     assert_eq!(rt;
         refused,
-        (5, 5),
-        "four requests for the claim, one for its modes"
+        (9, 9),
+        "four requests for the claim, five for its modes"
     );
 }
 
@@ -312,7 +312,7 @@ fn each_request_of_memory_of_an_extension_is_refused(rt: HostRuntime) {
     let memory = Refusing::new(rt.alloc());
     let tree = small_tree(&rt, &memory);
     let mut refused = 0;
-    for number in 1..8u32 {
+    for number in 1..24u32 {
         let mut line = new_line(&rt, &memory);
         let first = check_out(&rt, &mut line, &tree, &[look(1)]);
         let second = check_out(&rt, &mut line, &tree, &[look(1)]);
@@ -330,7 +330,7 @@ fn each_request_of_memory_of_an_extension_is_refused(rt: HostRuntime) {
         assert_eq!(rt; answer, Ok(Extension::Done));
         assert_eq!(rt; line.at(0).expect(&rt, "a claim").id, C2);
     }
-    assert_eq!(rt; refused, 1, "one request, for its modes");
+    assert_eq!(rt; refused, 3, "three requests, for its modes");
 }
 
 #[test]

@@ -1,13 +1,141 @@
-use Rattle.std.specs.Prelude.{◌≡◌, Some, position}
-use Rattle.std.proofs.Common.{refl, sym, ◌∙◌}
-use Rattle.lock_table.proofs.Removals.{is_its, own_index, replaced_first}
+use Rattle.std.specs.Prelude.{◌≡◌, ◌<◌, ◌≤◌, ℕ, List, [], ◌∷◌, ◌++◌, Some, None, position, length, map, true}
+use Rattle.std.proofs.Common.{refl, ap, sym, subst, ◌∙◌, arith, rules}
+use Rattle.std.proofs.lemmas.List.{length-map}
+use Rattle.std.specs.List.{remove}
+use Rattle.vault_model.specs.Limits.{most_claims}
+use Rattle.lock_table.specs.declared.entry.Entry.{Entry}
+use Rattle.lock_table.specs.Locks.{mode_at}
+use Rattle.lock_table.specs.Tables.{IsTable, put_first, entries_without, is_held_in}
+use Rattle.lock_table.specs.Queues.{AreQueues, AreStale, HaveRoom, seats_at, room_at, seats_by, seat_of, queue_of, blockers_of, blocker_at}
+use Rattle.lock_table.proofs.Removals.{is_its, own_index}
+use Rattle.lock_table.proofs.TablesKept.{table_extended, table_without}
+use Rattle.lock_table.proofs.Blockers.{leave_law, taken_out, taken_beside, stale_first, stale_left}
+use Rattle.lock_table.proofs.Queuing.{located, seats_count, seats_bound, seats_fewer, one_less, room_left, first_room, put_count, same_length, apart_first, apart_without}
 use Rattle.lock_table.proofs.table.put_first.Goals as goal
 
 pub unwrap-index-requires : goal.unwrap-index-requires
 unwrap-index-requires g c = rw (c.index_of.ensures, c.deref.ensures.value, own_index c.args.id c.args.entries.now.items c.requires.there) refl
 
+pub leave-requires-clause-there : goal.leave-requires-clause-there
+leave-requires-clause-there g c =
+    let table = c.args.entries.now.items in
+    let at : position (is_its c.args.id) table ≡ Some c.unwrap-index.result = ap (position (is_its c.args.id)) (sym c.deref.ensures.value) ∙ (sym c.index_of.ensures ∙ c.unwrap-index.ensures) in
+    let inside = (located table c.args.id c.unwrap-index.result at).inside in
+    let same = ap length c.deref-2.ensures.value in
+    omega (arith, inside, same)
+
+pub leave-requires-clause-table : goal.leave-requires-clause-table
+leave-requires-clause-table g c = subst (λ (t : List Entry). IsTable t) (sym c.deref-2.ensures.value) c.requires.table
+
+pub leave-requires-clause-queues : goal.leave-requires-clause-queues
+leave-requires-clause-queues g c = λ p. c.reserve.ensures.seats p ∙ (c.requires.queues.queues p ∙ ap (λ (t : List Entry). queue_of t p) (sym c.deref-2.ensures.value))
+
+pub leave-requires-clause-blockers : goal.leave-requires-clause-blockers
+leave-requires-clause-blockers g c = c.deref-3.ensures.value ∙ (c.requires.blockers ∙ ap (λ (t : List Entry). blockers_of t) (sym c.deref-2.ensures.value))
+
+pub put_first-requires-clause-room : goal.put_first-requires-clause-room
+put_first-requires-clause-room g c =
+    let table = c.args.entries.now.items in
+    let at : position (is_its c.args.id) table ≡ Some c.unwrap-index.result = ap (position (is_its c.args.id)) (sym c.deref.ensures.value) ∙ (sym c.index_of.ensures ∙ c.unwrap-index.ensures) in
+    let left = leave_law table c.deref-2.result.now c.leave.new.cells.items c.args.id c.unwrap-index.result c.deref-2.ensures.value at c.leave.ensures.seats in
+    room_left c.reserve.new.cells.items c.leave.new.cells.items c.args.locks
+    (λ p. let one = ap length (left p) in let all = ap length (c.reserve.ensures.seats p ∙ c.requires.queues.queues p) in let fewer = seats_fewer (is_held_in table) (is_held_in table) table c.args.id p in omega (arith, one, all, fewer))
+    c.leave.ensures.room c.in_ok-reserve.ensures.there
+
+pub put_first-requires-clause-few : goal.put_first-requires-clause-few
+put_first-requires-clause-few g c = λ p.
+    let table = c.args.entries.now.items in
+    let at : position (is_its c.args.id) table ≡ Some c.unwrap-index.result = ap (position (is_its c.args.id)) (sym c.deref.ensures.value) ∙ (sym c.index_of.ensures ∙ c.unwrap-index.ensures) in
+    let left = leave_law table c.deref-2.result.now c.leave.new.cells.items c.args.id c.unwrap-index.result c.deref-2.ensures.value at c.leave.ensures.seats in
+    let one = ap length (left p) in
+    let bound = seats_bound (is_held_in table) (entries_without table c.args.id) p in
+    let less = one_less table c.args.id c.requires.there in
+    let few = c.requires.table.few in
+    omega (arith, one, bound, less, few)
+
+pub move_first-requires : goal.move_first-requires
+move_first-requires g c =
+    let table = c.args.entries.now.items in
+    let at : position (is_its c.args.id) table ≡ Some c.unwrap-index.result = ap (position (is_its c.args.id)) (sym c.deref.ensures.value) ∙ (sym c.index_of.ensures ∙ c.unwrap-index.ensures) in
+    let inside = (located table c.args.id c.unwrap-index.result at).inside in
+    omega (arith, inside, c.args.entries.now.ok.0)
+
+pub move_first-requires-2 : goal.move_first-requires-2
+move_first-requires-2 g c =
+    let table = c.args.entries.now.items in
+    let at : position (is_its c.args.id) table ≡ Some c.unwrap-index.result = ap (position (is_its c.args.id)) (sym c.deref.ensures.value) ∙ (sym c.index_of.ensures ∙ c.unwrap-index.ensures) in
+    let inside = (located table c.args.id c.unwrap-index.result at).inside in
+    let many = ap length c.requires.blockers ∙ length-map table (blocker_at table) in
+    omega (arith, inside, many, c.args.blockers.now.ok.0)
+
+pub weigh_again-requires-clause-table : goal.weigh_again-requires-clause-table
+weigh_again-requires-clause-table g c =
+    let table = c.args.entries.now.items in
+    let at : position (is_its c.args.id) table ≡ Some c.unwrap-index.result = ap (position (is_its c.args.id)) (sym c.deref.ensures.value) ∙ (sym c.index_of.ensures ∙ c.unwrap-index.ensures) in
+    let done : c.move_first.new.items.items ≡ put_first table c.args.id c.args.locks = c.move_first.ensures ∙ ap (λ (xs : List Entry). record { id = c.args.id; locks = c.args.locks } ∷ xs) (taken_out table c.args.id c.unwrap-index.result c.requires.table.distinct at) in
+    let kept : IsTable (put_first table c.args.id c.args.locks) = table_extended table c.args.id c.args.locks c.requires.table (same_length table c.args.id c.args.locks c.requires.table.distinct c.requires.there) in
+    subst (λ (t : List Entry). IsTable t) (sym (c.deref-4.ensures.value ∙ done)) kept
+
+pub weigh_again-requires-clause-stale : goal.weigh_again-requires-clause-stale
+weigh_again-requires-clause-stale g c =
+    let table = c.args.entries.now.items in
+    let at : position (is_its c.args.id) table ≡ Some c.unwrap-index.result = ap (position (is_its c.args.id)) (sym c.deref.ensures.value) ∙ (sym c.index_of.ensures ∙ c.unwrap-index.ensures) in
+    let done : c.move_first.new.items.items ≡ put_first table c.args.id c.args.locks = c.move_first.ensures ∙ ap (λ (xs : List Entry). record { id = c.args.id; locks = c.args.locks } ∷ xs) (taken_out table c.args.id c.unwrap-index.result c.requires.table.distinct at) in
+    let kept : IsTable (put_first table c.args.id c.args.locks) = table_extended table c.args.id c.args.locks c.requires.table (same_length table c.args.id c.args.locks c.requires.table.distinct c.requires.there) in
+    let left = leave_law table c.deref-2.result.now c.leave.new.cells.items c.args.id c.unwrap-index.result c.deref-2.ensures.value at c.leave.ensures.seats in
+    let beside = c.move_first-2.ensures ∙ ap (λ xs. None ∷ xs) (taken_beside table c.args.blockers.now.items c.args.id c.unwrap-index.result c.requires.table.distinct at c.requires.blockers) in
+    subst (λ (t : List Entry). AreStale c.args.again t c.move_first-2.new.items.items c.put_first.new.cells.items) (sym (c.deref-4.ensures.value ∙ done))
+    (stale_first c.args.again table c.args.id c.args.locks c.move_first-2.new.items.items c.put_first.new.cells.items beside
+    (λ p. c.put_first.ensures.seats p ∙ ap (λ xs. seat_of true c.args.id (mode_at c.args.locks p) ++ xs) (left p)) c.requires.enough)
+
 pub returns-clause-done : goal.returns-clause-done
 returns-clause-done g c =
-    let found : position (is_its c.args.id) c.args.entries.now.items ≡ Some c.unwrap-index.result = rw c.deref.ensures.value at (sym c.index_of.ensures ∙ c.unwrap-index.ensures) in
-    rw (c.remove.ensures.items, c.in-Ok.ensures.items)
-    (replaced_first c.args.id c.args.entries.now.items (record { id = c.args.id; locks = c.args.locks }) c.unwrap-index.result c.requires.distinct c.requires.there found)
+    let table = c.args.entries.now.items in
+    let at : position (is_its c.args.id) table ≡ Some c.unwrap-index.result = ap (position (is_its c.args.id)) (sym c.deref.ensures.value) ∙ (sym c.index_of.ensures ∙ c.unwrap-index.ensures) in
+    let done : c.move_first.new.items.items ≡ put_first table c.args.id c.args.locks = c.move_first.ensures ∙ ap (λ (xs : List Entry). record { id = c.args.id; locks = c.args.locks } ∷ xs) (taken_out table c.args.id c.unwrap-index.result c.requires.table.distinct at) in
+    let kept : IsTable (put_first table c.args.id c.args.locks) = table_extended table c.args.id c.args.locks c.requires.table (same_length table c.args.id c.args.locks c.requires.table.distinct c.requires.there) in
+    done
+
+pub returns-clause-table : goal.returns-clause-table
+returns-clause-table g c =
+    let table = c.args.entries.now.items in
+    let at : position (is_its c.args.id) table ≡ Some c.unwrap-index.result = ap (position (is_its c.args.id)) (sym c.deref.ensures.value) ∙ (sym c.index_of.ensures ∙ c.unwrap-index.ensures) in
+    let done : c.move_first.new.items.items ≡ put_first table c.args.id c.args.locks = c.move_first.ensures ∙ ap (λ (xs : List Entry). record { id = c.args.id; locks = c.args.locks } ∷ xs) (taken_out table c.args.id c.unwrap-index.result c.requires.table.distinct at) in
+    let kept : IsTable (put_first table c.args.id c.args.locks) = table_extended table c.args.id c.args.locks c.requires.table (same_length table c.args.id c.args.locks c.requires.table.distinct c.requires.there) in
+    subst (λ (t : List Entry). IsTable t) (sym done) kept
+
+pub returns-clause-queues : goal.returns-clause-queues
+returns-clause-queues g c =
+    let table = c.args.entries.now.items in
+    let at : position (is_its c.args.id) table ≡ Some c.unwrap-index.result = ap (position (is_its c.args.id)) (sym c.deref.ensures.value) ∙ (sym c.index_of.ensures ∙ c.unwrap-index.ensures) in
+    let done : c.move_first.new.items.items ≡ put_first table c.args.id c.args.locks = c.move_first.ensures ∙ ap (λ (xs : List Entry). record { id = c.args.id; locks = c.args.locks } ∷ xs) (taken_out table c.args.id c.unwrap-index.result c.requires.table.distinct at) in
+    let kept : IsTable (put_first table c.args.id c.args.locks) = table_extended table c.args.id c.args.locks c.requires.table (same_length table c.args.id c.args.locks c.requires.table.distinct c.requires.there) in
+    let left = leave_law table c.deref-2.result.now c.leave.new.cells.items c.args.id c.unwrap-index.result c.deref-2.ensures.value at c.leave.ensures.seats in
+    let now = put_first table c.args.id c.args.locks in
+    let same : c.deref-4.result.now ≡ now = c.deref-4.ensures.value ∙ done in
+    let there = room_left c.reserve.new.cells.items c.leave.new.cells.items c.args.locks
+    (λ p. let one = ap length (left p) in let all = ap length (c.reserve.ensures.seats p ∙ c.requires.queues.queues p) in let fewer = seats_fewer (is_held_in table) (is_held_in table) table c.args.id p in omega (arith, one, all, fewer))
+    c.leave.ensures.room c.in_ok-reserve.ensures.there in
+    let rest : (p : ℕ) → length (seats_at c.leave.new.cells.items p) ≤ room_at c.leave.new.cells.items p = λ p.
+    let one = ap length (left p) in
+    let all = ap length (c.requires.queues.queues p) in
+    let fewer = seats_fewer (is_held_in table) (is_held_in table) table c.args.id p in
+    let old = c.requires.queues.room p in
+    let a = c.reserve.ensures.room p in
+    let b = c.leave.ensures.room p in
+    omega (arith, one, all, fewer, old, a, b) in
+    let first = first_room c.leave.new.cells.items c.put_first.new.cells.items c.args.locks c.args.id there rest c.put_first.ensures.seats c.put_first.ensures.room in
+    subst (λ (t : List Entry). AreQueues t c.weigh_again.new.cells.items) (sym done) (record {
+      queues = λ p. c.weigh_again.ensures.queues p ∙ ap (λ (t : List Entry). queue_of t p) same;
+      room = λ p.
+          let last = ap length (c.weigh_again.ensures.queues p ∙ ap (λ (t : List Entry). queue_of t p) same) in
+          let weighed = seats_count (is_held_in now) now p in
+          let put = put_count c.put_first.new.cells.items table c.args.id c.args.locks p (c.put_first.ensures.seats p ∙ ap (λ xs. seat_of true c.args.id (mode_at c.args.locks p) ++ xs) (left p)) in
+          let bound = first p in
+          let more = c.weigh_again.ensures.room p in
+          omega (arith, last, weighed, put, bound, more);
+      apart = apart_first table c.args.id c.args.locks c.requires.queues.apart c.reserve.ensures.apart;
+    })
+
+pub returns-clause-blockers : goal.returns-clause-blockers
+returns-clause-blockers g c = c.weigh_again.ensures.blockers ∙ ap (λ (t : List Entry). blockers_of t) c.deref-4.ensures.value

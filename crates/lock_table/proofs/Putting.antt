@@ -1,0 +1,252 @@
+-- Cells in a list: one changed, one more, and a claim put last at the places of its locks.
+use Rattle.std.specs.Prelude.{◌≡◌, ◌≢◌, ◌⊎◌, ℕ, zero, suc, ◌+◌, ◌<◌, ◌≤◌, Bool, true, false, ◌==◌, nat_eq, List, [], ◌∷◌, ◌++◌, length, slice_get, Option, None, Some, All, refl}
+use Rattle.std.proofs.Common.{sym, ap, subst, ◌∙◌, arith, get_or, set, inl, inr, eqb, append-nil, length-append, length-set}
+use Rattle.std.specs.List.{IsDistinct, AllByRecursion}
+use Rattle.std.proofs.lemmas.Bool.{cases_lt}
+use Rattle.std.proofs.lemmas.Bool.Decides.{eqb_tells}
+use Rattle.std.proofs.lemmas.List.Elements.{All-nil, All-cons, All-head, All-tail}
+use Rattle.vault_model.specs.declared.ids.ClaimId.{ClaimId}
+use Rattle.lock_modes.specs.declared.mode.Mode.{Mode}
+use Rattle.lock_table.specs.declared.locks.Lock.{Lock}
+use Rattle.lock_table.specs.declared.cell.Seat.{Seat}
+use Rattle.lock_table.specs.Locks.{mode_at, AreApart}
+use Rattle.lock_table.specs.Queues.{CellSeen, seats_of, room_of, seats_at, room_at, HaveRoom, by_lock, seat_of}
+use Rattle.lock_table.proofs.JoinedAt.{places}
+
+at_set_same : {T : Type 0} (xs : List T) (q : ℕ) (c : T) → q < length xs → slice_get (set xs q c) q ≡ Some c
+at_set_same [] q c h = absurd (omega (arith, h))
+at_set_same (x ∷ xs) zero c h = refl
+at_set_same (x ∷ xs) (suc q) c h = at_set_same xs q c (omega (arith, h))
+
+at_set_other : {T : Type 0} (xs : List T) (q p : ℕ) (c : T) → p ≢ q → slice_get (set xs q c) p ≡ slice_get xs p
+at_set_other [] q p c differ = refl
+at_set_other (x ∷ xs) zero zero c differ = absurd (differ refl)
+at_set_other (x ∷ xs) zero (suc p) c differ = refl
+at_set_other (x ∷ xs) (suc q) zero c differ = refl
+at_set_other (x ∷ xs) (suc q) (suc p) c differ = at_set_other xs q p c (λ e. differ (ap suc e))
+
+pub read_at : {T : Type 0} (xs : List T) (q : ℕ) (c : T) → q < length xs → c ≡ get_or xs q c → slice_get xs q ≡ Some c
+read_at [] q c h e = absurd (omega (arith, h))
+read_at (x ∷ xs) zero c h e = ap Some (sym e)
+read_at (x ∷ xs) (suc q) c h e = read_at xs q c (omega (arith, h)) e
+
+pub there_at : (cells : List CellSeen) (q : ℕ) → 0 < room_at cells q → q < length cells
+there_at [] q h = absurd (omega (arith, h))
+there_at (x ∷ xs) zero h = omega arith
+there_at (x ∷ xs) (suc q) h = let rest = there_at xs q h in omega (arith, rest)
+
+-- one cell is another now, with no less room
+pub record IsChanged (cells new : List CellSeen) (q : ℕ) (seats : List Seat) : Type 0 where
+  pub here : seats_at new q ≡ seats
+  pub elsewhere : (p : ℕ) → p ≢ q → seats_at new p ≡ seats_at cells p
+  pub room : (p : ℕ) → room_at cells p ≤ room_at new p
+  pub room_elsewhere : (p : ℕ) → p ≢ q → room_at new p ≡ room_at cells p
+  pub room_here : ℕ
+  pub room_is : room_at new q ≡ room_here
+
+pub changed : (cells new : List CellSeen) (q : ℕ) (c c' : CellSeen) → q < length cells → new ≡ set cells q c' → c ≡ get_or cells q c → c.room ≤ c'.room → IsChanged cells new q c'.seats
+changed cells new q c c' inside e is more = record {
+  here = ap (λ xs. seats_at xs q) e ∙ ap seats_of (at_set_same cells q c' inside);
+  elsewhere = λ p differ. ap (λ xs. seats_at xs p) e ∙ ap seats_of (at_set_other cells q p c' differ);
+  room = λ p. by_place p (eqb_tells p q);
+  room_elsewhere = λ p differ. ap (λ xs. room_at xs p) e ∙ ap room_of (at_set_other cells q p c' differ);
+  room_here = c'.room;
+  room_is = ap (λ xs. room_at xs q) e ∙ ap room_of (at_set_same cells q c' inside);
+}
+  where
+    by_place : (p : ℕ) → ((eqb p q ≡ true) × (p ≡ q)) ⊎ ((eqb p q ≡ false) × (p ≢ q)) → room_at cells p ≤ room_at new p
+    by_place p (inl same) =
+        let old : room_at cells p ≡ c.room = ap (room_at cells) same.1 ∙ ap room_of (read_at cells q c inside is) in
+        let now : room_at new p ≡ c'.room = ap (room_at new) same.1 ∙ (ap (λ xs. room_at xs q) e ∙ ap room_of (at_set_same cells q c' inside)) in
+        omega (arith, old, now, more)
+    by_place p (inr other) =
+        let same : room_at new p ≡ room_at cells p = ap (λ xs. room_at xs p) e ∙ ap room_of (at_set_other cells q p c' other.1) in
+        omega (arith, same)
+
+pub seats_set : (cells : List CellSeen) (q : ℕ) (c' : CellSeen) → q < length cells → seats_at (set cells q c') q ≡ c'.seats
+seats_set cells q c' inside = ap seats_of (at_set_same cells q c' inside)
+
+pub room_set : (cells : List CellSeen) (q : ℕ) (c' : CellSeen) → q < length cells → room_at (set cells q c') q ≡ c'.room
+room_set cells q c' inside = ap room_of (at_set_same cells q c' inside)
+
+-- a cell changed in its room alone
+pub same_seats : (cells new : List CellSeen) (q : ℕ) (seats : List Seat) → IsChanged cells new q seats → seats ≡ seats_at cells q → (p : ℕ) → seats_at new p ≡ seats_at cells p
+same_seats cells new q seats change same p = by_place (eqb_tells p q)
+  where
+    by_place : ((eqb p q ≡ true) × (p ≡ q)) ⊎ ((eqb p q ≡ false) × (p ≢ q)) → seats_at new p ≡ seats_at cells p
+    by_place (inl e) = subst (λ k. seats_at new k ≡ seats_at cells k) (sym e.1) (change.here ∙ same)
+    by_place (inr other) = change.elsewhere p other.1
+
+pub seats_read : (cells : List CellSeen) (q : ℕ) (c : CellSeen) → q < length cells → c ≡ get_or cells q c → seats_at cells q ≡ c.seats
+seats_read cells q c inside is = ap seats_of (read_at cells q c inside is)
+
+pub room_read : (cells : List CellSeen) (q : ℕ) (c : CellSeen) → q < length cells → c ≡ get_or cells q c → room_at cells q ≡ c.room
+room_read cells q c inside is = ap room_of (read_at cells q c inside is)
+
+-- a cell without seats put last
+pub seats_grown : (cells : List CellSeen) (c : CellSeen) (p : ℕ) → c.seats ≡ [] → seats_at (cells ++ c ∷ []) p ≡ seats_at cells p
+seats_grown [] c zero e = e
+seats_grown [] c (suc p) e = refl
+seats_grown (x ∷ xs) c zero e = refl
+seats_grown (x ∷ xs) c (suc p) e = seats_grown xs c p e
+
+pub room_grown : (cells : List CellSeen) (c : CellSeen) (p : ℕ) → room_at cells p ≤ room_at (cells ++ c ∷ []) p
+room_grown [] c zero = omega arith
+room_grown [] c (suc p) = omega arith
+room_grown (x ∷ xs) c zero = omega arith
+room_grown (x ∷ xs) c (suc p) = room_grown xs c p
+
+pub seats_past : (cells : List CellSeen) (p : ℕ) → length cells ≤ p → seats_at cells p ≡ []
+seats_past [] p h = refl
+seats_past (x ∷ xs) zero h = absurd (omega (arith, h))
+seats_past (x ∷ xs) (suc p) h = seats_past xs p (omega (arith, h))
+
+-- a place that no lock of a list has
+pub none_there : (p : ℕ) (ls : List Lock) → AllByRecursion (λ y. nat_eq p y ≡ false) (places ls) → mode_at ls p ≡ None
+none_there p [] all = refl
+none_there p (l ∷ ls) all = rw (turned (eqb_tells l.place p)) (none_there p ls all.1)
+  where
+    turned : ((eqb l.place p ≡ true) × (l.place ≡ p)) ⊎ ((eqb l.place p ≡ false) × (l.place ≢ p)) → (l.place == p) ≡ false
+    turned (inl same) = absurd (apart (subst (λ x. nat_eq p x ≡ false) same.1 all.0))
+      where
+        apart : nat_eq p p ≡ false → ⊥
+        apart e = by_test (eqb_tells p p)
+          where
+            by_test : ((eqb p p ≡ true) × (p ≡ p)) ⊎ ((eqb p p ≡ false) × (p ≢ p)) → ⊥
+            by_test (inl same) = cc
+            by_test (inr other) = other.1 refl
+    turned (inr other) = other.0
+
+-- a claim is put last: what it has now, and what the locks that are left give
+pub record IsPutting (start cells : List CellSeen) (held : Bool) (id : ClaimId) (locks rest : List Lock) : Type 0 where
+  pub seats : (p : ℕ) → seats_at cells p ++ seat_of held id (mode_at rest p) ≡ seats_at start p ++ seat_of held id (mode_at locks p)
+  pub room : (p : ℕ) → room_at start p ≤ room_at cells p
+  pub left : HaveRoom cells rest
+  pub apart : AreApart rest
+
+module _ (start : List CellSeen) (held : Bool) (id : ClaimId) (locks : List Lock) where
+  pub put_start : HaveRoom start locks → AreApart locks → IsPutting start start held id locks locks
+  put_start left apart = record { seats = λ p. refl; room = λ p. omega arith; left = left; apart = apart }
+
+  pub put_done : (cells : List CellSeen) → IsPutting start cells held id locks [] → (p : ℕ) → seats_at cells p ≡ seats_at start p ++ seat_of held id (mode_at locks p)
+  put_done cells putting p = sym (append-nil (seats_at cells p)) ∙ putting.seats p
+
+  module _ (cells : List CellSeen) (l : Lock) (ls : List Lock) (putting : IsPutting start cells held id locks (l ∷ ls)) where
+    own_mode : mode_at (l ∷ ls) l.place ≡ Some l.mode
+    own_mode = by_test (eqb_tells l.place l.place)
+      where
+        by_test : ((eqb l.place l.place ≡ true) × (l.place ≡ l.place)) ⊎ ((eqb l.place l.place ≡ false) × (l.place ≢ l.place)) → mode_at (l ∷ ls) l.place ≡ Some l.mode
+        by_test (inl same) = rw same.0 refl
+        by_test (inr other) = absurd (other.1 refl)
+
+    other_mode : (p : ℕ) → (eqb l.place p ≡ false) → mode_at (l ∷ ls) p ≡ mode_at ls p
+    other_mode p e = rw e refl
+
+    pub put_room : length (seats_at cells l.place) < room_at cells l.place
+    put_room = All-head (λ (x : Lock). length (seats_at cells x.place) < room_at cells x.place) l ls putting.left
+
+    pub put_inside : l.place < length cells
+    put_inside = let room = put_room in there_at cells l.place (omega (arith, room))
+
+    pub put_few : (most : ℕ) → ((p : ℕ) → length (seats_at start p) < most) → length (seats_at cells l.place) < most
+    put_few most few =
+        let same = ap length (ap (λ o. seats_at cells l.place ++ seat_of held id o) (sym own_mode) ∙ putting.seats l.place) in
+        let one = length-append (seats_at cells l.place) (seat_of held id (Some l.mode)) in
+        let all = length-append (seats_at start l.place) (seat_of held id (mode_at locks l.place)) in
+        let bound = at_most (mode_at locks l.place) in
+        let here = few l.place in
+        omega (arith, same, one, all, bound, here)
+      where
+        at_most : (o : Option Mode) → length (seat_of held id o) ≤ 1
+        at_most None = omega arith
+        at_most (Some m) = omega arith
+
+    pub put_step : (new : List CellSeen) → IsChanged cells new l.place (seats_at cells l.place ++ record { id = id; mode = l.mode; is_held = held } ∷ []) → IsPutting start new held id locks ls
+    unfolding IsDistinct
+    put_step new change = record {
+      seats = λ p. by_place p (eqb_tells l.place p);
+      room = λ p. let before = putting.room p in let after = change.room p in omega (arith, before, after);
+      left = still ls putting.apart.0 (All-tail (λ (x : Lock). length (seats_at cells x.place) < room_at cells x.place) l ls putting.left);
+      apart = putting.apart.1;
+    }
+      where
+        by_place : (p : ℕ) → ((eqb l.place p ≡ true) × (l.place ≡ p)) ⊎ ((eqb l.place p ≡ false) × (l.place ≢ p))
+            → seats_at new p ++ seat_of held id (mode_at ls p) ≡ seats_at start p ++ seat_of held id (mode_at locks p)
+        by_place p (inl same) = subst (λ q. seats_at new q ++ seat_of held id (mode_at ls q) ≡ seats_at start q ++ seat_of held id (mode_at locks q)) same.1
+            (ap (λ o. seats_at new l.place ++ seat_of held id o) (none_there l.place ls putting.apart.0) ∙ (append-nil (seats_at new l.place)
+            ∙ (change.here ∙ (ap (λ o. seats_at cells l.place ++ seat_of held id o) (sym own_mode) ∙ putting.seats l.place))))
+        by_place p (inr other) =
+            ap (λ xs. xs ++ seat_of held id (mode_at ls p)) (change.elsewhere p (λ e. other.1 (sym e)))
+            ∙ (ap (λ o. seats_at cells p ++ seat_of held id o) (sym (other_mode p other.0)) ∙ putting.seats p)
+
+        apart_from : (x : Lock) → nat_eq l.place x.place ≡ false → x.place ≢ l.place
+        apart_from x e = by_test (eqb_tells l.place x.place)
+          where
+            by_test : ((eqb l.place x.place ≡ true) × (l.place ≡ x.place)) ⊎ ((eqb l.place x.place ≡ false) × (l.place ≢ x.place)) → x.place ≢ l.place
+            by_test (inl same) = cc
+            by_test (inr other) = λ h. other.1 (sym h)
+
+        still : (xs : List Lock) → AllByRecursion (λ y. nat_eq l.place y ≡ false) (places xs) → All (λ (x : Lock). length (seats_at cells x.place) < room_at cells x.place) xs → HaveRoom new xs
+        still [] apart room = All-nil (λ (x : Lock). length (seats_at new x.place) < room_at new x.place)
+        still (x ∷ xs) apart room =
+            let here = All-head (λ (x : Lock). length (seats_at cells x.place) < room_at cells x.place) x xs room in
+            let same = ap length (change.elsewhere x.place (apart_from x apart.0)) in
+            let more = change.room x.place in
+            All-cons (λ (x : Lock). length (seats_at new x.place) < room_at new x.place) x xs (omega (arith, here, same, more))
+            (still xs apart.1 (All-tail (λ (x : Lock). length (seats_at cells x.place) < room_at cells x.place) x xs room))
+
+-- the seats at the places of locks are changed, one place after another
+module _ (change : Mode → List Seat → List Seat) (start : List CellSeen) (locks : List Lock) where
+  pub record IsTurning (cells : List CellSeen) (rest : List Lock) : Type 0 where
+    pub left : (p : ℕ) (m : Mode) → mode_at rest p ≡ Some m → (seats_at cells p ≡ seats_at start p) × (mode_at locks p ≡ Some m)
+    pub turned : (p : ℕ) → mode_at rest p ≡ None → seats_at cells p ≡ by_lock change (mode_at locks p) (seats_at start p)
+    pub room : (p : ℕ) → room_at start p ≤ room_at cells p
+    pub apart : AreApart rest
+
+  pub turn_start : AreApart locks → IsTurning start locks
+  turn_start apart = record {
+    left = λ p m h. (refl, h);
+    turned = λ p h. rw h refl;
+    room = λ p. omega arith;
+    apart = apart;
+  }
+
+  pub turn_done : (cells : List CellSeen) → IsTurning cells [] → (p : ℕ) → seats_at cells p ≡ by_lock change (mode_at locks p) (seats_at start p)
+  turn_done cells turning p = turning.turned p refl
+
+  module _ (cells : List CellSeen) (l : Lock) (ls : List Lock) (turning : IsTurning cells (l ∷ ls)) where
+    pub turn_mode : mode_at (l ∷ ls) l.place ≡ Some l.mode
+    turn_mode = by_test (eqb_tells l.place l.place)
+      where
+        by_test : ((eqb l.place l.place ≡ true) × (l.place ≡ l.place)) ⊎ ((eqb l.place l.place ≡ false) × (l.place ≢ l.place)) → mode_at (l ∷ ls) l.place ≡ Some l.mode
+        by_test (inl same) = rw same.0 refl
+        by_test (inr other) = absurd (other.1 refl)
+
+    pub turn_head : (seats_at cells l.place ≡ seats_at start l.place) × (mode_at locks l.place ≡ Some l.mode)
+    turn_head = turning.left l.place l.mode turn_mode
+
+    pub turn_step : (new : List CellSeen) → seats_at new l.place ≡ change l.mode (seats_at cells l.place) → ((p : ℕ) → p ≢ l.place → seats_at new p ≡ seats_at cells p) → ((p : ℕ) → room_at cells p ≤ room_at new p) → IsTurning new ls
+    unfolding IsDistinct
+    turn_step new here elsewhere more = record {
+      left = λ p m h. left_by p m h (eqb_tells l.place p);
+      turned = λ p h. turned_by p h (eqb_tells l.place p);
+      room = λ p. let before = turning.room p in let after = more p in omega (arith, before, after);
+      apart = turning.apart.1;
+    }
+      where
+        left_by : (p : ℕ) (m : Mode) → mode_at ls p ≡ Some m → ((eqb l.place p ≡ true) × (l.place ≡ p)) ⊎ ((eqb l.place p ≡ false) × (l.place ≢ p)) → (seats_at new p ≡ seats_at start p) × (mode_at locks p ≡ Some m)
+        left_by p m h (inl same) =
+            let none : mode_at ls p ≡ None = subst (λ q. mode_at ls q ≡ None) same.1 (none_there l.place ls turning.apart.0) in
+            cc
+        left_by p m h (inr other) =
+            let before = turning.left p m (rw other.0 h) in
+            (elsewhere p (λ e. other.1 (sym e)) ∙ before.0, before.1)
+
+        turned_by : (p : ℕ) → mode_at ls p ≡ None → ((eqb l.place p ≡ true) × (l.place ≡ p)) ⊎ ((eqb l.place p ≡ false) × (l.place ≢ p)) → seats_at new p ≡ by_lock change (mode_at locks p) (seats_at start p)
+        turned_by p h (inl same) = subst (λ q. seats_at new q ≡ by_lock change (mode_at locks q) (seats_at start q)) same.1
+            (here ∙ (ap (change l.mode) turn_head.0 ∙ ap (λ o. by_lock change o (seats_at start l.place)) (sym turn_head.1)))
+        turned_by p h (inr other) = elsewhere p (λ e. other.1 (sym e)) ∙ turning.turned p (rw other.0 h)
+
+pub first_lock : (id : ClaimId) (o : Option Mode) (seats : List Seat) → by_lock (λ m xs. record { id = id; mode = m; is_held = true } ∷ xs) o seats ≡ seat_of true id o ++ seats
+first_lock id None seats = refl
+first_lock id (Some m) seats = refl

@@ -1,0 +1,36 @@
+use Rattle.std.specs.Prelude.{◌≡◌, ℕ, List, Some, slice_get, is_none, map}
+use Rattle.std.proofs.Common.{sym, ap, subst, ◌∙◌}
+use Rattle.std.proofs.lemmas.Option.{same_Some}
+use Rattle.lock_modes.specs.declared.mode.Mode.{Mode}
+use Rattle.lock_table.specs.declared.entry.Entry.{Entry}
+use Rattle.lock_table.specs.declared.cell.Seat.{Seat}
+use Rattle.lock_table.specs.Locks.{mode_at}
+use Rattle.lock_table.specs.Tables.{entries_without, is_held_in}
+use Rattle.lock_table.specs.Queues.{HasSeat, seats_at, seats_by, queue_of, by_lock, seats_without, blocker_at}
+use Rattle.lock_table.proofs.Putting.{read_at}
+use Rattle.lock_table.proofs.Others.{has_seat}
+use Rattle.lock_table.proofs.Seats.{none_flag, found_own, left_by}
+use Rattle.lock_table.proofs.Queuing.{mapped_at, get_there}
+use Rattle.lock_table.proofs.table.leave.Goals as goal
+
+pub take_out-requires : goal.take_out-requires
+take_out-requires g c = λ p m h.
+    let table = c.args.entries.now in
+    let i = c.args.index in
+    let e = c.index-entries-index.result in
+    let there : slice_get table i ≡ Some e = read_at table i e c.requires.there c.index-entries-index.is in
+    let beside : slice_get c.args.blockers.now i ≡ Some (blocker_at table e) = ap (λ xs. slice_get xs i) c.requires.blockers ∙ mapped_at (blocker_at table) table i e there in
+    let flag : c.is_none.result ≡ is_held_in table e = none_flag _ c.is_none.result c.is_none.ensures ∙ ap is_none (get_there c.args.blockers.now i (blocker_at table e) _ beside) in
+    let mine : HasSeat e.id m (is_held_in table e) (queue_of table p) = has_seat e.id (is_held_in table) table p e m c.requires.table.distinct (found_own table i e c.requires.table.distinct there) h in
+    subst (λ (xs : List Seat). HasSeat e.id m c.is_none.result xs) (sym (c.requires.queues p)) (subst (λ b. HasSeat e.id m b (queue_of table p)) (sym flag) mine)
+
+pub returns-clause-seats : goal.returns-clause-seats
+returns-clause-seats g c = λ e there p.
+    let table = c.args.entries.now in
+    let x = c.index-entries-index.result in
+    let mine : slice_get table c.args.index ≡ Some x = read_at table c.args.index x c.requires.there c.index-entries-index.is in
+    let same : x ≡ e = same_Some x e (sym mine ∙ there) in
+    let left : seats_at c.take_out.new.cells.items p ≡ seats_by (is_held_in table) (entries_without table x.id) p = c.take_out.ensures.seats p
+    ∙ (ap (λ (xs : List Seat). by_lock (λ m. seats_without x.id) (mode_at x.locks p) xs) (c.requires.queues p)
+    ∙ left_by x.id (is_held_in table) table p x c.requires.table.distinct (found_own table c.args.index x c.requires.table.distinct mine)) in
+    subst (λ (y : Entry). seats_at c.take_out.new.cells.items p ≡ seats_by (is_held_in table) (entries_without table y.id) p) same left

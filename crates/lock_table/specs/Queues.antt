@@ -1,0 +1,209 @@
+-- For each place the queue of the claims that have a mode there, in line order: Gray, Lorie, Putzolu, Traiger (1976).
+use Rattle.std.specs.Bool.{⊤}
+use Rattle.std.specs.Prelude.{◌≡◌, ℕ, suc, ◌<◌, ◌≤◌, Bool, true, false, ◌&&◌, not, nat_lt, if◌then◌else◌, List, [], ◌∷◌, ◌++◌, length, map, take, drop, filter, find, position, slice_get, Option, None, Some, All}
+use Rattle.std.specs.Option.{option_map, option_and_then, is_none}
+use Rattle.vault_model.specs.declared.ids.ClaimId.{ClaimId}
+use Rattle.vault_model.specs.Claims.{same_id}
+use Rattle.lock_modes.specs.declared.mode.Mode.{Mode}
+use Rattle.lock_modes.specs.declared.mode.Mode.TheVariants.{S}
+use Rattle.lock_modes.specs.Modes.{at_least, compatible}
+use Rattle.lock_modes.specs.Groups.{Counts, group_of, with_one, count_of}
+use Rattle.lock_table.specs.declared.locks.Lock.{Lock}
+use Rattle.lock_table.specs.declared.entry.Entry.{Entry}
+use Rattle.lock_table.specs.declared.cell.Seat.{Seat}
+use Rattle.lock_table.specs.declared.again.Again.{Again}
+use Rattle.lock_table.specs.declared.again.Again.TheVariants.{Behind, Queued, Everyone}
+use Rattle.lock_table.specs.Locks.{mode_at, AreApart}
+use Rattle.lock_table.specs.Tables.{first_in_way, entries_before, is_held_in}
+
+-- the queue of a place, and how many seats it has memory for
+pub record CellSeen : Type 0 where
+  pub seats : List Seat
+  pub room : ℕ
+
+-- the modes of seats, and of those of held claims
+abbrev pub seat_modes : List Seat → List Mode
+seat_modes seats = map (λ (s : Seat). s.mode) seats
+
+abbrev pub held_seats : List Seat → List Seat
+held_seats seats = filter (λ (s : Seat). s.is_held) seats
+
+-- both groups count exactly these seats
+abbrev pub AreCounted : List Seat → Counts → Counts → Type 0
+AreCounted seats all held = (all ≡ group_of (seat_modes seats)) × (held ≡ group_of (seat_modes (held_seats seats)))
+
+-- the seats of other claims, and the held ones of them
+abbrev pub seats_without : ClaimId → List Seat → List Seat
+seats_without id seats = filter (λ (s : Seat). not (same_id s.id id)) seats
+
+abbrev pub other_held : ClaimId → List Seat → List Seat
+other_held id seats = seats_without id (held_seats seats)
+
+-- the seats with a claim's own held, or not
+abbrev pub restood : ClaimId → Bool → List Seat → List Seat
+restood id held [] = []
+restood id held (s ∷ seats) = if same_id s.id id then record s { is_held = held } ∷ seats else s ∷ restood id held seats
+
+-- a group with a claim's own mode, where it has one
+abbrev pub with_own : Option Mode → Counts → Counts
+with_own None g = g
+with_own (Some m) g = with_one g m
+
+-- a group has a member of this mode, where there is one
+abbrev pub HasOwn : Option Mode → Counts → Type 0
+HasOwn None g = ⊤
+HasOwn (Some m) g = 0 < count_of g m
+
+-- a claim has this mode among the held seats, once, or none
+abbrev pub IsOwn : ClaimId → Option Mode → List Seat → Type 0
+IsOwn id own seats = group_of (seat_modes (held_seats seats)) ≡ with_own own (group_of (seat_modes (other_held id seats)))
+
+-- a claim has a seat of this mode, held or not, and no other
+pub record HasSeat (id : ClaimId) (m : Mode) (held : Bool) (seats : List Seat) : Type 0 where
+  pub all : group_of (seat_modes seats) ≡ with_one (group_of (seat_modes (seats_without id seats))) m
+  pub held_ones : group_of (seat_modes (held_seats seats)) ≡ with_own (if held then Some m else None) (group_of (seat_modes (held_seats (seats_without id seats))))
+
+-- a list of seats after what the mode of a lock does, where there is one
+abbrev pub by_lock : (Mode → List Seat → List Seat) → Option Mode → List Seat → List Seat
+by_lock change None seats = seats
+by_lock change (Some m) seats = change m seats
+
+-- the queue at a place, and the room there; of a place behind the last cell there is none
+abbrev pub seats_of : Option CellSeen → List Seat
+seats_of None = []
+seats_of (Some c) = c.seats
+
+abbrev pub room_of : Option CellSeen → ℕ
+room_of None = 0
+room_of (Some c) = c.room
+
+abbrev pub seats_at : List CellSeen → ℕ → List Seat
+seats_at cells p = seats_of (slice_get cells p)
+
+abbrev pub room_at : List CellSeen → ℕ → ℕ
+room_at cells p = room_of (slice_get cells p)
+
+-- each of these locks has room for one seat more at its place
+abbrev pub HaveRoom : List CellSeen → List Lock → Type 0
+HaveRoom cells locks = All (λ (l : Lock). length (seats_at cells l.place) < room_at cells l.place) locks
+
+-- the seat of a claim at a place, if it has a mode there
+abbrev pub seat_of : Bool → ClaimId → Option Mode → List Seat
+seat_of held id None = []
+seat_of held id (Some m) = record { id = id; mode = m; is_held = held } ∷ []
+
+-- the seats at a place of some entries, each held by a test
+abbrev pub seats_by : (Entry → Bool) → List Entry → ℕ → List Seat
+seats_by held [] p = []
+seats_by held (e ∷ es) p = seat_of (held e) e.id (mode_at e.locks p) ++ seats_by held es p
+
+-- the queue at a place: a seat for each entry that has a mode there
+abbrev pub queue_of : List Entry → ℕ → List Seat
+queue_of table p = seats_by (is_held_in table) table p
+
+-- the same, entry after entry, each weighed against those before it
+abbrev pub seats_from : List Entry → List Entry → ℕ → List Seat
+seats_from before [] p = []
+seats_from before (e ∷ es) p = seat_of (is_none (first_in_way before e.locks)) e.id (mode_at e.locks p) ++ seats_from (before ++ e ∷ []) es p
+
+-- the seats at a place of some entries, held or not
+pub record AreSeated (table : List Entry) (cells : List CellSeen) : Type 0 where
+  pub held : Entry → Bool
+  pub seats : (p : ℕ) → seats_at cells p ≡ seats_by held table p
+
+-- a test with another answer for one claim, and whether it says of an entry what stands beside it
+abbrev pub held_by : (Entry → Bool) → ClaimId → Bool → Entry → Bool
+held_by held id now e = if same_id e.id id then now else held e
+
+abbrev pub IsHeldAs : (Entry → Bool) → Entry → List (Option ClaimId) → ℕ → Type 0
+IsHeldAs held e blockers i = option_map is_none (slice_get blockers i) ≡ Some (held e)
+
+-- what an entry waits for, and what each does
+abbrev pub blocker_at : List Entry → Entry → Option ClaimId
+blocker_at table e = first_in_way (entries_before table e.id) e.locks
+
+abbrev pub blockers_of : List Entry → List (Option ClaimId)
+blockers_of table = map (blocker_at table) table
+
+-- what every table keeps of its cells: at each place stands the queue of the entries, with memory for it, and no entry has two locks at a place
+pub record AreQueues (table : List Entry) (cells : List CellSeen) : Type 0 where
+  pub queues : (p : ℕ) → seats_at cells p ≡ queue_of table p
+  pub room : (p : ℕ) → length (seats_at cells p) ≤ room_at cells p
+  pub apart : All (λ (e : Entry). AreApart e.locks) table
+
+-- which claims are weighed again, by what they waited for
+abbrev pub is_taken : Again → Option ClaimId → Bool
+is_taken (Behind id) None = false
+is_taken (Behind id) (Some other) = same_id other id
+is_taken Queued None = false
+is_taken Queued (Some other) = true
+is_taken Everyone o = true
+
+-- each entry's old blocker stands beside it, the seats are held by them, and those that aren't weighed again are right
+pub record AreStale (again : Again) (table : List Entry) (blockers : List (Option ClaimId)) (cells : List CellSeen) : Type 0 where
+  pub old : Entry → Option ClaimId
+  pub were : blockers ≡ map old table
+  pub seats : (p : ℕ) → seats_at cells p ≡ seats_by (λ (e : Entry). is_none (old e)) table p
+  pub right : All (λ (e : Entry). is_taken again (old e) ≡ false → old e ≡ blocker_at table e) table
+
+-- the claims so far have their blockers, and those behind them that aren't weighed again
+pub record IsWeighing (again : Again) (table : List Entry) (blockers : List (Option ClaimId)) (cells : List CellSeen) (i : ℕ) : Type 0 where
+  pub old : Entry → Option ClaimId
+  pub were : blockers ≡ map old table
+  pub seats : (p : ℕ) → seats_at cells p ≡ seats_by (λ (e : Entry). is_none (old e)) table p
+  pub done : All (λ (e : Entry). old e ≡ blocker_at table e) (take i table)
+  pub left : All (λ (e : Entry). is_taken again (old e) ≡ false → old e ≡ blocker_at table e) (drop i table)
+
+-- the modes that entries have at a place
+abbrev pub modes_by : Option Mode → List Mode → List Mode
+modes_by None ms = ms
+modes_by (Some m) ms = m ∷ ms
+
+abbrev pub modes_in : List Entry → ℕ → List Mode
+modes_in [] p = []
+modes_in (e ∷ es) p = modes_by (mode_at e.locks p) (modes_in es p)
+
+-- the groups at a place: of all claims, and of the held ones
+abbrev pub group_in : List Entry → ℕ → Counts
+group_in table p = group_of (modes_in table p)
+
+abbrev pub held_group_in : List Entry → ℕ → Counts
+held_group_in table p = group_of (modes_in (filter (is_held_in table) table) p)
+
+-- the earlier of two positions
+abbrev pub earlier : Option ℕ → Option ℕ → Option ℕ
+earlier None o = o
+earlier (Some m) None = Some m
+earlier (Some m) (Some n) = Some (if nat_lt n m then n else m)
+
+-- the claim of the first seat that passes, and where it stands in the line
+abbrev pub first_of : (Seat → Bool) → List Seat → Option ClaimId
+first_of test seats = option_map (λ (s : Seat). s.id) (find test seats)
+
+abbrev pub place_of : List Entry → Option ClaimId → Option ℕ
+place_of table o = option_and_then (λ id. position (λ (e : Entry). same_id e.id id) table) o
+
+-- a seat's mode is in the way of a mode
+abbrev pub is_in_way : Mode → Seat → Bool
+is_in_way m s = not (compatible m s.mode)
+
+-- a seat of another claim that is held, and in the way
+abbrev pub is_held_in_way : ClaimId → Mode → Seat → Bool
+is_held_in_way id m s = not (same_id s.id id) && not (compatible m s.mode) && s.is_held
+
+-- a held seat that covers its place
+abbrev pub is_cover : Seat → Bool
+is_cover s = at_least s.mode S && s.is_held
+
+-- the earliest that some locks give
+abbrev pub earliest : (Lock → Option ℕ) → List Lock → Option ℕ
+earliest f [] = None
+earliest f (l ∷ ls) = earlier (f l) (earliest f ls)
+
+-- where the first claim stands that is in the way of these locks, in any queue
+abbrev pub seat_in_way : List Entry → List CellSeen → List Lock → Option ℕ
+seat_in_way table cells locks = earliest (λ (l : Lock). place_of table (first_of (is_in_way l.mode) (seats_at cells l.place))) locks
+
+-- and the first held one but one
+abbrev pub held_seat_in_way : List Entry → List CellSeen → ClaimId → List Lock → Option ℕ
+held_seat_in_way table cells id locks = earliest (λ (l : Lock). place_of table (first_of (is_held_in_way id l.mode) (seats_at cells l.place))) locks

@@ -1,0 +1,29 @@
+//! Which claims are weighed again after a change of the line.
+ghost use Rattle.std.specs.Prelude.{◌≡◌};
+ghost use Rattle.lock_table.specs.Queues.{is_taken};
+
+use crate::cell::is_same;
+use vault_model::ClaimId;
+
+/// Those that waited for one claim, those that waited for any, or all.
+#[derive(Clone, Copy)]
+pub(crate) enum Again {
+    Behind(ClaimId),
+    Queued,
+    Everyone,
+}
+
+impl Again {
+    /// Whether a claim is weighed again that waited for this one.
+    pub(crate) fn takes(self, blocker: Option<ClaimId>) -> bool
+        ensures { result ≡ is_taken self blocker }
+    {
+        match (self, blocker) {
+            (Again::Everyone, _) => true,
+            (Again::Queued, Some(_)) => true,
+            (Again::Behind(id), Some(other)) => is_same(other, id),
+            (Again::Queued, None) => false,
+            (Again::Behind(_), None) => false,
+        }
+    }
+}

@@ -1,0 +1,281 @@
+//! The queues of all places.
+ghost use Rattle.std.specs.Prelude.{◌≡◌, ◌≢◌, ℕ, ◌+◌, ◌<◌, ◌≤◌, [], ◌∷◌, ◌++◌, true, Some, length, position, slice_get, vec_len, is_none, IfOk, OnOk, OnErr};
+ghost use Rattle.std.specs.List.{list_all};
+ghost use Rattle.vault_model.specs.Claims.{same_id};
+ghost use Rattle.vault_model.specs.Limits.{most_claims};
+ghost use Rattle.lock_modes.specs.declared.mode.Mode.{Mode};
+ghost use Rattle.lock_table.specs.declared.entry.Entry.{Entry};
+ghost use Rattle.lock_modes.specs.Modes.{compatible};
+ghost use Rattle.lock_modes.specs.Groups.{group_of, members};
+ghost use Rattle.lock_table.specs.Locks.{mode_at, AreApart};
+ghost use Rattle.lock_table.specs.Queues.{seat_modes, held_seats, first_of, is_in_way, is_held_in_way, is_cover, IsOwn, seats_at, room_at, HaveRoom, HasSeat, seats_without, restood, by_lock, seat_of, earlier, place_of, seat_in_way, held_seat_in_way};
+
+use crate::cell::{Cell, Seat, is_same};
+use crate::{Entry, Lock, LockSet};
+use lock_modes::{Group, Mode};
+use std::alloc::{AllocError, Allocator};
+use vault_model::{ClaimId, PlaceId};
+
+/// The earlier of two positions.
+pub(crate) fn earlier(one: Option<usize>, other: Option<usize>) -> Option<usize>
+    ensures { result ≡ earlier one other }
+{
+    match (one, other) {
+        (None, _) => other,
+        (Some(_), None) => one,
+        (Some(m), Some(n)) => Some(if n < m { n } else { m }),
+    }
+}
+
+/// The group of all claims at a place.
+pub(crate) fn group_at<A: Allocator>(cells: &[Cell<A>], place: PlaceId) -> Group
+    ensures { result ≡ group_of (seat_modes (seats_at cells.now place)) }
+{
+    match cells.get(place.number() as usize) {
+        Some(cell) => cell.all(),
+        None => Group::empty(),
+    }
+}
+
+/// The group of the held claims at a place.
+pub(crate) fn held_at<A: Allocator>(cells: &[Cell<A>], place: PlaceId) -> Group
+    ensures { result ≡ group_of (seat_modes (held_seats (seats_at cells.now place))) }
+{
+    match cells.get(place.number() as usize) {
+        Some(cell) => cell.held(),
+        None => Group::empty(),
+    }
+}
+
+/// Where a claim stands in the line.
+pub(crate) fn index_of(entries: &[Entry], id: ClaimId) -> Option<usize>
+    ensures { result ≡ position (λ (e : Entry). same_id e.id id) entries.now }
+{
+    entries.iter().position(|entry| is_same(entry.id, id))
+}
+
+/// Where a claim stands, if there is one.
+pub(crate) fn place_of(entries: &[Entry], id: Option<ClaimId>) -> Option<usize>
+    ensures { result ≡ place_of entries.now id }
+{
+    index_of(entries, id?)
+}
+
+fn in_way_at<A: Allocator>(cells: &[Cell<A>], lock: Lock) -> Option<ClaimId>
+    ensures { result ≡ first_of (is_in_way lock.mode) (seats_at cells.now lock.place) }
+{
+    match cells.get(lock.place.number() as usize) {
+        Some(cell) => cell.in_way(lock.mode),
+        None => None,
+    }
+}
+
+fn held_in_way_at<A: Allocator>(
+    cells: &[Cell<A>],
+    id: ClaimId,
+    own: Option<Mode>,
+    lock: Lock,
+) -> Option<ClaimId>
+    requires { IsOwn id own (seats_at cells.now lock.place) }
+    ensures { result ≡ first_of (is_held_in_way id lock.mode) (seats_at cells.now lock.place) }
+{
+    match cells.get(lock.place.number() as usize) {
+        Some(cell) => cell.held_in_way(id, own, lock.mode),
+        None => None,
+    }
+}
+
+/// The first held claim that covers this very place.
+pub(crate) fn cover_at<A: Allocator>(cells: &[Cell<A>], place: PlaceId) -> Option<ClaimId>
+    ensures { result ≡ first_of is_cover (seats_at cells.now place) }
+{
+    match cells.get(place.number() as usize) {
+        Some(cell) => cell.cover(),
+        None => None,
+    }
+}
+
+/// Whether the group of all admits each mode at its place.
+pub(crate) fn admit<A: Allocator>(cells: &[Cell<A>], locks: &LockSet) -> bool
+    ensures { result ≡ list_all (λ lock. list_all (λ member. compatible member lock.mode) (members (group_of (seat_modes (seats_at cells.now lock.place))))) locks.now }
+{
+    locks
+        .as_slice()
+        .iter()
+        .all(|lock| group_at(cells, lock.place).admits(lock.mode))
+}
+
+/// Where the first claim stands that is in the way of these locks.
+pub(crate) fn in_way<A: Allocator>(
+    entries: &[Entry],
+    cells: &[Cell<A>],
+    locks: &LockSet,
+) -> Option<usize>
+    ensures { result ≡ seat_in_way entries.now cells.now locks.now }
+{
+    let mut first = None;
+    for lock in locks.as_slice() {
+        first = earlier(first, place_of(entries, in_way_at(cells, *lock)));
+    }
+    first
+}
+
+/// Where the first held claim but one stands that is in the way of these locks, which are to take
+/// the place of its own.
+pub(crate) fn held_in_way<A: Allocator>(
+    entries: &[Entry],
+    cells: &[Cell<A>],
+    id: ClaimId,
+    own: &LockSet,
+    locks: &LockSet,
+) -> Option<usize>
+    requires { (p : ℕ) → IsOwn id (mode_at own.now p) (seats_at cells.now p) }
+    ensures { result ≡ held_seat_in_way entries.now cells.now id locks.now }
+{
+    let mut first = None;
+    for lock in locks.as_slice() {
+        let other = held_in_way_at(cells, id, own.mode_at(lock.place), *lock);
+        first = earlier(first, place_of(entries, other));
+    }
+    first
+}
+
+// Puts places without claims behind the others, so that this one has a cell.
+fn grow<A: Allocator + Copy>(cells: &mut Vec<Cell<A>, A>, place: PlaceId) -> Result<(), AllocError>
+    ensures there { OnOk result (place < vec_len cells.new) }
+    ensures seats { (p : ℕ) → seats_at cells.new.items p ≡ seats_at cells.old.items p }
+    ensures room { (p : ℕ) → room_at cells.old.items p ≤ room_at cells.new.items p }
+{
+    let alloc = *cells.allocator();
+    let index = place.number() as usize;
+    if index < cells.len() {
+        return Ok(());
+    }
+    cells.reserve(index + 1 - cells.len())?;
+    while cells.len() <= index {
+        cells.push(Cell::new(alloc)).unwrap();
+    }
+    Ok(())
+}
+
+/// Makes room for one seat more at the place of each lock.
+pub(crate) fn reserve<A: Allocator + Copy>(
+    cells: &mut Vec<Cell<A>, A>,
+    locks: &LockSet,
+) -> Result<(), AllocError>
+    ensures there { OnOk result (HaveRoom cells.new.items locks.now) }
+    ensures apart { AreApart locks.now }
+    ensures seats { (p : ℕ) → seats_at cells.new.items p ≡ seats_at cells.old.items p }
+    ensures room { (p : ℕ) → room_at cells.old.items p ≤ room_at cells.new.items p }
+{
+    for lock in locks.as_slice() {
+        grow(cells, lock.place)?;
+        cells[lock.place.number() as usize].reserve()?;
+    }
+    Ok(())
+}
+
+/// Puts a claim last at the place of each of its locks.
+pub(crate) fn put_last<A: Allocator>(
+    cells: &mut Vec<Cell<A>, A>,
+    id: ClaimId,
+    locks: &LockSet,
+    is_held: bool,
+)
+    requires room { HaveRoom cells.old.items locks.now }
+    requires few { (p : ℕ) → length (seats_at cells.old.items p) < most_claims }
+    ensures seats { (p : ℕ) → seats_at cells.new.items p ≡ seats_at cells.old.items p ++ seat_of is_held id (mode_at locks.now p) }
+    ensures room { (p : ℕ) → room_at cells.old.items p ≤ room_at cells.new.items p }
+{
+    for lock in locks.as_slice() {
+        cells[lock.place.number() as usize].put_last(Seat {
+            id,
+            mode: lock.mode,
+            is_held,
+        });
+    }
+}
+
+fn put_first_at<A: Allocator>(cells: &mut Vec<Cell<A>, A>, id: ClaimId, lock: Lock)
+    requires room { length (seats_at cells.old.items lock.place) < room_at cells.old.items lock.place }
+    requires few { length (seats_at cells.old.items lock.place) < most_claims }
+    ensures here { seats_at cells.new.items lock.place ≡ record { id = id; mode = lock.mode; is_held = true } ∷ seats_at cells.old.items lock.place }
+    ensures elsewhere { (p : ℕ) → p ≢ lock.place → seats_at cells.new.items p ≡ seats_at cells.old.items p }
+    ensures room { (p : ℕ) → room_at cells.old.items p ≤ room_at cells.new.items p }
+{
+    cells[lock.place.number() as usize].put_first(Seat {
+        id,
+        mode: lock.mode,
+        is_held: true,
+    });
+}
+
+/// Puts a claim first, held, at the place of each of its locks.
+pub(crate) fn put_first<A: Allocator>(cells: &mut Vec<Cell<A>, A>, id: ClaimId, locks: &LockSet)
+    requires room { HaveRoom cells.old.items locks.now }
+    requires few { (p : ℕ) → length (seats_at cells.old.items p) < most_claims }
+    ensures seats { (p : ℕ) → seats_at cells.new.items p ≡ seat_of true id (mode_at locks.now p) ++ seats_at cells.old.items p }
+    ensures room { (p : ℕ) → room_at cells.old.items p ≤ room_at cells.new.items p }
+{
+    for lock in locks.as_slice() {
+        put_first_at(cells, id, *lock);
+    }
+}
+
+fn take_out_at<A: Allocator>(cells: &mut Vec<Cell<A>, A>, id: ClaimId, lock: Lock, is_held: bool)
+    requires { HasSeat id lock.mode is_held (seats_at cells.old.items lock.place) }
+    ensures here { seats_at cells.new.items lock.place ≡ seats_without id (seats_at cells.old.items lock.place) }
+    ensures elsewhere { (p : ℕ) → p ≢ lock.place → seats_at cells.new.items p ≡ seats_at cells.old.items p }
+    ensures room { (p : ℕ) → room_at cells.old.items p ≤ room_at cells.new.items p }
+{
+    let index = lock.place.number() as usize;
+    if index >= cells.len() {
+        return;
+    }
+    cells[index].take_out(id, lock.mode, is_held);
+}
+
+/// Takes a claim's seats out, whose locks and standing the caller knows.
+pub(crate) fn take_out<A: Allocator>(
+    cells: &mut Vec<Cell<A>, A>,
+    id: ClaimId,
+    locks: &LockSet,
+    is_held: bool,
+)
+    requires { (p : ℕ) (m : Mode) → mode_at locks.now p ≡ Some m → HasSeat id m is_held (seats_at cells.old.items p) }
+    ensures seats { (p : ℕ) → seats_at cells.new.items p ≡ by_lock (λ m. seats_without id) (mode_at locks.now p) (seats_at cells.old.items p) }
+    ensures room { (p : ℕ) → room_at cells.old.items p ≤ room_at cells.new.items p }
+{
+    for lock in locks.as_slice() {
+        take_out_at(cells, id, *lock, is_held);
+    }
+}
+
+fn stand_at<A: Allocator>(cells: &mut Vec<Cell<A>, A>, id: ClaimId, place: PlaceId, is_held: bool)
+    requires { length (seats_at cells.old.items place) ≤ most_claims }
+    ensures here { seats_at cells.new.items place ≡ restood id is_held (seats_at cells.old.items place) }
+    ensures elsewhere { (p : ℕ) → p ≢ place → seats_at cells.new.items p ≡ seats_at cells.old.items p }
+    ensures room { (p : ℕ) → room_at cells.old.items p ≤ room_at cells.new.items p }
+{
+    let index = place.number() as usize;
+    if index >= cells.len() {
+        return;
+    }
+    cells[index].stand(id, is_held);
+}
+
+/// Makes a claim held, or queued, at the place of each of its locks.
+pub(crate) fn stand<A: Allocator>(
+    cells: &mut Vec<Cell<A>, A>,
+    id: ClaimId,
+    locks: &LockSet,
+    is_held: bool,
+)
+    requires { (p : ℕ) → length (seats_at cells.old.items p) ≤ most_claims }
+    ensures seats { (p : ℕ) → seats_at cells.new.items p ≡ by_lock (λ m. restood id is_held) (mode_at locks.now p) (seats_at cells.old.items p) }
+    ensures room { (p : ℕ) → room_at cells.old.items p ≤ room_at cells.new.items p }
+{
+    for lock in locks.as_slice() {
+        stand_at(cells, id, lock.place, is_held);
+    }
+}
