@@ -1,5 +1,5 @@
 -- What is recovered after any past.
-use Rattle.std.proofs.Common.{◌≡◌, ◌⊎◌, inl, inr, ℕ, ◌+◌, ◌≤◌, ◌<◌, Bool, List, ◌++◌, length, take, Some, refl, sym, ap, ◌∙◌, subst, arith, length-append}
+use Rattle.std.proofs.Common.{◌≡◌, ◌⊎◌, inl, inr, ℕ, ◌+◌, ◌-◌, ◌≤◌, ◌<◌, Bool, List, ◌∷◌, ◌++◌, length, take, Some, refl, sym, ap, ◌∙◌, subst, arith, length-append}
 use Rattle.std.specs.Prelude.{IsTrue, false, slice_get, None}
 use Rattle.std.specs.Option.{option_map}
 use Rattle.std.proofs.lemmas.List.{length-map}
@@ -12,7 +12,7 @@ use Rattle.vault_store.specs.Phases.{is_idle, is_opening, may_open}
 use Rattle.vault_store.specs.Laws.{CrashLeavesWhatIsKept, OneGateIsOpened, OneVault, NothingIsWrong}
 use Rattle.group_commit.specs.declared.mark.Mark.{Mark}
 use Rattle.group_commit.specs.declared.mark.Mark.TheVariants.{Told}
-use Rattle.group_commit.specs.Entries.{Kept, mark_at}
+use Rattle.group_commit.specs.Entries.{Entry, Kept, mark_at}
 use Rattle.group_commit.specs.History.{Member, Given, replay, members}
 use Rattle.group_commit.specs.World.{World, new_world, history, vault_at}
 use Rattle.group_commit.specs.Runs.{Event, run, IsRun}
@@ -20,7 +20,9 @@ use Rattle.group_commit.specs.View.{View, view_of}
 use Rattle.group_commit.specs.Laws.{AreApart}
 use Rattle.group_commit.specs.Seen.{Seen, snapshot_length}
 use Rattle.group_commit.specs.Pasts.{IsPast}
-use Rattle.group_commit.specs.Recovered.{world_after, IsShown, begins_at, IsOneRun, IsRecovered, IsKeptThrough}
+use Rattle.group_commit.specs.Positions.{HasTold}
+use Rattle.group_commit.specs.Ticket.{Told as Receipt, entry_in}
+use Rattle.group_commit.specs.Recovered.{world_after, events_until, IsOneRun, history_of, life_begins, IsRecovered, IsKeptThrough, ReceiptsAreFoundAgain}
 use Rattle.group_commit.proofs.Guarded.{history_is_guarded}
 use Rattle.group_commit.proofs.Order.{opening_is_busy}
 use Rattle.group_commit.proofs.Sound.{IsSound, after_run, run-append, first_part, second_part}
@@ -28,7 +30,7 @@ use Rattle.group_commit.proofs.Stays.{StandsSettled, stays}
 use Rattle.group_commit.proofs.ViewLaw.{view_at_is}
 use Rattle.group_commit.proofs.Recovery.{prefix_is}
 use Rattle.group_commit.proofs.Prefixes.{get_take, get_drop, get_behind, no_short}
-use Rattle.group_commit.proofs.Pasts.{IsFound, IsFoundIn, may_open_is_busy, found_between, found_by_stop, opened_as, of_a_vault, one_run}
+use Rattle.group_commit.proofs.Pasts.{IsFound, IsFoundIn, may_open_is_busy, found_between, found_by_stop, opened_as, of_a_vault, reaches, one_run, until_first}
 
 -- a vault is the durable one after so many entries of a life, which are all that are settled and maybe more
 record IsCut (open_gate : Bool) (w : World) (left : Vault) : Type 0 where
@@ -47,21 +49,21 @@ cut_of open_gate w left s busy found = elim found [
 ]
 
 -- what was told at some point of a run stands settled at its end
-told_then : (events : List Event) (view : View) (q : IsShown events view) (place : ℕ) (kept : Kept) → IsRun snapshot_length new_world events → slice_get view.kept place ≡ Some kept → kept.mark ≡ Told
-    → StandsSettled (world_after events) (begins_at q + place) kept.entry
-told_then events view q place kept r at told =
-    let w : World = world_after q.before in
-    let parts : IsRun snapshot_length new_world (q.before ++ q.rest) = subst (IsRun snapshot_length new_world) (sym q.whole) r in
-    let s : IsSound w = after_run snapshot_length q.before (first_part snapshot_length new_world q.before q.rest parts) in
-    let here : slice_get w.life (w.retired + place) ≡ Some kept = get_drop w.retired w.life place kept (subst (λ (v : View). slice_get v.kept place ≡ Some kept) (sym q.shows) at) in
+told_then : (before rest events : List Event) (view : View) (place : ℕ) (kept : Kept) → before ++ rest ≡ events → view_of (world_after before) ≡ view → IsRun snapshot_length new_world events → slice_get view.kept place ≡ Some kept → kept.mark ≡ Told
+    → StandsSettled (world_after events) (length (world_after before).earlier + (view.retired + place)) kept.entry
+told_then before rest events view place kept whole shows r at told =
+    let w : World = world_after before in
+    let parts : IsRun snapshot_length new_world (before ++ rest) = subst (IsRun snapshot_length new_world) (sym whole) r in
+    let s : IsSound w = after_run snapshot_length before (first_part snapshot_length new_world before rest parts) in
+    let here : slice_get w.life (w.retired + place) ≡ Some kept = get_drop w.retired w.life place kept (subst (λ (v : View). slice_get v.kept place ≡ Some kept) (sym shows) at) in
     let mark : mark_at w.life (w.retired + place) ≡ Some Told = slice_get-map (λ (k : Kept). k.mark) w.life (w.retired + place) ∙ ap (option_map (λ (k : Kept). k.mark)) here ∙ ap (λ (m : Mark). Some m) told in
     let below : w.retired + place < w.settled = s.marks.told (w.retired + place) mark in
     let member : slice_get (members w.life) (w.retired + place) ≡ Some (Given kept.entry) = slice_get-map (λ (k : Kept). Given k.entry) w.life (w.retired + place) ∙ ap (option_map (λ (k : Kept). Given k.entry)) here in
     let begun : StandsSettled w (length w.earlier + (w.retired + place)) kept.entry = record { stands = get_behind w.earlier (members w.life) (w.retired + place) (Given kept.entry) member; below = omega (arith, below) } in
-    let later = stays snapshot_length w q.rest (length w.earlier + (w.retired + place)) kept.entry s (second_part snapshot_length new_world q.before q.rest parts) begun in
-    let ends : run snapshot_length w q.rest ≡ world_after events = sym (run-append snapshot_length new_world q.before q.rest) ∙ ap world_after q.whole in
-    let same : w.retired ≡ view.retired = ap (λ (v : View). v.retired) q.shows in
-    let there : length w.earlier + (w.retired + place) ≡ length w.earlier + view.retired + place = omega (arith, same) in
+    let later = stays snapshot_length w rest (length w.earlier + (w.retired + place)) kept.entry s (second_part snapshot_length new_world before rest parts) begun in
+    let ends : run snapshot_length w rest ≡ world_after events = sym (run-append snapshot_length new_world before rest) ∙ ap world_after whole in
+    let same : w.retired ≡ view.retired = ap (λ (v : View). v.retired) shows in
+    let there : length w.earlier + (w.retired + place) ≡ length w.earlier + (view.retired + place) = omega (arith, same) in
     subst (λ (k : ℕ). StandsSettled (world_after events) k kept.entry) there (subst (λ (v : World). StandsSettled v (length w.earlier + (w.retired + place)) kept.entry) ends later)
 
 chosen : (open_gate : Bool) (w : World) (view : View) (n : ℕ) → view_of w ≡ view → (n ≡ w.settled) ⊎ (IsTrue open_gate × (n ≡ w.sealed))
@@ -75,38 +77,66 @@ length-history : (w : World) → length (history w) ≡ length w.earlier + lengt
 length-history w = length-append w.earlier (members w.life) ∙ ap (λ n. length w.earlier + n) (length-map w.life (λ (k : Kept). Given k.entry))
 
 module _ {D : Type 0} (disk : D → Disk) (law : CrashLeavesWhatIsKept disk) (one_gate : OneGateIsOpened disk) (one_vault : OneVault) (right : NothingIsWrong) where
-  recovered : (now : Seen D) (past : List (Seen D)) (one : IsOneRun now past) (open_gate : Bool) (x y : List ℕ) → (IsTrue open_gate → is_idle now.view.phase ≡ false) → IsFoundIn open_gate now.view x y → IsRecovered one open_gate x y
-  recovered now past one open_gate x y busy f =
-      let w : World = world_after one.events in
-      let s : IsSound w = after_run snapshot_length one.events one.is_run in
-      let c : IsCut open_gate w f.left =
-      cut_of open_gate w f.left s (λ o. ap (λ (v : View). is_idle v.phase) one.reaches ∙ busy o) (subst (λ (v : View). IsFound open_gate v f.left) (sym one.reaches) f.found) in
-      let prefix : f.left ≡ durable (replay new_vault (take (length w.earlier + c.n) (history w))) = c.left_is ∙ ap (λ (h : List Member). durable (replay new_vault h)) (prefix_is w c.n c.all) in
-      record {
-        vault = f.left;
-        stands = f.stands;
-        sound = λ why found is. right x y why found is f.left f.stands;
-        recovery = λ new opened. sym (opened_as disk law one_gate one_vault x y f.left new f.stands opened);
-        cut = length w.earlier + c.n;
-        choice = chosen open_gate w now.view c.n one.reaches c.choice;
-        within = omega (arith, c.all, length-history w);
-        prefix = prefix;
-        told = λ n place seen kept at there told.
-            let t = told_then one.events seen.view (one.shown n seen at) place kept one.is_run there told in
-            get_take (length w.earlier + c.n) (history w) (begins_at (one.shown n seen at) + place) (Given kept.entry) (omega (arith, t.below, c.settled)) t.stands;
-        claims = ap (λ (v : Vault). v.line) prefix;
-        no_short = λ number. subst (λ (v : Vault). claim_of v.line (Short number) ≡ None) (sym prefix) (no_short (replay new_vault (take (length w.earlier + c.n) (history w))).line number);
-        guarded = history_is_guarded (take (length w.earlier + c.n) (history w));
-        apart = subst AreApart (sym prefix) (history_is_guarded (take (length w.earlier + c.n) (history w))).durably_apart;
-      }
+  module _ (now : Seen D) (past : List (Seen D)) (p : IsPast disk now past) (one : IsOneRun disk now past p) where
+    -- what was told at some point of the past stands settled in its history
+    stands_told : (n place : ℕ) (seen : Seen D) (kept : Kept) → slice_get (now ∷ past) n ≡ Some seen → slice_get seen.view.kept place ≡ Some kept → kept.mark ≡ Told
+        → StandsSettled (world_after one.events) (life_begins one n + (seen.view.retired + place)) kept.entry
+    stands_told n place seen kept at there told =
+        let q = until_first disk now past p one.events one.calls n in
+        told_then (events_until disk now past p one.events one.calls n) q.0 one.events seen.view place kept q.1 (one.shown n seen at) one.is_run there told
+
+    recovered : (open_gate : Bool) (x y : List ℕ) → (IsTrue open_gate → is_idle now.view.phase ≡ false) → IsFoundIn open_gate now.view x y → IsRecovered one open_gate x y
+    recovered open_gate x y busy f =
+        let w : World = world_after one.events in
+        let shows : view_of w ≡ now.view = reaches disk law one_gate one_vault now past p one in
+        let s : IsSound w = after_run snapshot_length one.events one.is_run in
+        let c : IsCut open_gate w f.left =
+        cut_of open_gate w f.left s (λ o. ap (λ (v : View). is_idle v.phase) shows ∙ busy o) (subst (λ (v : View). IsFound open_gate v f.left) (sym shows) f.found) in
+        let prefix : f.left ≡ durable (replay new_vault (take (length w.earlier + c.n) (history w))) = c.left_is ∙ ap (λ (h : List Member). durable (replay new_vault h)) (prefix_is w c.n c.all) in
+        record {
+          vault = f.left;
+          stands = f.stands;
+          sound = λ why found is. right x y why found is f.left f.stands;
+          recovery = λ new opened. sym (opened_as disk law one_gate one_vault x y f.left new f.stands opened);
+          cut = length w.earlier + c.n;
+          choice = chosen open_gate w now.view c.n shows c.choice;
+          within = omega (arith, c.all, length-history w);
+          prefix = prefix;
+          told = λ n place seen kept at there told.
+              let t = stands_told n place seen kept at there told in
+              get_take (length w.earlier + c.n) (history w) (life_begins one n + (seen.view.retired + place)) (Given kept.entry) (omega (arith, t.below, c.settled)) t.stands;
+          claims = ap (λ (v : Vault). v.line) prefix;
+          no_short = λ number. subst (λ (v : Vault). claim_of v.line (Short number) ≡ None) (sym prefix) (no_short (replay new_vault (take (length w.earlier + c.n) (history w))).line number);
+          guarded = history_is_guarded (take (length w.earlier + c.n) (history w));
+          apart = subst AreApart (sym prefix) (history_is_guarded (take (length w.earlier + c.n) (history w))).durably_apart;
+        }
+
+    -- where the entry of a receipt stands
+    abbrev pub place_of : ℕ → Seen D → Receipt → ℕ
+    place_of n seen told = life_begins one n + (seen.view.retired + (told.position - seen.view.retired))
+
+    entry_found : (n : ℕ) (seen : Seen D) (told : Receipt) → slice_get (now ∷ past) n ≡ Some seen → HasTold seen.view told → (open_gate : Bool) (x y : List ℕ) (r : IsRecovered one open_gate x y)
+        → slice_get (take r.cut (history_of one)) (place_of n seen told) ≡ Some (Given (entry_in told))
+    entry_found n seen told at has open_gate x y r = r.told n (told.position - seen.view.retired) seen has.kept at has.stands has.mark ∙ ap (λ (e : Entry). Some (Given e)) has.is
 
   -- the headline
-  pub kept_through : (now : Seen D) (past : List (Seen D)) → IsPast disk now past → IsKeptThrough disk now past
+  pub kept_through : (now : Seen D) (past : List (Seen D)) (p : IsPast disk now past) → IsKeptThrough disk now past p
   kept_through now past p =
       let one = one_run disk law one_gate one_vault now past p in
       record {
         one = one;
         legal = (after_run snapshot_length one.events one.is_run).legal;
-        between = λ x y crash. recovered now past one (is_opening now.view.phase) x y (opening_is_busy now.view.phase) (found_between disk law one_gate one_vault now x y (of_a_vault disk law one_gate one_vault now past p) crash);
-        inside = λ x y stop. recovered now past one (may_open now.view.phase) x y (may_open_is_busy now.view.phase) (found_by_stop disk law one_gate one_vault now x y stop);
+        between = λ x y crash. recovered now past p one (is_opening now.view.phase) x y (opening_is_busy now.view.phase) (found_between disk law one_gate one_vault now x y (of_a_vault disk law one_gate one_vault now past p) crash);
+        inside = λ x y stop. recovered now past p one (may_open now.view.phase) x y (may_open_is_busy now.view.phase) (found_by_stop disk law one_gate one_vault now x y stop);
+      }
+
+  -- a receipt is found again
+  pub found_again : (now : Seen D) → ReceiptsAreFoundAgain disk now
+  found_again now past p n seen told at has =
+      let kept = kept_through now past p in
+      record {
+        kept = kept;
+        place = place_of now past p kept.one n seen told;
+        between = λ x y crash. entry_found now past p kept.one n seen told at has (is_opening now.view.phase) x y (kept.between x y crash);
+        inside = λ x y stop. entry_found now past p kept.one n seen told at has (may_open now.view.phase) x y (kept.inside x y stop);
       }

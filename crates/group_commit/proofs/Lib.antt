@@ -27,3 +27,4 @@ pub mod Headline
 pub mod Nexts
 pub mod Positions
 pub mod Sends
+pub mod Openings

@@ -1,9 +1,9 @@
 -- The past of a vault is one run of events.
-use Rattle.std.proofs.Common.{◌≡◌, ◌⊎◌, inl, inr, ⊎_elim, ℕ, zero, suc, Bool, true, false, cond, List, [], ◌∷◌, ◌++◌, Some, refl, sym, ap, ◌∙◌, subst, append_assoc, ◌≤◌, length, arith, length-append}
+use Rattle.std.proofs.Common.{◌≡◌, ◌⊎◌, inl, inr, ⊎_elim, ℕ, zero, suc, Bool, true, false, cond, List, [], ◌∷◌, ◌++◌, Some, refl, sym, ap, ◌∙◌, subst, append_assoc}
 use Rattle.std.specs.Prelude.{IsTrue, None, slice_get}
 use Rattle.std.proofs.lemmas.List.{append-nil}
 use Rattle.std.proofs.lemmas.Option.{same_Some}
-use Rattle.vault_model.specs.Vault.{Vault, new_vault, durable}
+use Rattle.vault_model.specs.Vault.{Vault, durable}
 use Rattle.vault_device.specs.Disk.{Disk}
 use Rattle.vault_store.specs.declared.phase.Phase.{Phase}
 use Rattle.vault_store.specs.declared.phase.Phase.TheVariants.{Idle, Written, Bodied, Opening, Start, Closing, Writing, Filled, Ready, SnapOpening}
@@ -11,23 +11,24 @@ use Rattle.vault_store.specs.Files.{StandFor}
 use Rattle.vault_store.specs.Phases.{is_idle, is_opening, may_open}
 use Rattle.vault_store.specs.Seen.{settled_reading, sealed_reading, IsLeftInside}
 use Rattle.vault_store.specs.Laws.{CrashLeavesWhatIsKept, OneGateIsOpened, OneVault}
-use Rattle.group_commit.specs.World.{World, new_world, Act, Pump}
+use Rattle.group_commit.specs.World.{World, new_world, Act, Pump, Gate}
 use Rattle.group_commit.specs.Runs.{Event, Within, Crash, happened, run, IsRun}
 use Rattle.group_commit.specs.View.{View, view_of, opened_view, view_at, ViewAllows, view_acted, MayLeave}
 use Rattle.group_commit.specs.Seen.{Seen, snapshot_length, state_of}
 use Rattle.group_commit.specs.Promises.{IsCrash}
-use Rattle.group_commit.specs.Pasts.{IsOfAVault, IsStopInside, IsOpenedOn, IsNext, IsPast}
-use Rattle.group_commit.specs.Recovered.{world_after, IsShown, IsOneRun}
+use Rattle.group_commit.specs.Pasts.{IsOfAVault, IsStopInside, IsStop, IsOpenedOn, IsNext, IsPast}
+use Rattle.group_commit.specs.Recovered.{world_after, AreOfStop, AreOfNext, AreOfPast, events_until, IsOneRun}
 use Rattle.group_commit.proofs.Sound.{IsSound, after_run, run_sound, run-append}
 use Rattle.group_commit.proofs.ViewLaw.{acts_as}
 use Rattle.group_commit.proofs.Recovery.{crashed_view, left_is_recovered}
 use Rattle.group_commit.proofs.Images.{images_stand}
 
--- events lead from a world to one that is seen so
-pub record Leads (w : World) (view : View) : Type 0 where
+-- such events lead from a world to one that is seen so
+pub record Leads (w : World) (view : View) (Are : List Event → Type 0) : Type 0 where
   pub more : List Event
   pub is_run : IsRun snapshot_length w more
   pub shows : view_of (run snapshot_length w more) ≡ view
+  pub are : Are more
 
 none_there : {A : Type 0} (x : A) → None ≡ Some x → ⊥
 none_there x e = cc
@@ -36,25 +37,41 @@ both_parts : (w : World) (xs ys : List Event) → IsRun snapshot_length w xs →
 both_parts w [] ys r q = q
 both_parts w (x ∷ xs) ys r q = (r.0, both_parts (happened snapshot_length w x) xs ys r.1 q)
 
-stays_so : (w : World) (view : View) → view_of w ≡ view → Leads w view
-stays_so w view e = record { more = []; is_run = tt; shows = e }
+abbrev IsNoEvent : List Event → Type 0
+IsNoEvent events = events ≡ []
 
-acts_so : (w : World) (view : View) (act : Act) → IsSound w → view_of w ≡ view → ViewAllows snapshot_length view act → Leads w (view_acted snapshot_length view act)
+abbrev IsAct : Act → List Event → Type 0
+IsAct act events = events ≡ Within act ∷ []
+
+abbrev IsACrash : List Event → Type 0
+IsACrash events = (gate : Gate) × (events ≡ Crash gate ∷ [])
+
+abbrev IsAtMostAPump : List Event → Type 0
+IsAtMostAPump events = (gate : Gate) × ((events ≡ Crash gate ∷ []) ⊎ (events ≡ Within Pump ∷ Crash gate ∷ []))
+
+stays_so : (w : World) (view : View) → view_of w ≡ view → Leads w view IsNoEvent
+stays_so w view e = record { more = []; is_run = tt; shows = e; are = refl }
+
+acts_so : (w : World) (view : View) (act : Act) → IsSound w → view_of w ≡ view → ViewAllows snapshot_length view act → Leads w (view_acted snapshot_length view act) (IsAct act)
 acts_so w view act s e a =
     let law = acts_as snapshot_length w act s in
     let allowed = law.allowed.1 (subst (λ (v : View). ViewAllows snapshot_length v act) (sym e) a) in
-    record { more = Within act ∷ []; is_run = (allowed, tt); shows = law.after allowed ∙ ap (λ (v : View). view_acted snapshot_length v act) e }
+    record { more = Within act ∷ []; is_run = (allowed, tt); shows = law.after allowed ∙ ap (λ (v : View). view_acted snapshot_length v act) e; are = refl }
 
-opens_so : (w : World) (view : View) (left : Vault) → IsSound w → view_of w ≡ view → MayLeave view left → Leads w (opened_view left)
+opens_so : (w : World) (view : View) (left : Vault) → IsSound w → view_of w ≡ view → MayLeave view left → Leads w (opened_view left) IsACrash
 opens_so w view left s e may =
     let found = left_is_recovered w left s (subst (λ (v : View). MayLeave v left) (sym e) may) in
-    record { more = Crash found.0 ∷ []; is_run = (tt, tt); shows = crashed_view w found.0 ∙ ap opened_view (sym found.1) }
+    record { more = Crash found.0 ∷ []; is_run = (tt, tt); shows = crashed_view w found.0 ∙ ap opened_view (sym found.1); are = (found.0, refl) }
 
-leads_on : (w : World) (view next : View) (first : Leads w view) → Leads (run snapshot_length w first.more) next → Leads w next
-leads_on w view next first second = record {
+no_pump : (w : World) (view : View) → Leads w view IsACrash → Leads w view IsAtMostAPump
+no_pump w view l = record { more = l.more; is_run = l.is_run; shows = l.shows; are = (l.are.0, inl l.are.1) }
+
+one_pump : (w : World) (middle view : View) (first : Leads w middle (IsAct Pump)) → Leads (run snapshot_length w first.more) view IsACrash → Leads w view IsAtMostAPump
+one_pump w middle view first second = record {
   more = first.more ++ second.more;
   is_run = both_parts w first.more second.more first.is_run second.is_run;
   shows = ap view_of (run-append snapshot_length w first.more second.more) ∙ second.shows;
+  are = (second.are.0, inr (ap (λ l. l ++ second.more) first.are ∙ ap (λ l. Within Pump ∷ l) second.are.1));
 }
 
 -- what is found of a vault, where a gate may be open or not
@@ -75,12 +92,12 @@ pump_or_none Filled v left found = inl found
 pump_or_none Ready v left found = inr found
 pump_or_none SnapOpening v left found = inl found
 
-found_so : (w : World) (view : View) (left : Vault) → IsSound w → view_of w ≡ view → view.broken ≡ false → IsFound (may_open view.phase) view left → Leads w (opened_view left)
+found_so : (w : World) (view : View) (left : Vault) → IsSound w → view_of w ≡ view → view.broken ≡ false → IsFound (may_open view.phase) view left → Leads w (opened_view left) IsAtMostAPump
 found_so w view left s e whole found = ⊎_elim
-    (λ (may : MayLeave view left). opens_so w view left s e may)
+    (λ (may : MayLeave view left). no_pump w (opened_view left) (opens_so w view left s e may))
     (λ (may : MayLeave (view_acted snapshot_length view Pump) left).
     let first = acts_so w view Pump s e whole in
-    leads_on w (view_acted snapshot_length view Pump) (opened_view left) first
+    one_pump w (view_acted snapshot_length view Pump) (opened_view left) first
     (opens_so (run snapshot_length w first.more) (view_acted snapshot_length view Pump) left (run_sound snapshot_length w first.more first.is_run s) first.shows may))
     (pump_or_none view.phase view left found)
 
@@ -128,64 +145,61 @@ module _ {D : Type 0} (disk : D → Disk) (law : CrashLeavesWhatIsKept disk) (on
   opened_as x y left new stands opened =
       ap opened_view (one_vault x y left new.view.base stands (_, opened.read, refl)) ∙ sym opened.begins
 
-  next_leads : (old new : Seen D) → IsOfAVault disk old → IsNext disk old new → (w : World) → IsSound w → view_of w ≡ old.view → Leads w new.view
-  next_leads old new is next w s e = elim next [
-    | inl answered ↦ elim answered [
-      | inl same ↦ stays_so w new.view (e ∙ ap (λ (x : Seen D). x.view) (sym same))
-      | inr made ↦ subst (Leads w) (sym made.1.made) (acts_so w old.view made.0 s e made.1.allowed)
-    ]
-    | inr reopened ↦ elim reopened.left [
-      | inl crash ↦
+  next_leads : (old new : Seen D) (next : IsNext disk old new) → IsOfAVault disk old → (w : World) → IsSound w → view_of w ≡ old.view → Leads w new.view (AreOfNext next)
+  next_leads old new (inl (inl same)) is w s e = stays_so w new.view (e ∙ ap (λ (x : Seen D). x.view) (sym same))
+  next_leads old new (inl (inr made)) is w s e = subst (λ (v : View). Leads w v (IsAct made.0)) (sym made.1.made) (acts_so w old.view made.0 s e made.1.allowed)
+  next_leads old new (inr reopened) is w s e = by_stop reopened.left refl
+    where
+      by_stop : (stop : IsStop disk old reopened.first reopened.second) → stop ≡ reopened.left → Leads w new.view (AreOfStop reopened.left)
+      by_stop (inl crash) same =
           let f = found_between old reopened.first reopened.second is crash in
-          subst (Leads w) (opened_as reopened.first reopened.second f.left new f.stands reopened.opened) (opens_so w old.view f.left s e f.found)
-      | inr stop ↦
+          subst (λ (stop : IsStop disk old reopened.first reopened.second). Leads w new.view (AreOfStop stop)) same
+          (subst (λ (v : View). Leads w v IsACrash) (opened_as reopened.first reopened.second f.left new f.stands reopened.opened) (opens_so w old.view f.left s e f.found))
+      by_stop (inr stop) same =
           let f = found_by_stop old reopened.first reopened.second stop in
-          subst (Leads w) (opened_as reopened.first reopened.second f.left new f.stands reopened.opened) (found_so w old.view f.left s e stop.whole f.found)
-    ]
-  ]
+          subst (λ (stop : IsStop disk old reopened.first reopened.second). Leads w new.view (AreOfStop stop)) same
+          (subst (λ (v : View). Leads w v IsAtMostAPump) (opened_as reopened.first reopened.second f.left new f.stands reopened.opened) (found_so w old.view f.left s e stop.whole f.found))
 
   pub of_a_vault : (now : Seen D) (past : List (Seen D)) → IsPast disk now past → IsOfAVault disk now
   of_a_vault now [] p = p.0
   of_a_vault now (old ∷ past) p = p.0
 
-  abbrev shown_first : (now : Seen D) → now.view ≡ opened_view new_vault → (n : ℕ) (seen : Seen D) → slice_get (now ∷ []) n ≡ Some seen → IsShown [] seen.view
-  shown_first now e zero seen at = record { before = []; rest = []; whole = refl; shows = sym e ∙ ap (λ (x : Seen D). x.view) (same_Some now seen at) }
-  shown_first now e (suc n) seen at = absurd (none_there seen at)
-
-  begun : (now : Seen D) → now.view ≡ opened_view new_vault → IsOneRun now []
-  begun now e = record { events = []; is_run = tt; reaches = sym e; shown = shown_first now e; in_order = in_order }
+  begun : (now : Seen D) (p : IsPast disk now []) → IsOneRun disk now [] p
+  begun now p = record { events = []; is_run = tt; calls = refl; shown = shown }
     where
-      in_order : (n m : ℕ) (seen earlier : Seen D) (at : slice_get (now ∷ []) n ≡ Some seen) (there : slice_get (now ∷ []) m ≡ Some earlier) → n ≤ m
-          → length (shown_first now e m earlier there).before ≤ length (shown_first now e n seen at).before
-      in_order zero zero seen earlier at there h = omega arith
-      in_order (suc n) m seen earlier at there h = absurd (cc)
-      in_order zero (suc m) seen earlier at there h = absurd (cc)
+      shown : (n : ℕ) (seen : Seen D) → slice_get (now ∷ []) n ≡ Some seen → view_of (world_after (events_until disk now [] p [] refl n)) ≡ seen.view
+      shown zero seen at = sym p.1 ∙ ap (λ (x : Seen D). x.view) (same_Some now seen at)
+      shown (suc n) seen at = absurd (none_there seen at)
 
-  module _ (now old : Seen D) (past : List (Seen D)) (one : IsOneRun old past) (leads : Leads (world_after one.events) now.view) where
+  module _ (now old : Seen D) (past : List (Seen D)) (p : IsPast disk now (old ∷ past)) (one : IsOneRun disk old past p.2) (leads : Leads (world_after one.events) now.view (AreOfNext p.1)) where
     reaches_on : view_of (world_after (one.events ++ leads.more)) ≡ now.view
     reaches_on = ap view_of (run-append snapshot_length new_world one.events leads.more) ∙ leads.shows
 
-    abbrev shown_on : (n : ℕ) (seen : Seen D) → slice_get (now ∷ old ∷ past) n ≡ Some seen → IsShown (one.events ++ leads.more) seen.view
-    shown_on zero seen at = record { before = one.events ++ leads.more; rest = []; whole = append-nil (one.events ++ leads.more); shows = reaches_on ∙ ap (λ (x : Seen D). x.view) (same_Some now seen at) }
-    shown_on (suc n) seen at =
-        let q = one.shown n seen at in
-        record { before = q.before; rest = q.rest ++ leads.more; whole = sym (append_assoc q.before q.rest leads.more) ∙ ap (λ l. l ++ leads.more) q.whole; shows = q.shows }
+    abbrev calls_on : AreOfPast disk now (old ∷ past) p (one.events ++ leads.more)
+    calls_on = record { before = one.events; last = leads.more; whole = refl; happened_before = one.calls; of_next = leads.are }
 
-    order_on : (n m : ℕ) (seen earlier : Seen D) (at : slice_get (now ∷ old ∷ past) n ≡ Some seen) (there : slice_get (now ∷ old ∷ past) m ≡ Some earlier) → n ≤ m
-        → length (shown_on m earlier there).before ≤ length (shown_on n seen at).before
-    order_on zero zero seen earlier at there h = omega arith
-    order_on (suc n) zero seen earlier at there h = absurd (omega arith)
-    order_on zero (suc m) seen earlier at there h =
-        let q = one.shown m earlier there in
-        omega (arith, length-append q.before q.rest, ap (λ (l : List Event). length l) q.whole, length-append one.events leads.more)
-    order_on (suc n) (suc m) seen earlier at there h = one.in_order n m seen earlier at there (omega arith)
+    shown_on : (n : ℕ) (seen : Seen D) → slice_get (now ∷ old ∷ past) n ≡ Some seen → view_of (world_after (events_until disk now (old ∷ past) p (one.events ++ leads.more) calls_on n)) ≡ seen.view
+    shown_on zero seen at = reaches_on ∙ ap (λ (x : Seen D). x.view) (same_Some now seen at)
+    shown_on (suc n) seen at = one.shown n seen at
 
-    goes_on : IsOneRun now (old ∷ past)
-    goes_on = record { events = one.events ++ leads.more; is_run = both_parts new_world one.events leads.more one.is_run leads.is_run; reaches = reaches_on; shown = shown_on; in_order = order_on }
+    goes_on : IsOneRun disk now (old ∷ past) p
+    goes_on = record { events = one.events ++ leads.more; is_run = both_parts new_world one.events leads.more one.is_run leads.is_run; calls = calls_on; shown = shown_on }
+
+  pub reaches : (now : Seen D) (past : List (Seen D)) (p : IsPast disk now past) (one : IsOneRun disk now past p) → view_of (world_after one.events) ≡ now.view
+  reaches now past p one = one.shown 0 now refl
 
   -- each past is one run
-  pub one_run : (now : Seen D) (past : List (Seen D)) → IsPast disk now past → IsOneRun now past
-  one_run now [] p = begun now p.1
+  pub one_run : (now : Seen D) (past : List (Seen D)) (p : IsPast disk now past) → IsOneRun disk now past p
+  one_run now [] p = begun now p
   one_run now (old ∷ past) p =
       let one = one_run old past p.2 in
-      goes_on now old past one (next_leads old now (of_a_vault old past p.2) p.1 (world_after one.events) (after_run snapshot_length one.events one.is_run) one.reaches)
+      goes_on now old past p one (next_leads old now p.1 (of_a_vault old past p.2) (world_after one.events) (after_run snapshot_length one.events one.is_run) (reaches old past p.2 one))
+
+-- what happened until something was seen is the first part of all
+pub until_first : {D : Type 0} (disk : D → Disk) (now : Seen D) (past : List (Seen D)) (p : IsPast disk now past) (events : List Event) (are : AreOfPast disk now past p events) (n : ℕ)
+    → (rest : List Event) × (events_until disk now past p events are n ++ rest ≡ events)
+until_first disk now past p events are zero = ([], append-nil events)
+until_first disk now [] p events are (suc n) = (events, refl)
+until_first disk now (old ∷ past) p events are (suc n) =
+    let q = until_first disk old past p.2 are.before are.happened_before n in
+    (q.0 ++ are.last, sym (append_assoc (events_until disk old past p.2 are.before are.happened_before n) q.0 are.last) ∙ ap (λ l. l ++ are.last) q.1 ∙ sym are.whole)

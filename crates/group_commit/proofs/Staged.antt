@@ -9,7 +9,7 @@ use Rattle.vault_device.specs.Disk.{Disk}
 use Rattle.vault_store.specs.State.{StoreState, with_effect}
 use Rattle.vault_store.specs.Seen.{Seen as StoreSeen, Keeps}
 use Rattle.group_commit.specs.Entries.{Kept, opened}
-use Rattle.group_commit.specs.History.{count_of, entry_of}
+use Rattle.group_commit.specs.History.{number_of, entry_of}
 use Rattle.group_commit.specs.View.{View, length_of, book_of}
 use Rattle.group_commit.specs.Seen.{Seen, most_kept, state_of}
 use Rattle.group_commit.specs.Inside.{IsKept}
@@ -41,12 +41,12 @@ module _ {D : Type 0} (disk : D → Disk) (seen : Seen D) (book : Vault) (sessio
 
   pub stage_kept : (effect : Option Effect) (store : StoreSeen D) (before next : Vault) (reply : Reply) (entry : Kept) (kept : List Kept) → seen.store.phase ≡ seen.view.phase → length seen.view.kept < most_kept
       → effect ≡ (step book session command).effect → store ≡ noted effect seen.store → IfSome effect (Notes disk seen.store store) → before ≡ book → reply ≡ (step book session command).reply
-      → entry ≡ opened (record { session = session; number = count_of before session; command = command; reply = reply }) → kept ≡ seen.view.kept ++ entry ∷ [] → next ≡ (step book session command).vault
+      → entry ≡ opened (record { session = session; number = number_of before session; command = command; reply = reply }) → kept ≡ seen.view.kept ++ entry ∷ [] → next ≡ (step book session command).vault
       → IsKept disk (record { view = record seen.view { kept = kept; phase = store.phase }; life = seen.life; store = store }) next
   stage_kept effect store before next reply entry kept phase room e same notes b r is more n =
       let here : before ≡ book_of seen.view = b ∙ k.book_is in
       let told : reply ≡ (step (book_of seen.view) session command).reply = r ∙ ap (λ x. (step x session command).reply) k.book_is in
-      let given : entry ≡ opened (entry_of (book_of seen.view) session command) = is ∙ (λ i. opened (record { session = session; number = count_of (here i) session; command = command; reply = told i })) in
+      let given : entry ≡ opened (entry_of (book_of seen.view) session command) = is ∙ (λ i. opened (record { session = session; number = number_of (here i) session; command = command; reply = told i })) in
       let list = more ∙ ap (λ x. seen.view.kept ++ x ∷ []) given in
       let stays = same_phase effect store same ∙ phase in
       subst (λ (v : View). IsKept disk (record { view = v; life = seen.life; store = store }) next) (λ i. record seen.view { kept = (sym list) i; phase = (sym stays) i })

@@ -4,7 +4,7 @@ use Rattle.vault_model.specs.Said.{Command, Reply}
 use Rattle.group_commit.specs.declared.mark.Mark.{Mark}
 use Rattle.group_commit.specs.declared.mark.Mark.TheVariants.{Open, Told, Forgotten}
 
--- a command of a session, how many that session gave before it, and the reply
+-- a command of a session, its number there, and the reply
 pub record Entry : Type 0 where
   pub session : ℕ
   pub number : ℕ

@@ -1,5 +1,5 @@
 -- The history: one list of the commands of all sessions, with their replies, and of restarts. This project's own.
-use Rattle.std.specs.Prelude.{◌≡◌, ℕ, ◌==◌, if◌then◌else◌, List, [], ◌∷◌, ◌++◌, map, option_to_list}
+use Rattle.std.specs.Prelude.{◌≡◌, ℕ, ◌+◌, ◌==◌, if◌then◌else◌, List, [], ◌∷◌, ◌++◌, map, option_to_list}
 use Rattle.std.specs.Option.{option_map_or}
 use Rattle.vault_model.specs.Said.{Command, Effect}
 use Rattle.vault_model.specs.declared.session.Session.{Session}
@@ -12,9 +12,10 @@ pub data Member : Type 0 where
   Given : (entry : Entry) → Member
   Restart : Member
 
--- how many commands a session gave so far: the door's count for session 0, and 0 where no such session stands
-abbrev pub count_of : Vault → ℕ → ℕ
-count_of v session = if session == 0 then v.door_count else option_map_or (λ (s : Session). s.count) (session_of v.sessions session) 0
+-- the number of a command that a session gives now: how many it gave with this one, by the door's count for session 0; 0 where no such
+-- session stands
+abbrev pub number_of : Vault → ℕ → ℕ
+number_of v session = if session == 0 then v.door_count + 1 else option_map_or (λ (s : Session). s.count + 1) (session_of v.sessions session) 0
 
 -- what the step makes of an entry's command
 abbrev pub outcome_of : Vault → Entry → Outcome
@@ -32,7 +33,7 @@ replay v (member ∷ members) = replay (moved v member) members
 
 -- what may come next in a history: an entry's number and reply are those of its step
 abbrev pub MayFollow : Vault → Member → Type 0
-MayFollow v (Given entry) = (entry.number ≡ count_of v entry.session) × (entry.reply ≡ (outcome_of v entry).reply)
+MayFollow v (Given entry) = (entry.number ≡ number_of v entry.session) × (entry.reply ≡ (outcome_of v entry).reply)
 MayFollow v Restart = Unit {0}
 
 -- a history is legal from a vault on where each member may follow those before it
@@ -42,7 +43,7 @@ IsLegal v (member ∷ members) = MayFollow v member × IsLegal (moved v member) 
 
 -- the entry of a command that is given now
 abbrev pub entry_of : Vault → ℕ → Command → Entry
-entry_of v session command = record { session = session; number = count_of v session; command = command; reply = (step v session command).reply }
+entry_of v session command = record { session = session; number = number_of v session; command = command; reply = (step v session command).reply }
 
 -- entries as members of a history
 abbrev pub members : List Kept → List Member

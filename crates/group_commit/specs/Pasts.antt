@@ -1,5 +1,5 @@
 -- The past of a vault: what was seen of it, call by call, over any number of stops of its machine. This project's own.
-use Rattle.std.specs.Prelude.{◌≡◌, ◌⊎◌, ℕ, false, List, [], ◌∷◌}
+use Rattle.std.specs.Prelude.{◌≡◌, ◌⊎◌, ℕ, IsTrue, false, List, [], ◌∷◌}
 use Rattle.vault_model.specs.Vault.{new_vault}
 use Rattle.vault_device.specs.Disk.{Disk}
 use Rattle.vault_store.specs.Files.{AreRead}
@@ -35,7 +35,7 @@ pub record IsStopInside {D : Type 0} (disk : D → Disk) (seen : Seen D) (x y : 
   pub moments : MomentsStand disk seen other
   pub left : MayBeLeft (disk (first_of seen.store)) (disk (second_of seen.store)) (disk (first_of other.store)) (disk (second_of other.store)) x y
 
--- whatever a crash at some moment of this pump leaves is so left
+-- a crash at any moment of a pump leaves the files of a stop inside it
 abbrev pub StopsInside : {D : Type 0} → (D → Disk) → Seen D → Seen D → Type 0
 StopsInside disk old new =
     (x y : List ℕ) → AreHonest disk old.store → MayBeLeft (disk (first_of old.store)) (disk (second_of old.store)) (disk (first_of new.store)) (disk (second_of new.store)) x y → IsStopInside disk old x y
@@ -43,6 +43,23 @@ StopsInside disk old new =
 -- the machine stopped, between two calls or inside one, and these files were left
 abbrev pub IsStop : {D : Type 0} → (D → Disk) → Seen D → List ℕ → List ℕ → Type 0
 IsStop disk seen x y = IsCrash disk seen x y ⊎ IsStopInside disk seen x y
+
+-- Two honest devices of which a crash now leaves nothing but what a stop of this vault may leave. A vault's own devices are such; so are
+-- those that a stop left, and those that an opening of such devices left.
+pub record AreLeft {D : Type 0} (disk : D → Disk) (seen : Seen D) (first second : D) : Type 0 where
+  pub first_honest : IsTrue (disk first).honest
+  pub second_honest : IsTrue (disk second).honest
+  pub each : (x y : List ℕ) → (disk first).IsImage x → (disk second).IsImage y → IsStop disk seen x y
+
+-- An opening, whether it gave a vault or was refused, leaves such devices of this vault, and what a crash at any moment of it leaves is
+-- what a stop of this vault may leave.
+pub record IsOpening {D : Type 0} (disk : D → Disk) (seen : Seen D) (first second first_new second_new : D) : Type 0 where
+  pub left : AreLeft disk seen first_new second_new
+  pub inside : (x y : List ℕ) → MayBeLeft (disk first) (disk second) (disk first_new) (disk second_new) x y → IsStop disk seen x y
+
+-- it is so for each earlier vault whose devices these were
+abbrev pub StopsInOpening : {D : Type 0} → (D → Disk) → D → D → D → D → Type 0
+StopsInOpening disk first second first_new second_new = (seen : Seen _) → AreLeft disk seen first second → IsOpening disk seen first second first_new second_new
 
 -- a vault was opened on these files
 pub record IsOpenedOn {D : Type 0} (x y : List ℕ) (new : Seen D) : Type 0 where

@@ -1,11 +1,12 @@
 -- Where the entries of a life stand, and what receipts say of them. This project's own.
 use Rattle.std.specs.Prelude.{◌≡◌, ℕ, ◌-◌, ◌≤◌, Some, slice_get}
+use Rattle.group_commit.specs.declared.mark.Mark.TheVariants as marks
 use Rattle.vault_model.specs.Said.{Command}
 use Rattle.group_commit.specs.Entries.{Entry, Kept}
 use Rattle.group_commit.specs.History.{entry_of}
-use Rattle.group_commit.specs.World.{Act, Stage}
+use Rattle.group_commit.specs.World.{Act, Stage, Tell}
 use Rattle.group_commit.specs.View.{View, length_of, book_of, view_acted}
-use Rattle.group_commit.specs.Ticket.{Told, claim_of, told_for}
+use Rattle.group_commit.specs.Ticket.{Told, claim_of, told_for, entry_in}
 use Rattle.group_commit.specs.Seen.{snapshot_length}
 use Rattle.group_commit.specs.Calls.{IsReceiptOf}
 
@@ -27,3 +28,17 @@ PositionsStay = (v : View) (act : Act) (position : ℕ) (entry : Entry) → HasE
 -- so the receipt for its ticket is this entry's, with its reply
 abbrev pub ReceiptsAreOfTheirEntries : Type 0
 ReceiptsAreOfTheirEntries = (v : View) (life position : ℕ) (entry : Entry) (told : Told) → HasEntry v position entry → IsReceiptOf (claim_of life position entry) v told → told ≡ told_for (claim_of life position entry) entry.reply
+
+-- the entry of this receipt is kept, at its position of the life, and was told
+pub record HasTold (v : View) (told : Told) : Type 0 where
+  pub kept : Kept
+  pub not_retired : v.retired ≤ told.position
+  pub stands : slice_get v.kept (told.position - v.retired) ≡ Some kept
+  pub is : kept.entry ≡ entry_in told
+  pub mark : kept.mark ≡ marks.Told
+
+-- and once it was given, that entry is told
+abbrev pub ReceiptsAreTold : Type 0
+ReceiptsAreTold =
+    (v : View) (life position : ℕ) (entry : Entry) (told : Told) → HasEntry v position entry → IsReceiptOf (claim_of life position entry) v told
+    → HasTold (view_acted snapshot_length v (Tell position)) told

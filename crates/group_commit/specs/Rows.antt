@@ -114,7 +114,7 @@ TornGateOpen = Shows (half_committed ++ Crash IsOpen ∷ look_again) half_calls 
 abbrev pub ToldStands : Type 0
 ToldStands =
     slice_get (history (after_events (half_committed ++ Crash StaysClosed ∷ look_again))) 1
-    ≡ Some (Given (record { session = 1; number = 0; command = make path_e; reply = Place 1 }))
+    ≡ Some (Given (record { session = 1; number = 1; command = make path_e; reply = Place 1 }))
 
 -- a check-out that waits behind a hold is held after a restart, and the hold is gone
 abbrev pub HoldGoes : Type 0

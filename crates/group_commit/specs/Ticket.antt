@@ -27,3 +27,7 @@ claim_of life position entry = record { life = life; position = position; sessio
 -- the receipt for a ticket, with this reply
 abbrev pub told_for : Claim → Reply → Told
 told_for claim reply = record { position = claim.position; session = claim.session; number = claim.number; command = claim.command; reply = reply }
+
+-- the entry of a receipt
+abbrev pub entry_in : Told → Entry
+entry_in told = record { session = told.session; number = told.number; command = told.command; reply = told.reply }

@@ -2,7 +2,7 @@
 ghost use Rattle.std.specs.Prelude.{◌≡◌, [], IfOk, IfErr, IsTrue};
 ghost use Rattle.vault_model.specs.Vault.{new_vault};
 ghost use Rattle.vault_store.specs.Calls.{IsCalled};
-ghost use Rattle.vault_store.specs.Create.{new_file, IsFilled};
+ghost use Rattle.vault_store.specs.Create.{new_file, IsFilled, StopsInCreation};
 ghost use Rattle.vault_store.specs.State.{at_rest};
 ghost use Rattle.vault_store.specs.Seen.{first_of, second_of, Keeps};
 ghost use Rattle.group_commit.specs.View.{opened_view};
@@ -48,7 +48,7 @@ impl<D: Device, A: Allocator + Copy> Vault<D, A> {
 
     /// Makes a vault with the library alone, in the first of two empty files. The life is a number that the caller hasn't
     /// handed in before in this process. A refusal hands the devices back. A creation that failed or was stopped leaves files
-    /// that are no vault, or the new one. The room for the whole history is taken here.
+    /// of which none is open, or the new vault's. The room for the whole history is taken here.
     pub fn create(
         alloc: A,
         first: D,
@@ -61,6 +61,8 @@ impl<D: Device, A: Allocator + Copy> Vault<D, A> {
         ensures file { IsTrue (D.disk first).honest → IfOk result (λ vault. IsFilled (D.disk first) (D.disk (first_of vault.store)) new_file) }
         ensures empty { IsTrue (D.disk second).honest → IfOk result (λ vault. IsFilled (D.disk second) (D.disk (second_of vault.store)) []) }
         ensures called { IfOk result (λ vault. IsCalled (D.disk first) (D.disk (first_of vault.store)) × IsCalled (D.disk second) (D.disk (second_of vault.store))) }
+        ensures stops { IfOk result (λ vault. StopsInCreation (D.disk first) (D.disk second) (D.disk (first_of vault.store)) (D.disk (second_of vault.store))) }
+        ensures refused_stops { IfErr result (λ refused. StopsInCreation (D.disk first) (D.disk second) (D.disk refused.first) (D.disk refused.second)) }
         ensures refused { IfErr result (λ refused. IsNotCreated (D.disk first) (D.disk second) (D.disk refused.first) (D.disk refused.second) refused.why) }
         ensures handed_back { IfErr result (λ refused. IsCalled (D.disk first) (D.disk refused.first) × IsCalled (D.disk second) (D.disk refused.second)) }
     {

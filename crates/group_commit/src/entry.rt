@@ -1,7 +1,7 @@
 //! An entry of the history, as it is kept.
 ghost use Rattle.std.specs.Prelude.{◌≡◌, IfOk};
 ghost use Rattle.vault_model.specs.Vault.{Vault};
-ghost use Rattle.group_commit.specs.History.{count_of};
+ghost use Rattle.group_commit.specs.History.{number_of};
 ghost use Rattle.group_commit.specs.Entries.{Entry as Given, opened};
 
 use crate::Mark;
@@ -12,7 +12,7 @@ use vault_checkout::Book;
 use vault_model::{CommandIn, NoMemory, ReplyIn};
 
 /// The reply to a session's command, and what became of its ticket. For contracts alone, which take no memory, there are the
-/// session, its command, and the book before that, which has how many commands the session had given.
+/// session, its command, and the book before that, by which the command has its number in the session.
 #[derive(Drop)]
 pub(crate) struct Entry<A: Allocator> {
     session: Snapshot<u32>,
@@ -27,9 +27,9 @@ impl<A: Allocator> Model for Entry<A> {
 
     ghost Value = { Kept };
 
-    ghost use Rattle.group_commit.specs.History.{count_of};
+    ghost use Rattle.group_commit.specs.History.{number_of};
 
-    ghost view = { λ e. record { entry = record { session = e.session.value; number = count_of e.before.value e.session.value; command = e.command.value; reply = e.reply }; mark = e.mark } };
+    ghost view = { λ e. record { entry = record { session = e.session.value; number = number_of e.before.value e.session.value; command = e.command.value; reply = e.reply }; mark = e.mark } };
 }
 
 impl<A: Allocator> Entry<A> {
@@ -40,7 +40,7 @@ impl<A: Allocator> Entry<A> {
         command: &CommandIn<A>,
         reply: ReplyIn<A>,
     ) -> Entry<A>
-        ensures { result ≡ opened (record { session = session; number = count_of before.value session; command = command.now; reply = reply }) }
+        ensures { result ≡ opened (record { session = session; number = number_of before.value session; command = command.now; reply = reply }) }
     {
         Entry {
             session: Snapshot::of(&session),

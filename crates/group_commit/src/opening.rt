@@ -3,11 +3,11 @@ ghost use Rattle.std.specs.Prelude.{◌≡◌, ◌⊎◌, [], IfOk, IfErr, IsTru
 ghost use Rattle.vault_store.specs.declared.opening.OpenError.TheVariants.{Device as DeviceFailed};
 ghost use Rattle.vault_store.specs.Calls.{HasCause};
 ghost use Rattle.vault_store.specs.Files.{AreRead};
-ghost use Rattle.vault_store.specs.Opening.{IsNotOpened, IsHandedOn};
+ghost use Rattle.vault_store.specs.Opening.{IsNotOpened, IsHandedOn, AreLeftSettled};
 ghost use Rattle.vault_store.specs.Seen.{first_of, second_of};
 ghost use Rattle.group_commit.specs.View.{opened_view};
 ghost use Rattle.group_commit.specs.Seen.{Seen};
-ghost use Rattle.group_commit.specs.Pasts.{IsStop, IsNext};
+ghost use Rattle.group_commit.specs.Pasts.{IsStop, IsNext, StopsInOpening};
 
 use crate::window::Window;
 use crate::{OpenError, Refused, Vault};
@@ -31,8 +31,11 @@ impl<D: Device, A: Allocator + Copy> Vault<D, A> {
         ensures buffer { IfOk result (λ vault. vault.store.buffer ≡ []) }
         ensures read { IsTrue (D.disk first).honest → IsTrue (D.disk second).honest → IfOk result (λ vault. AreRead (D.disk first).shown (D.disk second).shown (record { vault = vault.view.base; generation = vault.store.generation; tail = vault.store.tail; journal = vault.store.journal })) }
         ensures next { IsTrue (D.disk first).honest → IsTrue (D.disk second).honest → IfOk result (λ vault. (old : Seen D) → IsStop D.disk old (D.disk first).shown (D.disk second).shown → IsNext D.disk old vault) }
+        ensures stops { IfOk result (λ vault. StopsInOpening D.disk first second (first_of vault.store) (second_of vault.store)) }
         ensures handed_on { IfOk result (λ vault. IsHandedOn (D.disk first) (D.disk (first_of vault.store)) × IsHandedOn (D.disk second) (D.disk (second_of vault.store))) }
         ensures refused { IsTrue (D.disk first).honest → IsTrue (D.disk second).honest → IfErr result (λ refused. IsNotOpened (D.disk first).shown (D.disk second).shown refused.why) }
+        ensures refused_stops { IfErr result (λ refused. StopsInOpening D.disk first second refused.first refused.second) }
+        ensures left_settled { IfErr result (λ refused. AreLeftSettled (D.disk refused.first) (D.disk refused.second) refused.why) }
         ensures cause { IfErr result (λ refused. refused.why ≡ DeviceFailed → HasCause (D.disk first) (D.disk refused.first) ⊎ HasCause (D.disk second) (D.disk refused.second)) }
         ensures handed_back { IfErr result (λ refused. IsHandedOn (D.disk first) (D.disk refused.first) × IsHandedOn (D.disk second) (D.disk refused.second)) }
     {

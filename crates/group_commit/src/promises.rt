@@ -6,8 +6,8 @@ ghost use Rattle.group_commit.specs.View.{opened_view};
 ghost use Rattle.group_commit.specs.Seen.{Seen, IsSoundView, state_of};
 ghost use Rattle.group_commit.specs.Promises.{ImagesStand, RecoveryGivesOnePrefix};
 ghost use Rattle.group_commit.specs.Pasts.{IsNext, IsPast};
-ghost use Rattle.group_commit.specs.Recovered.{EachPastIsKept};
-ghost use Rattle.group_commit.specs.Positions.{StagedAtItsPosition, PositionsStay, ReceiptsAreOfTheirEntries};
+ghost use Rattle.group_commit.specs.Recovered.{EachPastIsKept, ReceiptsAreFoundAgain};
+ghost use Rattle.group_commit.specs.Positions.{StagedAtItsPosition, PositionsStay, ReceiptsAreOfTheirEntries, ReceiptsAreTold};
 
 use crate::Vault;
 use std::alloc::Allocator;
@@ -52,9 +52,19 @@ pub fn recovery_gives_one_prefix<D: Device, A: Allocator>(vault: &Vault<D, A>)
 }
 
 /// The entry of a staged command keeps the position that its ticket names for the whole life, and the receipt for that ticket is
-/// the entry's: its session, number and command, with its reply.
+/// the entry's: its session, number and command, with its reply. Once it was given, the entry is told.
 pub fn receipts_are_of_their_entries()
     ensures staged { StagedAtItsPosition }
     ensures stay { PositionsStay }
     ensures told { ReceiptsAreOfTheirEntries }
+    ensures kept { ReceiptsAreTold }
 {}
+
+/// Whoever has a receipt finds it again: its entry, with its session, its number, its command and its reply, stands in the prefix that
+/// recovery gives, wherever the machine stops, and however many lives later.
+pub fn receipts_are_found_again<D: Device, A: Allocator>(vault: &Vault<D, A>)
+    ensures { ReceiptsAreFoundAgain D.disk vault.now }
+{
+    images_stand_for_the_history(vault);
+    files_stand_for_one_vault();
+}

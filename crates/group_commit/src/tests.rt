@@ -4,128 +4,192 @@ mod past;
 
 use super::*;
 use given::{
-    CREATION, asked, calls, checked_out, done, failed_second, hello, is_busy, is_stranger, listed,
-    made_by_two, make, new_vault, question, repeated, save, stays_broken, stopped,
+    CREATION, asked, calls, checked_out, device, failed_second, hello, is_full, is_listed,
+    is_stranger, is_there, joins, made_by_two, make, new_vault, questioned, refusal, saved,
+    stays_broken, stopped, takes_none,
 };
 use memory::refused_in_turn;
-use past::two_lives;
-use std::test::Fail;
+use past::{inside_a_pump, inside_an_opening, three_lives, two_lives};
+use std::alloc::Global;
+use std::process::Abort;
 use test_memory::Refusing;
 use vault_device::{Device, MemDevice, Pick};
-use vault_model::{Command, Path, Refusal, Reply};
+use vault_model::Reply;
 
 #[test]
-fn settled_without_a_commit(rt: HostRuntime) -> Result<(), Fail> {
-    let mut vault = new_vault(rt.alloc(), 0, 1)?;
+fn settled_without_a_commit(rt: HostRuntime) {
+    let mut vault = new_vault(rt.alloc(), 0, 1).expect(&rt, "a new vault");
     assert!(rt; asked(&mut vault));
     assert!(rt; vault.pump() == Ok(Pumped::Idle));
     assert!(rt; vault.len() == 1 && vault.kept() == 1);
     assert!(rt; vault.durable() == 1 && vault.told() == 1);
     assert!(rt; calls(vault) == CREATION);
-    Ok(())
 }
 
 #[test]
-fn one_frame_four_calls(rt: HostRuntime) -> Result<(), Fail> {
-    let (anna, ben) = (hello(b"anna")?, hello(b"ben")?);
-    let (e, f) = (make(b"/e")?, make(b"/f")?);
-    let mut vault = new_vault(rt.alloc(), 0, 1)?;
-    assert!(rt; done(&mut vault, 0, anna, &Reply::Session(1)));
-    assert!(rt; done(&mut vault, 0, ben, &Reply::Session(2)));
-    assert!(rt; made_by_two(&mut vault, e, f));
+fn one_frame_four_calls(rt: HostRuntime) {
+    let mut vault = new_vault(rt.alloc(), 0, 1).expect(&rt, "a new vault");
+    assert!(rt; joins(&mut vault, b"anna", 1));
+    assert!(rt; joins(&mut vault, b"ben", 2));
+    assert!(rt; made_by_two(&mut vault, b"/e", b"/f"));
     let (mut first, second) = vault.into_devices();
     assert!(rt; first.calls() == CREATION.0 + 4 && second.calls() == CREATION.1);
     assert!(rt; first.len() == Ok(54));
-    Ok(())
 }
 
 #[test]
-fn failed_write(rt: HostRuntime) -> Result<(), Fail> {
-    let (anna, again) = (hello(b"anna")?, hello(b"anna")?);
-    let (e, f) = (make(b"/e")?, make(b"/f")?);
-    let list_of_e = listed(rt.alloc(), b"e")?;
-    let mut vault = new_vault(rt.alloc(), 5, 1)?;
-    assert!(rt; done(&mut vault, 0, anna, &Reply::Session(1)));
-    let Some(lost) = failed_second(&mut vault, e, f) else {
-        return Err("a ticket".into());
-    };
+fn failed_write(rt: HostRuntime) {
+    let mut vault = new_vault(rt.alloc(), 5, 1).expect(&rt, "a new vault");
+    assert!(rt; joins(&mut vault, b"anna", 1));
+    let lost = failed_second(&mut vault, b"/e", b"/f").expect(&rt, "a ticket");
     assert!(rt; stays_broken(&mut vault));
     let (first, second) = vault.into_devices();
     assert!(rt; first.calls() == CREATION.0 + 5 && second.calls() == CREATION.1);
-    let mut vault = match stopped(rt.alloc(), first, second) {
-        Ok(vault) => vault,
-        Err(fail) => {
-            lost.discard();
-            return Err(fail);
-        }
-    };
+    let mut vault = stopped(rt.alloc(), first, second).expect(&rt, "another life");
     assert!(rt; is_stranger(&mut vault, lost));
-    assert!(rt; done(&mut vault, 0, again, &Reply::Session(1)));
-    assert!(rt; done(&mut vault, 1, Command::List(Path::root()), &list_of_e));
-    Ok(())
+    assert!(rt; joins(&mut vault, b"anna", 1));
+    assert!(rt; is_listed(&mut vault, rt.alloc(), b"e"));
+    let _ = calls(vault);
 }
 
 #[test]
-fn opened_again(rt: HostRuntime) -> Result<(), Fail> {
-    let (anna, ben, again) = (hello(b"anna")?, hello(b"ben")?, hello(b"anna")?);
-    let (e, f, twice) = (make(b"/e")?, make(b"/f")?, make(b"/e")?);
-    let mut vault = new_vault(rt.alloc(), 0, 1)?;
-    assert!(rt; done(&mut vault, 0, anna, &Reply::Session(1)));
-    assert!(rt; done(&mut vault, 0, ben, &Reply::Session(2)));
-    assert!(rt; made_by_two(&mut vault, e, f));
+fn opened_again(rt: HostRuntime) {
+    let mut vault = new_vault(rt.alloc(), 0, 1).expect(&rt, "a new vault");
+    assert!(rt; joins(&mut vault, b"anna", 1));
+    assert!(rt; joins(&mut vault, b"ben", 2));
+    assert!(rt; made_by_two(&mut vault, b"/e", b"/f"));
     let (first, second) = vault.into_devices();
-    let mut vault = stopped(rt.alloc(), first, second)?;
+    let mut vault = stopped(rt.alloc(), first, second).expect(&rt, "another life");
     assert!(rt; vault.len() == 0 && vault.told() == 0);
-    assert!(rt; done(&mut vault, 0, again, &Reply::Session(1)));
-    assert!(rt; done(&mut vault, 1, twice, &Reply::Refused(Refusal::Exists)));
-    Ok(())
+    assert!(rt; joins(&mut vault, b"anna", 1));
+    assert!(rt; is_there(&mut vault, b"/e"));
+    drop(vault);
 }
 
 // 253 saves of 1,024 bytes have records of 261,855 bytes, behind which there is no room for a longest one.
 #[test]
-fn full_buffer(rt: HostRuntime) -> Result<(), Fail> {
-    let anna = hello(b"anna")?;
-    let save = save(rt.alloc(), 1024)?;
-    let mut vault = new_vault(rt.alloc(), 0, 1)?;
-    assert!(rt; done(&mut vault, 0, anna, &Reply::Session(1)));
-    assert!(rt; checked_out(&mut vault, rt.alloc())?);
-    assert!(rt; repeated(&mut vault, rt.alloc(), &save, 253));
-    assert!(rt; is_busy(&mut vault, rt.alloc(), &save));
+fn full_buffer(rt: HostRuntime) {
+    let mut vault = new_vault(rt.alloc(), 0, 1).expect(&rt, "a new vault");
+    assert!(rt; joins(&mut vault, b"anna", 1));
+    assert!(rt; checked_out(&mut vault, rt.alloc()));
+    assert!(rt; saved(&mut vault, rt.alloc(), 1024, 253));
+    assert!(rt; is_full(&mut vault, rt.alloc(), 1024));
     assert!(rt; vault.pump() == Ok(Pumped::Moved));
-    assert!(rt; repeated(&mut vault, rt.alloc(), &save, 1));
+    assert!(rt; saved(&mut vault, rt.alloc(), 1024, 1));
     let (mut first, _) = vault.into_devices();
     assert!(rt; first.len() == Ok(77 + 5 + 261_855));
-    Ok(())
 }
 
 #[test]
-fn full_history(rt: HostRuntime) -> Result<(), Fail> {
-    let mut vault = new_vault(rt.alloc(), 0, 1)?;
-    assert!(rt; repeated(&mut vault, rt.alloc(), &question(), 4095) && vault.kept() == 4095);
-    assert!(rt; repeated(&mut vault, rt.alloc(), &question(), 1) && vault.kept() == 4096);
-    assert!(rt; is_busy(&mut vault, rt.alloc(), &question()));
+fn full_history(rt: HostRuntime) {
+    let mut vault = new_vault(rt.alloc(), 0, 1).expect(&rt, "a new vault");
+    assert!(rt; questioned(&mut vault, rt.alloc(), 4095) && vault.kept() == 4095);
+    assert!(rt; questioned(&mut vault, rt.alloc(), 1) && vault.kept() == 4096);
+    assert!(rt; takes_none(&mut vault, rt.alloc()));
     assert!(rt; vault.pump() == Ok(Pumped::Settled) && vault.durable() == 4096);
-    assert!(rt; is_busy(&mut vault, rt.alloc(), &question()));
-    Ok(())
+    assert!(rt; takes_none(&mut vault, rt.alloc()));
+    let _ = calls(vault);
+}
+
+#[test]
+fn no_vault_to_open(rt: HostRuntime) {
+    let damaged = OpenError::Damaged {
+        file: File::First,
+        offset: 1,
+    };
+    assert!(rt; refusal(rt.alloc(), &[]) == Some(OpenError::NoVault));
+    assert!(rt; refusal(rt.alloc(), &[1; 24]) == Some(damaged));
 }
 
 // Each request for memory is refused in turn, and what asked for it is done once there is some.
 #[test]
-fn refused_memory(rt: HostRuntime) -> Result<(), Fail> {
+fn refused_memory(rt: HostRuntime) {
     let memory = Refusing::new(rt.alloc());
-    assert_eq!(rt; refused_in_turn(rt.alloc(), &memory)?, (4, 8));
-    Ok(())
+    assert_eq!(rt; refused_in_turn(&rt, rt.alloc(), &memory), (4, 8));
+}
+
+// Whether this is a new life, behind which a receipt was kept for that reply.
+fn is_of(vault: &Vault<MemDevice>, receipt: &Receipt, number: u32) -> bool {
+    vault.len() == 0
+        && vault.told() == 0
+        && !vault.is_broken()
+        && *receipt.reply() == Reply::Session(number)
 }
 
 #[test]
-fn a_past_of_two_lives(rt: HostRuntime) -> Result<(), Fail> {
+fn a_past_of_two_lives(rt: HostRuntime) {
     for pick in [Pick::Old, Pick::New] {
-        let first = MemDevice::new(rt.alloc())?;
-        let second = MemDevice::new(rt.alloc())?;
-        let anna = hello(b"anna")?;
-        let vault = two_lives(rt.alloc(), first, second, anna, pick).ok_or("two lives")?;
-        assert!(rt; vault.len() == 0 && vault.told() == 0);
-        assert!(rt; !vault.is_broken());
+        let anna = hello(b"anna").expect(&rt, "a name");
+        let first = device(&rt, rt.alloc());
+        let second = device(&rt, rt.alloc());
+        let (vault, receipt) = two_lives(rt.alloc(), first, second, anna, pick).expect(
+            &rt,
+            "two lives",
+        );
+        assert!(rt; is_of(&vault, &receipt, 1));
+        drop(vault);
+        drop(receipt);
     }
-    Ok(())
+}
+
+// Whether the place that was being made is there, behind the frame whose gate was being opened.
+fn made_inside(rt: &impl Abort, alloc: Global, pick: Pick) -> bool {
+    let anna = hello(b"anna").expect(rt, "a name");
+    let e = make(b"/e").expect(rt, "a path");
+    let first = device(rt, alloc);
+    let second = device(rt, alloc);
+    let (mut vault, receipt) = inside_a_pump(alloc, first, second, anna, e, pick).expect(
+        rt,
+        "another life",
+    );
+    assert!(rt; is_of(&vault, &receipt, 1));
+    assert!(rt; joins(&mut vault, b"anna", 1));
+    let made = is_there(&mut vault, b"/e");
+    drop(vault);
+    drop(receipt);
+    made
+}
+
+#[test]
+fn a_stop_inside_a_pump(rt: HostRuntime) {
+    assert!(rt; !made_inside(&rt, rt.alloc(), Pick::Old));
+    assert!(rt; made_inside(&rt, rt.alloc(), Pick::New));
+    assert!(rt; !made_inside(&rt, rt.alloc(), Pick::Bytes(9)));
+}
+
+#[test]
+fn stops_inside_an_opening(rt: HostRuntime) {
+    for call in 1..6 {
+        let anna = hello(b"anna").expect(&rt, "a name");
+        let first = device(&rt, rt.alloc());
+        let second = device(&rt, rt.alloc());
+        let (vault, receipt) = inside_an_opening(
+            rt.alloc(),
+            first,
+            second,
+            anna,
+            Pick::Bytes(1),
+            call,
+        ).expect(&rt, "another life");
+        assert!(rt; is_of(&vault, &receipt, 1));
+        drop(vault);
+        drop(receipt);
+    }
+}
+
+#[test]
+fn a_past_of_three_lives(rt: HostRuntime) {
+    let anna = hello(b"anna").expect(&rt, "a name");
+    let ben = hello(b"ben").expect(&rt, "a name");
+    let first = device(&rt, rt.alloc());
+    let second = device(&rt, rt.alloc());
+    let (vault, early, late) = three_lives(rt.alloc(), first, second, anna, ben, Pick::Old).expect(
+        &rt,
+        "three lives",
+    );
+    assert!(rt; is_of(&vault, &early, 1));
+    assert!(rt; *late.reply() == Reply::Session(1));
+    drop(vault);
+    drop(early);
+    drop(late);
 }

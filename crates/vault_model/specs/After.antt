@@ -34,8 +34,7 @@ may_make w parent name = nat_le parent (length w.tree) && not (is_part w.tree pa
 abbrev pub may_ask : Vault → ℕ → List Item → Bool
 may_ask w number items = (number == w.last_long + 1) && not (length items == 0) && nat_le (length items) most_items && are_there w.tree items && nat_lt (length w.line) most_claims
 
--- a claim may be extended: it is held, has no more than the most items with these, and their places are there; and afterwards
--- no check-out with drafts is queued
+-- a claim may be extended: it is held, has no more than the most items with these, and their places are there
 abbrev pub may_extend : Vault → Claim → List Item → Bool
 may_extend w claim items = is_held w.tree w.line claim && nat_le (length claim.items + length items) most_items && are_there w.tree items
 
@@ -51,6 +50,7 @@ after_asked w number designer items =
     only_if (may_ask w number items)
     (with_check_out w number designer items)
 
+-- and afterwards every draft's check-out is held, too
 unfoldable pub after_extended : Vault → ℕ → List Item → Option Vault
 after_extended w number items =
     option_and_then

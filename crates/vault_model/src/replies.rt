@@ -16,7 +16,7 @@ pub enum Refusal {
     NoPlace,
     #[error("the place exists")]
     Exists,
-    #[error("the parent is a part")]
+    #[error("the place is of the wrong kind")]
     WrongKind,
     #[error("the parent is covered by a held claim")]
     Covered(ClaimId),
@@ -78,7 +78,7 @@ pub enum Reply<Names = Listing<Name, Global>, Content = Listing<u8, Global>> {
     Versions(u32),
     /// The session was closed.
     Left,
-    /// The command was refused, and changed nothing.
+    /// The command was refused, and changed nothing but the count of its session.
     Refused(Refusal),
 }
 

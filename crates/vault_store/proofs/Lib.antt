@@ -8,6 +8,7 @@ mod Sounds
 mod Advances
 mod Short
 mod New
+pub mod Creating
 pub mod OneReading
 mod SpelledLists
 mod SpelledPlaces

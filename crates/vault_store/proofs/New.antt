@@ -37,7 +37,7 @@ new_is_front = record {
   journal_is = refl;
 }
 
-new_ends : EndsBehind new_front new_file
+pub new_ends : EndsBehind new_front new_file
 new_ends = record { begins = refl; closed = record { stands = omega arith; shut = λ e. cc } }
 
 pub new_idle : (old new : Disk) → IsFilled old new new_file → IsIdle new new_front

@@ -15,7 +15,7 @@ use Rattle.vault_store.specs.declared.opening.File.TheVariants.{First, Second}
 use Rattle.vault_store.specs.Files.{applied, after_frames, Reading, Holds, EndsBehind, IsSpare, AreRead, HasCurrentHead}
 use Rattle.vault_store.specs.Faults.{IsBodyFault}
 use Rattle.vault_store.specs.OnDisk.{IsSettled}
-use Rattle.vault_store.specs.Opening.{IsNewer, IsNotOpened, IsHandedOn}
+use Rattle.vault_store.specs.Opening.{IsNewer, IsNotOpened, IsHandedOn, AreSettled}
 use Rattle.vault_store.specs.Read.{AreReads, AreContents, IsFaultBehindHead, IsWhyNot, IsNewerIn}
 use Rattle.vault_store.specs.State.{at_rest}
 use Rattle.vault_store.specs.Seen.{Seen, of_file, Keeps}
@@ -60,6 +60,11 @@ shown_placed disk Second first second = refl
 active_fault : (which : File) (first second : List ℕ) (g at : ℕ) → IsNewerIn first second which g → IsBodyFault (of_file which first second) at → IsNotOpened first second (Damaged which at)
 active_fault First first second g at newer fault = inr (g, newer, fault)
 active_fault Second first second g at newer fault = inr (inr (g, newer, fault))
+
+settled_each : {D : Type 0} (disk : D → Disk) (which : File) (active spare : D) → (IsTrue (disk active).honest → IsSettled (disk active)) → (IsTrue (disk spare).honest → IsSettled (disk spare))
+    → AreSettled (disk (of_file which active spare)) (disk (of_file which spare active))
+settled_each disk First active spare h k = λ one two. (h one, k two)
+settled_each disk Second active spare h k = λ one two. (k one, h two)
 
 -- two devices whose heads are read, of which one is read on
 module _ {D : Type 0} (disk : D → Disk) (which : File) (first second one two active spare active_new : D) (g : ℕ) (handed_first : IsHandedOn (disk first) (disk one)) (handed_second : IsHandedOn (disk second) (disk two))
@@ -127,6 +132,10 @@ module _ {D : Type 0} (disk : D → Disk) (which : File) (first second one two a
       settled_spare honest =
           let was = subst IsTrue handed_spare.called.same_honesty honest in
           subst (λ (d : D). IsSettled (disk d)) (sym spare_is) (placed (λ (a b : D). IsTrue (disk a).honest → IsSettled (disk b)) which second first two one settled_second settled_first was)
+
+      -- what both devices show is settled
+      pub opened_settled : AreSettled (disk (of_file which active_new spare)) (disk (of_file which spare active_new))
+      opened_settled = settled_each disk which active_new spare settled_active settled_spare
 
       still_shown : IsTrue (disk active_new).honest → (disk active_new).shown ≡ (disk active).shown
       still_shown honest = (reads.read (subst IsTrue reads.called.same_honesty honest)).shown

@@ -1,12 +1,13 @@
 -- A new vault, and why none was made. This project's own.
 use Rattle.std.specs.Prelude.{◌≡◌, ◌≢◌, ◌⊎◌, ℕ, IsTrue, List, [], ◌∷◌, ◌++◌}
 use Rattle.vault_model.specs.Vault.{new_vault}
-use Rattle.vault_device.specs.Disk.{Disk}
+use Rattle.vault_device.specs.Disk.{Disk, LeavesOnly}
 use Rattle.vault_store.specs.declared.creation.CreateError.{CreateError}
 use Rattle.vault_store.specs.declared.creation.CreateError.TheVariants.{Exists, Device, NoMemory}
-use Rattle.vault_store.specs.Files.{snapshot_bytes, current_head}
+use Rattle.vault_store.specs.Files.{snapshot_bytes, current_head, IsClosedFile, StandFor}
 use Rattle.vault_store.specs.Calls.{HasCause}
 use Rattle.vault_store.specs.OnDisk.{IsSettled}
+use Rattle.vault_store.specs.Step.{MayBeLeft}
 
 -- the bytes of a new vault, up to its tail gate and with it
 abbrev pub new_front : List ℕ
@@ -33,3 +34,14 @@ pub record IsFilled (old new : Disk) (bytes : List ℕ) : Type 0 where
   pub was_empty : old.shown ≡ []
   pub shown : new.shown ≡ bytes
   pub settled : IsSettled new
+
+-- a file that is closed, or a new vault's
+abbrev pub IsClosedOrNew : List ℕ → Type 0
+IsClosedOrNew file = IsClosedFile file ⊎ (file ≡ new_file)
+
+-- What a crash at any moment of a creation leaves of two honest devices that held nothing, and of which it left nothing before: no file is
+-- open, or they stand for the new vault.
+abbrev pub StopsInCreation : Disk → Disk → Disk → Disk → Type 0
+StopsInCreation first second first_new second_new =
+    IsTrue first.honest → IsTrue second.honest → LeavesOnly first [] → LeavesOnly second [] → (x y : List ℕ) → MayBeLeft first second first_new second_new x y
+    → (IsClosedFile x × IsClosedFile y) ⊎ StandFor x y new_vault

@@ -7,6 +7,7 @@ use Rattle.vault_store.specs.declared.opening.OpenError.TheVariants.{NoVault, Da
 use Rattle.vault_store.specs.Calls.{IsCalled}
 use Rattle.vault_store.specs.Files.{IsClosedFile, IsSpare, HasCurrentHead}
 use Rattle.vault_store.specs.Faults.{IsDamagedHead, IsBodyFault}
+use Rattle.vault_store.specs.OnDisk.{IsSettled}
 
 -- no fault is in the head of a file: it is closed, or right
 abbrev pub HasNoHeadFault : List ℕ → Type 0
@@ -47,3 +48,12 @@ pub record IsHandedOn (old new : Disk) : Type 0 where
   pub called : IsCalled old new
   pub shown : IsTrue old.honest → new.shown ≡ old.shown
   pub moments : IsTrue old.honest → LeavesSince old new old.IsImage
+
+-- what two honest devices show is settled
+abbrev pub AreSettled : Disk → Disk → Type 0
+AreSettled first second = IsTrue first.honest → IsTrue second.honest → IsSettled first × IsSettled second
+
+-- so it is where an opening was refused, but for a device's fault
+abbrev pub AreLeftSettled : Disk → Disk → OpenError → Type 0
+AreLeftSettled first second Device = Unit {0}
+AreLeftSettled first second _ = AreSettled first second

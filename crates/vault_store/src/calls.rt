@@ -1,6 +1,6 @@
 //! Calls of one device.
 ghost use Rattle.std.specs.Prelude.{◌≡◌, ◌<◌, ◌≤◌, ◌+◌, ◌^◌, [], ◌↔◌, IsTrue, IfOk, OnOk, length};
-ghost use Rattle.vault_device.specs.Disk.{IsSync, overwritten};
+ghost use Rattle.vault_device.specs.Disk.{IsSync, IsTornImage, LeavesSince, overwritten};
 ghost use Rattle.vault_store.specs.Calls.{AreCalls};
 ghost use Rattle.vault_store.specs.OnDisk.{IsSettled};
 
@@ -10,6 +10,7 @@ use vault_device::{Device, Fault};
 pub fn is_empty<D: Device>(device: &mut D) -> Result<bool, Fault>
     ensures calls { AreCalls (D.disk device.old) (D.disk device.new) result }
     ensures shown { IsTrue (D.disk device.old).honest → (D.disk device.new).shown ≡ (D.disk device.old).shown }
+    ensures moments { IsTrue (D.disk device.old).honest → LeavesSince (D.disk device.old) (D.disk device.new) (D.disk device.old).IsImage }
     ensures empty { IsTrue (D.disk device.old).honest → IfOk result (λ empty. IsTrue empty ↔ ((D.disk device.old).shown ≡ [])) }
 {
     Ok(device.len()? == 0)
@@ -19,6 +20,7 @@ pub fn is_empty<D: Device>(device: &mut D) -> Result<bool, Fault>
 pub fn settle<D: Device>(device: &mut D) -> Result<(), Fault>
     ensures calls { AreCalls (D.disk device.old) (D.disk device.new) result }
     ensures shown { IsTrue (D.disk device.old).honest → (D.disk device.new).shown ≡ (D.disk device.old).shown }
+    ensures moments { IsTrue (D.disk device.old).honest → LeavesSince (D.disk device.old) (D.disk device.new) (D.disk device.old).IsImage }
     ensures settled { IsTrue (D.disk device.old).honest → OnOk result (IsSettled (D.disk device.new)) }
 {
     device.sync()
@@ -30,6 +32,7 @@ pub fn write_settled<D: Device>(device: &mut D, at: u64, bytes: &[u8]) -> Result
     requires end { IsTrue (D.disk device.old).honest → at + length bytes.now < 2 ^ 63 }
     ensures calls { AreCalls (D.disk device.old) (D.disk device.new) result }
     ensures shown { IsTrue (D.disk device.old).honest → OnOk result ((D.disk device.new).shown ≡ overwritten (D.disk device.old).shown at bytes.now) }
+    ensures moments { IsTrue (D.disk device.old).honest → LeavesSince (D.disk device.old) (D.disk device.new) (IsTornImage (D.disk device.old) at (length bytes.now)) }
     ensures settled { IsTrue (D.disk device.old).honest → OnOk result (IsSettled (D.disk device.new)) }
 {
     device.write_at(at, bytes)?;

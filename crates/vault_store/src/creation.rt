@@ -2,9 +2,10 @@
 ghost use Rattle.std.specs.Prelude.{◌≡◌, [], IfOk, OnOk, OnErr, IfErr, IsTrue};
 ghost use Rattle.vault_model.specs.Vault.{new_vault};
 ghost use Rattle.vault_store.specs.declared.creation.CreateError.TheVariants.{Device as DeviceFailed, NoMemory as Wanted};
+ghost use Rattle.vault_device.specs.Disk.{LeavesOnly, LeavesSince};
 ghost use Rattle.vault_store.specs.Calls.{AreCalls, IsCalled};
 ghost use Rattle.vault_store.specs.OnDisk.{IsSettled};
-ghost use Rattle.vault_store.specs.Create.{new_file, IsNotMade, IsFilled};
+ghost use Rattle.vault_store.specs.Create.{new_file, IsNotMade, IsFilled, IsClosedOrNew, StopsInCreation};
 ghost use Rattle.vault_store.specs.State.{at_rest};
 ghost use Rattle.vault_store.specs.Seen.{first_of, second_of, Keeps};
 
@@ -58,6 +59,7 @@ const NEW_TAIL: u64 = 34;
 fn write_new<D: Device>(device: &mut D) -> Result<(), Fault>
     requires { IsTrue (D.disk device.old).honest → (D.disk device.old).shown ≡ [] }
     ensures calls { AreCalls (D.disk device.old) (D.disk device.new) result }
+    ensures moments { IsTrue (D.disk device.old).honest → LeavesOnly (D.disk device.old) [] → LeavesSince (D.disk device.old) (D.disk device.new) IsClosedOrNew }
     ensures shown { IsTrue (D.disk device.old).honest → OnOk result ((D.disk device.new).shown ≡ new_file) }
     ensures settled { IsTrue (D.disk device.old).honest → OnOk result (IsSettled (D.disk device.new)) }
 {
@@ -75,6 +77,8 @@ fn make<D: Device, A: Allocator>(
     ensures first { IsCalled (D.disk first.old) (D.disk first.new) }
     ensures second { IsCalled (D.disk second.old) (D.disk second.new) }
     ensures refused { IfErr result (λ why. IsNotMade (D.disk first.old) (D.disk second.old) (D.disk first.new) (D.disk second.new) why) }
+    ensures made { IsTrue (D.disk first.old).honest → LeavesOnly (D.disk first.old) [] → LeavesSince (D.disk first.old) (D.disk first.new) IsClosedOrNew }
+    ensures left { IsTrue (D.disk second.old).honest → LeavesSince (D.disk second.old) (D.disk second.new) (D.disk second.old).IsImage }
     ensures frame { IfOk result (λ frame. frame ≡ []) }
     ensures file { IsTrue (D.disk first.old).honest → OnOk result (IsFilled (D.disk first.old) (D.disk first.new) new_file) }
     ensures empty { IsTrue (D.disk second.old).honest → OnOk result (IsFilled (D.disk second.old) (D.disk second.new) []) }
@@ -89,14 +93,16 @@ fn make<D: Device, A: Allocator>(
 }
 
 impl<D: Device, A: Allocator> Store<D, A> {
-    /// Makes a vault with the library alone, in the first of two empty files. A refusal hands the devices back. What a
-    /// creation leaves in the files that failed at a device, or was stopped, is not said. Nine device calls.
+    /// Makes a vault with the library alone, in the first of two empty files. A refusal hands the devices back. A
+    /// creation that failed or was stopped leaves files of which none is open, or the new vault's. Nine device calls.
     pub fn create(alloc: A, first: D, second: D) -> Result<Store<D, A>, Refused<D, CreateError>>
         ensures kept { IfOk result (λ store. Keeps D.disk store (at_rest new_vault)) }
         ensures numbers { IfOk result (λ store. (store.generation ≡ 1) × (store.tail ≡ 34) × (store.journal ≡ 0)) }
         ensures file { IsTrue (D.disk first).honest → IfOk result (λ store. IsFilled (D.disk first) (D.disk (first_of store)) new_file) }
         ensures empty { IsTrue (D.disk second).honest → IfOk result (λ store. IsFilled (D.disk second) (D.disk (second_of store)) []) }
         ensures called { IfOk result (λ store. IsCalled (D.disk first) (D.disk (first_of store)) × IsCalled (D.disk second) (D.disk (second_of store))) }
+        ensures stops { IfOk result (λ store. StopsInCreation (D.disk first) (D.disk second) (D.disk (first_of store)) (D.disk (second_of store))) }
+        ensures refused_stops { IfErr result (λ refused. StopsInCreation (D.disk first) (D.disk second) (D.disk refused.first) (D.disk refused.second)) }
         ensures refused { IfErr result (λ refused. IsNotMade (D.disk first) (D.disk second) (D.disk refused.first) (D.disk refused.second) refused.why) }
         ensures handed_back { IfErr result (λ refused. IsCalled (D.disk first) (D.disk refused.first) × IsCalled (D.disk second) (D.disk refused.second)) }
     {

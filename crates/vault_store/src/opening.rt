@@ -5,7 +5,7 @@ ghost use Rattle.vault_store.specs.Calls.{HasCause};
 ghost use Rattle.vault_store.specs.Faults.{IsDamagedHead};
 ghost use Rattle.vault_store.specs.Files.{AreRead};
 ghost use Rattle.vault_store.specs.OnDisk.{IsSettled};
-ghost use Rattle.vault_store.specs.Opening.{IsNotOpened, IsHandedOn};
+ghost use Rattle.vault_store.specs.Opening.{IsNotOpened, IsHandedOn, AreSettled, AreLeftSettled};
 ghost use Rattle.vault_store.specs.Read.{AreReads, AreContents, IsFaultBehindHead, IsGenerationRead, IsWhyNot, IsNewerIn};
 ghost use Rattle.vault_store.specs.State.{at_rest};
 ghost use Rattle.vault_store.specs.Seen.{of_file, first_of, second_of, Keeps, settled_reading};
@@ -123,6 +123,7 @@ fn find_active<D: Device>(first: &mut D, second: &mut D) -> Result<Active, OpenE
     ensures settled_second { IsTrue (D.disk second.old).honest → OnOk result (IsSettled (D.disk second.new)) }
     ensures found { IsTrue (D.disk first.old).honest → IsTrue (D.disk second.old).honest → IfOk result (λ active. IsNewerIn (D.disk first.old).shown (D.disk second.old).shown active.which active.generation) }
     ensures refused { IsTrue (D.disk first.old).honest → IsTrue (D.disk second.old).honest → IfErr result (λ why. IsNotOpened (D.disk first.old).shown (D.disk second.old).shown why) }
+    ensures settled { IfErr result (λ why. AreLeftSettled (D.disk first.new) (D.disk second.new) why) }
     ensures cause { IfErr result (λ why. why ≡ DeviceFailed → HasCause (D.disk first.old) (D.disk first.new) ⊎ HasCause (D.disk second.old) (D.disk second.new)) }
 {
     first.sync()?;
@@ -183,6 +184,8 @@ impl<D: Device, A: Allocator + Copy> Store<D, A> {
         ensures read { IsTrue (D.disk first).honest → IsTrue (D.disk second).honest → IfOk result (λ opened. AreRead (D.disk first).shown (D.disk second).shown (settled_reading opened.0 (at_rest opened.1))) }
         ensures handed_on { IfOk result (λ opened. IsHandedOn (D.disk first) (D.disk (first_of opened.0)) × IsHandedOn (D.disk second) (D.disk (second_of opened.0))) }
         ensures refused { IsTrue (D.disk first).honest → IsTrue (D.disk second).honest → IfErr result (λ refused. IsNotOpened (D.disk first).shown (D.disk second).shown refused.why) }
+        ensures settled { IfOk result (λ opened. AreSettled (D.disk (first_of opened.0)) (D.disk (second_of opened.0))) }
+        ensures left_settled { IfErr result (λ refused. AreLeftSettled (D.disk refused.first) (D.disk refused.second) refused.why) }
         ensures cause { IfErr result (λ refused. refused.why ≡ DeviceFailed → HasCause (D.disk first) (D.disk refused.first) ⊎ HasCause (D.disk second) (D.disk refused.second)) }
         ensures handed_back { IfErr result (λ refused. IsHandedOn (D.disk first) (D.disk refused.first) × IsHandedOn (D.disk second) (D.disk refused.second)) }
     {

@@ -1,7 +1,7 @@
-use crate::{Forgotten, Pumped, Redeemed, Ticket, Vault};
+use crate::{Forgotten, OpenError, Pumped, Redeemed, Ticket, Vault};
 use std::alloc::{Allocator, Global};
-use std::test::Fail;
-use vault_device::{MemDevice, Pick};
+use std::process::Abort;
+use vault_device::{Device, MemDevice, Pick};
 use vault_model::{
     ClaimId, Command, CommandIn, Intent, Listing, Name, Outside, Path, PathItem, Refusal, Reply,
     ReplyIn,
@@ -11,15 +11,15 @@ use vault_model::{
 pub const CREATION: (u64, u64) = (7, 2);
 
 /// A new vault, the nth device call behind whose creation is to fail.
-pub fn new_vault(alloc: Global, failing: u64, life: u64) -> Result<Vault<MemDevice>, Fail> {
-    let mut first = MemDevice::new(alloc)?;
-    let second = MemDevice::new(alloc)?;
+pub fn new_vault(alloc: Global, failing: u64, life: u64) -> Option<Vault<MemDevice>> {
+    let mut first = MemDevice::new(alloc).ok()?;
+    let second = MemDevice::new(alloc).ok()?;
     if failing > 0 {
         first.fail_at(failing.saturating_add(CREATION.0));
     }
     match Vault::create(alloc, first, second, life) {
-        Ok(vault) => Ok(vault),
-        Err(_) => Err("a new vault".into()),
+        Ok(vault) => Some(vault),
+        Err(_) => None,
     }
 }
 
@@ -34,23 +34,23 @@ pub fn stopped(
     alloc: Global,
     mut first: MemDevice,
     mut second: MemDevice,
-) -> Result<Vault<MemDevice>, Fail> {
+) -> Option<Vault<MemDevice>> {
     first.crash(Pick::Old);
     second.crash(Pick::Old);
     match Vault::open(alloc, first, second, 2) {
-        Ok(vault) => Ok(vault),
-        Err(_) => Err("a vault opened".into()),
+        Ok(vault) => Some(vault),
+        Err(_) => None,
     }
 }
 
 /// A command that opens a session in this name.
-pub fn hello<A: Allocator>(name: &[u8]) -> Result<CommandIn<A>, Fail> {
-    Ok(Command::Join(Name::read(name).ok_or("a name")?))
+pub fn hello<A: Allocator>(name: &[u8]) -> Option<CommandIn<A>> {
+    Some(Command::Join(Name::read(name)?))
 }
 
 /// A command that makes the place at this path.
-pub fn make<A: Allocator>(path: &[u8]) -> Result<CommandIn<A>, Fail> {
-    Ok(Command::Make(Path::read(path).ok_or("a path")?, None))
+pub fn make<A: Allocator>(path: &[u8]) -> Option<CommandIn<A>> {
+    Some(Command::Make(Path::read(path)?, None))
 }
 
 /// A command that asks how a claim stands, of which there is none.
@@ -59,24 +59,24 @@ pub fn question() -> Command {
 }
 
 // A command that asks for this part, for change.
-fn check_out(alloc: Global, path: &[u8]) -> Result<Command, Fail> {
-    let path = Path::read(path).ok_or("a path")?;
+fn check_out(alloc: Global, path: &[u8]) -> Option<Command> {
+    let path = Path::read(path)?;
     let intent = Intent::Change;
-    let items = vec![in alloc; PathItem { intent, path }]?;
-    Ok(Command::CheckOut(Listing::from_vec(items)))
+    let items = vec![in alloc; PathItem { intent, path }].ok()?;
+    Some(Command::CheckOut(Listing::from_vec(items)))
 }
 
 /// A command that saves so many bytes as a draft of the part /e/b/p, for the first check-out.
-pub fn save(alloc: Global, len: usize) -> Result<Command, Fail> {
-    let path = Path::read(b"/e/b/p").ok_or("a path")?;
-    let content = vec![in alloc; b'x'; len]?;
-    Ok(Command::Save(1, path, Listing::from_vec(content)))
+pub fn save(alloc: Global, len: usize) -> Option<Command> {
+    let path = Path::read(b"/e/b/p")?;
+    let content = vec![in alloc; b'x'; len].ok()?;
+    Some(Command::Save(1, path, Listing::from_vec(content)))
 }
 
 /// What is told of the places under the library, where there is this one.
-pub fn listed<A: Allocator + Copy>(alloc: A, name: &[u8]) -> Result<ReplyIn<A>, Fail> {
-    let name = Name::read(name).ok_or("a name")?;
-    Ok(Reply::Children(Listing::from_vec(vec![in alloc; name]?)))
+pub fn listed<A: Allocator + Copy>(alloc: A, name: &[u8]) -> Option<ReplyIn<A>> {
+    let name = Name::read(name)?;
+    Some(Reply::Children(Listing::from_vec(vec![in alloc; name].ok()?)))
 }
 
 /// The ticket of a command, where it is staged.
@@ -216,16 +216,68 @@ pub fn asked(vault: &mut Vault<MemDevice>) -> bool {
     settled && answered
 }
 
+// The ticket of a session's command that makes the place at this path.
+fn staged_make(vault: &mut Vault<MemDevice>, session: u32, path: &[u8]) -> Option<Ticket<Global>> {
+    let command = make(path)?;
+    staged(vault, session, command)
+}
+
+/// Whether a session of this number is opened in this name.
+pub fn joins(vault: &mut Vault<MemDevice>, name: &[u8], number: u32) -> bool {
+    match hello(name) {
+        Some(command) => done(vault, 0, command, &Reply::Session(number)),
+        None => false,
+    }
+}
+
+/// Whether the first session is refused the place at this path, which is there.
+pub fn is_there(vault: &mut Vault<MemDevice>, path: &[u8]) -> bool {
+    match make(path) {
+        Some(command) => done(vault, 1, command, &Reply::Refused(Refusal::Exists)),
+        None => false,
+    }
+}
+
+/// Whether the place of this name is told to be the only one under the library.
+pub fn is_listed(vault: &mut Vault<MemDevice>, alloc: Global, name: &[u8]) -> bool {
+    match listed(alloc, name) {
+        Some(list) => done(vault, 1, Command::List(Path::root()), &list),
+        None => false,
+    }
+}
+
+/// Whether the first session saves so many bytes, so many times.
+pub fn saved(vault: &mut Vault<MemDevice>, alloc: Global, len: usize, times: u16) -> bool {
+    match save(alloc, len) {
+        Some(save) => repeated(vault, alloc, &save, times),
+        None => false,
+    }
+}
+
+/// Whether a save of so many bytes isn't staged since the vault is busy.
+pub fn is_full(vault: &mut Vault<MemDevice>, alloc: Global, len: usize) -> bool {
+    match save(alloc, len) {
+        Some(save) => is_busy(vault, alloc, &save),
+        None => false,
+    }
+}
+
+/// Whether questions are staged so many times.
+pub fn questioned(vault: &mut Vault<MemDevice>, alloc: Global, times: u16) -> bool {
+    repeated(vault, alloc, &question(), times)
+}
+
+/// Whether a question isn't staged since the vault is busy.
+pub fn takes_none(vault: &mut Vault<MemDevice>, alloc: Global) -> bool {
+    is_busy(vault, alloc, &question())
+}
+
 /// Whether two sessions make a place each, in one commit.
-pub fn made_by_two(
-    vault: &mut Vault<MemDevice>,
-    e: CommandIn<Global>,
-    f: CommandIn<Global>,
-) -> bool {
-    let Some(one) = staged(vault, 1, e) else {
+pub fn made_by_two(vault: &mut Vault<MemDevice>, e: &[u8], f: &[u8]) -> bool {
+    let Some(one) = staged_make(vault, 1, e) else {
         return false;
     };
-    let Some(other) = staged(vault, 2, f) else {
+    let Some(other) = staged_make(vault, 2, f) else {
         let _ = vault.forget(one);
         return false;
     };
@@ -236,14 +288,10 @@ pub fn made_by_two(
 }
 
 /// The ticket of the second command, where its commit fails while the first is settled and not told yet.
-pub fn failed_second(
-    vault: &mut Vault<MemDevice>,
-    e: CommandIn<Global>,
-    f: CommandIn<Global>,
-) -> Option<Ticket<Global>> {
-    let settled = staged(vault, 1, e)?;
+pub fn failed_second(vault: &mut Vault<MemDevice>, e: &[u8], f: &[u8]) -> Option<Ticket<Global>> {
+    let settled = staged_make(vault, 1, e)?;
     let moved = settled_after(vault, 4);
-    let Some(lost) = staged(vault, 1, f) else {
+    let Some(lost) = staged_make(vault, 1, f) else {
         let _ = vault.forget(settled);
         return None;
     };
@@ -273,17 +321,20 @@ fn given(vault: &mut Vault<MemDevice>, session: u32, command: Command) -> bool {
 }
 
 // Whether the first session makes the place at this path.
-fn made(vault: &mut Vault<MemDevice>, path: &[u8]) -> Result<bool, Fail> {
-    let make = make(path)?;
-    Ok(given(vault, 1, make))
+fn made(vault: &mut Vault<MemDevice>, path: &[u8]) -> bool {
+    match make(path) {
+        Some(make) => given(vault, 1, make),
+        None => false,
+    }
 }
 
 /// Whether the first session makes the part /e/b/p and checks it out, all in one commit.
-pub fn checked_out(vault: &mut Vault<MemDevice>, alloc: Global) -> Result<bool, Fail> {
-    let check_out = check_out(alloc, b"/e/b/p")?;
-    let places = made(vault, b"/e")? && made(vault, b"/e/b")? && made(vault, b"/e/b/p")?;
-    let asked = given(vault, 1, check_out);
-    Ok(places && asked && settled_after(vault, 4))
+pub fn checked_out(vault: &mut Vault<MemDevice>, alloc: Global) -> bool {
+    let places = made(vault, b"/e") && made(vault, b"/e/b") && made(vault, b"/e/b/p");
+    match check_out(alloc, b"/e/b/p") {
+        Some(check_out) => given(vault, 1, check_out) && places && settled_after(vault, 4),
+        None => false,
+    }
 }
 
 /// Whether the first session's command is staged so many times, and the tickets given up.
@@ -309,5 +360,30 @@ pub fn is_busy(vault: &mut Vault<MemDevice>, alloc: Global, command: &Command) -
     match command.copy(alloc) {
         Ok(again) => is_refused(vault, again, Outside::Busy, command),
         Err(_) => false,
+    }
+}
+
+/// A new file in memory.
+pub fn device(rt: &impl Abort, alloc: Global) -> MemDevice {
+    MemDevice::new(alloc).expect(rt, "memory")
+}
+
+/// Why no vault is opened in a file with these bytes, beside an empty one.
+pub fn refusal(alloc: Global, bytes: &[u8]) -> Option<OpenError> {
+    let mut first = MemDevice::new(alloc).ok()?;
+    if first.write_at(0, bytes).is_err() {
+        drop(first);
+        return None;
+    }
+    let Ok(second) = MemDevice::new(alloc) else {
+        drop(first);
+        return None;
+    };
+    match Vault::open(alloc, first, second, 1) {
+        Ok(vault) => {
+            drop(vault);
+            None
+        }
+        Err(refused) => Some(refused.why),
     }
 }

@@ -1,4 +1,4 @@
-use Rattle.std.proofs.Common.{ℕ, List, length, ◌∙◌, ap, arith, take}
+use Rattle.std.proofs.Common.{ℕ, List, ◌∙◌, ap, arith, take}
 use Rattle.vault_store.specs.Files.{header}
 use Rattle.vault_store.proofs.Headed.{is_head}
 use Rattle.vault_store.proofs.Behind.{honest_behind}

@@ -1,8 +1,9 @@
-use Rattle.std.proofs.Common.{[], ◌∷◌, refl}
+use Rattle.std.proofs.Common.{ℕ, suc, ◌∷◌, refl, ap}
 use Rattle.group_commit.proofs.tests.past.two_lives.Goals as goal
 
 pub returns : goal.returns
 returns c =
-    let begun = c.a_past_goes_on.ensures.begins c.in-Ok.ensures.view in
-    let t = c.in_ok-told.ensures [] begun in
-    (c.told.new.vault ∷ t.1 ∷ t.0 ∷ c.in-Ok.vault ∷ [], c.in_ok-next.ensures (t.1 ∷ t.0 ∷ c.in-Ok.vault ∷ []) t.2, refl)
+    let b = c.in_ok-vault.ensures in
+    let past = c.in_ok-vault.vault ∷ b.0 in
+    let is = c.in-Some.ensures b.0 b.1 in
+    (past, is, ap (λ (n : ℕ). suc n) b.2, c.receipts_are_found_again.ensures past is 1 c.in_ok-vault.vault c.in_ok-vault.receipt refl b.3)

@@ -6,6 +6,7 @@ use Rattle.vault_store.specs.State.{at_rest}
 use Rattle.vault_store.specs.Seen.{Keeps}
 use Rattle.vault_store.specs.Sound.{IsSound}
 use Rattle.vault_store.proofs.New.{new_sound, new_kept}
+use Rattle.vault_store.proofs.Creating.{stops_in_creation}
 use Rattle.vault_store.proofs.store.Store.create.Goals as goal
 
 pub invariant_of-result : goal.invariant_of-result
@@ -17,3 +18,11 @@ pub returns-in-Ok-clause-kept : goal.returns-in-Ok-clause-kept
 returns-in-Ok-clause-kept g c =
     subst (λ (bytes : List ℕ). Keeps g.D.Device.disk (record { active = c.make.new.first; spare = c.make.new.second; which = First; buffer = bytes; sealed = 0; generation = 1; tail = 34; journal = 0; phase = Idle; broken = false }) (at_rest new_vault)) (sym c.in-Ok.ensures.frame)
     (new_kept g.D.Device.disk c.args.first c.args.second c.make.new.first c.make.new.second c.make.ensures.first.same_honesty c.in-Ok.ensures.file c.make.ensures.second.same_honesty c.in-Ok.ensures.empty)
+
+pub returns-in-Ok-clause-stops : goal.returns-in-Ok-clause-stops
+returns-in-Ok-clause-stops g c =
+    stops_in_creation (g.D.Device.disk c.args.first) (g.D.Device.disk c.args.second) (g.D.Device.disk c.make.new.first) (g.D.Device.disk c.make.new.second) c.make.ensures.made c.make.ensures.left
+
+pub returns-in-Err-clause-refused_stops : goal.returns-in-Err-clause-refused_stops
+returns-in-Err-clause-refused_stops g c =
+    stops_in_creation (g.D.Device.disk c.args.first) (g.D.Device.disk c.args.second) (g.D.Device.disk c.make.new.first) (g.D.Device.disk c.make.new.second) c.make.ensures.made c.make.ensures.left

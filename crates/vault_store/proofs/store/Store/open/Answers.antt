@@ -3,7 +3,7 @@ use Rattle.vault_store.specs.declared.phase.Phase.TheVariants.{Idle}
 use Rattle.vault_store.specs.State.{at_rest}
 use Rattle.vault_store.specs.Seen.{Keeps}
 use Rattle.vault_store.specs.Sound.{IsSound}
-use Rattle.vault_store.proofs.Opened.{opened_handed, opened_kept, opened_read, opened_refused, opened_sound}
+use Rattle.vault_store.proofs.Opened.{opened_handed, opened_kept, opened_read, opened_refused, opened_settled, opened_sound}
 use Rattle.vault_store.proofs.store.Store.open.Goals as goal
 
 pub returns-in-Ok-read_active-clause-kept : goal.returns-in-Ok-read_active-clause-kept
@@ -32,3 +32,8 @@ pub returns-in-Err-read_active-clause-refused : goal.returns-in-Err-read_active-
 returns-in-Err-read_active-clause-refused g c =
     opened_refused g.D.Device.disk c.in-Ok.active.which c.args.first c.args.second c.find_active.new.first c.find_active.new.second c.in_turn-active.result.0 c.in_turn-active.result.1 c.read_active.new.active c.in-Ok.active.generation c.in-Ok.ensures.first c.in-Ok.ensures.second (g.met.D.Device.lawful c.in_turn-active.result.0)
     c.in_turn-active.ensures.0 c.in_turn-active.ensures.1 c.read_active.ensures.reads c.in-Ok.ensures.found c.in-Err-read_active.why c.in-Err-read_active.ensures.refused
+
+pub returns-in-Ok-read_active-clause-settled : goal.returns-in-Ok-read_active-clause-settled
+returns-in-Ok-read_active-clause-settled g c =
+    opened_settled g.D.Device.disk c.in-Ok.active.which c.args.first c.args.second c.find_active.new.first c.find_active.new.second c.in_turn-active.result.0 c.in_turn-active.result.1 c.read_active.new.active c.in-Ok.active.generation c.in-Ok.ensures.first c.in-Ok.ensures.second (g.met.D.Device.lawful c.in_turn-active.result.0)
+    c.in_turn-active.ensures.0 c.in_turn-active.ensures.1 c.read_active.ensures.reads c.in-Ok.ensures.found c.in-Ok-read_active.contents.book c.in-Ok-read_active.contents.frames c.in-Ok-read_active.contents.tail c.in-Ok-read_active.contents.journal c.in-Ok-read_active.ensures.contents c.in-Ok.ensures.settled_first c.in-Ok.ensures.settled_second

@@ -1,0 +1,9 @@
+use Rattle.std.proofs.Common.{sym, subst}
+use Rattle.vault_store.specs.Create.{StopsInCreation}
+use Rattle.vault_store.specs.Seen.{Seen as StoreSeen, first_of, second_of}
+use Rattle.group_commit.proofs.vault.Vault.create.Goals as goal
+
+pub returns-in-Ok-create-clause-stops : goal.returns-in-Ok-create-clause-stops
+returns-in-Ok-create-clause-stops g c =
+    let disk = g.D.Device.disk in
+    subst (λ (s : StoreSeen g.row.D.Denot). StopsInCreation (disk c.args.first) (disk c.args.second) (disk (first_of s)) (disk (second_of s))) (sym c.over.ensures.store) c.in-Ok-create.ensures.stops
