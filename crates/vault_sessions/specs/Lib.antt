@@ -1,3 +1,4 @@
+pub mod AtDesk
 pub mod Tallies
 pub mod Pumping
 pub mod Inflow

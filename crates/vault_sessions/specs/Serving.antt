@@ -5,6 +5,7 @@ use Rattle.std.specs.Io.KnownBytes.{Consumes, Appends, Keeps, IsAtEnd}
 use Rattle.vault_model.specs.Said.{Command, Reply}
 use Rattle.vault_model.specs.declared.replies.Reply.TheVariants as replies
 use Rattle.vault_model.specs.declared.replies.Outside.TheVariants as outsides
+use Rattle.vault_protocol.specs.Limits.{longest_line}
 use Rattle.vault_protocol.specs.Grammar.{command_of}
 use Rattle.vault_protocol.specs.Texts.{reply_text, outside_text}
 use Rattle.vault_sessions.specs.Inflow.{Inflow}
@@ -21,12 +22,12 @@ abbrev pub most_lines : ℕ
 most_lines = MOST_LINES
 
 -- The answer fits the line: a receipt shows the command that the line spells, and the line is answered as bad exactly where it
--- spells none; but memory for reading it may have been refused.
+-- spells none; but memory for reading it may have been refused, where it isn't too long to be read.
 abbrev pub Fits : {A : Type 0} → List ℕ → Out A → Type 0
 Fits line (Told receipt) = command_of line ≡ Some receipt.command
 Fits line (Refused outsides.BadLine) = command_of line ≡ None
 Fits line (Refused outsides.Busy) = IsSome (command_of line)
-Fits line (Refused outsides.NoMemory) = Unit {0}
+Fits line (Refused outsides.NoMemory) = length line ≤ longest_line
 Fits line (Refused outsides.Broken) = IsSome (command_of line)
 
 -- a line without its line feed, and its answer

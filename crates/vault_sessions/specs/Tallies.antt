@@ -3,6 +3,7 @@ use Rattle.std.specs.Prelude.{◌≡◌, ◌+◌}
 use Rattle.group_commit.specs.declared.answers.Redeemed.{Redeemed}
 use Rattle.group_commit.specs.declared.answers.Redeemed.TheVariants as redeemed
 use Rattle.group_commit.specs.Ticket.{Claim, Told}
+use Rattle.group_commit.specs.View.{View, length_of}
 use Rattle.vault_sessions.specs.declared.tally.Totals.{Totals}
 
 -- a receipt is of the entry that a ticket names
@@ -27,3 +28,7 @@ CountsRedeem old (redeemed.NotYet back) new = new ≡ old
 CountsRedeem old (redeemed.Stranger back) new = new ≡ old
 CountsRedeem old (redeemed.Unknown back) new = new ≡ old
 CountsRedeem old (redeemed.NoMemory back) new = new ≡ old
+
+-- the history and the number of its told entries have grown by what was counted
+abbrev pub HasGrown : View → View → Totals → Type 0
+HasGrown old new counted = (length_of new ≡ length_of old + counted.staged) × (new.told ≡ old.told + counted.told)

@@ -21,7 +21,8 @@ use std::sync::ledger::Book;
 use vault_device::{Device, Fault};
 use vault_model::{CommandIn, Outside};
 
-/// A vault and the books of both tallies, of what was counted before, and whether the flusher is to end. Contracts see the vault.
+/// A vault and the books of both tallies, of what was counted before, and whether it is closed: the flusher is to end then.
+/// Contracts see the vault, and whether it is closed.
 #[derive(Drop)]
 pub struct Desk<D: Device, S: Tally, T: Tally, A: Allocator = Global> {
     pub(crate) vault: Vault<D, A>,
@@ -34,11 +35,11 @@ pub struct Desk<D: Device, S: Tally, T: Tally, A: Allocator = Global> {
 impl<D: Device, S: Tally, T: Tally, A: Allocator> Model for Desk<D, S, T, A> {
     ghost use Rattle.std.specs.Prelude.{◌≡◌};
     ghost use Rattle.group_commit.specs.View.{length_of};
-    ghost use Rattle.group_commit.specs.Seen.{Seen};
+    ghost use Rattle.vault_sessions.specs.AtDesk.{AtDesk};
 
-    ghost Value = { Seen D };
+    ghost Value = { AtDesk D };
 
-    ghost view = { λ d. d.vault };
+    ghost view = { λ d. record { vault = d.vault; closed = d.closed } };
 
     ghost invariant = { λ d. (d.staged.total ≡ length_of d.vault.view) × (d.told.total ≡ d.vault.view.told) × (d.opening.staged ≡ S.opening) × (d.opening.told ≡ T.opening) };
 }
@@ -51,15 +52,16 @@ impl<D: Device, S: Tally, T: Tally, A: Allocator + Copy> Desk<D, S, T, A> {
         command: CommandIn<A>,
         share: &mut Share<S, T>,
     ) -> Result<Ticket<A>, (Outside, CommandIn<A>)>
-        ensures staged { OnOk result (self.new.view ≡ view_acted snapshot_length self.old.view (Stage session command)) }
+        ensures staged { OnOk result (self.new.vault.view ≡ view_acted snapshot_length self.old.vault.view (Stage session command)) }
         ensures counted { OnOk result (share.new ≡ record share.old { staged = share.old.staged + 1 }) }
-        ensures ticket { IfOk result (λ ticket. ticket ≡ claim_of self.old.life (length_of self.old.view) (entry_of (book_of self.old.view) session command)) }
+        ensures ticket { IfOk result (λ ticket. ticket ≡ claim_of self.old.vault.life (length_of self.old.vault.view) (entry_of (book_of self.old.vault.view) session command)) }
         ensures asked { IfOk result (λ ticket. (ticket.session ≡ session) × (ticket.command ≡ command)) }
         ensures refused { OnErr result ((self.new ≡ self.old) × (share.new ≡ share.old)) }
         ensures handed_back { IfErr result (λ refusal. refusal.1 ≡ command) }
-        ensures reason { IfErr result (λ refusal. IsReason self.old refusal.0) }
-        ensures least { (share.new.staged + S.opening ≤ length_of self.new.view) × (share.new.told + T.opening ≤ self.new.view.told) }
-        ensures next { IsNext D.disk self.old self.new }
+        ensures reason { IfErr result (λ refusal. IsReason self.old.vault refusal.0) }
+        ensures least { (share.new.staged + S.opening ≤ length_of self.new.vault.view) × (share.new.told + T.opening ≤ self.new.vault.view.told) }
+        ensures open { self.new.closed ≡ self.old.closed }
+        ensures next { IsNext D.disk self.old.vault self.new.vault }
     {
         share.audit_beside(&mut self.opening, &mut self.staged, &mut self.told);
         match self.vault.stage(session, command) {
@@ -75,11 +77,12 @@ impl<D: Device, S: Tally, T: Tally, A: Allocator + Copy> Desk<D, S, T, A> {
 
     /// The reply of the entry that a ticket names, once that is settled, counted in the share. Else the ticket comes back.
     pub fn redeem(&mut self, ticket: Ticket<A>, share: &mut Share<S, T>) -> Redeemed<A>
-        ensures redeemed { IsRedeemed self.old self.new ticket result }
+        ensures redeemed { IsRedeemed self.old.vault self.new.vault ticket result }
         ensures of_ticket { IsOfTicket ticket result }
         ensures counted { CountsRedeem share.old result share.new }
-        ensures least { (share.new.staged + S.opening ≤ length_of self.new.view) × (share.new.told + T.opening ≤ self.new.view.told) }
-        ensures next { IsNext D.disk self.old self.new }
+        ensures least { (share.new.staged + S.opening ≤ length_of self.new.vault.view) × (share.new.told + T.opening ≤ self.new.vault.view.told) }
+        ensures open { self.new.closed ≡ self.old.closed }
+        ensures next { IsNext D.disk self.old.vault self.new.vault }
     {
         share.audit_beside(&mut self.opening, &mut self.staged, &mut self.told);
         match self.vault.redeem(ticket) {
@@ -95,17 +98,19 @@ impl<D: Device, S: Tally, T: Tally, A: Allocator + Copy> Desk<D, S, T, A> {
 
     /// Spends a ticket without its reply. No tally changes.
     pub fn forget(&mut self, ticket: Ticket<A>) -> Forgotten
-        ensures closed { IsForgotten self.old self.new ticket result }
-        ensures next { IsNext D.disk self.old self.new }
+        ensures closed { IsForgotten self.old.vault self.new.vault ticket result }
+        ensures open { self.new.closed ≡ self.old.closed }
+        ensures next { IsNext D.disk self.old.vault self.new.vault }
     {
         self.vault.forget(ticket)
     }
 
     /// Does the next step of a commit. No tally changes.
     pub fn pump(&mut self) -> Result<Pumped, Fault>
-        ensures pumped { IsPumped self.old result self.new }
-        ensures same { (length_of self.new.view ≡ length_of self.old.view) × (self.new.view.told ≡ self.old.view.told) }
-        ensures next { IsNext D.disk self.old self.new }
+        ensures pumped { IsPumped self.old.vault result self.new.vault }
+        ensures same { (length_of self.new.vault.view ≡ length_of self.old.vault.view) × (self.new.vault.view.told ≡ self.old.vault.view.told) }
+        ensures open { self.new.closed ≡ self.old.closed }
+        ensures next { IsNext D.disk self.old.vault self.new.vault }
     {
         self.vault.pump()
     }
@@ -114,22 +119,22 @@ impl<D: Device, S: Tally, T: Tally, A: Allocator + Copy> Desk<D, S, T, A> {
 impl<D: Device, S: Tally, T: Tally, A: Allocator + Copy> Desk<D, S, T, A> {
     // How many commands were staged.
     pub(crate) fn len(&self) -> u64
-        ensures { result ≡ length_of self.now.view }
+        ensures { result ≡ length_of self.now.vault.view }
     {
         self.vault.len()
     }
 
     /// Whether there is nothing to pump, and more may come.
     pub(crate) fn is_quiet(&self) -> bool
-        ensures { IsTrue result → (self.now.view.broken ≡ false) × IsAtRest self.now.view }
+        ensures { IsTrue result → (self.now.closed ≡ false) × (self.now.vault.view.broken ≡ false) × IsAtRest self.now.vault.view }
     {
         !self.closed && self.is_settled() && !self.vault.is_broken()
     }
 
     /// Why the flusher ends now, if it does.
     pub(crate) fn flushed(&self) -> Option<Flushed>
-        ensures broken { (result ≡ Some Flushed.Broken) ↔ (self.now.view.broken ≡ true) }
-        ensures closed { result ≡ Some Flushed.Closed → IsAtRest self.now.view }
+        ensures broken { (result ≡ Some Flushed.Broken) ↔ (self.now.vault.view.broken ≡ true) }
+        ensures closed { result ≡ Some Flushed.Closed → (self.now.closed ≡ true) × IsAtRest self.now.vault.view }
     {
         if self.vault.is_broken() {
             return Some(Flushed::Broken);
@@ -142,15 +147,15 @@ impl<D: Device, S: Tally, T: Tally, A: Allocator + Copy> Desk<D, S, T, A> {
 
     /// Lets the flusher end once all is settled.
     pub(crate) fn close(&mut self)
-        ensures { self.new ≡ self.old }
+        ensures { self.new ≡ record self.old { closed = true } }
     {
         self.closed = true;
     }
 
     // Whether every entry is settled. Then no commit is under way, since a commit has an effect to settle.
     fn is_settled(&self) -> bool
-        ensures settled { IsTrue result ↔ (self.now.view.settled ≡ length_of self.now.view) }
-        ensures at_rest { IsTrue result → IsAtRest self.now.view }
+        ensures settled { IsTrue result ↔ (self.now.vault.view.settled ≡ length_of self.now.vault.view) }
+        ensures at_rest { IsTrue result → IsAtRest self.now.vault.view }
     {
         a_vault_keeps_its_history(&self.vault);
         self.vault.durable() == self.vault.len()

@@ -10,6 +10,7 @@ mod report;
 mod serve;
 mod server;
 mod shared;
+mod stream;
 mod tally;
 #[cfg(test)]
 mod tests;
@@ -19,6 +20,6 @@ pub use flusher::{Flushed, run_flusher};
 pub use gate::{Gate, OpenGate, Point};
 pub use report::{Ended, Out, Report};
 pub use serve::serve_one;
-pub use server::{ServerError, run_server};
+pub use server::{ServerError, Terms, run_server, run_server_on};
 pub use shared::{Shared, gather};
 pub use tally::{Share, Tally, Totals};

@@ -4,6 +4,7 @@ ghost use Rattle.std.specs.Io.KnownBytes.{Appends};
 ghost use Rattle.vault_protocol.specs.Limits.{longest_line};
 ghost use Rattle.vault_sessions.specs.Serving.{most_lines, HeardSoFar, HeardAll, Fits, FitsCommand, IsOf, IsLeft, SpeaksFor, session_of, session_after as session_after_out, text_of as text_of_answer, CountsOne, CountsWith, CountsAll, Counts, CutsBy, WritesAll, QuitsBy, lost_by};
 ghost use Rattle.vault_sessions.specs.Waits.{WaitsFor};
+ghost use Rattle.vault_model.specs.declared.commands.Command.TheVariants.{Leave};
 ghost use Rattle.vault_sessions.specs.declared.report.Out.{Out};
 ghost use Rattle.vault_sessions.specs.declared.report.Ended.{Ended};
 
@@ -64,7 +65,7 @@ pub fn serve_one<
     let mut session = 0;
     let ended = worker.converse(reader, writer, &mut outs, &mut session, &mut share);
     if session != 0 {
-        worker.leave(session, &mut share);
+        worker.leave(&outs, session, &mut share);
     }
     Report { outs, share, ended }
 }
@@ -162,6 +163,7 @@ impl<D: Device, S: Tally, T: Tally, A: Allocator + Copy, G: Gate, H: Wait> Worke
 
     // The answer to a line. None where its reply was refused memory.
     fn answer(&self, session: u32, line: &[u8], share: &mut Share<S, T>) -> Option<Out<A>>
+        requires { length line.now ≤ longest_line }
         ensures fits { IfSome result (Fits line.now) }
         ensures spoken { IfSome result (IsOf session) }
         ensures counted { MatchOption result (Counts share.old 0 1 share.new) (λ out. CountsOne share.old out share.new) }
@@ -250,11 +252,26 @@ impl<D: Device, S: Tally, T: Tally, A: Allocator + Copy, G: Gate, H: Wait> Worke
         let _ = shared.desk.lock(self.rt).forget(ticket);
     }
 
+    // Stages a leave of the session that the answers leave standing. None where it is refused.
+    fn stage_leave(
+        &self,
+        outs: &Vec<Out<A>, A>,
+        session: u32,
+        share: &mut Share<S, T>,
+    ) -> Option<Ticket<A>>
+        requires { session ≡ session_of 0 outs.now.items }
+        ensures ticket { IfSome result (λ ticket. (ticket.session ≡ session_of 0 outs.now.items) × (ticket.command ≡ Leave)) }
+        ensures counted { MatchOption result (share.new ≡ share.old) (λ ticket. share.new ≡ record share.old { staged = share.old.staged + 1 }) }
+    {
+        self.stage(session, Command::Leave, share).ok()
+    }
+
     // Stages a last leave, and forgets its ticket. Where it is refused, the session stands.
-    fn leave(&self, session: u32, share: &mut Share<S, T>)
+    fn leave(&self, outs: &Vec<Out<A>, A>, session: u32, share: &mut Share<S, T>)
+        requires { session ≡ session_of 0 outs.now.items }
         ensures { Counts share.old 0 1 share.new }
     {
-        if let Ok(ticket) = self.stage(session, Command::Leave, share) {
+        if let Some(ticket) = self.stage_leave(outs, session, share) {
             self.forget(ticket);
         }
     }

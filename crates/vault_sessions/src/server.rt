@@ -1,13 +1,16 @@
 //! A server over TCP.
-ghost use Rattle.std.specs.Prelude.{◌≡◌, ◌+◌, ◌<◌, ◌≤◌};
+ghost use Rattle.std.specs.Prelude.{◌≡◌, ◌+◌, ◌<◌, ◌≤◌, IfOk};
 ghost use Rattle.std.specs.Thread.{IsSend, IsSync};
 ghost use Rattle.group_commit.specs.View.{length_of};
+ghost use Rattle.vault_sessions.specs.Tallies.{HasGrown};
 ghost use denote.Param.Send.{Frees};
 
 use crate::flusher::run_flusher;
 use crate::gate::Gate;
+use crate::report::Ended;
 use crate::serve::serve_one;
 use crate::shared::{Shared, gather};
+use crate::stream::{give_up, prepare};
 use crate::tally::{Share, Tally, Totals};
 use crossbeam_channel::{Receiver, Sender, bounded};
 use group_commit::Vault;
@@ -18,6 +21,7 @@ use std::sync::Wait;
 use std::sync::ledger::Blank;
 use std::thread;
 use std::thread::{JoinHandle, Scope, Threads};
+use std::time::{Clock, Duration};
 use thiserror::Error;
 use vault_device::Device;
 
@@ -30,6 +34,18 @@ pub enum ServerError {
     /// Memory was wanted and refused, or a thread can't be started.
     #[error("want of memory")]
     NoMemory,
+}
+
+/// What a server keeps to.
+#[derive(Debug, Clone, Copy, PartialEq, Eq)]
+pub struct Terms {
+    /// How many connections are served at a time: 1 to 64.
+    pub workers: usize,
+    /// After how many connections it ends. None: it serves on.
+    pub connections: Option<u32>,
+    /// After how long a connection is ended, as by a reader's or a writer's fault, whose client sends nothing, or takes nothing of a
+    /// reply. None: it may wait for ever.
+    pub idle: Option<Duration>,
 }
 
 // An accepted connection, with its number.
@@ -47,7 +63,7 @@ pub fn run_server<
     D: Device + Drop + Send,
     A: Allocator + Copy + Send + Sync,
     G: Gate + Sync,
-    H: Threads + Wait + Sync,
+    H: Threads + Wait + Clock + Sync,
 >(
     rt: &H,
     alloc: A,
@@ -59,20 +75,37 @@ pub fn run_server<
 ) -> Result<(Vault<D, A>, Totals), ServerError>
     requires workers { (0 < workers) × (workers ≤ 64) }
     requires frees { Frees A.Allocator A.dealloc_token }
+    ensures grown { IfOk result (λ served. HasGrown vault.view served.0.view served.1) }
 {
-    let parts = workers as u64 + 1;
-    let (staged, told) = (Blank::new(parts), Blank::new(parts));
-    run::<D, A, G, H, Brand, Brand>(
-        rt,
-        alloc,
-        staged,
-        told,
-        listener,
-        vault,
+    let terms = Terms {
         workers,
         connections,
-        gate,
-    )
+        idle: None,
+    };
+    run_server_on(rt, alloc, listener, vault, &terms, gate)
+}
+
+/// The same, on these terms.
+pub fn run_server_on<
+    D: Device + Drop + Send,
+    A: Allocator + Copy + Send + Sync,
+    G: Gate + Sync,
+    H: Threads + Wait + Clock + Sync,
+>(
+    rt: &H,
+    alloc: A,
+    listener: TcpListener,
+    vault: Vault<D, A>,
+    terms: &Terms,
+    gate: &G,
+) -> Result<(Vault<D, A>, Totals), ServerError>
+    requires workers { (0 < terms.now.workers) × (terms.now.workers ≤ 64) }
+    requires frees { Frees A.Allocator A.dealloc_token }
+    ensures grown { IfOk result (λ served. HasGrown vault.view served.0.view served.1) }
+{
+    let parts = terms.workers as u64 + 1;
+    let (staged, told) = (Blank::new(parts), Blank::new(parts));
+    run::<D, A, G, H, Brand, Brand>(rt, alloc, staged, told, listener, vault, terms, gate)
 }
 
 // The same, over the ledgers of one run.
@@ -80,7 +113,7 @@ fn run<
     D: Device + Drop + Send,
     A: Allocator + Copy + Send + Sync,
     G: Gate + Sync,
-    H: Threads + Wait + Sync,
+    H: Threads + Wait + Clock + Sync,
     S: Tally + Send + Sync,
     T: Tally + Send + Sync,
 >(
@@ -90,82 +123,125 @@ fn run<
     told: Blank,
     listener: TcpListener,
     vault: Vault<D, A>,
-    workers: usize,
-    connections: Option<u32>,
+    terms: &Terms,
     gate: &G,
 ) -> Result<(Vault<D, A>, Totals), ServerError>
-    requires workers { (0 < workers) × (workers ≤ 64) }
+    requires workers { (0 < terms.now.workers) × (terms.now.workers ≤ 64) }
     requires frees { Frees A.Allocator A.dealloc_token }
     requires whole { (S.all ≡ S.parts) × (T.all ≡ T.parts) }
-    requires staged { (staged.name ≡ S.name) × (staged.parts ≡ S.parts) × (S.all ≡ workers + 1) × (S.opening ≡ length_of vault.view) }
-    requires told { (told.name ≡ T.name) × (told.parts ≡ T.parts) × (T.all ≡ workers + 1) × (T.opening ≡ vault.view.told) }
+    requires staged { (staged.name ≡ S.name) × (staged.parts ≡ S.parts) × (S.all ≡ terms.now.workers + 1) × (S.opening ≡ length_of vault.view) }
+    requires told { (told.name ≡ T.name) × (told.parts ≡ T.parts) × (T.all ≡ terms.now.workers + 1) × (T.opening ≡ vault.view.told) }
+    ensures grown { IfOk result (λ served. HasGrown vault.view served.0.view served.1) }
 {
+    let workers = terms.workers;
     let Ok((shared, shares)) = Shared::<D, S, T, A>::new(alloc, staged, told, vault, workers) else {
         return Err(ServerError::NoMemory);
     };
-    let returned = serve_all(rt, alloc, &shared, shares, &listener, connections, gate)?;
-    gather(shared, returned).map_err(|_| ServerError::NoMemory)
+    let server = Server {
+        rt,
+        alloc,
+        shared: &shared,
+        gate,
+    };
+    let returned = server.serve_all(shares, &listener, terms)?;
+    match gather(shared, returned) {
+        Ok(served) => Ok(served),
+        Err(_) => Err(ServerError::NoMemory),
+    }
 }
 
-// Starts the threads, hands the connections out, and joins the threads.
-fn serve_all<
+// What each thread of a server has.
+#[derive(Drop)]
+struct Server<'a, D: Device, A: Allocator, G: Gate, H, S: Tally, T: Tally> {
+    rt: &'a H,
+    alloc: A,
+    shared: &'a Shared<D, S, T, A>,
+    gate: &'a G,
+}
+
+impl<
     D: Device + Drop + Send,
     A: Allocator + Copy + Send + Sync,
     G: Gate + Sync,
-    H: Threads + Wait + Sync,
+    H: Threads + Wait + Clock + Sync,
     S: Tally + Send + Sync,
     T: Tally + Send + Sync,
->(
-    rt: &H,
-    alloc: A,
-    shared: &Shared<D, S, T, A>,
-    shares: Vec<Share<S, T>, A>,
-    listener: &TcpListener,
-    connections: Option<u32>,
-    gate: &G,
-) -> Result<Vec<Share<S, T>, A>, ServerError>
-    requires { Frees A.Allocator A.dealloc_token }
-{
-    let count = shares.len();
-    let Ok((sender, receiver)) = bounded::<Connection, A>(alloc, count) else {
-        return Err(ServerError::NoMemory);
-    };
-    let mut running = Vec::new(alloc);
-    let mut returned = Vec::new(alloc);
-    if running.reserve(count).is_err() || returned.reserve(count).is_err() {
-        return Err(ServerError::NoMemory);
+> Server<'_, D, A, G, H, S, T> {
+    // Starts the threads, hands the connections out, and joins the threads.
+    fn serve_all(
+        &self,
+        shares: Vec<Share<S, T>, A>,
+        listener: &TcpListener,
+        terms: &Terms,
+    ) -> Result<Vec<Share<S, T>, A>, ServerError>
+        requires { Frees A.Allocator A.dealloc_token }
+    {
+        let (rt, shared, gate) = (self.rt, self.shared, self.gate);
+        let count = shares.len();
+        let Ok((sender, receiver)) = bounded::<Connection, A>(self.alloc, count) else {
+            return Err(ServerError::NoMemory);
+        };
+        let mut running = Vec::new(self.alloc);
+        let mut returned = Vec::new(self.alloc);
+        if running.reserve(count).is_err() || returned.reserve(count).is_err() {
+            return Err(ServerError::NoMemory);
+        }
+        thread::scope(
+            thread::scope_env(),
+            rt,
+            |scope| -> Result<Vec<Share<S, T>, A>, ServerError>
+                requires { IsSend D.row × IsSend A.row × IsSync A.row × Frees A.Allocator A.dealloc_token × IsSync G.row × IsSync H.row × IsSend S.row × IsSync S.row × IsSend T.row × IsSync T.row }
+            {
+                let Ok(flusher) = scope.spawn(move || run_flusher(rt, shared, gate)) else {
+                    return Err(ServerError::NoMemory);
+                };
+                let started = self.start_all(scope, &receiver, shares, &mut running);
+                drop(receiver);
+                let accepted = started.and_then(|()| accept_all(rt, listener, &sender, terms));
+                drop(sender);
+                join_all(rt, running, &mut returned);
+                shared.close(rt);
+                flusher.join(rt);
+                accepted?;
+                Ok(returned)
+            },
+        )
     }
-    thread::scope(
-        thread::scope_env(),
-        rt,
-        |scope| -> Result<Vec<Share<S, T>, A>, ServerError>
-            requires { IsSend D.row × IsSend A.row × IsSync A.row × Frees A.Allocator A.dealloc_token × IsSync G.row × IsSync H.row × IsSend S.row × IsSync S.row × IsSend T.row × IsSync T.row }
-        {
-            let Ok(flusher) = scope.spawn(move || run_flusher(rt, shared, gate)) else {
+
+    // Starts a worker for each share, into the room that was taken for them, unless there is no memory for one.
+    fn start_all<'s, E>(
+        &'s self,
+        scope: &'s Scope<'s, E>,
+        receiver: &Receiver<Connection, A>,
+        shares: Vec<Share<S, T>, A>,
+        running: &mut Vec<JoinHandle<Share<S, T>>, A>,
+    ) -> Result<(), ServerError>
+        requires { Frees A.Allocator A.dealloc_token }
+    {
+        for share in shares {
+            let Some(worker) = self.start(scope, receiver, share) else {
                 return Err(ServerError::NoMemory);
             };
-            let mut all_started = true;
-            for share in shares {
-                let Some(worker) = start(scope, rt, alloc, shared, gate, &receiver, share) else {
-                    all_started = false;
-                    break;
-                };
-                let _ = running.push(worker);
-            }
-            drop(receiver);
-            let accepted = if all_started {
-                accept_all(rt, listener, &sender, connections)
-            } else {
-                Err(ServerError::NoMemory)
-            };
-            drop(sender);
-            join_all(rt, running, &mut returned);
-            shared.close(rt);
-            flusher.join(rt);
-            accepted?;
-            Ok(returned)
-        },
-    )
+            let _ = running.push(worker);
+        }
+        Ok(())
+    }
+
+    // Starts a worker, unless there is no memory for it.
+    fn start<'s, E>(
+        &'s self,
+        scope: &'s Scope<'s, E>,
+        receiver: &Receiver<Connection, A>,
+        share: Share<S, T>,
+    ) -> Option<JoinHandle<Share<S, T>>>
+        requires { Frees A.Allocator A.dealloc_token }
+    {
+        let receiver = receiver.clone().ok()?;
+        let (rt, alloc, shared, gate) = (self.rt, self.alloc, self.shared, self.gate);
+        scope
+            .spawn(move || work(rt, alloc, shared, gate, receiver, share))
+            .ok()
+    }
 }
 
 // Waits for the workers, and keeps their shares in the room that was taken for them.
@@ -179,48 +255,20 @@ fn join_all<A: Allocator, H: Threads, S: Tally, T: Tally>(
     }
 }
 
-// Starts a worker, unless there is no memory for it.
-fn start<
-    's,
-    E,
-    D: Device + Drop + Send,
-    A: Allocator + Copy + Send + Sync,
-    G: Gate + Sync,
-    H: Threads + Wait + Sync,
-    S: Tally + Send + Sync,
-    T: Tally + Send + Sync,
->(
-    scope: &'s Scope<'s, E>,
-    rt: &'s H,
-    alloc: A,
-    shared: &'s Shared<D, S, T, A>,
-    gate: &'s G,
-    receiver: &Receiver<Connection, A>,
-    share: Share<S, T>,
-) -> Option<JoinHandle<Share<S, T>>>
-    requires { Frees A.Allocator A.dealloc_token }
-{
-    let receiver = receiver.clone().ok()?;
-    scope
-        .spawn(move || work(rt, alloc, shared, gate, receiver, share))
-        .ok()
-}
-
 // Hands connections out until there were enough, or no more can be accepted.
 fn accept_all<A: Allocator, H: Wait>(
     rt: &H,
     listener: &TcpListener,
     sender: &Sender<Connection, A>,
-    connections: Option<u32>,
+    terms: &Terms,
 ) -> Result<(), ServerError> {
-    let most = connections.map_or(usize::MAX, |most| most as usize);
+    let most = terms.connections.map_or(usize::MAX, |most| most as usize);
     let mut number = 0u32;
     for stream in listener.incoming().take(most) {
         let Ok(stream) = stream else {
             return Err(ServerError::Accept);
         };
-        // A reply goes out at once, also to a client that sent several lines.
-        let _ = stream.set_nodelay(true);
+        prepare(&stream, terms.idle);
         number = number.wrapping_add(1);
         if sender.send(rt, Connection { number, stream }).is_err() {
             return Err(ServerError::NoMemory);
@@ -230,7 +278,7 @@ fn accept_all<A: Allocator, H: Wait>(
 }
 
 // Serves connections until there are no more.
-fn work<D: Device, A: Allocator + Copy, G: Gate, H: Wait, S: Tally, T: Tally>(
+fn work<D: Device, A: Allocator + Copy, G: Gate, H: Wait + Clock, S: Tally, T: Tally>(
     rt: &H,
     alloc: A,
     shared: &Shared<D, S, T, A>,
@@ -254,6 +302,10 @@ fn work<D: Device, A: Allocator + Copy, G: Gate, H: Wait, S: Tally, T: Tally>(
             share,
         );
         share = report.share;
+        // At the other ends there is nothing unread, or nobody who reads.
+        if matches!(report.ended, Ended::Quit | Ended::Limit | Ended::NoMemory) {
+            give_up(rt, &stream);
+        }
     }
     share
 }

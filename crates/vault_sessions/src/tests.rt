@@ -1,7 +1,11 @@
 //! Conversations in memory, a flusher beside workers, and a server over TCP on this machine.
 
 mod connections;
+mod devices;
 mod flushing;
+mod limits;
+mod memory;
 mod serving;
 mod talk;
+mod tcp;
 mod turns;

@@ -1,8 +1,13 @@
 //! What the program is asked to do.
 
 use crate::serving::Serving;
+use clap::error::ErrorKind;
 use clap::{Arg, ArgMatches, Command, Error, value_parser};
 use std::alloc::{AllocError, Global};
+use std::convert::AsStr;
+
+/// What `--version` says behind the program's name.
+const VERSION: &str = "0.8.0";
 
 /// What a script may say, below the help of `script`.
 const LINES: &str = "\
@@ -39,7 +44,9 @@ Example:
 
 /// What `inspect` prints, below its help.
 const INSPECTED: &str = "\
-The files are only read. A line for each file says whether it is closed, open, older than the other or damaged at an
+The files are only read. Stop their server first, or copy both files and inspect the copy: what is read while a server
+writes may be of no one moment, and 'vault in use' is said on standard error then. No server starts while they are read.
+A line for each file says whether it is closed, open, older than the other or damaged at an
 offset; then come the vault's counts and a line for each standing claim, or 'no vault'.
 Example:
   vaultd inspect vault.a vault.b
@@ -69,6 +76,7 @@ Example:
 'vaultd script --help' lists what a script may say.";
 
 /// What the program is asked to do.
+#[derive(Clone, Copy, Debug, PartialEq, Eq)]
 pub(crate) enum Task<'a> {
     /// Runs a script.
     Script,
@@ -107,12 +115,18 @@ fn serve<'a>(alloc: Global) -> Result<Command<'a>, AllocError> {
         .value_name("M")
         .value_parser(value_parser!(u32).range(1..))
         .help("Ends after so many connections; without it the program serves on");
+    let idle = Arg::new(alloc, "idle")
+        .long("idle")
+        .value_name("SECONDS")
+        .value_parser(value_parser!(u32).range(1..))
+        .help("Ends a connection that sends nothing for so long; without it, it may be silent");
     over_files(alloc, "serve")?
         .about("Serves the vault in two files over TCP")
         .after_help(SERVED)
         .arg(address)?
         .arg(workers)?
-        .arg(connections)
+        .arg(connections)?
+        .arg(idle)
 }
 
 /// The command line.
@@ -129,11 +143,11 @@ fn command_line<'a>(alloc: Global) -> Result<Command<'a>, AllocError> {
         .about("Prints a report on the two files of a vault, and changes neither")
         .after_help(INSPECTED);
     Command::new(alloc, "vaultd")
+        .version(VERSION)
         .about("The server of an engineering design library")
         .after_help(EXAMPLE)
         .subcommand_required(true)
         .arg_required_else_help(true)
-        .disable_help_subcommand(true)
         .subcommand(script)?
         .subcommand(create)?
         .subcommand(inspect)?
@@ -153,16 +167,21 @@ fn serving<'a>(matches: &ArgMatches<'a>) -> Serving<'a> {
         address: path(matches, "ADDR"),
         workers: matches.get_one::<u32>("workers").unwrap_or(4),
         connections: matches.get_one::<u32>("connections"),
+        idle: matches.get_one::<u32>("idle"),
     }
 }
 
 /// What the words ask for, the program's own name first.
-pub(crate) fn task_of(alloc: Global, words: &[String]) -> Result<Task<'_>, Error> {
+pub(crate) fn task_of<'a, S: AsStr>(alloc: Global, words: &'a [S]) -> Result<Task<'a>, Error> {
     let matches = command_line(alloc)?.try_get_matches_from(words)?;
     match matches.subcommand() {
+        Some(("script", _)) => Ok(Task::Script),
         Some(("create", files)) => Ok(Task::Create(path(files, "A"), path(files, "B"))),
         Some(("inspect", files)) => Ok(Task::Inspect(path(files, "A"), path(files, "B"))),
         Some(("serve", words)) => Ok(Task::Serve(serving(words))),
-        _ => Ok(Task::Script),
+        Some(_) | None => {
+            let mut command = command_line(alloc)?;
+            Err(command.error(ErrorKind::MissingSubcommand, "a subcommand is needed")?)
+        }
     }
 }

@@ -1,7 +1,7 @@
 //! Making a vault in two files.
 
 use crate::fault::Fault;
-use std::alloc::Global;
+use crate::files::lock;
 use std::fs::{self, File, OpenOptions};
 use std::io::ErrorKind;
 use vault_device::FileDevice;
@@ -35,31 +35,39 @@ fn take_back(rt: &HostRuntime, path: &str, made: bool) {
     }
 }
 
-/// Makes a vault in two open files.
-fn create_in(alloc: Global, first: File, second: File) -> Result<(), Fault> {
-    match Store::create(alloc, FileDevice::over(first), FileDevice::over(second)) {
-        Ok(_) => Ok(()),
-        Err(refused) => Err(Fault::from(refused.why)),
+/// Opens a file and locks it. One that another program has by now isn't taken away, whoever made it.
+fn locked(rt: &HostRuntime, path: &str) -> Result<Opened, Fault> {
+    let opened = open_or_make(rt, path)?;
+    match lock(&opened.file) {
+        Ok(()) => Ok(opened),
+        Err(fault) => Err(fault),
     }
 }
 
 /// Makes a vault in the files of these two paths, which are made where they are missing. Where that is refused, no file is
 /// changed, and those made for it are taken away again.
 pub(crate) fn create_files(rt: &HostRuntime, first: &str, second: &str) -> Result<(), Fault> {
-    let a = open_or_make(rt, first)?;
-    let b = match open_or_make(rt, second) {
+    let a = locked(rt, first)?;
+    let b = match locked(rt, second) {
         Ok(b) => b,
         Err(fault) => {
             take_back(rt, first, a.made);
             return Err(fault);
         }
     };
-    let created = create_in(rt.alloc(), a.file, b.file);
-    if created.is_err() {
-        take_back(rt, first, a.made);
-        take_back(rt, second, b.made);
+    let (made_first, made_second) = (a.made, b.made);
+    match Store::create(
+        rt.alloc(),
+        FileDevice::over(a.file),
+        FileDevice::over(b.file),
+    ) {
+        Ok(_) => Ok(()),
+        Err(refused) => {
+            take_back(rt, first, made_first);
+            take_back(rt, second, made_second);
+            Err(Fault::from(refused.why))
+        }
     }
-    created
 }
 
 /// Makes a vault in the files of these two paths, and says so on standard output.

@@ -13,6 +13,9 @@ pub(crate) enum Fault {
     /// A file that was to hold a new vault isn't empty.
     #[error("vault exists")]
     Exists,
+    /// Another program has a file of the vault, or one file was given twice.
+    #[error("vault in use")]
+    InUse,
     /// Neither file is open.
     #[error("no vault")]
     NoVault,
@@ -25,6 +28,9 @@ pub(crate) enum Fault {
     /// A file can't be opened, made, read or written.
     #[error("device fault")]
     Device,
+    /// The system lets the program have fewer descriptors than its workers need.
+    #[error("want of descriptors: {needed} are needed, and the limit is {limit}")]
+    Descriptors { needed: u64, limit: u64 },
     /// Memory was wanted and refused.
     #[error("want of memory")]
     NoMemory,

@@ -1,29 +1,45 @@
 //! Reporting on two files.
 
 use crate::fault::Fault;
-use std::fs::File;
+use std::fs::{File, TryLockError};
 use std::io::{self, BufWriter, Write};
 use vault_device::FileDevice;
 use vault_inspector::{Report, print};
 
+/// What two files were found to hold.
+#[derive(Drop)]
+pub(crate) struct Inspection {
+    pub(crate) report: Report,
+    /// Whether another program may have written to them meanwhile.
+    pub(crate) in_use: bool,
+}
+
 /// Opens a file for reading alone.
-fn opened(rt: &HostRuntime, path: &str) -> Result<FileDevice, Fault> {
-    match File::open(rt, path) {
-        Ok(file) => Ok(FileDevice::over(file)),
-        Err(_) => Err(Fault::Device),
-    }
+fn opened(rt: &HostRuntime, path: &str) -> Result<File, Fault> {
+    File::open(rt, path).or(Err(Fault::Device))
 }
 
-/// A report on the files of these two paths.
-pub(crate) fn report_on(rt: &HostRuntime, first: &str, second: &str) -> Result<Report, Fault> {
-    let mut a = opened(rt, first)?;
-    let mut b = opened(rt, second)?;
-    Ok(vault_inspector::inspect(rt.alloc(), &mut a, &mut b)?)
+/// Whether another program has the file for writing. Where none has, none gets it while this one is open.
+fn is_in_use(file: &File) -> bool {
+    matches!(file.try_lock_shared(), Err(TryLockError::WouldBlock))
 }
 
-/// Prints a report on the files of these two paths on standard output.
+/// Reads the files of these two paths.
+pub(crate) fn read_files(rt: &HostRuntime, first: &str, second: &str) -> Result<Inspection, Fault> {
+    let a = opened(rt, first)?;
+    let b = opened(rt, second)?;
+    let in_use = is_in_use(&a) || is_in_use(&b);
+    let (mut a, mut b) = (FileDevice::over(a), FileDevice::over(b));
+    let report = vault_inspector::inspect(rt.alloc(), &mut a, &mut b)?;
+    Ok(Inspection { report, in_use })
+}
+
+/// Prints a report on the files of these two paths on standard output. Where a server has them, it says so on standard error.
 pub(crate) fn inspect(rt: &HostRuntime, first: &str, second: &str) -> Result<(), Fault> {
-    let report = report_on(rt, first, second)?;
+    let Inspection { report, in_use } = read_files(rt, first, second)?;
+    if in_use {
+        let _ = eprintln!(rt; "vault in use: a server may have written while the files were read");
+    }
     let Ok(mut writer) = BufWriter::new(rt.alloc(), io::writer(rt)) else {
         return Err(Fault::NoMemory);
     };

@@ -3,10 +3,13 @@
 
 mod command_line;
 mod creating;
+mod descriptors;
 mod fault;
+mod files;
 mod inspecting;
 mod scripting;
 mod serving;
+mod streams;
 #[cfg(test)]
 mod tests;
 
@@ -16,6 +19,7 @@ use crate::fault::Fault;
 use crate::inspecting::inspect;
 use crate::scripting::script;
 use crate::serving::serve;
+use crate::streams::take_streams;
 use clap::error::ErrorKind;
 use std::process::ExitCode;
 use std::{env, io};
@@ -66,6 +70,11 @@ fn unread(rt: &HostRuntime, error: &io::Error) -> ExitCode {
 }
 
 fn main(rt: HostRuntime) -> ExitCode {
+    // Before anything is opened, so that no file of a vault is taken for a stream.
+    let _streams = match take_streams(&rt) {
+        Ok(streams) => streams,
+        Err(fault) => return told(&rt, fault),
+    };
     let words = match words(&rt) {
         Ok(words) => words,
         Err(error) => return unread(&rt, &error),

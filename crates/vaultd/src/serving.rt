@@ -1,20 +1,23 @@
 //! Serving a vault over TCP.
 
+use crate::descriptors::check_limit;
 use crate::fault::Fault;
+use crate::files::open_locked;
 use group_commit::Vault;
-use std::fs::{File, OpenOptions};
+use std::fs::File;
 use std::net::{Net, TcpListener, TcpStream};
 use std::rt::Files;
 use std::sync::Wait;
 use std::thread::Threads;
+use std::time::{Clock, Duration};
 use vault_device::FileDevice;
-use vault_sessions::{OpenGate, run_server};
+use vault_sessions::{OpenGate, Terms, run_server_on};
 
 /// The number of the program's one life of a vault.
 const LIFE: u64 = 1;
 
 /// What is served, where, and by how many workers.
-#[derive(Clone, Copy)]
+#[derive(Clone, Copy, Debug, PartialEq, Eq)]
 pub(crate) struct Serving<'a> {
     /// The paths of the vault's files.
     pub(crate) first: &'a str,
@@ -25,16 +28,8 @@ pub(crate) struct Serving<'a> {
     pub(crate) workers: u32,
     /// After how many connections the program ends.
     pub(crate) connections: Option<u32>,
-}
-
-/// Opens a file of a vault for reading and writing.
-fn opened<R: Files<File = File>>(rt: &R, path: &str) -> Result<FileDevice, Fault> {
-    let mut options = OpenOptions::new();
-    options.read(true).write(true);
-    match options.open(rt, path) {
-        Ok(file) => Ok(FileDevice::over(file)),
-        Err(_) => Err(Fault::Device),
-    }
+    /// After how many seconds a silent connection is ended.
+    pub(crate) idle: Option<u32>,
 }
 
 /// Opens the vault, binds the address, says so on standard output, and serves until enough connections were served.
@@ -45,10 +40,12 @@ pub(crate) fn serve<
         + Net<Listener = TcpListener, Stream = TcpStream>
         + Threads
         + Wait
+        + Clock
         + Sync,
 >(rt: &R, serving: &Serving<'_>) -> Result<(), Fault> {
-    let first = opened(rt, serving.first)?;
-    let second = opened(rt, serving.second)?;
+    check_limit(serving.workers)?;
+    let first = FileDevice::over(open_locked(rt, serving.first)?);
+    let second = FileDevice::over(open_locked(rt, serving.second)?);
     let vault = match Vault::open(rt.alloc(), first, second, LIFE) {
         Ok(vault) => vault,
         Err(refused) => return Err(Fault::from(refused.why)),
@@ -57,15 +54,14 @@ pub(crate) fn serve<
         return Err(Fault::Read);
     };
     println!(rt; "listening").or(Err(Fault::Write))?;
-    let (vault, _) = run_server(
-        rt,
-        rt.alloc(),
-        listener,
-        vault,
-        serving.workers.clamp(1, 64) as usize,
-        serving.connections,
-        &OpenGate,
-    )?;
+    let terms = Terms {
+        workers: serving.workers.clamp(1, 64) as usize,
+        connections: serving.connections,
+        idle: serving
+            .idle
+            .map(|seconds| Duration::from_secs(u64::from(seconds))),
+    };
+    let (vault, _) = run_server_on(rt, rt.alloc(), listener, vault, &terms, &OpenGate)?;
     if vault.is_broken() {
         return Err(Fault::Device);
     }

@@ -1,51 +1,111 @@
 //! Conversations on a connection, and on two one behind the other.
 
+use super::devices::{Bumpy, Closing, Dripping};
 use super::talk::{Talk, converse, converse_beside_flusher, new_vault};
 use crate::flusher::Flushed;
 use crate::report::Ended;
 use crate::tally::Totals;
 use std::alloc::{AllocError, Global};
-use std::io::{self, Read, Write};
 use std::sync::Wait;
-use std::test::Fail;
-use test_memory::Refusing;
+use std::thread::Threads;
 use vault_protocol::LONGEST_LINE;
 
-#[test]
-fn lines_beside_a_flusher(rt: HostRuntime) -> Result<(), Fail> {
-    let vault = new_vault(rt.alloc(), rt.alloc(), 0)?;
-    let input = b"foo\nlist /\nhello anna\nmake /e\nlist /".as_slice();
-    let mut held = Vec::new(rt.alloc());
-    let (flushed, talk) = converse_beside_flusher(&rt, rt.alloc(), vault, input, &mut held).ok_or(
-        "a talk",
-    )?;
-    assert_eq!(rt; flushed, Flushed::Closed);
-    assert_eq!(rt; talk.ended, Ended::EndOfInput);
-    assert_eq!(rt; talk.totals, Totals { staged: 4, told: 3 });
-    assert_eq!(rt;
-        held.as_slice(),
-        b"ERR 10\nERR 11\nOK session 1\nOK place 1\n".as_slice()
-    );
-    Ok(())
+// What conversations over a new vault come to, one behind the other, if they were told just this.
+fn talked<H: Wait>(rt: &H, alloc: Global, inputs: &mut [&[u8]], text: &[u8]) -> Option<Talk> {
+    let vault = new_vault(alloc, alloc, 0)?;
+    let mut held = Vec::new(alloc);
+    let talk = converse(rt, alloc, vault, inputs, &mut held)?;
+    if held.as_slice() == text {
+        Some(talk)
+    } else {
+        None
+    }
+}
+
+// What a conversation comes to beside a flusher, if it was told just this. The nth device call fails.
+fn flushed<H: Threads + Wait + Sync>(
+    rt: &H,
+    alloc: Global,
+    failing: u64,
+    input: &[u8],
+    text: &[u8],
+) -> Option<(Flushed, Talk)> {
+    let vault = new_vault(alloc, alloc, failing)?;
+    let mut held = Vec::new(alloc);
+    let ended = converse_beside_flusher(rt, alloc, vault, input, &mut held)?;
+    if held.as_slice() == text {
+        Some(ended)
+    } else {
+        None
+    }
 }
 
 #[test]
-fn hold_goes_with_its_connection(rt: HostRuntime) -> Result<(), Fail> {
-    let vault = new_vault(rt.alloc(), rt.alloc(), 0)?;
-    let mut readers = [
+fn lines_beside_a_flusher(rt: HostRuntime) {
+    let input = b"foo\nlist /\nhello anna\nmake /e\nlist /";
+    let text = b"ERR 10\nERR 11\nOK session 1\nOK place 1\n";
+    let (flushed, talk) = flushed(&rt, rt.alloc(), 0, input, text).expect(&rt, "a talk");
+    assert_eq!(rt; flushed, Flushed::Closed);
+    assert_eq!(rt; talk.ended, Ended::EndOfInput);
+    assert_eq!(rt; talk.totals, Totals { staged: 4, told: 3 });
+}
+
+#[test]
+fn flusher_tells_a_broken_vault(rt: HostRuntime) {
+    let input = b"hello anna\nmake /e\nlist /\n";
+    let text = b"OK session 1\nERR 82\nERR 82\n";
+    let (flushed, talk) = flushed(&rt, rt.alloc(), 1, input, text).expect(&rt, "a talk");
+    assert_eq!(rt; flushed, Flushed::Broken);
+    assert_eq!(rt; talk.ended, Ended::EndOfInput);
+    assert_eq!(rt; talk.totals, Totals { staged: 2, told: 1 });
+}
+
+#[test]
+fn hold_goes_with_its_connection(rt: HostRuntime) {
+    let mut inputs = [
         b"hello anna\nhold w:/\n".as_slice(),
         b"hello ben\ncheckout w:/\nquit\nlist /\n".as_slice(),
     ];
-    let mut held = Vec::new(rt.alloc());
-    let talk = converse(&rt, rt.alloc(), vault, &mut readers, &mut held).ok_or("a talk")?;
+    let text = b"OK session 1\nOK held h1\nOK session 2\nOK held c1\nOK left\n";
+    let talk = talked(&rt, rt.alloc(), &mut inputs, text).expect(&rt, "a talk");
     assert_eq!(rt; talk.ended, Ended::Quit);
     assert_eq!(rt; talk.answers, 3);
     assert_eq!(rt; talk.totals, Totals { staged: 6, told: 5 });
+}
+
+// Ten sessions come and go; the next one's commands, and its last leave, are its own.
+#[test]
+fn eleventh_session(rt: HostRuntime) {
+    let hello = b"hello anna\n".as_slice();
+    let last = b"hello ben\nmake /e\nhold w:/e\ncheckout r:/e\nstate c1\nlist /\n".as_slice();
+    let mut inputs = [
+        hello,
+        hello,
+        hello,
+        hello,
+        hello,
+        hello,
+        hello,
+        hello,
+        hello,
+        hello,
+        last,
+        b"state c1\nhello ada\nstate c1\nquit\n",
+    ];
+    let text =
+        b"OK session 1\nOK session 2\nOK session 3\nOK session 4\nOK session 5\nOK session 6\nOK session 7\n\
+        OK session 8\nOK session 9\nOK session 10\nOK session 11\nOK place 1\nOK held h1\nOK queued c1 behind h1\n\
+        OK queued c1 behind h1\nOK list 1 e\nERR 11\nOK session 12\nOK held c1\nOK left\n";
+    let talk = talked(&rt, rt.alloc(), &mut inputs, text).expect(&rt, "a talk");
+    assert_eq!(rt; talk.ended, Ended::Quit);
+    assert_eq!(rt; talk.answers, 4);
     assert_eq!(rt;
-        held.as_slice(),
-        b"OK session 1\nOK held h1\nOK session 2\nOK held c1\nOK left\n".as_slice()
+        talk.totals,
+        Totals {
+            staged: 31,
+            told: 20
+        }
     );
-    Ok(())
 }
 
 // Lines that are bad by a byte, then one that has the most bytes, and the same with one more.
@@ -62,182 +122,79 @@ fn strange_lines(alloc: Global) -> Result<Vec<u8>, AllocError> {
 }
 
 #[test]
-fn bad_lines(rt: HostRuntime) -> Result<(), Fail> {
-    let vault = new_vault(rt.alloc(), rt.alloc(), 0)?;
-    let input = strange_lines(rt.alloc())?;
-    let mut held = Vec::new(rt.alloc());
-    let talk = converse(&rt, rt.alloc(), vault, &mut [input.as_slice()], &mut held).ok_or(
-        "a talk",
-    )?;
+fn bad_lines(rt: HostRuntime) {
+    let input = strange_lines(rt.alloc()).expect(&rt, "lines");
+    let text = b"ERR 10\nERR 10\nERR 10\nERR 11\nERR 10\n";
+    let talk = talked(&rt, rt.alloc(), &mut [input.as_slice()], text).expect(&rt, "a talk");
     assert_eq!(rt; talk.ended, Ended::EndOfInput);
     assert_eq!(rt; talk.totals, Totals { staged: 1, told: 1 });
-    assert_eq!(rt;
-        held.as_slice(),
-        b"ERR 10\nERR 10\nERR 10\nERR 11\nERR 10\n".as_slice()
-    );
-    Ok(())
-}
-
-// A line as often as it says.
-fn repeated(alloc: Global, line: &[u8], times: usize) -> Result<Vec<u8>, AllocError> {
-    let mut input = Vec::new(alloc);
-    for _time in 0..times {
-        input.extend_from_slice(line)?;
-    }
-    Ok(input)
 }
 
 #[test]
-fn one_line_too_many(rt: HostRuntime) -> Result<(), Fail> {
-    let vault = new_vault(rt.alloc(), rt.alloc(), 0)?;
-    let input = repeated(rt.alloc(), b"list /\n", 4097)?;
-    let replies = repeated(rt.alloc(), b"ERR 11\n", 4096)?;
-    let mut held = Vec::new(rt.alloc());
-    let talk = converse(&rt, rt.alloc(), vault, &mut [input.as_slice()], &mut held).ok_or(
-        "a talk",
-    )?;
-    assert_eq!(rt; talk.ended, Ended::Limit);
-    assert_eq!(rt;
-        talk.totals,
-        Totals {
-            staged: 4096,
-            told: 4096
-        }
-    );
-    assert!(rt; held.as_slice() == replies.as_slice());
-    Ok(())
-}
-
-// Gives one byte a read, each behind a read that was interrupted, and then fails.
-#[derive(Drop)]
-struct Bumpy<'a> {
-    rest: &'a [u8],
-    is_calm: bool,
-}
-
-impl Read for Bumpy<'_> {
-    fn read(&mut self, buf: &mut [u8]) -> io::Result<usize> {
-        self.is_calm = !self.is_calm;
-        if !self.is_calm {
-            return Err(io::Error::from(io::ErrorKind::Interrupted));
-        }
-        let Some((first, rest)) = self.rest.split_first() else {
-            return Err(io::Error::from(io::ErrorKind::Other));
-        };
-        if buf.is_empty() {
-            return Ok(0);
-        }
-        buf[0] = *first;
-        self.rest = rest;
-        Ok(1)
-    }
-}
-
-// Takes so many texts, and then fails.
-#[derive(Drop)]
-struct Closing {
-    held: Vec<u8>,
-    texts: u32,
-}
-
-impl Write for Closing {
-    fn write(&mut self, buf: &[u8]) -> io::Result<usize> {
-        if self.texts == 0 {
-            return Err(io::Error::from(io::ErrorKind::BrokenPipe));
-        }
-        self.held.extend_from_slice(buf)?;
-        self.texts -= 1;
-        Ok(buf.len())
-    }
-
-    fn flush(&mut self) -> io::Result<()> {
-        Ok(())
-    }
-}
-
-#[test]
-fn failing_reader_and_writer(rt: HostRuntime) -> Result<(), Fail> {
-    for (texts, ended, answers, written) in [
-        (9, Ended::Read, 2, b"OK session 1\nERR 30\n".as_slice()),
-        (1, Ended::Write, 2, b"OK session 1\n".as_slice()),
-    ] {
-        let vault = new_vault(rt.alloc(), rt.alloc(), 0)?;
-        let reader = Bumpy {
-            rest: b"hello anna\nstate c1\nlist /",
-            is_calm: true,
-        };
-        let mut writer = Closing {
-            held: Vec::new(rt.alloc()),
-            texts,
-        };
-        let talk = converse(&rt, rt.alloc(), vault, &mut [reader], &mut writer).ok_or("a talk")?;
-        assert!(rt; talk.ended == ended && talk.answers == answers);
-        assert_eq!(rt; talk.totals, Totals { staged: 3, told: 2 });
-        assert!(rt; writer.held.as_slice() == written);
-    }
-    Ok(())
-}
-
-#[test]
-fn broken_vault(rt: HostRuntime) -> Result<(), Fail> {
-    let vault = new_vault(rt.alloc(), rt.alloc(), 1)?;
+fn broken_vault(rt: HostRuntime) {
+    let vault = new_vault(rt.alloc(), rt.alloc(), 1).expect(&rt, "a vault");
     let input = b"hello anna\nmake /e\nlist /\n".as_slice();
     let mut held = Vec::new(rt.alloc());
-    let talk = converse(&rt, rt.alloc(), vault, &mut [input], &mut held).ok_or("a talk")?;
+    let talk = converse(&rt, rt.alloc(), vault, &mut [input], &mut held).expect(&rt, "a talk");
     assert_eq!(rt; talk.ended, Ended::EndOfInput);
     assert_eq!(rt; talk.totals, Totals { staged: 2, told: 1 });
-    assert_eq!(rt;
-        held.as_slice(),
-        b"OK session 1\nERR 82\nERR 82\n".as_slice()
-    );
-    Ok(())
+    let text = b"OK session 1\nERR 82\nERR 82\n".as_slice();
+    assert!(rt; held.as_slice() == text);
+    drop(held);
 }
 
-const ASKED: &[u8] = b"hello anna\nmake /e\nlist /\n";
-
-const TOLD: &[u8] = b"OK session 1\nOK place 1\nOK list 1 e\n";
-
-// What a conversation came to, and what it wrote, where a request for memory is refused behind the vault's creation.
-fn refused_at<H: Wait>(
-    rt: &H,
-    global: Global,
-    memory: &Refusing<Global>,
-    number: u64,
-) -> Result<(Option<Talk>, Vec<u8>), Fail> {
-    let vault = new_vault(global, memory, 0)?;
-    let mut held = Vec::new(global);
-    memory.refuse(number);
-    let talk = converse(rt, memory, vault, &mut [ASKED], &mut held);
-    Ok((talk, held))
-}
-
-// Whether a refusal shows: no share was made, memory ended the conversation, or a line was answered so.
-fn shows_refusal(talk: Option<Talk>, held: &[u8]) -> bool {
-    let Some(talk) = talk else {
-        return held.is_empty();
+// What a conversation comes to whose reader gives a byte at a time and then fails, and whose writer takes so many texts, if it was
+// told just this.
+fn bumped<H: Wait>(rt: &H, alloc: Global, texts: u32, text: &[u8]) -> Option<Talk> {
+    let vault = new_vault(alloc, alloc, 0)?;
+    let reader = Bumpy {
+        rest: b"hello anna\nstate c1\nlist /",
+        is_calm: true,
     };
-    if talk.ended == Ended::NoMemory {
-        return TOLD.starts_with(held);
+    let mut writer = Closing {
+        held: Vec::new(alloc),
+        texts,
+    };
+    let talk = converse(rt, alloc, vault, &mut [reader], &mut writer)?;
+    if writer.held.as_slice() == text {
+        Some(talk)
+    } else {
+        None
     }
-    held.windows(7).any(|text| text == b"ERR 81\n".as_slice())
 }
 
 #[test]
-fn refused_in_turn(rt: HostRuntime) -> Result<(), Fail> {
-    let memory = Refusing::new(rt.alloc());
-    let mut refusals = 0u64;
-    for number in 1..200u64 {
-        let (talk, held) = refused_at(&rt, rt.alloc(), &memory, number)?;
-        if memory.is_waiting() {
-            let talk = talk.ok_or("a talk")?;
-            assert_eq!(rt; talk.totals, Totals { staged: 4, told: 3 });
-            assert_eq!(rt; held.as_slice(), TOLD);
-            break;
-        }
-        assert!(rt; shows_refusal(talk, &held));
-        memory.refuse(0);
-        refusals = number;
+fn failing_reader_and_writer(rt: HostRuntime) {
+    for (texts, ended, text) in [
+        (9, Ended::Read, b"OK session 1\nERR 30\n".as_slice()),
+        (1, Ended::Write, b"OK session 1\n".as_slice()),
+    ] {
+        let talk = bumped(&rt, rt.alloc(), texts, text).expect(&rt, "a talk");
+        assert_eq!(rt; talk.ended, ended);
+        assert_eq!(rt; talk.answers, 2);
+        assert_eq!(rt; talk.totals, Totals { staged: 3, told: 2 });
     }
-    assert!(rt; 9 < refusals && refusals < 199);
-    Ok(())
+}
+
+// What a conversation comes to whose writer takes a byte a call, if it was told just this.
+fn dripped<H: Wait>(rt: &H, alloc: Global, input: &[u8], text: &[u8]) -> Option<Talk> {
+    let vault = new_vault(alloc, alloc, 0)?;
+    let mut writer = Dripping {
+        held: Vec::new(alloc),
+    };
+    let talk = converse(rt, alloc, vault, &mut [input], &mut writer)?;
+    if writer.held.as_slice() == text {
+        Some(talk)
+    } else {
+        None
+    }
+}
+
+#[test]
+fn writer_of_single_bytes(rt: HostRuntime) {
+    let input = b"hello anna\nmake /e\nlist /\nquit\n";
+    let text = b"OK session 1\nOK place 1\nOK list 1 e\nOK left\n";
+    let talk = dripped(&rt, rt.alloc(), input, text).expect(&rt, "a talk");
+    assert_eq!(rt; talk.ended, Ended::Quit);
+    assert_eq!(rt; talk.totals, Totals { staged: 4, told: 4 });
 }

@@ -9,14 +9,13 @@ use super::turns::{TURNS, is_up_within};
 use crate::flusher::{Flushed, run_flusher};
 use crate::gate::OpenGate;
 use crate::shared::{Shared, gather};
-use crate::tally::{Tally, Totals};
+use crate::tally::{Share, Tally, Totals};
 use group_commit::Vault;
 use std::alloc::{Allocator, Global};
 use std::marker::Brand;
 use std::sync::Wait;
 use std::sync::atomic::{AtomicBool, Ordering};
 use std::sync::ledger::Blank;
-use std::test::Fail;
 use std::thread::{self, Threads};
 use vault_device::{Device, MemDevice};
 
@@ -34,7 +33,7 @@ fn closed_over<
     requires told { (told.name ≡ T.name) × (told.parts ≡ T.parts) × (T.all ≡ 3) × (T.opening ≡ vault.view.told) }
     requires frees { Frees A.Allocator A.dealloc_token }
 {
-    let (shared, mut shares) = Shared::<D, S, T, A>::new(alloc, staged, told, vault, 2).ok()?;
+    let (shared, shares) = Shared::<D, S, T, A>::new(alloc, staged, told, vault, 2).ok()?;
     let (began, ended) = (AtomicBool::new(false), AtomicBool::new(false));
     let (lent, up, down) = (&shared, &began, &ended);
     let (flushed, stayed) = thread::join(
@@ -52,17 +51,60 @@ fn closed_over<
             has_begun && !has_ended
         },
     );
-    if !stayed {
-        return None;
+    let gathered = gathers(shared, shares);
+    if stayed {
+        Some((flushed, gathered))
+    } else {
+        None
     }
-    let kept = shares.pop()?;
-    let (shared, mut shares) = gather(shared, shares).err()?;
-    shares.push(kept).ok()?;
-    let (vault, totals) = gather(shared, shares).ok()?;
-    Some((
-        flushed,
-        vault.len() == 0 && totals == Totals { staged: 0, told: 0 },
-    ))
+}
+
+// Whether one of two shares alone isn't gathered and comes back, and both are.
+fn gathers<S: Tally, T: Tally, D: Device + Drop, A: Allocator + Copy>(
+    shared: Shared<D, S, T, A>,
+    mut shares: Vec<Share<S, T>, A>,
+) -> bool
+    requires { (S.all ≡ S.parts) × (T.all ≡ T.parts) }
+{
+    let Some(kept) = shares.pop() else {
+        drop(shared);
+        drop(shares);
+        return false;
+    };
+    match gather(shared, shares) {
+        Ok((vault, _)) => {
+            drop(vault);
+            drop(kept);
+            false
+        }
+        Err((shared, shares)) => gathers_all(shared, shares, kept),
+    }
+}
+
+// Whether these shares and one more are gathered, with nothing counted.
+fn gathers_all<S: Tally, T: Tally, D: Device + Drop, A: Allocator + Copy>(
+    shared: Shared<D, S, T, A>,
+    mut shares: Vec<Share<S, T>, A>,
+    kept: Share<S, T>,
+) -> bool
+    requires { (S.all ≡ S.parts) × (T.all ≡ T.parts) }
+{
+    if shares.push(kept).is_err() {
+        drop(shared);
+        drop(shares);
+        return false;
+    }
+    match gather(shared, shares) {
+        Ok((vault, totals)) => {
+            let holds = vault.len() == 0 && totals == Totals { staged: 0, told: 0 };
+            drop(vault);
+            holds
+        }
+        Err(back) => {
+            drop(back);
+            false
+        }
+    }
 }
 
 // The same over a device in memory.
@@ -76,10 +118,10 @@ fn closed<H: Threads + Wait + Sync>(
 }
 
 #[test]
-fn flusher_stays(rt: HostRuntime) -> Result<(), Fail> {
-    let vault = new_vault(rt.alloc(), rt.alloc(), 0)?;
-    let (flushed, gathered) = closed(&rt, rt.alloc(), vault).ok_or("a flusher that stays")?;
+fn flusher_stays(rt: HostRuntime) {
+    let vault = new_vault(rt.alloc(), rt.alloc(), 0).expect(&rt, "a vault");
+    let closed = closed(&rt, rt.alloc(), vault);
+    let (flushed, gathered) = closed.expect(&rt, "a flusher that stays");
     assert_eq!(rt; flushed, Flushed::Closed);
     assert!(rt; gathered);
-    Ok(())
 }

@@ -1,66 +1,29 @@
-//! A server over TCP on this machine. The clients' lines wait for it.
+//! A server over TCP on this machine: what it answers, which threads wait for which, and what ends a connection.
 
-ghost use Rattle.std.specs.Prelude.{◌<◌, ◌≤◌};
-
-use super::talk::new_vault;
+use super::talk::CREATION;
+use super::tcp::{client, has_one_of, hears, listening, open_client, served, served_on, stopped};
 use super::turns::{TURNS, is_up_within};
 use crate::gate::{Gate, OpenGate, Point};
-use crate::server::run_server;
+use crate::server::{ServerError, Terms};
 use crate::tally::Totals;
-use group_commit::Vault;
-use std::alloc::Global;
-use std::io::{self, Write};
-use std::net::{Net, Shutdown, TcpListener, TcpStream};
+use std::alloc::{AllocError, Global};
+use std::io;
+use std::net::{Net, TcpListener, TcpStream};
 use std::sync::Wait;
-use std::sync::atomic::{AtomicBool, Ordering};
-use std::test::Fail;
+use std::sync::atomic::{AtomicBool, AtomicU64, Ordering};
 use std::thread::Threads;
-use vault_device::MemDevice;
-
-// A client that has sent these lines, and no more to send.
-fn client<R: Net<Listener = TcpListener, Stream = TcpStream>>(
-    rt: &R,
-    listener: &TcpListener,
-    lines: &[u8],
-) -> Result<TcpStream, Fail> {
-    let mut client = TcpStream::connect(rt, listener.local_addr()?)?;
-    client.write_all(lines)?;
-    client.shutdown(Shutdown::Write)?;
-    Ok(client)
-}
-
-// The vault and what is counted once so many connections were served.
-fn served<G: Gate + Sync, H: Threads + Wait + Sync>(
-    rt: &H,
-    alloc: Global,
-    listener: TcpListener,
-    vault: Vault<MemDevice>,
-    workers: usize,
-    connections: u32,
-    gate: &G,
-) -> Option<(Vault<MemDevice>, Totals)>
-    requires { (0 < workers) × (workers ≤ 64) }
-{
-    run_server(rt, alloc, listener, vault, workers, Some(connections), gate).ok()
-}
+use std::time::{Clock, Duration};
 
 #[test]
-fn tcp_round(rt: HostRuntime) -> Result<(), Fail> {
-    let listener = TcpListener::bind(&rt, "127.0.0.1:0")?;
+fn tcp_round(rt: HostRuntime) {
+    let listener = listening(&rt).expect(&rt, "a listener");
     let lines = b"hello anna\nmake /e\nlist /\nquit\n";
-    let mut client = client(&rt, &listener, lines)?;
-    let vault = new_vault(rt.alloc(), rt.alloc(), 0)?;
-    let (vault, totals) = served(&rt, rt.alloc(), listener, vault, 2, 1, &OpenGate).ok_or(
-        "a server",
-    )?;
-    assert_eq!(rt; totals, Totals { staged: 4, told: 4 });
-    assert!(rt; vault.len() == 4 && vault.told() == 4);
-    let answers = io::read_to_string(rt.alloc(), &mut client)?;
-    assert_eq!(rt;
-        answers.as_str(),
-        "OK session 1\nOK place 1\nOK list 1 e\nOK left\n"
-    );
-    Ok(())
+    let client = client(&rt, &listener, lines).expect(&rt, "a client");
+    let served = served(&rt, rt.alloc(), listener, 0, 2, 1, &OpenGate).expect(&rt, "a server");
+    assert_eq!(rt; served.totals, Totals { staged: 4, told: 4 });
+    assert!(rt; served.length == 4 && served.told == 4);
+    let text = "OK session 1\nOK place 1\nOK list 1 e\nOK left\n";
+    assert!(rt; hears(rt.alloc(), client, text));
 }
 
 /// Holds one connection at its reads until another was told.
@@ -88,26 +51,34 @@ impl Gate for Holding {
     }
 }
 
+// Whether a second connection is answered while the first is held at its reads.
+fn is_answered<R: Net<Listener = TcpListener, Stream = TcpStream> + Threads + Wait + Clock + Sync>(
+    rt: &R,
+    alloc: Global,
+    held: u32,
+    other: u32,
+) -> Option<bool> {
+    let listener = listening(rt)?;
+    let first = client(rt, &listener, b"hello anna\nquit\n")?;
+    let second = client(rt, &listener, b"hello ben\nquit\n")?;
+    let gate = Holding {
+        held,
+        other,
+        is_told: AtomicBool::new(false),
+        gave_up: AtomicBool::new(false),
+    };
+    let served = served(rt, alloc, listener, 0, 2, 2, &gate)?;
+    drop(first);
+    drop(second);
+    let all = Totals { staged: 4, told: 4 };
+    Some(served.totals == all && !gate.gave_up.load(Ordering::SeqCst))
+}
+
 #[test]
-fn second_answered_while_first_waits(rt: HostRuntime) -> Result<(), Fail> {
+fn second_answered_while_first_waits(rt: HostRuntime) {
     for (held, other) in [(1, 2), (2, 1)] {
-        let listener = TcpListener::bind(&rt, "127.0.0.1:0")?;
-        let _first = client(&rt, &listener, b"hello anna\nquit\n")?;
-        let _second = client(&rt, &listener, b"hello ben\nquit\n")?;
-        let gate = Holding {
-            held,
-            other,
-            is_told: AtomicBool::new(false),
-            gave_up: AtomicBool::new(false),
-        };
-        let vault = new_vault(rt.alloc(), rt.alloc(), 0)?;
-        let (_vault, totals) = served(&rt, rt.alloc(), listener, vault, 2, 2, &gate).ok_or(
-            "a server",
-        )?;
-        assert_eq!(rt; totals, Totals { staged: 4, told: 4 });
-        assert!(rt; !gate.gave_up.load(Ordering::SeqCst));
+        assert_eq!(rt; is_answered(&rt, rt.alloc(), held, other), Some(true));
     }
-    Ok(())
 }
 
 // Whether a connection was told its first reply, and whether it has staged its second command.
@@ -172,39 +143,161 @@ impl Gate for Together {
     }
 }
 
+// The frame of both places, in either order, with its gate and the tail gate behind it.
+const FIRST_FRAME: &[u8; 20] = b"\x01\0\0\0\x0e\x01\0\0\0\0\x01e\x01\0\0\0\0\x01f\0";
+
+const SECOND_FRAME: &[u8; 20] = b"\x01\0\0\0\x0e\x01\0\0\0\0\x01f\x01\0\0\0\0\x01e\0";
+
+// What a client that makes a place is told, by the numbers that it gets.
+const TEXTS: [[&str; 2]; 2] = [
+    [
+        "OK session 1\nOK place 1\nOK left\n",
+        "OK session 1\nOK place 2\nOK left\n",
+    ],
+    [
+        "OK session 2\nOK place 1\nOK left\n",
+        "OK session 2\nOK place 2\nOK left\n",
+    ],
+];
+
+// The session and the place that a client was told of, 0 or 1 each.
+fn numbers(alloc: Global, mut client: TcpStream) -> Option<(usize, usize)> {
+    let told = io::read_to_string(alloc, &mut client).ok()?;
+    for (session, texts) in TEXTS.iter().enumerate() {
+        if let Some(place) = texts.iter().position(|text| *text == told.as_str()) {
+            return Some((session, place));
+        }
+    }
+    None
+}
+
+// Whether two clients were told of one session and one place each, not the same.
+fn share_places(alloc: Global, first: TcpStream, second: TcpStream) -> bool {
+    match (numbers(alloc, first), numbers(alloc, second)) {
+        (Some(one), Some(other)) => one.0 != other.0 && one.1 != other.1,
+        _ => false,
+    }
+}
+
 #[test]
-fn two_sessions_one_frame(rt: HostRuntime) -> Result<(), Fail> {
-    let listener = TcpListener::bind(&rt, "127.0.0.1:0")?;
-    let _first = client(&rt, &listener, b"hello anna\nmake /e\nquit\n")?;
-    let _second = client(&rt, &listener, b"hello ben\nmake /f\nquit\n")?;
+fn two_sessions_one_frame(rt: HostRuntime) {
+    let listener = listening(&rt).expect(&rt, "a listener");
+    let first = client(&rt, &listener, b"hello anna\nmake /e\nquit\n").expect(&rt, "a client");
+    let second = client(&rt, &listener, b"hello ben\nmake /f\nquit\n").expect(&rt, "a client");
     let gate = Together {
         first: Progress::new(),
         second: Progress::new(),
         gave_up: AtomicBool::new(false),
     };
-    let vault = new_vault(rt.alloc(), rt.alloc(), 0)?;
-    let (vault, totals) = served(&rt, rt.alloc(), listener, vault, 2, 2, &gate).ok_or("a server")?;
+    let terms = Terms {
+        workers: 2,
+        connections: Some(2),
+        idle: None,
+    };
+    let served = served_on(&rt, rt.alloc(), listener, &terms, &gate);
+    let (totals, mut file) = served.expect(&rt, "a server");
     assert!(rt; !gate.gave_up.load(Ordering::SeqCst));
     assert_eq!(rt; totals, Totals { staged: 6, told: 6 });
-    let (file, _) = vault.into_devices();
-    assert_eq!(rt; file.calls(), 11);
-    Ok(())
+    assert_eq!(rt; file.calls(), CREATION + 4);
+    assert!(rt; has_one_of(&mut file, FIRST_FRAME, SECOND_FRAME));
+    assert!(rt; share_places(rt.alloc(), first, second));
+    drop(file);
 }
 
 #[test]
-fn broken_server_goes_on(rt: HostRuntime) -> Result<(), Fail> {
-    let listener = TcpListener::bind(&rt, "127.0.0.1:0")?;
-    let mut first = client(&rt, &listener, b"hello anna\nmake /e\nquit\n")?;
-    let mut second = client(&rt, &listener, b"hello ben\n")?;
-    let vault = new_vault(rt.alloc(), rt.alloc(), 1)?;
-    let (vault, totals) = served(&rt, rt.alloc(), listener, vault, 1, 2, &OpenGate).ok_or(
-        "a server",
-    )?;
-    assert_eq!(rt; totals, Totals { staged: 2, told: 1 });
-    assert!(rt; vault.is_broken());
-    let answers = io::read_to_string(rt.alloc(), &mut first)?;
-    assert_eq!(rt; answers.as_str(), "OK session 1\nERR 82\nERR 82\n");
-    let answers = io::read_to_string(rt.alloc(), &mut second)?;
-    assert_eq!(rt; answers.as_str(), "ERR 82\n");
-    Ok(())
+fn broken_server_goes_on(rt: HostRuntime) {
+    let listener = listening(&rt).expect(&rt, "a listener");
+    let first = client(&rt, &listener, b"hello anna\nmake /e\nquit\n").expect(&rt, "a client");
+    let second = client(&rt, &listener, b"hello ben\n").expect(&rt, "a client");
+    let served = served(&rt, rt.alloc(), listener, 1, 1, 2, &OpenGate).expect(&rt, "a server");
+    assert_eq!(rt; served.totals, Totals { staged: 2, told: 1 });
+    assert!(rt; served.is_broken);
+    assert!(rt; hears(rt.alloc(), first, "OK session 1\nERR 82\nERR 82\n"));
+    assert!(rt; hears(rt.alloc(), second, "ERR 82\n"));
+}
+
+/// Counts the flusher's pumps.
+#[derive(Drop)]
+struct Counting {
+    pumps: AtomicU64,
+}
+
+impl Gate for Counting {
+    fn at(&self, point: Point) {
+        if point == Point::Pump {
+            self.pumps.fetch_add(1, Ordering::SeqCst);
+        }
+    }
+}
+
+// Each holding of the lock makes one step: a commit with an effect takes four, of one device call each, and one without takes one.
+#[test]
+fn one_pump_a_holding(rt: HostRuntime) {
+    let listener = listening(&rt).expect(&rt, "a listener");
+    let lines = b"hello anna\nmake /e\nquit\n";
+    let client = client(&rt, &listener, lines).expect(&rt, "a client");
+    let gate = Counting {
+        pumps: AtomicU64::new(0),
+    };
+    let terms = Terms {
+        workers: 1,
+        connections: Some(1),
+        idle: None,
+    };
+    let served = served_on(&rt, rt.alloc(), listener, &terms, &gate);
+    let (totals, file) = served.expect(&rt, "a server");
+    assert_eq!(rt; totals, Totals { staged: 3, told: 3 });
+    assert_eq!(rt; file.calls(), CREATION + 4);
+    assert_eq!(rt; gate.pumps.load(Ordering::SeqCst), 6);
+    assert!(rt; hears(rt.alloc(), client, "OK session 1\nOK place 1\nOK left\n"));
+    drop(file);
+}
+
+// So many lines.
+fn repeated(alloc: Global, line: &str, times: usize) -> Result<String, AllocError> {
+    let mut lines = String::new(alloc);
+    for _time in 0..times {
+        lines.push_str(line)?;
+    }
+    Ok(lines)
+}
+
+// A client that has sent more lines than are answered, and reads only once the server has ended, is told all replies.
+#[test]
+fn late_reader_is_told_all(rt: HostRuntime) {
+    let lines = repeated(rt.alloc(), "list /\n", 4400).expect(&rt, "lines");
+    let text = repeated(rt.alloc(), "ERR 11\n", 4096).expect(&rt, "replies");
+    let listener = listening(&rt).expect(&rt, "a listener");
+    let client = open_client(&rt, &listener, lines.as_bytes()).expect(&rt, "a client");
+    let served = served(&rt, rt.alloc(), listener, 0, 1, 1, &OpenGate).expect(&rt, "a server");
+    assert_eq!(rt; served.totals.told, 4096);
+    assert!(rt; hears(rt.alloc(), client, text.as_str()));
+}
+
+// A client that says nothing more is ended after the idle time, with a last leave.
+#[test]
+fn silent_client_is_ended(rt: HostRuntime) {
+    let listener = listening(&rt).expect(&rt, "a listener");
+    let client = open_client(&rt, &listener, b"hello anna\nhold w:/\n").expect(&rt, "a client");
+    let terms = Terms {
+        workers: 1,
+        connections: Some(1),
+        idle: Some(Duration::from_millis(300)),
+    };
+    let served = served_on(&rt, rt.alloc(), listener, &terms, &OpenGate);
+    let (totals, file) = served.expect(&rt, "a server");
+    assert_eq!(rt; totals, Totals { staged: 3, told: 2 });
+    assert!(rt; hears(rt.alloc(), client, "OK session 1\nOK held h1\n"));
+    drop(file);
+}
+
+// Where no more connections can be accepted, those that were are served to their end.
+#[test]
+fn accept_fault_ends_the_server(rt: HostRuntime) {
+    let listener = listening(&rt).expect(&rt, "a listener");
+    let client = client(&rt, &listener, b"hello anna\nquit\n").expect(&rt, "a client");
+    assert!(rt; listener.set_nonblocking(true).is_ok());
+    let stopped = stopped(&rt, rt.alloc(), listener, &OpenGate);
+    assert_eq!(rt; stopped, Some(ServerError::Accept));
+    assert!(rt; hears(rt.alloc(), client, "OK session 1\nOK left\n"));
 }

@@ -16,7 +16,6 @@ use std::io::{Read, Write};
 use std::marker::Brand;
 use std::sync::Wait;
 use std::sync::ledger::Blank;
-use std::test::Fail;
 use std::thread::{self, Threads};
 use vault_device::{Device, MemDevice};
 
@@ -28,21 +27,21 @@ pub struct Talk {
     pub totals: Totals,
 }
 
+/// How many device calls make a new vault.
+pub const CREATION: u64 = 7;
+
 /// A new vault, the nth device call behind whose creation is to fail.
 pub fn new_vault<A: Allocator + Copy>(
     global: Global,
     alloc: A,
     failing: u64,
-) -> Result<Vault<MemDevice, A>, Fail> {
-    let mut first = MemDevice::new(global)?;
-    let second = MemDevice::new(global)?;
+) -> Option<Vault<MemDevice, A>> {
+    let mut first = MemDevice::new(global).ok()?;
+    let second = MemDevice::new(global).ok()?;
     if failing > 0 {
-        first.fail_at(failing.saturating_add(7));
+        first.fail_at(failing.saturating_add(CREATION));
     }
-    match Vault::create(alloc, first, second, 1) {
-        Ok(vault) => Ok(vault),
-        Err(_) => Err("a new vault".into()),
-    }
+    Vault::create(alloc, first, second, 1).ok()
 }
 
 // Commits what was staged at once, in place of a flusher.

@@ -3,7 +3,7 @@ use denote.Param.Send.{sendable}
 use Rattle.std.proofs.Crossing.{crosses}
 use Rattle.std.proofs.CrossingOver.{crosses as over}
 use Rattle.vault_sessions.proofs.Sends.{share_send, shared_sync}
-use Rattle.vault_sessions.proofs.server.fn.serve_all.scope.Goals as goal
+use Rattle.vault_sessions.proofs.server.fn.Server.serve_all.scope.Goals as goal
 
 pub spawn-requires-send-F : goal.spawn-requires-send-F
 spawn-requires-send-F g c κs h =

@@ -1,0 +1,44 @@
+//! How many descriptors the program may have, and needs.
+
+use crate::fault::Fault;
+use libc::types::rlimit;
+
+/// What the program has open beside its connections: the standard streams, what stands in for them, two files and the listener,
+/// and one to spare.
+const BESIDE: u64 = 10;
+
+/// How many descriptors a server needs: for each worker a connection that it serves and one that waits for it.
+pub(crate) fn needed(workers: u32) -> u64 {
+    u64::from(workers) * 2 + BESIDE
+}
+
+/// How many descriptors the system lets the program have, where it says so.
+fn limit() -> Option<u64> {
+    let mut limit = rlimit {
+        rlim_cur: 0,
+        rlim_max: 0,
+    };
+    if libc::getrlimit(libc::RLIMIT_NOFILE, &mut limit) == 0 {
+        Some(limit.rlim_cur)
+    } else {
+        None
+    }
+}
+
+/// Refuses so many workers where so few descriptors may be had.
+pub(crate) fn check(workers: u32, limit: u64) -> Result<(), Fault> {
+    let needed = needed(workers);
+    if needed <= limit {
+        Ok(())
+    } else {
+        Err(Fault::Descriptors { needed, limit })
+    }
+}
+
+/// Refuses so many workers where the system's limit is lower than what they need.
+pub(crate) fn check_limit(workers: u32) -> Result<(), Fault> {
+    match limit() {
+        Some(limit) => check(workers, limit),
+        None => Ok(()),
+    }
+}
