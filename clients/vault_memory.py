@@ -1,0 +1,141 @@
+"""The client's own file: the check-outs, copies of the drafts that were sent, and the command under way."""
+
+import contextlib
+import fcntl
+import json
+import os
+import tempfile
+import time
+from dataclasses import asdict, dataclass, field
+from pathlib import Path
+from typing import Callable, Dict, Iterator, List, Optional, Tuple
+
+from vault_words import Reply, VaultError
+
+
+@dataclass
+class Draft:
+    """A copy of what was sent for a part, kept until it is a version."""
+
+    content: str
+    source: str
+    versions: Optional[int]
+
+
+@dataclass
+class Claim:
+    """A check-out that this client asked for."""
+
+    items: List[str]
+    drafts: Dict[str, Draft] = field(default_factory=dict)
+
+
+@dataclass
+class Command:
+    """A command that changes the vault, as it is kept while it is under way."""
+
+    kind: str
+    line: str
+    claim: str = ""
+    place: str = ""
+    items: List[str] = field(default_factory=list)
+    last_number: int = 0
+    since: float = 0.0
+
+
+class Memory:
+    """The client's own file for one designer at one server; every change of it is on disk before the next step."""
+
+    def __init__(self, path: Path):
+        self.path = path
+        self.last_number = 0
+        self.claims: Dict[str, Claim] = {}
+        self.under_way: Optional[Command] = None
+
+    @contextlib.contextmanager
+    def locked(self, waiting: Callable[[], None]) -> Iterator[None]:
+        """Keeps other clients of this designer on this machine away, and reads the file anew."""
+        self.path.parent.mkdir(mode=0o700, parents=True, exist_ok=True)
+        with open(self.path.with_name(self.path.name + ".lock"), "w", encoding="ascii") as lock:
+            try:
+                fcntl.flock(lock, fcntl.LOCK_EX | fcntl.LOCK_NB)
+            except BlockingIOError:
+                waiting()
+                fcntl.flock(lock, fcntl.LOCK_EX)
+            self._load()
+            yield
+
+    def _load(self) -> None:
+        try:
+            kept = json.loads(self.path.read_text("utf-8"))
+            self.last_number = kept["last_number"]
+            self.claims = {
+                name: Claim(claim["items"], {place: Draft(**draft) for place, draft in claim["drafts"].items()})
+                for name, claim in kept["claims"].items()
+            }
+            self.under_way = Command(**kept["under_way"]) if kept["under_way"] else None
+        except FileNotFoundError:
+            self.last_number, self.claims, self.under_way = 0, {}, None
+        except (ValueError, KeyError, TypeError, AttributeError) as error:
+            raise VaultError(f"The file {self.path} can't be read. It keeps copies of drafts, so move it away"
+                             " rather than delete it, and run the command again.") from error
+
+    def save(self) -> None:
+        """Puts the file on disk, whole or not at all."""
+        kept = {
+            "last_number": self.last_number,
+            "claims": {name: asdict(claim) for name, claim in self.claims.items()},
+            "under_way": asdict(self.under_way) if self.under_way else None,
+        }
+        write_whole(self.path, json.dumps(kept, indent=1).encode("utf-8"))
+
+    def begin(self, command: Command) -> None:
+        """Remembers a command before it is sent."""
+        command.last_number, command.since = self.last_number, time.time()
+        self.under_way = command
+        self.save()
+
+    def end(self) -> None:
+        """Forgets the command under way, since what became of it is known."""
+        self.under_way = None
+        self.save()
+
+    def saw(self, reply: Reply) -> None:
+        """Keeps the greatest number of a check-out that the server ever named."""
+        numbers = [int(claim[1:]) for claim in reply.claims() if claim[0] == "c"]
+        self.last_number = max([self.last_number] + numbers)
+
+
+def write_whole(path: Path, content: bytes) -> None:
+    """Writes a file beside its place, puts it on disk and then into its place."""
+    descriptor, beside = tempfile.mkstemp(dir=str(path.parent), prefix="." + path.name)
+    try:
+        with os.fdopen(descriptor, "wb") as file:
+            file.write(content)
+            file.flush()
+            os.fsync(file.fileno())
+        os.replace(beside, path)
+    except BaseException:
+        os.unlink(beside)
+        raise
+    folder = os.open(str(path.parent), os.O_RDONLY)
+    try:
+        os.fsync(folder)
+    finally:
+        os.close(folder)
+
+
+def by_number(entry: Tuple[str, Claim]) -> int:
+    """The order of check-outs."""
+    return int(entry[0][1:])
+
+
+def shown(command: Command) -> str:
+    """A command as a designer says it, with no content."""
+    return f"put {command.place}" if command.kind == "put" else command.line
+
+
+def state_folder() -> Path:
+    """Where the client keeps its files."""
+    base = os.environ.get("XDG_STATE_HOME") or os.path.join(os.path.expanduser("~"), ".local", "state")
+    return Path(base) / "vault"

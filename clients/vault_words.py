@@ -1,0 +1,158 @@
+"""What is said between the client and the server of the design vault, and the sentences for it."""
+
+import re
+from dataclasses import dataclass
+from typing import Dict, List, Optional, Tuple
+
+CONTENT_BYTES = 1024
+ITEMS = 8
+
+NAME = re.compile(r"[a-z0-9_-]{1,32}")
+PLACE = re.compile(r"/|(/[a-z0-9_-]{1,32}){1,3}")
+ITEM = re.compile(r"[rw]:(/|(/[a-z0-9_-]{1,32}){1,3})")
+CLAIM = re.compile(r"[ch][1-9][0-9]{0,9}")
+CHECKOUT = re.compile(r"c[1-9][0-9]{0,9}")
+
+SENTENCES: Dict[int, str] = {
+    10: "The server does not know this line: it is older than this client. Ask whoever runs it for a newer one.",
+    11: "The server knows no session on this connection. Run the command again.",
+    12: "This connection has a session already. Run the command again.",
+    20: "There is no such place. Look with `vault tree`.",
+    21: "That place is there already. Look with `vault tree`.",
+    22: "That is not possible there: only parts, three names deep, have versions, and nothing stands beneath a part.",
+    23: "{claim} covers the place above it. Wait until it is gone, or, if it is yours, add `--claim {claim}`.",
+    30: "There is no such check-out: it was checked in or given up. `vault mine` shows yours.",
+    31: "That check-out is another designer's. `vault mine` shows yours.",
+    32: "That check-out is queued, not held. `vault wait` waits for it.",
+    33: "{claim} is in the way. Wait until it is gone, or ask its designer; nothing was changed.",
+    34: "The check-out does not take in this place for change. `vault extend` asks for it.",
+    36: "A check-out has one to eight items, those of its extensions among them. Ask for a place further up.",
+    40: "There is no such version. `vault history` lists those that there are.",
+    50: "A limit of the vault is reached, for content 1,024 bytes; docs/PROTOCOL.md has them all. Nothing was changed.",
+    80: "The server takes no more commands until it is started again. Ask whoever runs it; nothing was changed.",
+    81: "The server has no memory for this now. Try again later; nothing was changed.",
+    82: "The server's disk failed. Ask whoever runs it to mend that and to start it again.",
+}
+
+
+class VaultError(Exception):
+    """Something that a person has to know; its text is a sentence with what to do."""
+
+    status = 1
+
+    def __init__(self, sentence: str, code: Optional[int] = None):
+        super().__init__(sentence)
+        self.code = code
+
+
+class Misused(VaultError):
+    """What was asked for can't be said to a server."""
+
+    status = 2
+
+
+class Refused(VaultError):
+    """The server refused the command and changed nothing."""
+
+
+class Unreachable(VaultError):
+    """No server answered. Nothing was sent, or nothing that changes anything."""
+
+    status = 3
+
+
+class NotKnown(VaultError):
+    """It isn't known yet whether the command was done; the client's file remembers to find out."""
+
+    status = 3
+
+
+class Lost(Exception):
+    """The connection ended before the answer."""
+
+
+@dataclass(frozen=True)
+class Reply:
+    """One line of the server, taken apart."""
+
+    ok: bool
+    words: Tuple[str, ...]
+
+    @property
+    def code(self) -> Optional[int]:
+        """The number of a refusal."""
+        return None if self.ok else int(self.words[0])
+
+    def claims(self) -> List[str]:
+        """The claims that the line names."""
+        return [word for word in self.words if CLAIM.fullmatch(word)]
+
+    def refusal(self) -> Refused:
+        """The refusal as an error with a sentence."""
+        named = self.claims()
+        sentence = SENTENCES.get(self.code or 0, "The server refused with " + " ".join(self.words) + ".")
+        return Refused(sentence.format(claim=named[0] if named else "A check-out"), self.code)
+
+
+def read_reply(line: bytes) -> Reply:
+    """Takes a line of the server apart; a line that is none ends the connection."""
+    words = line.decode("ascii", "replace").split()
+    if len(words) >= 2 and words[0] == "OK":
+        return Reply(True, tuple(words[1:]))
+    if len(words) >= 2 and words[0] == "ERR" and words[1].isdigit():
+        return Reply(False, tuple(words[1:]))
+    raise Lost("what answered is no vault server")
+
+
+@dataclass(frozen=True)
+class Standing:
+    """How a claim stands: held, or queued behind another, or gone where it is neither."""
+
+    claim: str
+    held: bool
+    behind: str = ""
+    gone: bool = False
+
+    def sentence(self) -> str:
+        """The standing in words."""
+        if self.gone:
+            return f"{self.claim} is gone."
+        return f"{self.claim} is held." if self.held else f"{self.claim} is queued behind {self.behind}."
+
+
+def standing_of(reply: Reply) -> Standing:
+    """The standing that a reply tells."""
+    named = reply.claims()
+    return Standing(named[0], reply.words[0] == "held", named[1] if len(named) > 1 else "")
+
+
+def under(place: str, above: str) -> bool:
+    """Whether a place is another one or stands beneath it."""
+    return above == "/" or place == above or place.startswith(above + "/")
+
+
+def checked(pattern: "re.Pattern[str]", word: str, what: str) -> str:
+    """The word, where it has the form that the protocol wants."""
+    if pattern.fullmatch(word):
+        return word
+    raise Misused(f"`{word}` is no {what}.")
+
+
+def place_word(word: str) -> str:
+    """A place as it is written."""
+    return checked(PLACE, word, "place: write `/` or up to three names of a-z, 0-9, _ and -, as /engine/block/piston")
+
+
+def claim_word(word: str) -> str:
+    """A claim as it is written."""
+    return checked(CLAIM, word, "claim: write c or h and its number, as c3")
+
+
+def checkout_word(word: str) -> str:
+    """A check-out as it is written."""
+    return checked(CHECKOUT, word, "check-out: write c and its number, as c3")
+
+
+def item_words(words: List[str]) -> List[str]:
+    """Items as they are written."""
+    return [checked(ITEM, word, "item: write r:PLACE to look or w:PLACE to change, as w:/engine") for word in words]

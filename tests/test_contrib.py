@@ -1,0 +1,123 @@
+"""What is installed: units, manual pages, completion and the script that puts them there."""
+
+import contextlib
+import io
+import os
+import re
+import shutil
+import subprocess
+import sys
+import tempfile
+import unittest
+from pathlib import Path
+from typing import List
+
+from servers import TOP, VAULTD, Server
+
+import vault
+
+CONTRIB = TOP / "contrib"
+
+
+def helped(*words: str) -> str:
+    """What the client's help says."""
+    said = io.StringIO()
+    with contextlib.redirect_stdout(said), contextlib.suppress(SystemExit):
+        vault.main([*words, "--help"])
+    return said.getvalue()
+
+
+class Contrib(unittest.TestCase):
+    """Each file, by the tool that reads it."""
+
+    def setUp(self) -> None:
+        folder = tempfile.TemporaryDirectory(prefix="vault-test-")
+        self.addCleanup(folder.cleanup)
+        self.root = Path(folder.name) / "root"
+
+    def said(self, *words: str, status: int = 0) -> str:
+        """What a command prints, on either stream."""
+        done = subprocess.run(words, stdout=subprocess.PIPE, stderr=subprocess.STDOUT, text=True, timeout=60, check=False)
+        self.assertEqual(done.returncode, status, done.stdout)
+        return done.stdout
+
+    def install(self) -> None:
+        """Installs under the root."""
+        self.said(str(CONTRIB / "install"), "--destdir", str(self.root), "--vaultd", VAULTD)
+
+    def test_installed(self) -> None:
+        """The installed client and tools run from where they are put, and a configuration is kept."""
+        self.install()
+        kept = self.root / "etc" / "default" / "vaultd"
+        kept.write_text("VAULTD_ADDRESS=127.0.0.1:1\n", "utf-8")
+        self.install()
+        self.assertEqual(kept.read_text("utf-8"), "VAULTD_ADDRESS=127.0.0.1:1\n")
+        server = Server()
+        self.addCleanup(server.close)
+        server.start()
+        os.environ["XDG_STATE_HOME"] = str(self.root / "state")
+        self.addCleanup(os.environ.pop, "XDG_STATE_HOME")
+        client = str(self.root / "usr" / "bin" / "vault")
+        self.said(sys.executable, client, "hello", f"anna@127.0.0.1:{server.port}")
+        self.said(sys.executable, client, "make", "/engine")
+        backup = self.root / "usr" / "sbin" / "vaultd-backup"
+        self.assertIn("places 2", self.said(sys.executable, str(backup), "--vaultd", VAULTD, *server.files, str(self.root / "kept")))
+        for page in ("man1/vault.1.gz", "man5/vault-files.5.gz", "man8/vaultd.8.gz", "man8/vaultd-board.8.gz"):
+            self.assertTrue((self.root / "usr" / "share" / "man" / page).exists(), page)
+        self.assertIn("usage", self.said(str(CONTRIB / "install"), "--destdir", status=2))
+
+    @unittest.skipUnless(shutil.which("systemd-analyze"), "needs systemd-analyze")
+    def test_units(self) -> None:
+        """Both units are accepted, and rated below 2 of 10."""
+        program = self.root / "vaultd"
+        self.root.mkdir()
+        shutil.copy("/bin/true", program)
+        units = []
+        for name, kept in (("vaultd.service", "vaultd.service"), ("vaultd@.service", "vaultd@plant.service")):
+            text = (CONTRIB / "systemd" / name).read_text("utf-8").replace("/usr/sbin/vaultd", str(program))
+            (self.root / kept).write_text(text, "utf-8")
+            units.append(str(self.root / kept))
+        self.assertEqual(self.said("systemd-analyze", "verify", "--man=no", *units), "")
+        for unit in units:
+            rated = self.said("systemd-analyze", "security", "--offline=true", "--no-pager", unit)
+            found = re.search(r"Overall exposure level for .*: ([0-9.]+)", rated)
+            self.assertIsNotNone(found)
+            self.assertLess(float(found.group(1)) if found else 10.0, 2.0)
+
+    @unittest.skipUnless(shutil.which("man"), "needs man")
+    def test_manual(self) -> None:
+        """No page has a warning, and each names every command and option of its program."""
+        for page in sorted((CONTRIB / "man").iterdir()):
+            words = ("man", "--warnings", "-E", "UTF-8", "-l", "-Tutf8", "-Z", str(page))
+            done = subprocess.run(words, capture_output=True, text=True, check=True)
+            self.assertEqual(done.stderr, "", page.name)
+        page = (CONTRIB / "man" / "vault.1").read_text("utf-8").replace("\\-", "-")
+        for word in self.client_words():
+            self.assertIn(word, page)
+
+    def client_words(self) -> List[str]:
+        """The commands and options that the client has by its own help, but for help and version."""
+        commands = re.findall(r"^    ([a-z]+)  ", helped(), re.MULTILINE)
+        self.assertGreater(len(commands), 10)
+        shown = helped() + "".join(helped(command) for command in commands)
+        return commands + sorted(set(re.findall(r"--[a-z-]+", shown)) - {"--help", "--version"})
+
+    def completed(self, script: str, function: str, *words: str) -> List[str]:
+        """What the completion offers for the last of some words."""
+        line = " ".join(f"'{word}'" for word in words)
+        return self.said("bash", "-c", f"source '{CONTRIB}/completion/{script}'; COMP_WORDS=({line}); COMP_CWORD={len(words) - 1};"
+                         f" {function}; printf '%s\\n' \"${{COMPREPLY[@]}}\"").split()
+
+    def test_completion(self) -> None:
+        offered = self.completed("vault", "_vault", "vault", "")
+        for word in self.client_words():
+            command = "get" if word == "--to" else "wait" if word == "--at-most" else "put" if word == "--claim" else ""
+            self.assertIn(word, self.completed("vault", "_vault", "vault", command, "--") if command else offered)
+        self.assertEqual(self.completed("vault", "_vault", "vault", "--as", "anna@h:1", "che"), ["checkout", "checkin"])
+        self.assertEqual(self.completed("vault", "_vault", "vault", "put", "/e/b/p", str(CONTRIB) + "/inst"), [str(CONTRIB) + "/install"])
+        self.assertEqual(self.completed("vaultd", "_vaultd", "vaultd", "se"), ["serve"])
+        self.assertEqual(self.completed("vaultd", "_vaultd", "vaultd", "serve", "a", "b", "x", "--w"), ["--workers"])
+
+
+if __name__ == "__main__":
+    unittest.main()

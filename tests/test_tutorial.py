@@ -1,0 +1,122 @@
+"""Every line of docs/TUTORIAL.md and docs/SCALE.md, run in shells of their own, with what stands below it."""
+
+import os
+import queue
+import re
+import subprocess
+import sys
+import tempfile
+import threading
+import unittest
+from pathlib import Path
+from typing import Dict, List, Tuple
+
+from servers import TOP, VAULTD, free_port
+
+SHOWN_PORTS = ("7070", "7071")
+PROMPT = re.compile(r"(?P<who>anna|ben|)\$ (?P<line>.*)")
+DONE = "line-is-done"
+
+
+class Shell:
+    """A shell with a folder and a state of its own."""
+
+    def __init__(self, folder: Path, programs: Path):
+        folder.mkdir(exist_ok=True)
+        environment = {**os.environ, "PATH": f"{programs}:{os.environ['PATH']}", "XDG_STATE_HOME": str(folder / "state")}
+        environment.pop("VAULT_AS", None)
+        self.process = subprocess.Popen(["bash", "--norc"], cwd=folder, env=environment, stdin=subprocess.PIPE,
+                                        stdout=subprocess.PIPE, stderr=subprocess.STDOUT, text=True, bufsize=1)
+        self.lines: "queue.Queue[str]" = queue.Queue()
+        self.reader = threading.Thread(target=self._read, daemon=True)
+        self.reader.start()
+
+    def _read(self) -> None:
+        assert self.process.stdout is not None
+        for line in self.process.stdout:
+            self.lines.put(line)
+
+    def run(self, line: str, wanted: int) -> List[str]:
+        """Runs a line, and answers what was printed until it ended; where fewer lines came than are wanted, waits for those that
+        a background program prints."""
+        assert self.process.stdin is not None
+        self.process.stdin.write(f"{line}\necho {DONE}\n")
+        self.process.stdin.flush()
+        printed: List[str] = []
+        ended = False
+        while not ended or len(printed) < wanted:
+            try:
+                said = self.lines.get(timeout=15)
+            except queue.Empty:
+                break
+            if said == DONE + "\n":
+                ended = True
+            else:
+                printed.append(said.rstrip("\n"))
+        return printed
+
+    def close(self) -> None:
+        """Ends the shell."""
+        assert self.process.stdin is not None and self.process.stdout is not None
+        self.process.stdin.close()
+        self.process.wait(15)
+        self.reader.join(15)
+        self.process.stdout.close()
+
+
+def steps(text: str) -> List[Tuple[str, str, List[str]]]:
+    """Who says what, and what is printed."""
+    found: List[Tuple[str, str, List[str]]] = []
+    for block in re.findall(r"```console\n(.*?)```", text, re.DOTALL):
+        for line in block.splitlines():
+            said = PROMPT.fullmatch(line)
+            if said:
+                found.append((said["who"], said["line"], []))
+            else:
+                found[-1][2].append(line)
+    return found
+
+
+class Pages(unittest.TestCase):
+    """The pages, each from its top to its end."""
+
+    def setUp(self) -> None:
+        folder = tempfile.TemporaryDirectory(prefix="vault-test-")
+        self.addCleanup(folder.cleanup)
+        self.folder = Path(folder.name)
+        programs = self.folder / "programs"
+        programs.mkdir()
+        for name, program in (("vaultd", VAULTD), ("vault", TOP / "clients" / "vault.py"), ("vaultd-backup", TOP / "tools" / "backup"),
+                              ("vaultd-board", TOP / "tools" / "board")):
+            (programs / name).symlink_to(program)
+        self.shells: Dict[str, Shell] = {}
+        for who in ("", "anna", "ben"):
+            self.shells[who] = Shell(self.folder / (who or "server"), programs)
+
+    def tearDown(self) -> None:
+        self.shells[""].run("kill -9 $(cat server.pid */pid) 2> /dev/null", 0)
+        for shell in self.shells.values():
+            shell.close()
+
+    def run_page(self, page: str) -> None:
+        """Runs every line of a page, at ports that are free."""
+        text = (TOP / "docs" / page).read_text("utf-8")
+        ports = {shown: str(free_port()) for shown in SHOWN_PORTS}
+        done = steps(text)
+        self.assertEqual(len(done), len(re.findall(r"^(?:anna|ben|)\$ ", text, re.MULTILINE)))
+        for who, line, wanted in done:
+            for shown, port in ports.items():
+                line, wanted = line.replace(shown, port), [said.replace(shown, port) for said in wanted]
+            with self.subTest(who=who, line=line):
+                self.assertEqual(self.shells[who].run(line, len(wanted)), wanted)
+        print(f"{page}: {len(done)} lines", file=sys.stderr)
+
+    def test_tutorial(self) -> None:
+        self.run_page("TUTORIAL.md")
+
+    def test_scale(self) -> None:
+        self.run_page("SCALE.md")
+
+
+if __name__ == "__main__":
+    unittest.main()
