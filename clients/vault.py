@@ -30,8 +30,8 @@ Told = Tuple[str, Dict[str, Any]]
 class Output:
     """What the program says: sentences, or one JSON object; notices and progress go to standard error."""
 
-    def __init__(self, as_json: bool):
-        self.as_json = as_json
+    def __init__(self, command: str, as_json: bool):
+        self.command, self.as_json = command, as_json
         self.notices: List[str] = []
 
     def notice(self, sentence: str) -> None:
@@ -48,7 +48,7 @@ class Output:
     def answer(self, sentence: str, fields: Dict[str, Any]) -> None:
         """Says what was done."""
         if self.as_json:
-            print(json.dumps({"done": True, "sentence": sentence, **fields, "notices": self.notices}))
+            print(json.dumps({"command": self.command, "done": True, "sentence": sentence, **fields, "notices": self.notices}))
         elif sentence:
             print(sentence)
 
@@ -56,7 +56,8 @@ class Output:
         """Says what went wrong and what to do."""
         if self.as_json:
             done = None if isinstance(error, NotKnown) else False
-            print(json.dumps({"done": done, "code": error.code, "sentence": str(error), "notices": self.notices}))
+            print(json.dumps({"command": self.command, "done": done, "code": error.code, "sentence": str(error),
+                              "notices": self.notices}))
         else:
             print("vault: " + str(error), file=sys.stderr)
 
@@ -351,13 +352,13 @@ def run(words: Words, output: Output) -> None:
         sentence, fields = COMMANDS[words.command](client, words, output)
     finally:
         client.close()
-    output.answer(sentence, {"command": words.command, **fields})
+    output.answer(sentence, fields)
 
 
 def main(arguments: Optional[List[str]] = None) -> int:
     """The program: 0 done, 1 refused, 2 the command line is wrong, 3 not known yet or no server."""
     words = command_line().parse_args(arguments)
-    output = Output(words.json)
+    output = Output(words.command, words.json)
     try:
         run(words, output)
         sys.stdout.flush()

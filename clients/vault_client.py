@@ -304,12 +304,10 @@ class Client:
         """The reply to a command, whatever breaks in between. It is never sent again before it is known not to be done."""
         patience, lost = Patience(self.patience), False
         while True:
-            found = None
+            reply = None
             try:
-                found = self._find_out(command) if lost else None
-                reply = found or self._connected().ask(command.line)
+                reply = self._tried(command, lost)
             except Lost as error:
-                reply = None
                 self.progress(f"the connection ended ({error}); finding out whether `{command.kind}` was done")
             except Unreachable as error:
                 if lost:
@@ -317,17 +315,25 @@ class Client:
                 raise
             if reply is not None and reply.code in (80, 81):
                 if patience.over() and lost and command.kind in SENT_AGAIN:
-                    raise not_known(command, SENTENCES[reply.code])
+                    raise not_known(command, SENTENCES[reply.code], reply.code)
                 if patience.over():
                     return reply
                 patience.pause()
             elif reply is not None and reply.code != 82:
-                return self._told_again(command, reply) if lost and not found else reply
+                return reply
             else:
                 lost = True
                 self._start_afresh()
                 if patience.over():
-                    raise not_known(command, SENTENCES[82] if reply else "The server can't be reached.")
+                    raise not_known(command, SENTENCES[82] if reply else "The server can't be reached.", 82 if reply else None)
+
+    def _tried(self, command: Command, lost: bool) -> Reply:
+        """The reply to one try, which is made where no earlier one, whose reply was lost, is found to be done."""
+        found = self._find_out(command) if lost else None
+        if found is not None:
+            return found
+        reply = self._connected().ask(command.line)
+        return self._told_again(command, reply) if lost and reply.code not in (80, 81, 82) else reply
 
     def _start_afresh(self) -> None:
         """Drops the connection, and lets a line that is still under way arrive before anything is asked."""
@@ -408,8 +414,9 @@ class Client:
         if reply is None and command.kind in SENT_AGAIN:
             reply = self._told_again(command, self._read(command.line))
         if reply is None and command.kind == "checkout":
-            return (f"Your earlier `{command.line}` was not found among the check-outs from c{command.last_number + 1} on, so it was"
-                    " not done. Say it again.")
+            return (f"Your earlier `{command.line}` was not done, as none of c{command.last_number + 1} to"
+                    f" c{command.last_number + LOOK_AHEAD} is a new one of yours. Say it again, unless others made more meanwhile:"
+                    " then ask whoever runs the server to look with `vaultd inspect` on a copy.")
         if reply is None:
             return f"Your earlier `{shown(command)}` was not done. Say it again."
         if not reply.ok:
@@ -421,6 +428,8 @@ class Client:
     def _find_out(self, command: Command) -> Optional[Reply]:
         """Whether a command was done whose reply was lost: the reply that it would have had, or nothing where it wasn't
         done or where it may be sent again in any case. Asks only what changes nothing."""
+        if command.kind == "checkout" and command.second:
+            return self._the_first_of_two(command, self._read("state " + command.second))
         if command.kind == "checkout":
             return self._found_checkout(command)
         if command.kind in ("checkin", "abandon"):
@@ -497,12 +506,14 @@ class Client:
             if had is not None and len(had.items) + len(command.items) <= ITEMS:
                 return Reply(True, ("held", command.claim))
         if command.kind == "checkout" and reply.ok:
+            command.second = reply.claims()[0]
+            self.memory.save()
             return self._the_first_of_two(command, reply)
         return reply
 
     def _the_first_of_two(self, command: Command, reply: Reply) -> Reply:
         """Looks below a check-out that was asked for again for the one of the earlier try; where both stand, keeps the first."""
-        second = int(reply.claims()[0][1:])
+        second = int(command.second[1:])
         lowest = max(command.last_number + 1, second - SWEEP)
         for start in range(lowest, second, BATCH):
             asked = range(start, min(start + BATCH, second))
@@ -577,7 +588,7 @@ class Client:
                 yield from self._beneath(child)
 
 
-def not_known(command: Command, why: str) -> NotKnown:
+def not_known(command: Command, why: str, code: Optional[int] = None) -> NotKnown:
     """Says that a command's fate is open, and how it will be found out."""
     return NotKnown(f"Whether `{shown(command)}` was done is not known yet. {why} Run `vault mine` once the server answers: it"
-                    " finds out first.", 82)
+                    " finds out first.", code)

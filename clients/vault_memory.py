@@ -41,6 +41,7 @@ class Command:
     items: List[str] = field(default_factory=list)
     last_number: int = 0
     since: float = 0.0
+    second: str = ""
 
 
 class Memory:

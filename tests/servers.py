@@ -2,6 +2,7 @@
 
 import contextlib
 import os
+import resource
 import signal
 import socket
 import subprocess
@@ -35,11 +36,16 @@ class Server:
         self.process: Optional["subprocess.Popen[bytes]"] = None
         subprocess.run([VAULTD, "create", *self.files], check=True, stdout=subprocess.DEVNULL)
 
-    def start(self) -> None:
-        """Starts the server and waits until it listens."""
+    def start(self, file_bytes: Optional[int] = None) -> None:
+        """Starts the server and waits until it listens. Its files grow to so many bytes at most, as on a disk that is full then."""
+        def limit() -> None:
+            if file_bytes is not None:
+                signal.signal(signal.SIGXFSZ, signal.SIG_IGN)
+                resource.setrlimit(resource.RLIMIT_FSIZE, (file_bytes, file_bytes))
+
         address = f"127.0.0.1:{self.port}"
         self.process = subprocess.Popen([VAULTD, "serve", *self.files, address, "--workers", str(self.workers)],
-                                        stdout=subprocess.PIPE, stderr=subprocess.STDOUT)
+                                        stdout=subprocess.PIPE, stderr=subprocess.STDOUT, preexec_fn=limit)
         assert self.process.stdout is not None
         said = self.process.stdout.readline()
         if said != b"listening\n":

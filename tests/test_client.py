@@ -204,6 +204,21 @@ class NoServer(WithServer):
         self.assertEqual([notice.endswith("was done.") for notice in self.notices], [True] * 4, self.notices)
         self.assertEqual(self.sent(b"checkin"), 1)
 
+    def test_two_checkouts_settled_by_the_next_run(self) -> None:
+        """The server is away between the second try of a check-out and the finding of the first, which alone stands in the end."""
+        ben = self.client("ben")
+        for _ in range(100):
+            ben.abandon(ben.checkout(["r:/engine"]).claim)
+        self.cutter.after.append(b"checkout")
+        self.cutter.before.append(b"save c97 ")
+        self.cutter.meanwhile = lambda: self.server.kill() if not self.cutter.before else None
+        with self.assertRaises(NotKnown):
+            self.client("anna", patience=0.5).checkout(["w:/engine"])
+        self.server.start()
+        self.assertEqual([standing.claim for standing, _ in self.client("anna").mine()], ["c101"])
+        self.assertTrue(self.anna.state("c102").gone)
+        self.assertEqual(self.notices, ["Your earlier `checkout w:/engine` was done."])
+
     def test_not_done_is_told(self) -> None:
         self.anna.checkout(["w:" + PART])
         self.anna.put(PART, b"first")
@@ -221,6 +236,24 @@ class NoServer(WithServer):
         """A command under way."""
         from vault_memory import Command
         return Command("", "")
+
+    def test_a_full_disk(self) -> None:
+        """A command that was answered 82 is not known to be done, until the server was started again."""
+        self.anna.checkout(["w:" + PART])
+        self.server.kill()
+        self.server.start(file_bytes=400)
+        short = self.client("anna", patience=0.2)
+        with self.assertRaises(NotKnown) as unknown:
+            short.put(PART, b"x" * 1000)
+        self.assertIn("disk failed", str(unknown.exception))
+        with self.assertRaises(NotKnown):
+            short.mine()
+        self.server.kill()
+        self.server.start()
+        self.assertEqual(list(self.client("anna").mine()[0][1].drafts), [PART])
+        self.assertEqual(self.notices, [f"Your earlier `put {PART}` was done."])
+        self.anna.checkin("c1")
+        self.assertEqual(self.anna.get(PART), b"x" * 1000)
 
     def test_nothing_sent(self) -> None:
         self.server.kill()
@@ -283,11 +316,11 @@ class Program(WithServer):
         done = subprocess.run([sys.executable, str(TOP / "clients" / "vault.py"), *words], env=environment, input=given,
                               capture_output=True, timeout=60, check=False)
         self.assertEqual(done.returncode, status, (words, done.stdout, done.stderr))
-        return done.stdout if status == 0 else done.stderr
+        return done.stdout if status == 0 or "--json" in words else done.stderr
 
     def as_json(self, *words: str, status: int = 0) -> Dict[str, Any]:
         """Runs the program with --json."""
-        return dict(json.loads(self.vault("--json", *words, status=status) or b"{}"))
+        return dict(json.loads(self.vault("--json", *words, status=status)))
 
     def test_a_round(self) -> None:
         self.assertIn(b"vault hello", self.vault("mine", status=2))
@@ -342,6 +375,8 @@ class Program(WithServer):
         self.assertIn(b"usage", self.vault("nonsense", status=2))
         nobody = f"anna@127.0.0.1:{free_port()}"
         self.assertIn(b"No server answers", self.vault("--as", nobody, "--patience", "0", "tree", status=3))
+        refused = self.as_json("--as", f"anna@127.0.0.1:{self.server.port}", "checkout", "r:/nowhere", status=1)
+        self.assertEqual((refused["command"], refused["done"], refused["code"]), ("checkout", False, 20))
         self.assertIn(b"write NAME@HOST:PORT", self.vault("--as", "anna", "tree", status=2))
 
 

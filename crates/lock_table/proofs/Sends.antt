@@ -14,6 +14,10 @@ use Rattle.lock_table.specs.contracts.locks.Lock as Lock
 use Rattle.lock_table.specs.contracts.locks.LockSet as LockSet
 use Rattle.lock_table.specs.contracts.locks.LockSet.TheInside as LockSetInside
 use Rattle.lock_table.specs.contracts.entry.Entry as Entry
+use Rattle.lock_modes.specs.contracts.group.Group as Group
+use Rattle.lock_table.specs.contracts.cell.Seat as Seat
+use Rattle.lock_table.specs.contracts.cell.Cell as Cell
+use Rattle.lock_table.specs.contracts.cell.Cell.TheInside as CellInside
 use Rattle.lock_table.specs.contracts.table.Table as Table
 use Rattle.lock_table.specs.contracts.table.Table.TheInside as TableInside
 
@@ -41,8 +45,24 @@ entry_send =
     let l = lock_set_send in
     recorded_send _ _ _ T.to_one (struct_send (shape T) (search fields depth 20))
 
-pub table_send : (A : RattleType) (g : Ghosts A.Denot) → IsSend A → Frees g g.dealloc_token → IsSend (Table.the_field A g).row
-table_send A g s f =
-    let T = TableInside.the_type A g in
-    let e = entry_send in
-    view_send _ _ _ _ _ (recorded_send _ _ _ T.to_one (struct_send (shape T) (search fields depth 20)))
+group_send : IsSend Group.the_row
+group_send = search fields depth 20 fits 20000
+
+seat_send : IsSend Seat.the_row
+seat_send = let i = claim_id_send in search fields depth 20 fits 20000
+
+module _ (A : RattleType) (g : Ghosts A.Denot) (s : IsSend A) (f : Frees g g.dealloc_token) where
+  cell_send : IsSend (Cell.the_field A g).row
+  cell_send =
+      let T = CellInside.the_type A g in
+      let x = seat_send in
+      let h = group_send in
+      view_send _ _ _ _ _ (recorded_send _ _ _ T.to_one (struct_send (shape T) (search fields depth 20)))
+
+  pub table_send : IsSend (Table.the_field A g).row
+  table_send =
+      let T = TableInside.the_type A g in
+      let e = entry_send in
+      let i = claim_id_send in
+      let c = cell_send in
+      view_send _ _ _ _ _ (recorded_send _ _ _ T.to_one (struct_send (shape T) (search fields depth 20)))

@@ -44,7 +44,11 @@ fn is_limit<A: Allocator + Copy>(
             drop(back);
             is_back
         }
-        Ok(()) | Err(NotAppended::NoMemory(_)) => false,
+        Err(NotAppended::NoMemory(back)) => {
+            drop(back);
+            false
+        }
+        Ok(()) => false,
     };
     drop(same);
     is_back
@@ -187,7 +191,11 @@ fn comes_back<A: Allocator + Copy>(
             let is_same = back == drafts;
             is_same & is_appended(shelf, back)
         }
-        Ok(()) | Err(NotAppended::Limit(_)) => false,
+        Err(NotAppended::Limit(back)) => {
+            drop(back);
+            false
+        }
+        Ok(()) => false,
     };
     drop(drafts);
     is_same

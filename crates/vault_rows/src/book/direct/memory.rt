@@ -48,10 +48,10 @@ pub(super) fn are_alike<A: Allocator + Copy>(
 
 /// Whether the nth request of memory that a command makes after others is refused. The book is then as a twin that only heard
 /// the others, and the command is heard once memory is there. Else the twin hears the command, too, and is told the same.
-fn is_refused(
+fn is_refused<'a>(
     rt: &impl Abort,
-    refusing: &Refusing<Global>,
-    twin: &mut Talk<&Refusing<Global>>,
+    refusing: &'a Refusing<Global>,
+    twin: &mut Talk<&'a Refusing<Global>>,
     before: &[(u32, Command)],
     number: u64,
     last: (u32, &Command),

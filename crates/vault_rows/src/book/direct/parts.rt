@@ -289,10 +289,10 @@ fn parts_that_are_too_heavy_are_refused(rt: HostRuntime) {
 }
 
 /// Whether the nth request of memory for a book of another's parts is refused.
-fn is_not_made(
+fn is_not_made<'a>(
     rt: &impl Abort,
-    memory: &Refusing<Global>,
-    book: &Book<&Refusing<Global>>,
+    memory: &'a Refusing<Global>,
+    book: &Book<&'a Refusing<Global>>,
     number: u64,
 ) -> bool {
     let parts = parts_of(rt, memory, book);
