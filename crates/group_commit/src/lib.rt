@@ -1,5 +1,24 @@
 //! One history of all sessions' commands, committed in groups: its definitions, the laws of every run, and the vault that
 //! keeps it.
+//!
+//! Promises: each call of `Vault` is one act that the view allows. A reply is told only once its entry is settled. Over any
+//! past of calls, stops and openings, what a crash leaves is the durable vault after one prefix of one history, with all that
+//! was told (`promises::recovery_gives_one_prefix`).
+//! Stands on: vault_model, vault_device, vault_journal, vault_checkout, vault_store. Must not know: lines, connections,
+//! threads, what a command does (proofs cite five laws of the step, in proofs/Facts.antt).
+//!
+//! Invariants, of `Vault`:
+//! 1. The book is the vault after the kept entries.
+//! 2. The kept history is legal from the base: each entry's number and reply are its step's.
+//! 3. Settled entries are in order: retired, settled, all; and sealed behind settled while a commit is under way.
+//! 4. What is told is settled, and `told` counts it.
+//! 5. At most 4,096 entries are kept.
+//! 6. The store keeps the durable vaults after the settled entries, after the sealed ones and after all.
+//!
+//! Only tested: runs over devices in memory (a full buffer, a full history, a failed write), each request for memory refused,
+//! speed.
+//! Start at: promises.rt, `recovery_gives_one_prefix`, specs/World.antt and specs/Recovered.antt; for code vault.rt,
+//! staging.rt, pumping.rt.
 #![tactic(auto)]
 
 mod answers;

@@ -1,4 +1,11 @@
-//! The lock modes of a tree of places, and groups of them.
+//! The five lock modes of a tree of places, and groups of them.
+//!
+//! Promises: compatibility, order and join are the tables of Gray, Lorie, Putzolu and Traiger (1976), with their laws. A
+//! group's mode is the join of its members, and it admits what each member is compatible with.
+//! Stands on: no crate. Must not know: places, claims.
+//!
+//! Invariants: none beside the types. A `Group` is five counts, which contracts see.
+//! Start at: specs/Modes.antt beside mode.rt; then group.rt and laws.rt.
 #![tactic(auto)]
 
 mod group;

@@ -1,4 +1,18 @@
-//! Lock sets: the modes that a claim has at places of the tree. Lock tables: how claims stand by them.
+//! Lock sets: the modes that a claim has at places. Lock tables: how claims stand by them.
+//!
+//! Promises: `lock_set` gives the mode of a claim at each place. Two lock sets conflict exactly where the claims overlap. A
+//! table answers as the model's line does, and a new place changes no standing (`laws`).
+//! Stands on: vault_model, design_tree, lock_modes. Must not know: owners, kinds of claims, drafts.
+//!
+//! Invariants:
+//! 1. `LockSet`: no place has two locks.
+//! 2. `Table`: no claim has two entries.
+//! 3. `Table`: it has at most 256 entries.
+//! 4. `Table`: at each place stands the queue of the claims that have a mode there, with room for it, and two groups count
+//!    exactly these and the held ones.
+//! 5. `Table`: beside each entry stands what it waits for.
+//!
+//! Start at: specs/ClaimModes.antt and locks.rt, `lock_set`; then table.rt.
 #![tactic(auto)]
 
 mod again;

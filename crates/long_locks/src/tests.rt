@@ -157,6 +157,8 @@ fn line_of_long_and_short_claims(rt: HostRuntime) {
     assert!(rt; line.get(ClaimId::Short(2)).is_none());
     assert_eq!(rt; line.len(), 1);
     assert_eq!(rt; line.last_long(), 1);
+    drop(line);
+    drop(tree);
 }
 
 #[test]
@@ -171,6 +173,8 @@ fn short_claims_end_with_the_life(rt: HostRuntime) {
     assert_eq!(rt; line.standing(C1), Some(Standing::Held));
     assert_eq!(rt; line.standing(H1), None);
     assert_eq!(rt; line.last_short(), 0);
+    drop(line);
+    drop(tree);
 }
 
 #[test]
@@ -188,6 +192,8 @@ fn an_extension_is_not_weighed_against_the_waiting(rt: HostRuntime) {
     assert_eq!(rt; line.standing(C1), Some(Standing::Held));
     assert_eq!(rt; line.standing(C2), Some(Standing::Queued(C1)));
     assert_eq!(rt; line.standing(C3), Some(Standing::Queued(C1)));
+    drop(line);
+    drop(tree);
 }
 
 #[test]
@@ -210,6 +216,8 @@ fn extensions_of_held_claims(rt: HostRuntime) {
     let first = line.at(0).expect(&rt, "a claim");
     assert_eq!(rt; first.id, C2);
     assert_eq!(rt; first.items.len(), 2);
+    drop(line);
+    drop(tree);
 }
 
 #[test]
@@ -236,8 +244,10 @@ fn a_claim_put_first_is_not_weighed(rt: HostRuntime) {
         assert_eq!(rt; line.at(0).expect(&rt, "a claim").id, C2);
         assert_eq!(rt; line.at(0).expect(&rt, "a claim").items.len(), 2);
         assert_eq!(rt; line.standing(C1), Some(Standing::Queued(C2)));
+        drop(line);
     }
     assert_eq!(rt; refused, 4, "four requests, for its modes");
+    drop(tree);
 }
 
 fn covered<A: Allocator>(
@@ -260,6 +270,8 @@ fn held_claims_cover_places(rt: HostRuntime) {
     assert_eq!(rt; told, Ok(Standing::Held));
     assert_eq!(rt; covered(&rt, &line, &tree, 2), Some(C1));
     assert_eq!(rt; covered(&rt, &line, &tree, 0), None);
+    drop(line);
+    drop(tree);
 }
 
 #[test]
@@ -270,6 +282,7 @@ fn a_new_line_is_refused_its_memory(rt: HostRuntime) {
     assert!(rt; !memory.is_waiting());
     let line = new_line(&rt, &memory);
     assert_eq!(rt; line.len(), 0);
+    drop(line);
 }
 
 #[test]
@@ -288,6 +301,7 @@ fn each_request_of_memory_of_a_new_claim_is_refused(rt: HostRuntime) {
             refused.0 = number;
         }
         memory.refuse(0);
+        drop(line);
         let mut line = new_line(&rt, &memory);
         memory.refuse(u64::from(number));
         if hold(&rt, &mut line, &tree, 1, &[look(1)]).is_err() {
@@ -299,12 +313,14 @@ fn each_request_of_memory_of_a_new_claim_is_refused(rt: HostRuntime) {
         memory.refuse(0);
         let told = hold(&rt, &mut line, &tree, 1, &[look(1)]);
         assert_eq!(rt; told, Ok(Standing::Held));
+        drop(line);
     }
     assert_eq!(rt;
         refused,
         (9, 9),
         "four requests for the claim, five for its modes"
     );
+    drop(tree);
 }
 
 #[test]
@@ -329,8 +345,10 @@ fn each_request_of_memory_of_an_extension_is_refused(rt: HostRuntime) {
         let answer = extend(&rt, &mut line, &tree, C2, &[look(2)]);
         assert_eq!(rt; answer, Ok(Extension::Done));
         assert_eq!(rt; line.at(0).expect(&rt, "a claim").id, C2);
+        drop(line);
     }
     assert_eq!(rt; refused, 3, "three requests, for its modes");
+    drop(tree);
 }
 
 #[test]
@@ -354,4 +372,6 @@ fn a_growing_line_is_refused_its_memory(rt: HostRuntime) {
     }
     let growths = refused.count_ones();
     assert!(rt; 2 < growths && growths < 16, "{refused:b}");
+    drop(line);
+    drop(tree);
 }

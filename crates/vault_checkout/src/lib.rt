@@ -1,5 +1,20 @@
-//! The book of a vault: its tree, shelf, line, check-outs and sessions, and what each command does
-//! to them.
+//! The book of a vault: its tree, shelf, line, check-outs and sessions, and what each command does to them.
+//!
+//! Promises: `act` is the step of the definitions: reply, effect and vault. `apply` makes an effect as defined. `restart`
+//! leaves the durable vault. A book is made of the parts of a durable vault exactly where there is one. Want of memory comes
+//! last and changes nothing.
+//! Stands on: vault_model, design_tree, part_versions, lock_table, long_locks. Must not know: devices, bytes of records, the
+//! history, tickets.
+//!
+//! Invariants, of `Book`:
+//! 1. The vault that its fields are is well formed.
+//! 2. Its line was weighed over its tree, or before the last places came to it.
+//! 3. There is one check-out for each long claim, by rising number, and its type says whether the claim is held.
+//! Of `Held`: 4. drafts stand by rising place, one of a part.
+//!
+//! Only tested: that memory is asked for only once a command needs it.
+//! Start at: book.rt, `act`: one private function a command. check_out.rt says why a draft can't be saved under a check-out
+//! that waits.
 #![tactic(auto)]
 
 mod apply;

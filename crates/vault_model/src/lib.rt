@@ -1,4 +1,19 @@
-//! The vault's types, as its commands and replies name them, and its definitions.
+//! The vault's types, as its commands and replies name them, and the definitions of everything that other crates promise.
+//!
+//! Promises: names and paths are read exactly from their spelling (`Name::read`, `Path::read`). The definitions have the laws
+//! of `laws`: a well-formed vault stays so, held stays held, held claims are apart, an effect is the durable change of its
+//! step. A copy of a command, a reply or an effect equals its source.
+//! Stands on: no crate of this repository. Must not know: an allocator in a definition, a device, a line of text, how a tree
+//! is indexed.
+//!
+//! Invariants:
+//! 1. `Name`: 1 to 32 bytes of `a-z`, `0-9`, `_`, `-`, and zeros behind them.
+//! 2. `Path`: at most three names, and spare room behind them.
+//! 3. `Items`: at most 8 items, and spare room behind them.
+//!
+//! Neither proved nor tested: the `Display` texts of refusals.
+//! Start at: specs/Vault.antt (what a vault is), specs/Step.antt (what each command does), specs/Claims.antt (the line). Then
+//! specs/Laws.antt.
 #![tactic(auto)]
 
 mod claims;

@@ -1,4 +1,16 @@
 //! The lines of the vault, commands in and replies out, and scripts of them.
+//!
+//! Promises: a line is read exactly as the command that it spells, each reply has its text, and a script prints exactly the
+//! output that its bytes mean, whatever pieces they are read in; where it fails it has printed a first part of that. Each
+//! script is a run of the world.
+//! Stands on: vault_model, vault_device, vault_journal, vault_store, group_commit. Must not know: sockets, files, threads.
+//!
+//! Invariants:
+//! 1. `Connection`: its number is 1 to 64.
+//!
+//! Neither: that `Read` comes from a reader that fails, and `NoMemory` from a request that was refused.
+//! Start at: docs/PROTOCOL.md, specs/Grammar.antt and reading.rt; for scripts specs/Talk.antt, specs/Script.antt and
+//! runner.rt.
 #![tactic(auto)]
 
 mod error;

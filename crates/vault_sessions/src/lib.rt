@@ -1,4 +1,23 @@
-//! One vault under one lock: workers that each serve a connection, a flusher that commits what they staged, and a server over TCP.
+//! One vault under one lock: workers that each serve a connection, a flusher that commits what they staged, and a server over
+//! TCP.
+//!
+//! Promises: whenever the lock is free the vault keeps its laws, and the tallies count what was staged and told. Each line of
+//! a connection has its answer at its place, a receipt shows the line's command, and what is written is the texts of the
+//! answers (`serve_one`). The shares of all workers sum to what the history grew by (`gather`).
+//! Stands on: group_commit, vault_protocol, and what they stand on. Must not know: what a command does, what a file holds.
+//!
+//! Invariants:
+//! 1. `Desk`: the staged tally is the length of the history.
+//! 2. `Desk`: the told tally is the number of told entries.
+//! 3. `Desk`: the opening share counts what there was before, and never changes.
+//! 4. `Shared`: each ledger has one part for each worker, and one for the opening.
+//! 5. `Share`: it has one part of each ledger, which counts what the share says.
+//! 6. `Inlet`: what waits lies within the chunk, and no more bytes and reads were taken than may be.
+//!
+//! Only tested: two sessions share a frame; a second one is answered while the first waits; the flusher stays until it is
+//! closed; a round over TCP.
+//! Neither: that anybody is served or woken; fairness, time; what a TCP peer gets; whom a name belongs to.
+//! Start at: desk.rt (what is done under the lock), serve.rt (one connection), flusher.rt, server.rt.
 #![tactic(auto)]
 
 mod desk;

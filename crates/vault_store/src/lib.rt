@@ -1,4 +1,21 @@
-//! A vault in two files: committed in four steps, and read again after a crash.
+//! A vault in two files: created, committed in four steps, and read again after a crash.
+//!
+//! Promises: at each exit of a step, and at each moment inside it, what a crash leaves of the files stands for the settled
+//! vault or, while a gate is being opened, for the settled or the sealed one. Two files stand for at most one vault. Opening
+//! gives it, or tells the first thing that is wrong with its file and offset, and writes nothing.
+//! Stands on: vault_model, vault_device, vault_journal, design_tree, part_versions, vault_checkout. Must not know: commands,
+//! replies, sessions, tickets, how many entries there are.
+//!
+//! Invariants, of `Store`:
+//! 1. The phase is one that code reaches.
+//! 2. The records of the frame under way have room in a frame.
+//! 3. Where records wait or a frame is under way, the tail gate stands at most one frame behind 2^62.
+//! 4. The frames have at most as many bytes as stand before the tail gate.
+//! 5. The active file, if honest, is on the disk what the phase says: a front up to the tail gate, and the frame under way.
+//!
+//! Only tested: two real files; commits and a creation stopped at each device call, under each kind of crash; speed and
+//! memory of opening.
+//! Start at: docs/FORMAT.md, specs/Phases.antt (the table), commit.rt; for reading specs/Files.antt and opening.rt.
 #![tactic(auto)]
 
 mod body;
