@@ -349,6 +349,11 @@ fn each_request_of_memory_is_refused(rt: HostRuntime) {
     assert_eq!(rt; answer.expect(&rt, "memory"), Extension::Done);
 }
 
+// Whether a copy of a table is refused.
+fn is_copy_refused<A: Allocator + Copy>(table: &Table<A>) -> bool {
+    table.copy().is_err()
+}
+
 #[test]
 fn a_copy_is_refused_its_memory(rt: HostRuntime) {
     let memory = Refusing::new(rt.alloc());
@@ -358,8 +363,20 @@ fn a_copy_is_refused_its_memory(rt: HostRuntime) {
         let locks = locks_of(&rt, &tree, &[item]);
         assert!(rt; ask(&rt, &mut table, id, locks).is_ok());
     }
-    memory.refuse(1);
-    assert!(rt; table.copy().is_err() && !memory.is_waiting());
+    let mut refused = 0u64;
+    for number in 1..40u64 {
+        memory.refuse(number);
+        if is_copy_refused(&table) {
+            assert!(rt; !memory.is_waiting());
+            assert_eq!(rt; number, refused.saturating_add(1), "each in turn");
+            assert_eq!(rt; table.standing(C3), Some(Standing::Queued(C2)));
+            refused = number;
+        }
+    }
+    assert!(rt;
+        2 < refused && refused < 39,
+        "{refused} requests, for the entries and the queues"
+    );
     memory.refuse(0);
     let mut copy = table.copy().expect(&rt, "memory");
     for table in [&table, &copy] {
