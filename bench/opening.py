@@ -14,7 +14,8 @@ from measure import arguments, head, megabytes, prepared, run_once, sized, table
 MOST_RECORDS = 262139
 PARTS = 64
 # What each journal is called, about how many MiB of records it has, and how many bytes each content has.
-JOURNALS = [("1 MiB", 1, 1024), ("2 MiB", 2, 1024), ("4 MiB", 4, 1024), ("8 MiB", 8, 1024), ("1 MiB, contents of 16 bytes", 1, 16)]
+JOURNALS = [("1 MiB", 1, 1024), ("2 MiB", 2, 1024), ("4 MiB", 4, 1024), ("8 MiB", 8, 1024), ("16 MiB, all that a vault holds", 16, 1024),
+            ("1 MiB, contents of 16 bytes", 1, 16)]
 
 
 def number(n, size):

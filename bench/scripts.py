@@ -46,6 +46,16 @@ def extensions(options):
     return text_of(lines[:sized(len(lines), options)])
 
 
+def holds(standing):
+    """So many check-outs that stand, and 1,900 holds behind them, each given up again."""
+    def script(options):
+        lines = hellos(1) + list(tree(1, 4, 14)) + ["@1 checkout r:/p0/a0"] * standing
+        for n in range(1900):
+            lines += [f"@1 hold w:/p0/a0/x{n % 14}", f"@1 release h{n + 1}"]
+        return text_of(lines[:sized(len(lines), options)])
+    return script
+
+
 def versions(options):
     """960 parts, of which each is saved twice, checked in and fetched."""
     lines = hellos(2) + list(tree(15, 1, 64))
@@ -83,6 +93,8 @@ SCRIPTS = [
     ("empty", lambda options: b""),
     ("4,096 commands: 64 sessions, 1,220 places, 256 standing check-outs of 8 items, then states", full),
     ("4,012 commands: 250 standing check-outs, then 3,700 extensions", extensions),
+    *[(f"3,800 commands: 1,900 holds, each given up, behind {standing} standing check-outs that look there", holds(standing))
+      for standing in (0, 64, 128, 250)],
     ("3,932 commands: 990 places, 30 check-outs, 1,920 saves of 1,000 bytes, 30 check-ins, 960 fetches", versions),
     ("500 saves of 1,000 bytes, each with a commit", saves(500)),
     ("1,000 such saves", saves(1000)),
@@ -108,7 +120,7 @@ def main():
             if options.only in name:
                 given = script(options)
                 wall, memory, told = run_once(program, ["script"], given)
-                yield name, f"{len(given) / 1e6:.1f} MB", f"{wall:.2f} s", f"{len(told) / 1e6:.1f} MB", megabytes(memory)
+                yield name, f"{len(given) / 1e6:.1f} MB", f"{wall * 1000:,.0f} ms", f"{len(told) / 1e6:.1f} MB", megabytes(memory)
     table(("Script", "Its bytes", "Wall", "Replies", "Resident memory"), rows())
 
 

@@ -116,8 +116,11 @@ def served(program, words):
 SERVE = []
 
 
-def measured(program, folder, options, connections, before=()):
-    """One run: cycles a second, the walls of cycles, effects a commit, and the server's memory and processor time."""
+def measured(program, folder, options, connections, before=(), ready=lambda: None):
+    """One run: cycles a second, the walls of cycles, effects a commit, and the server's memory and processor time.
+
+    Once all clients are connected `ready` is called, and then the load begins.
+    """
     files = [os.path.join(folder, f"vault.{connections}.{which}") for which in "ab"]
     for path in files:
         if os.path.exists(path):
@@ -133,6 +136,7 @@ def measured(program, folder, options, connections, before=()):
     load = [multiprocessing.Process(target=work, args=(options.port, numbers, cycles, gates, results)) for numbers in shares]
     for process in load:
         process.start()
+    ready()
     gates[0].wait(60)
     begin = time.monotonic()
     gates[1].wait(300)

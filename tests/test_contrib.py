@@ -84,6 +84,14 @@ class Contrib(unittest.TestCase):
             self.assertIsNotNone(found)
             self.assertLess(float(found.group(1)) if found else 10.0, 2.0)
 
+    def test_the_page_prints_the_unit(self) -> None:
+        """The page on operating has the unit whole, and the template differs from it in its names alone."""
+        unit = (CONTRIB / "systemd" / "vaultd.service").read_text("utf-8")
+        self.assertIn(f"```ini\n{unit}```\n", (TOP / "docs" / "OPERATING.md").read_text("utf-8"))
+        template = (CONTRIB / "systemd" / "vaultd@.service").read_text("utf-8").splitlines()
+        other = [line.partition("=")[0] for line in set(unit.splitlines()) ^ set(template)]
+        self.assertEqual(set(other), {"Description", "Environment", "EnvironmentFile", "StateDirectory", "ExecStart"})
+
     @unittest.skipUnless(shutil.which("man"), "needs man")
     def test_manual(self) -> None:
         """No page has a warning, and each names every command and option of its program."""

@@ -11,11 +11,14 @@ has_name tree name place = option_map_or (λ own. bytes_eq own name) (name_of tr
 
 -- each place's children stand in the list at its number
 pub record IsIndexed (tree : List Place) (lists : List (List ℕ)) : Type 0 where
+  -- invariant 2 of src/lib.rt
   pub whole : length lists ≡ length tree + 1
+  -- invariant 3
   pub each : (p : ℕ) → p ≤ length tree → slice_get lists p ≡ Some (children_of tree p)
 
 -- what a tree keeps of its places and of the index behind them
 pub record IsKept (tree : List Place) (lists : List (List ℕ)) : Type 0 where
+  -- invariant 1 of src/lib.rt, and then those of the index
   pub tree_is : IsTree tree
   pub indexed : IsIndexed tree lists
 

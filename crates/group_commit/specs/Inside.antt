@@ -26,6 +26,9 @@ seen_of v = record {
 
 -- the book is the vault after the kept entries, the view is sound, and the store keeps what the view says
 pub record IsKept {D : Type 0} (disk : D → Disk) (seen : Seen D) (book : Vault) : Type 0 where
+  -- invariant 1 of src/lib.rt
   pub book_is : book ≡ book_of seen.view
+  -- invariants 2 to 5
   pub sound : IsSoundView seen.view
+  -- invariant 6
   pub stands : Keeps disk seen.store (state_of seen.view)

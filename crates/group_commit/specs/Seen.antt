@@ -55,11 +55,16 @@ state_of v = record {
 -- What every view keeps: the kept history is legal from the base, told entries are settled, and counted, the numbers are in order,
 -- few entries are kept, and no session of the base gave more commands than were retired.
 pub record IsSoundView (v : View) : Type 0 where
+  -- invariant 2 of src/lib.rt
   pub well_formed : IsVault v.base
   pub legal : IsLegal v.base (members v.kept)
+  -- invariant 3
   pub order : InOrder (length_of v) v.retired v.settled v.sealed v.phase
+  -- invariant 4
   pub told : (place : ℕ) → mark_at v.kept place ≡ Some Told → v.retired + place < v.settled
   pub told_least : told_in v.kept ≤ v.told
   pub told_most : v.told ≤ v.retired + told_in v.kept
+  -- invariant 5
   pub few : length v.kept ≤ most_kept
+  -- by this no session's count reaches its greatest
   pub counts : CountsBelow (v.retired + 1) v.base

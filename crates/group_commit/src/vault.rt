@@ -13,14 +13,23 @@ use vault_store::Store;
 /// A vault in two files, with the history of its present life. Positions count from the life's start.
 #[derive(Drop)]
 pub struct Vault<D: Device, A: Allocator = Global> {
+    /// The two files.
     pub(crate) store: Store<D, A>,
+    /// The book with which this life began. It takes no bytes.
     pub(crate) base: Snapshot<Book<A>>,
+    /// The vault after all entries.
     pub(crate) book: Book<A>,
+    /// The entries of this life, each with what became of its ticket.
     pub(crate) kept: Window<A>,
+    /// How many entries are durable.
     pub(crate) settled: u64,
+    /// How many are in frames while a commit is under way, also in that commit's.
     pub(crate) sealed: u64,
+    /// How many receipts were given.
     pub(crate) told: u64,
+    /// Whether a device call failed. No command is taken then.
     pub(crate) broken: bool,
+    /// The number of this life, by which a ticket of another one is known.
     pub(crate) life: u64,
 }
 

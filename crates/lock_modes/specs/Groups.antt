@@ -24,7 +24,7 @@ count_of g m = entry g.is g.ix g.s g.six g.x m
 abbrev pub size : Counts → ℕ
 size g = g.is + g.ix + g.s + g.six + g.x
 
--- the members themselves
+-- the members as a list of modes, IS first and X last
 abbrev pub members : Counts → List Mode
 members g = replicate g.is IS ++ (replicate g.ix IX ++ (replicate g.s S ++ (replicate g.six SIX ++ replicate g.x X)))
 

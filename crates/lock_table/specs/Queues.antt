@@ -127,6 +127,7 @@ blockers_of table = map (blocker_at table) table
 
 -- what every table keeps of its cells: at each place stands the queue of the entries, with memory for it, and no entry has two locks at a place
 pub record AreQueues (table : List Entry) (cells : List CellSeen) : Type 0 where
+  -- invariant 4 of src/lib.rt, but for the groups; and, of each entry, invariant 1
   pub queues : (p : ℕ) → seats_at cells p ≡ queue_of table p
   pub room : (p : ℕ) → length (seats_at cells p) ≤ room_at cells p
   pub apart : All (λ (e : Entry). AreApart e.locks) table
@@ -163,10 +164,11 @@ abbrev pub modes_in : List Entry → ℕ → List Mode
 modes_in [] p = []
 modes_in (e ∷ es) p = modes_by (mode_at e.locks p) (modes_in es p)
 
--- the groups at a place: of all claims, and of the held ones
+-- the group at a place: of the modes that all claims have there
 abbrev pub group_in : List Entry → ℕ → Counts
 group_in table p = group_of (modes_in table p)
 
+-- the group of the modes that the held claims have at a place
 abbrev pub held_group_in : List Entry → ℕ → Counts
 held_group_in table p = group_of (modes_in (filter (is_held_in table) table) p)
 

@@ -35,6 +35,7 @@ impl<A: Allocator> Model for Cell<A> {
 
     ghost view = { λ c. record { seats = c.queue.items; room = vec_capacity c.queue } };
 
+    // Of invariant 4 of lib.rt what it says of the groups.
     ghost invariant = { λ c. AreCounted c.queue.items c.all c.held };
 }
 

@@ -1,7 +1,8 @@
 //! Lock sets: the modes that a claim has at places. Lock tables: how claims stand by them.
 //!
 //! Promises: `lock_set` gives the mode of a claim at each place. Two lock sets conflict exactly where the claims overlap. A
-//! table answers as the model's line does, and a new place changes no standing (`laws`).
+//! table answers as the model's line does, and a new place changes no standing (`laws`). At each place it tells the group of all
+//! claims' modes and that of the held ones' (`group_at`, `held_at`).
 //! Stands on: vault_model, design_tree, lock_modes. Must not know: owners, kinds of claims, drafts.
 //!
 //! Invariants:
@@ -12,6 +13,7 @@
 //!    exactly these and the held ones.
 //! 5. `Table`: beside each entry stands what it waits for.
 //!
+//! Only measured: how long a call takes (docs/MAP.md, "Speed").
 //! Start at: specs/ClaimModes.antt and locks.rt, `lock_set`; then table.rt.
 #![tactic(auto)]
 

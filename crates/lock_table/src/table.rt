@@ -25,8 +25,11 @@ use vault_model::{ClaimId, MOST_CLAIMS, NoMemory, PlaceId, Standing};
 /// queue of those that have a mode there. Contracts see the list of its entries.
 #[derive(Drop)]
 pub struct Table<A: Allocator = Global> {
+    /// The claims in line order, each with its lock set.
     entries: Vec<Entry, A>,
+    /// What each entry waits for, at its own position; none where it is held.
     blockers: Vec<Option<ClaimId>, A>,
+    /// The queue and the two groups of each place, by its number, up to the highest that was ever locked.
     cells: Vec<Cell<A>, A>,
 }
 
@@ -41,6 +44,7 @@ impl<A: Allocator> Model for Table<A> {
 
     ghost view = { λ t. t.entries.items };
 
+    // Invariants 2 and 3 of lib.rt, then 4, then 5.
     ghost invariant = { λ t. IsTable t.entries.items × AreQueues t.entries.items t.cells.items × (t.blockers.items ≡ blockers_of t.entries.items) };
 }
 

@@ -27,6 +27,7 @@ impl<A: Allocator> Model for Claims<A> {
 
     ghost view = { λ c. record { claims = values c.by_id; room = spare c.by_id } };
 
+    // Invariant 5 of lib.rt.
     ghost invariant = { λ c. AreKeyed c.by_id.entries };
 }
 

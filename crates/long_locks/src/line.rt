@@ -24,10 +24,15 @@ use vault_model::{Claim, ClaimId, Items, Name, NoMemory, Owner, PlaceId, Standin
 /// that was given to a claim of each kind, and the tree over which a claim was weighed last.
 #[derive(Drop)]
 pub struct Line<A: Allocator = Global> {
+    /// The claims, in line order.
     pub(crate) claims: Claims<A>,
+    /// The same claims by their lock modes, which says how each stands.
     pub(crate) table: Table<A>,
+    /// The tree over which a claim was weighed last. It takes no bytes.
     pub(crate) tree: Remembered<Tree<A>>,
+    /// The last number given to a check-out.
     pub(crate) last_long: u32,
+    /// The last number given to a hold.
     pub(crate) last_short: u32,
 }
 

@@ -23,6 +23,7 @@ impl<A: Allocator> Model for Part<A> {
 
     ghost view = { λ p. contents_of p.ends.items p.bytes.items };
 
+    // Invariant 3 of lib.rt.
     ghost invariant = { λ p. IsCut p.ends.items p.bytes.items };
 }
 

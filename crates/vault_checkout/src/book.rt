@@ -4,7 +4,7 @@ ghost use Rattle.std.specs.Option.{option_copied};
 ghost use Rattle.vault_model.specs.Vault.{Vault, CountsBelow, session_of, one_more, counted, counted_in, new_vault, durable};
 ghost use Rattle.vault_model.specs.Claims.{claim_of, standing_of, is_held};
 ghost use Rattle.vault_model.specs.Drafts.{drafts_of};
-ghost use Rattle.vault_model.specs.Step.{usable, permitted, join, make, check_out, extend, abandon, hold, release, state, list, leave, asked, extension, is_designer, is_owned_by, decide, step};
+ghost use Rattle.vault_model.specs.Step.{usable, permitted, join, make, check_out, extend, abandon, hold, release, leave, asked, extension, is_designer, is_owned_by, decide, step};
 ghost use Rattle.vault_model.specs.declared.session.Session.{Session};
 ghost use Rattle.vault_model.specs.declared.claims.Standing.TheVariants as standings;
 ghost use Rattle.long_locks.specs.Lines.{IsGrownFrom};
@@ -29,12 +29,19 @@ use vault_model::{
 /// the sessions.
 #[derive(Drop)]
 pub struct Book<A: Allocator = Global> {
+    /// The places.
     pub(crate) tree: Tree<A>,
+    /// The versions of all parts.
     pub(crate) shelf: Shelf<A>,
+    /// The claims, long and short, in the order of the line.
     pub(crate) line: Line<A>,
+    /// A check-out for each long claim, by rising number, with its drafts where it is held.
     pub(crate) check_outs: Vec<AnyCheckOut<A>, A>,
+    /// The sessions that stand, in the order in which they joined.
     pub(crate) sessions: Vec<Session, A>,
+    /// The last number given to a session.
     pub(crate) last_session: u32,
+    /// How many commands were given without a session.
     pub(crate) door_count: u64,
 }
 
@@ -50,7 +57,7 @@ impl<A: Allocator> Model for Book<A> {
     ghost invariant = { IsKept };
 }
 
-fn reply_of<A: Allocator>(id: ClaimId, standing: Standing) -> ReplyIn<A>
+pub(crate) fn reply_of<A: Allocator>(id: ClaimId, standing: Standing) -> ReplyIn<A>
     ensures { result ≡ asked id standing }
 {
     match standing {
@@ -296,19 +303,6 @@ impl<A: Allocator + Copy> Book<A> {
         })
     }
 
-    #[tactic(auto, unfolding(vault_model::specs::Step::state, vault_model::specs::Step::chained))]
-    fn state(&self, id: ClaimId) -> Result<Done<A>, Stop>
-        ensures { Follows self.now result self.now (state self.now id) }
-    {
-        match self.line.standing(id) {
-            Some(standing) => Ok(Done {
-                reply: reply_of(id, standing),
-                effect: None,
-            }),
-            None => Err(Stop::Refused(Refusal::NoClaim)),
-        }
-    }
-
     #[tactic(auto, unfolding(vault_model::specs::Step::check_out, vault_model::specs::Step::chained))]
     fn check_out(&mut self, designer: Name, wanted: &[PathItem]) -> Result<Done<A>, Stop>
         ensures told { Follows self.old result self.new (check_out self.old designer wanted.now) }
@@ -395,19 +389,6 @@ impl<A: Allocator + Copy> Book<A> {
         self.drop_hold(number);
         Ok(Done {
             reply: Reply::Released,
-            effect: None,
-        })
-    }
-
-    #[tactic(auto, unfolding(vault_model::specs::Step::list, vault_model::specs::Step::chained))]
-    fn list(&self, path: &Path) -> Result<Done<A>, Stop>
-        ensures { Follows self.now result self.now (list self.now path.now) }
-    {
-        let Some(place) = self.tree.find(path) else {
-            return Err(Stop::Refused(Refusal::NoPlace));
-        };
-        Ok(Done {
-            reply: Reply::Children(self.tree.names_under(place)?),
             effect: None,
         })
     }

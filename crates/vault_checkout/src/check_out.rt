@@ -49,6 +49,7 @@ impl<A: Allocator> Model for Held<A> {
 
     ghost view = { λ h. h.drafts.items };
 
+    // Invariant 4 of lib.rt.
     ghost invariant = { λ h. IsRising h.drafts.items };
 }
 

@@ -1,8 +1,9 @@
 //! The book of a vault: its tree, shelf, line, check-outs and sessions, and what each command does to them.
 //!
 //! Promises: `act` is the step of the definitions: reply, effect and vault. `apply` makes an effect as defined. `restart`
-//! leaves the durable vault. A book is made of the parts of a durable vault exactly where there is one. Want of memory comes
-//! last and changes nothing.
+//! leaves the durable vault. A book is made of the parts of a durable vault exactly where there is one, and there is at most
+//! one (`from_parts`). A copy equals its source. Want of memory comes last and changes nothing. That each check-out's type
+//! agrees with the line is invariant 3, which no public clause says.
 //! Stands on: vault_model, design_tree, part_versions, lock_table, long_locks. Must not know: devices, bytes of records, the
 //! history, tickets.
 //!
@@ -18,6 +19,7 @@
 #![tactic(auto)]
 
 mod apply;
+mod asking;
 mod book;
 mod changes;
 mod check_out;

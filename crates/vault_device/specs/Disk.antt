@@ -37,7 +37,7 @@ IsTornImage disk at n x = (y : List ℕ) × disk.IsImage y × IsTorn at n y x
 abbrev pub LeavesOnly : Disk → List ℕ → Type 0
 LeavesOnly disk bytes = (x : List ℕ) → disk.IsImage x → x ≡ bytes
 
--- where counts stop
+-- where the counts of calls and of faults stop; they stay there then
 abbrev pub last_count : ℕ
 last_count = 2 ^ 64 - 1
 

@@ -13,15 +13,17 @@ since memory = drop memory.start memory.events.items
 
 -- what the fields of a memory agree on
 pub record IsMemory {A : Type 0} (memory : Inside A) : Type 0 where
+  -- invariant 1 of src/lib.rt
   pub shown : memory.shown.items ≡ (content_of (history_of memory)).shown
   pub settled : memory.settled.items ≡ (content_of (history_of memory)).settled
   pub filled : (b : ℕ) → (content_of (history_of memory)).filled b ≡ covered b (since memory) memory.settled.items
+  -- invariant 2
   pub leads : LeadsTo (length memory.settled.items) (length memory.shown.items) (since memory)
   pub start : memory.start ≤ length memory.events.items
   pub rest : (memory.start == length memory.events.items) ≡ is_at_rest (history_of memory)
-  -- the bytes at the front that no write has touched
+  -- invariant 3: the bytes at the front that no write has touched
   pub clean : memory.clean ≤ length memory.settled.items
   pub same : take memory.clean memory.settled.items ≡ take memory.clean memory.shown.items
-  -- a sync and a crash take no memory
+  -- invariant 4: a sync and a crash take no memory
   pub room : length memory.shown.items ≤ vec_capacity memory.settled
   pub slot : memory.start < length memory.events.items → length memory.events.items < vec_capacity memory.events

@@ -2,7 +2,8 @@
 //!
 //! Promises: each call of `Device` is one device call. It says what a read gives, what is settled, what a crash now leaves
 //! (images), and what a crash at any moment since then might have left. A fault is answered only where one is counted.
-//! `MemDevice` meets it and is honest. `FileDevice` meets it over every honest raw file, through short reads and writes.
+//! `MemDevice` meets it and is honest, and each pick of a crash leaves the bytes that it says (`laws`). `FileDevice` meets it
+//! over every honest raw file, through short reads and writes (`FileDevice::over`).
 //! Stands on: no crate of this repository. Must not know: what the bytes mean.
 //!
 //! Invariants, of `Memory`, behind `MemDevice`:

@@ -1,8 +1,8 @@
 //! A report on the two files of a vault, which changes neither.
 //!
 //! Promises: the report is what opening finds: each file's state, and the vault where there is one. It makes no write and no
-//! sync. What is printed is its text or, where the writer failed, a first part of it. The printed counts are all versions and
-//! all drafts.
+//! sync (`inspect`). What is printed is its text or, where the writer failed, a first part of it (`print`). The printed counts
+//! are all versions and all drafts (`laws`).
 //! Stands on: vault_model, vault_device, vault_journal, design_tree, vault_checkout, vault_store. Must not know: the history,
 //! how to mend a file.
 //!

@@ -139,7 +139,7 @@ effect_of_kind kind bytes =
     else if kind == 6 then abandoned_at bytes
     else None
 
--- the effect
+-- the effect whose record stands at the front, and the bytes behind it; none where the front is no record
 unfoldable pub effect_at : List ℕ → Option (Effect × List ℕ)
 effect_at bytes = do
   kind ← u8_at bytes

@@ -16,7 +16,9 @@ pub const FRAME_ROOM: usize = 262_144;
 /// before them and a closed gate behind them.
 #[derive(Drop)]
 pub struct Frame<A: Allocator = Global> {
+    /// The records' length in 4 bytes, the records, a closed gate, and room.
     buffer: Vec<u8, A>,
+    /// How many bytes the records have.
     used: usize,
 }
 
@@ -40,6 +42,9 @@ fn zeros<A: Allocator>(alloc: A, size: usize) -> Result<Vec<u8, A>, NoMemory>
 {
     vec![in alloc; 0; size].map_err(|_| NoMemory)
 }
+
+// What the buffer of a frame begins with, which is written behind its gate: m in 4 bytes, the records in m, a closed gate in 1.
+// A record of n bytes more goes to 4 + m, and the closed gate to 4 + m + n.
 
 // Writes a record behind the others, the length before them and a closed gate behind them.
 fn append<A: Allocator>(buffer: &mut [u8], used: usize, effect: &EffectIn<A>) -> usize

@@ -1,8 +1,8 @@
 //! The journal: the one spelling of each effect, frames of them, and the gate that opens a frame.
 //!
 //! Promises: an effect has one spelling, which is read back whatever follows. Bytes are records, or the first offset that is
-//! none is told (`push_effect`, `read_effects`). A commit has four steps. Until the third every crash leaves the gate closed;
-//! in it one byte alone is in doubt (`write_body`, `settle_body`, `open_gate`, `settle_gate`).
+//! none is told (`push_effect`, `read_effects`, `laws`). A commit has four steps. Until the third every crash leaves the gate
+//! closed; in it one byte alone is in doubt (`write_body`, `settle_body`, `open_gate`, `settle_gate`).
 //! Stands on: vault_model, vault_device. Must not know: a file's head, a snapshot, or whether an effect is applicable.
 //!
 //! Invariants, of `Frame`:

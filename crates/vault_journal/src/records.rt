@@ -19,6 +19,17 @@ use vault_model::{Effect, EffectIn, Items, Listing, Name, PlaceId};
 /// The most bytes of a record.
 pub const LONGEST_RECORD: usize = 1035;
 
+// Each record, one field behind another. Numbers are big-endian; a claim's number isn't 0.
+//
+//   made        1 kind, 1 · 4 parent · 1 + n name
+//   asked       1 kind, 2 · 4 claim · 1 + n owner's name · 1 how many items, 1 to 8 · 5 each item
+//   extended    1 kind, 3 · 4 claim · 1 how many items, 1 to 8 · 5 each item
+//   saved       1 kind, 4 · 4 claim · 4 place · 2 n, at most 1,024 · n content
+//   checked in  1 kind, 5 · 4 claim
+//   abandoned   1 kind, 6 · 4 claim
+//
+// A name is n, 1 to 32, in 1 byte and n bytes. An item is 1 byte, 0 to look and 1 to change, and its place in 4.
+
 // Writes a record's kind and the number of a claim.
 fn put_claim(out: &mut [u8], at: usize, kind: u8, claim: u32) -> usize
     requires { at + 5 ≤ length out.old }

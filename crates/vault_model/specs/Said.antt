@@ -9,10 +9,10 @@ use Rattle.vault_model.specs.declared.effects.Effect.{Effect as EffectOver}
 abbrev pub Command : Type 0
 Command = CommandOver (List PathItem) (List ℕ)
 
--- a reply
+-- what a command is told, with plain lists for a listing and for a content
 abbrev pub Reply : Type 0
 Reply = ReplyOver (List (List ℕ)) (List ℕ)
 
--- an effect
+-- what a command changed for good, with a plain list for a content
 abbrev pub Effect : Type 0
 Effect = EffectOver (List ℕ)

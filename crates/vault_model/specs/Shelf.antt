@@ -36,13 +36,15 @@ shelved_all shelf (draft ∷ drafts) = shelved_all (shelved shelf draft.place dr
 abbrev pub content_weight : List ℕ → ℕ
 content_weight content = length content + extra_weight
 
--- what some versions weigh, what a shelf weighs, and what drafts weigh
+-- what the versions of a place weigh together
 abbrev pub versions_weight : List (List ℕ) → ℕ
 versions_weight versions = sum_by content_weight versions
 
+-- what all versions of a shelf weigh
 abbrev pub weight : List (List (List ℕ)) → ℕ
 weight shelf = sum_by versions_weight shelf
 
+-- what the contents of some drafts weigh
 abbrev pub drafts_weight : List Draft → ℕ
 drafts_weight drafts = sum_by (λ (draft : Draft). content_weight draft.content) drafts
 

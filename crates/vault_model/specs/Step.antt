@@ -55,7 +55,7 @@ abbrev pub refuse_by : Option ClaimId → (ClaimId → Refusal) → Result (Unit
 refuse_by None r = Ok tt
 refuse_by (Some id) r = Err (r id)
 
--- hello
+-- `hello`: a new session in a designer's name, at the door alone
 unfoldable pub join : Vault → List ℕ → Result Outcome Refusal
 join v name = do
   _ ← refuse_if (nat_le most_sessions (length v.sessions) || (v.last_session == last_number)) Limit
@@ -90,7 +90,7 @@ permitted v session parent (Some number) = do
   claim ← usable v session (Long number)
   refuse_if (not (change_set v.tree claim.items parent)) NotCovered
 
--- make
+-- `make`: a new place at the end of a path, below a place that is there and isn't a part, alone or in a check-out's name
 unfoldable pub make : Vault → Session → List (List ℕ) → Option ℕ → Result Outcome Refusal
 make v session path claim = do
   name ← ok_or (last path) Exists
@@ -115,7 +115,7 @@ abbrev pub asked : ClaimId → Standing → Reply
 asked id standings.Held = replies.Held id
 asked id (standings.Queued other) = replies.Queued id other
 
--- checkout
+-- `checkout`: a new long claim on all the items at once, held or queued as it stands behind all others
 unfoldable pub check_out : Vault → List ℕ → List PathItem → Result Outcome Refusal
 check_out v designer wanted = do
   _ ← refuse_if ((length wanted == 0) || nat_lt most_items (length wanted)) ItemCount
@@ -133,7 +133,7 @@ abbrev pub extension : ClaimId → List Item → Option Effect
 extension (Long number) items = Some (effects.Extended number items)
 extension (Short number) items = None
 
--- extend
+-- `extend`: a held claim gets more items and stands first; where another held claim is in the way, nothing changes
 unfoldable pub extend : Vault → Session → ClaimId → List PathItem → Result Outcome Refusal
 extend v session id wanted = do
   claim ← usable v session id
@@ -153,7 +153,7 @@ may_save v new =
     && nat_le (length (drafts_of (with_draft v.drafts new) new.claim)) most_drafts
     && nat_le (weight_of (record v { drafts = with_draft v.drafts new })) most_weight
 
--- save
+-- `save`: a draft of a part that a held check-out changes, in place of an earlier one of the same part
 unfoldable pub save : Vault → Session → ℕ → List (List ℕ) → List ℕ → Result Outcome Refusal
 save v session number path content = do
   claim ← usable v session (Long number)
@@ -167,7 +167,7 @@ save v session number path content = do
     effect = Some (effects.Saved number place content);
   })
 
--- checkin
+-- `checkin`: all drafts of a held check-out become versions, and it is gone; or none does, and it stands
 unfoldable pub check_in : Vault → Session → ℕ → Result Outcome Refusal
 check_in v session number = do
   claim ← usable v session (Long number)
@@ -179,7 +179,7 @@ check_in v session number = do
     effect = Some (effects.CheckedIn number);
   })
 
--- fetch
+-- `fetch`: the content of a part's version
 unfoldable pub fetch : Vault → List (List ℕ) → ℕ → Result Outcome Refusal
 fetch v path version = do
   place ← ok_or (find_place v.tree path) NoPlace
@@ -191,7 +191,7 @@ fetch v path version = do
     effect = None;
   })
 
--- count
+-- `count`: how many versions a part has
 unfoldable pub count : Vault → List (List ℕ) → Result Outcome Refusal
 count v path = do
   place ← ok_or (find_place v.tree path) NoPlace
@@ -202,7 +202,7 @@ count v path = do
     effect = None;
   })
 
--- abandon
+-- `abandon`: a check-out of the designer is given up, held or queued, with its drafts
 unfoldable pub abandon : Vault → List ℕ → ℕ → Result Outcome Refusal
 abandon v designer number = do
   claim ← ok_or (claim_of v.line (Long number)) NoClaim
@@ -213,7 +213,7 @@ abandon v designer number = do
     effect = Some (effects.Abandoned number);
   })
 
--- hold
+-- `hold`: a new short claim of the session on all the items at once, held or queued as it stands behind all others
 unfoldable pub hold : Vault → Session → List PathItem → Result Outcome Refusal
 hold v session wanted = do
   _ ← refuse_if ((length wanted == 0) || nat_lt most_items (length wanted)) ItemCount
@@ -226,7 +226,7 @@ hold v session wanted = do
     effect = None;
   })
 
--- release
+-- `release`: a short claim of the session is given up, held or queued
 unfoldable pub release : Vault → Session → ℕ → Result Outcome Refusal
 release v session number = do
   claim ← ok_or (claim_of v.line (Short number)) NoClaim
@@ -237,7 +237,7 @@ release v session number = do
     effect = None;
   })
 
--- state
+-- `state`: whether a claim is held, or behind which one it is queued; anybody may ask
 unfoldable pub state : Vault → ClaimId → Result Outcome Refusal
 state v id = do
   standing ← ok_or (standing_of v.tree v.line id) NoClaim
@@ -247,7 +247,7 @@ state v id = do
     effect = None;
   })
 
--- list
+-- `list`: the names of the places right beneath one, by number
 unfoldable pub list : Vault → List (List ℕ) → Result Outcome Refusal
 list v path = do
   place ← ok_or (find_place v.tree path) NoPlace
@@ -257,7 +257,7 @@ list v path = do
     effect = None;
   })
 
--- quit: the session goes, and its short claims with it
+-- `quit`: the session goes, and its short claims with it
 abbrev pub leave : Vault → Session → Outcome
 leave v session = record {
   reply = replies.Left;

@@ -8,7 +8,7 @@ use Rattle.vault_model.specs.declared.place.Kind.{Kind}
 use Rattle.vault_model.specs.declared.place.Kind.TheVariants.{Library, Project, Assembly, Part}
 use Rattle.vault_model.specs.Limits.{greatest_depth, part_depth, most_places, most_children}
 
--- a new place
+-- a place by its parent and its name
 abbrev pub new_place : ℕ → List ℕ → Place
 new_place parent name = record { parent = parent; name = name }
 

@@ -29,7 +29,7 @@ pub record Vault : Type 0 where
   pub last_short : ℕ
   pub door_count : ℕ
 
--- the library alone
+-- a new vault: the library alone, no claim, no session, and no number given
 abbrev pub new_vault : Vault
 new_vault = record { tree = []; shelf = []; line = []; drafts = []; sessions = []; last_session = 0; last_long = 0; last_short = 0; door_count = 0 }
 

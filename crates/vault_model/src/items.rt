@@ -24,6 +24,7 @@ impl Model for Items {
 
     ghost view = { λ l. take l.len l.room };
 
+    // Invariant 3 of lib.rt.
     ghost invariant = { λ l. IsRoomed l.room l.len };
 
     ghost inverse = { λ items. record { room = roomed items; len = length items } };

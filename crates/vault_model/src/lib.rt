@@ -2,7 +2,8 @@
 //!
 //! Promises: names and paths are read exactly from their spelling (`Name::read`, `Path::read`). The definitions have the laws
 //! of `laws`: a well-formed vault stays so, held stays held, held claims are apart, an effect is the durable change of its
-//! step. A copy of a command, a reply or an effect equals its source.
+//! step, overlap and "under" are the sentences that they stand for. A copy of a command, a reply or an effect equals its source
+//! (`copy`). Conversations worked out by hand hold of the step, by proof.
 //! Stands on: no crate of this repository. Must not know: an allocator in a definition, a device, a line of text, how a tree
 //! is indexed.
 //!

@@ -26,6 +26,7 @@ impl Model for Name {
 
     ghost view = { λ n. take n.len n.bytes };
 
+    // Invariant 1 of lib.rt.
     ghost invariant = { λ n. IsName (take n.len n.bytes) × IsPadded n.bytes n.len };
 
     ghost inverse = { λ text. record { bytes = padded text; len = length text } };

@@ -26,6 +26,7 @@ impl Model for Path {
 
     ghost view = { λ p. take p.len p.names };
 
+    // Invariant 2 of lib.rt.
     ghost invariant = { λ p. IsFilled p.names p.len };
 
     ghost inverse = { λ names. record { names = filled names; len = length names } };

@@ -26,7 +26,7 @@ numbered_line rest = do
   connection ← connection_in (take at rest)
   Some (connection, drop (at + 1) rest)
 
--- `@`, and these
+-- the connection of a line that begins with `@`, its number and a space, and what it says behind them
 abbrev pub connection_line : List ℕ → Option (ℕ × List ℕ)
 connection_line [] = None
 connection_line (first ∷ rest) = if first == 64 then numbered_line rest else None

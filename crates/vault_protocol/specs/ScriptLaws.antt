@@ -124,5 +124,6 @@ pub record PrintsReplies (lines : List (List ℕ)) : Type 0 where
   pub stops : (line : List ℕ) (pick : Pick) → crash_line line ≡ Some pick → let next = said_for (reached_by lines) line in IsMadeOfTold next.talk.view 0 0 next.text
   pub at_end : IsMadeOfTold (ended_by lines).view (reached_by lines).view.told (length_of (ended_by lines).view) (said (committed (reached_by lines))).text
 
+-- so it is whatever lines came before
 abbrev pub RepliesAreTold : Type 0
 RepliesAreTold = (lines : List (List ℕ)) → PrintsReplies lines

@@ -26,6 +26,7 @@ impl Model for Connection {
 
     ghost inverse = { λ n. record { number = n } };
 
+    // Invariant 1 of lib.rt.
     ghost invariant = { λ c. (1 ≤ c.number) × (c.number ≤ last_connection) };
 }
 

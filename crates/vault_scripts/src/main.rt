@@ -1,6 +1,10 @@
 //! Runs each script of the folder that it is started in, and says how many print what stands beside them.
 //!
 //! A script worked out by hand is two files: `NAME.script` and `NAME.expected`. Another one costs no proof.
+//!
+//! Promises: nothing; it is safe. Stands on: vault_protocol.
+//! Only tested: what each script of data/ prints.
+//! Start at: data/, then docs/CONTRIBUTING.md for how to add one.
 #![tactic(auto)]
 
 mod pair;

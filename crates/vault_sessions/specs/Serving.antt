@@ -97,6 +97,7 @@ abbrev pub text_of : {A : Type 0} → Out A → List ℕ
 text_of (Told receipt) = reply_text receipt.reply
 text_of (Refused outside) = outside_text outside
 
+-- the lines of several answers, one behind another
 abbrev pub texts_of : {A : Type 0} → List (Out A) → List ℕ
 texts_of outs = flat_map text_of outs
 

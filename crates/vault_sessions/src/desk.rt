@@ -25,10 +25,15 @@ use vault_model::{CommandIn, Outside};
 /// Contracts see the vault, and whether it is closed.
 #[derive(Drop)]
 pub struct Desk<D: Device, S: Tally, T: Tally, A: Allocator = Global> {
+    /// The vault that all workers share.
     pub(crate) vault: Vault<D, A>,
+    /// The book of the tally of staged commands.
     pub(crate) staged: Book<S>,
+    /// The book of the tally of told entries.
     pub(crate) told: Book<T>,
+    /// The share that counts what there was when the desk was opened.
     pub(crate) opening: Share<S, T>,
+    /// Whether the flusher is to end once all is settled.
     pub(crate) closed: bool,
 }
 
@@ -41,6 +46,7 @@ impl<D: Device, S: Tally, T: Tally, A: Allocator> Model for Desk<D, S, T, A> {
 
     ghost view = { λ d. record { vault = d.vault; closed = d.closed } };
 
+    // Invariants 1 to 3 of lib.rt, in this order; the third takes two.
     ghost invariant = { λ d. (d.staged.total ≡ length_of d.vault.view) × (d.told.total ≡ d.vault.view.told) × (d.opening.staged ≡ S.opening) × (d.opening.told ≡ T.opening) };
 }
 

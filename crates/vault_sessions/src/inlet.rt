@@ -47,10 +47,15 @@ pub(crate) enum NextLine {
 /// What lies between a reader and the lines of a connection. Contracts see the bytes that wait, and how many were taken.
 #[derive(Drop)]
 pub(crate) struct Inlet {
+    /// What the last read gave.
     chunk: [u8; CHUNK],
+    /// Where in the chunk the bytes begin that wait.
     at: usize,
+    /// Where they end.
     end: usize,
+    /// How many bytes were taken out, over all reads.
     taken: u64,
+    /// How often the reader was called.
     reads: u32,
 }
 
@@ -63,6 +68,7 @@ impl Model for Inlet {
 
     ghost view = { λ i. record { pending = take (i.end - i.at) (drop i.at i.chunk); taken = i.taken } };
 
+    // Invariant 6 of lib.rt.
     ghost invariant = { λ i. (i.at ≤ i.end) × (i.end ≤ 1024) × (i.taken ≤ most_bytes) × (i.reads ≤ most_reads) };
 }
 

@@ -29,6 +29,7 @@ impl<D: Device, S: Tally, T: Tally, A: Allocator> Model for Shared<D, S, T, A> {
 
     ghost view = { λ s. s.workers };
 
+    // Invariant 4 of lib.rt.
     ghost invariant = { λ s. (s.workers + 1 ≡ S.all) × (s.workers + 1 ≡ T.all) };
 }
 

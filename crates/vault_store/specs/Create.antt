@@ -9,10 +9,11 @@ use Rattle.vault_store.specs.Calls.{HasCause}
 use Rattle.vault_store.specs.OnDisk.{IsSettled}
 use Rattle.vault_store.specs.Step.{MayBeLeft}
 
--- the bytes of a new vault, up to its tail gate and with it
+-- the bytes of a new vault's file up to its tail gate
 abbrev pub new_front : List ℕ
 new_front = current_head 1 ++ snapshot_bytes new_vault
 
+-- the same with the closed tail gate: the whole file
 abbrev pub new_file : List ℕ
 new_file = new_front ++ 0 ∷ []
 

@@ -8,16 +8,19 @@ use Rattle.vault_journal.specs.Spelling.{in_four, in_eight}
 use Rattle.vault_store.specs.Snapshot.{snapshot_of, HasSnapshot}
 use Rattle.vault_store.specs.Files.{header, head_length, mark, version, snapshot_bytes, frame_of, frames_bytes, IsFrame, applied, after_frames, current_head}
 
--- the mark of a file, the spelling of its version and of its generation, and the length of its snapshot
+-- the mark of a file
 abbrev pub mark_in : List ℕ → List ℕ
 mark_in file = slice_range file 1 8
 
+-- the four bytes of its version
 abbrev pub version_in : List ℕ → List ℕ
 version_in file = slice_range file 8 12
 
+-- the eight bytes of its generation
 abbrev pub generation_in : List ℕ → List ℕ
 generation_in file = slice_range file 12 20
 
+-- how many bytes its snapshot has, by the head
 abbrev pub snapshot_length : List ℕ → ℕ
 snapshot_length file = from_be_bytes w32 (slice_range file 20 24)
 

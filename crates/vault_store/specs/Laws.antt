@@ -11,7 +11,7 @@ use Rattle.vault_store.specs.Opening.{IsNotOpened, IsFound}
 use Rattle.vault_store.specs.State.{StoreState}
 use Rattle.vault_store.specs.Seen.{Seen, first_of, second_of, Keeps, IsLeft}
 
--- two honest devices
+-- the devices of both files of a store are honest
 pub record AreHonest {D : Type 0} (disk : D → Disk) (store : Seen D) : Type 0 where
   pub first : IsTrue (disk (first_of store)).honest
   pub second : IsTrue (disk (second_of store)).honest

@@ -36,10 +36,11 @@ abbrev pub of_file : {A : Type 0} → File → A → A → A
 of_file First one other = one
 of_file Second one other = other
 
--- the devices of the first file and of the second
+-- the device of the first file, active or spare
 abbrev pub first_of : {D : Type 0} → Seen D → D
 first_of store = of_file store.which store.active store.spare
 
+-- the device of the second file
 abbrev pub second_of : {D : Type 0} → Seen D → D
 second_of store = of_file store.which store.spare store.active
 
@@ -55,10 +56,11 @@ last_tail = 2 ^ 62
 abbrev pub has_room : {D : Type 0} → Seen D → Bool
 has_room store = nat_le (length store.buffer) most_noted && nat_lt store.tail last_tail
 
--- what opening reads while the frame under way doesn't count, and where it does
+-- what opening reads where the frame under way doesn't count
 abbrev pub settled_reading : {D : Type 0} → Seen D → StoreState → Reading
 settled_reading store s = record { vault = s.settled; generation = store.generation; tail = store.tail; journal = store.journal }
 
+-- what opening reads where the frame under way counts
 abbrev pub sealed_reading : {D : Type 0} → Seen D → StoreState → Reading
 sealed_reading store s = record { vault = s.sealed; generation = store.generation; tail = store.tail + frame_extra + store.sealed; journal = store.journal + frame_extra + store.sealed }
 

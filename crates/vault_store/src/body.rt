@@ -57,6 +57,13 @@ struct Base<A: Allocator> {
     end: u64,
 }
 
+// Behind the head: the snapshot, the frames, and the tail gate. At 20, in the head, stands the length n of the snapshot.
+//
+//   offset  bytes
+//       20      4  n
+//       24      n  the snapshot
+//   24 + n         frames, one behind another, and then a gate byte that isn't 1
+//
 // Reads the snapshot of a file.
 fn read_base<D: Device, A: Allocator + Copy>(
     alloc: A,

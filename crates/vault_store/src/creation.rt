@@ -45,6 +45,17 @@ impl From<NoMemory> for CreateError {
     }
 }
 
+// The file of a new vault, 35 bytes. Offsets are of the file, one more than in the array below.
+//
+//   offset  bytes
+//        0      1  the head gate, written last
+//        1      7  `LLVAULT`
+//        8      4  version 1
+//       12      8  generation 1
+//       20      4  the snapshot's length, 10
+//       24     10  the snapshot: no check-out was numbered, one place, no check-out stands
+//       34      1  the tail gate, closed
+
 // What stands behind the head gate of a new vault's file: the mark, the version, the generation, the snapshot of a vault with the
 // library alone behind its length, and a closed tail gate.
 const NEW_FILE_BEHIND_GATE: [u8; 34] = [

@@ -24,6 +24,15 @@ pub enum Head {
     Damaged(u64),
 }
 
+// The head of a file. Numbers are big-endian.
+//
+//   offset  bytes
+//        0      1  the head gate: 1 is open, any other value closed
+//        1      7  the mark, `LLVAULT`
+//        8      4  the version, 1
+//       12      8  the generation, 1 or more
+//       20      4  the length of the snapshot, which begins at 24
+//
 // The head in the first bytes of a file.
 fn head_in(bytes: &[u8; 24]) -> Head
     ensures { IsHead bytes.now result }

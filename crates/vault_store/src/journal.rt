@@ -115,6 +115,13 @@ pub fn read_bytes<D: Device, A: Allocator>(
     Ok(bytes)
 }
 
+// A frame, from its gate on. The gate behind its last record is the next frame's, or the tail gate.
+//
+//   offset  bytes
+//        0      1  its gate, 1
+//        1      4  m, the length of its records, 1 to 262,139
+//        5      m  the records
+//
 // Reads the frame at an open gate, makes its effects, and answers where the next gate stands; or nothing, at a closed gate.
 fn read_frame<D: Device, A: Allocator + Copy>(
     alloc: A,

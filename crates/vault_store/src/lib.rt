@@ -1,8 +1,10 @@
 //! A vault in two files: created, committed in four steps, and read again after a crash.
 //!
 //! Promises: at each exit of a step, and at each moment inside it, what a crash leaves of the files stands for the settled
-//! vault or, while a gate is being opened, for the settled or the sealed one. Two files stand for at most one vault. Opening
-//! gives it, or tells the first thing that is wrong with its file and offset, and writes nothing.
+//! vault or, while a gate is being opened, for the settled or the sealed one (`advance`). A creation, also one that was stopped,
+//! leaves the new vault or none (`create`). Two files stand for at most one vault, and each durable vault has one spelling
+//! (`laws`). Opening gives that vault, or tells the first thing that is wrong with its file and offset, and writes nothing
+//! (`open`; of one file alone `read_head` and `read_body`).
 //! Stands on: vault_model, vault_device, vault_journal, design_tree, part_versions, vault_checkout. Must not know: commands,
 //! replies, sessions, tickets, how many entries there are.
 //!

@@ -45,6 +45,8 @@ impl<T: Drop> From<AllocFailed<T>> for SnapshotError {
     }
 }
 
+// A snapshot: the last number given to a check-out in 4 bytes, the places (places.rt), the check-outs (claims.rt), and no byte more.
+
 /// The book whose snapshot these bytes are.
 ///
 /// The work grows with the bytes that are read. Beside the book it takes memory for the list of claims, and for one version or draft

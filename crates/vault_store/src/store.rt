@@ -23,15 +23,25 @@ const LAST_TAIL: u64 = 1 << 62;
 /// A vault in two files. What was noted is written and settled step by step.
 #[derive(Drop)]
 pub struct Store<D: Device, A: Allocator = Global> {
+    /// The open file of the greater generation, which frames are written to.
     pub(crate) active: D,
+    /// The other file, which the next snapshot goes into.
     pub(crate) spare: D,
+    /// Which of the two files the active one is.
     pub(crate) which: File,
+    /// The records that are noted and in no frame yet.
     pub(crate) frame: Frame<A>,
+    /// How many bytes of records the frame under way has; 0 where none is.
     pub(crate) sealed: u64,
+    /// The generation of the active file.
     pub(crate) generation: u64,
+    /// Where the active file's tail gate stands: the offset at which the next frame begins.
     pub(crate) tail: u64,
+    /// How many bytes of frames the active file has.
     pub(crate) journal: u64,
+    /// Which step of a commit comes next.
     pub(crate) phase: Phase,
+    /// Whether a device call failed. None is made then.
     pub(crate) broken: bool,
 }
 

@@ -4,7 +4,7 @@
 //! Stands on: vault_device, vault_store, group_commit, vault_protocol, vault_inspector, vault_sessions. Must not know:
 //! anything that a contract should say; it is kept thin.
 //! Only tested: the stored run of a script; what the words ask for; the text of each fault; `create`, `inspect` and the order
-//! of faults of `serve` on real files; by `tools/try-program`, outside the gate, statuses, signals, closed streams and odd
+//! of faults of `serve` on real files; by `tools/try-program`, behind the gate, statuses, signals, closed streams and odd
 //! clients.
 //! Neither: texts of help and usage; what standard input and output are.
 //! Start at: command_line.rt, then the file of a subcommand.

@@ -10,6 +10,18 @@ use vault_model::{
     Claim, ClaimId, Draft, DraftIn, Drafts, Listing, MOST_CLAIMS, MOST_DRAFTS, Owner, PlaceId,
 };
 
+// The check-outs of a snapshot, in the order of the line, one field behind another:
+//
+//   bytes
+//       2  how many there are, at most 256
+//          then of each:
+//       4  its number
+//   1 + n  its owner's name: n, 1 to 32, and n bytes
+//       1  how many items it has, 1 to 8
+//       5  each item: 0 to look or 1 to change, and its place in 4
+//       1  how many drafts it has, at most 64
+//   6 + n  each draft, by rising place: its place in 4, n in 2, and n bytes
+
 // Reads a draft behind the others, and answers the bytes behind it.
 fn read_draft<'a, A: Allocator + Copy>(
     alloc: A,

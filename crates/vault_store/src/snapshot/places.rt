@@ -34,6 +34,17 @@ impl From<AddError> for SnapshotError {
     }
 }
 
+// The places of a snapshot, one field behind another:
+//
+//   bytes
+//       4  how many places there are; the library counts
+//          then of each place from number 1 on:
+//       4  its parent, which has a smaller number
+//   1 + n  its name: n, 1 to 32, and n bytes
+//          and of a part, which is a place three names below the library:
+//       2  how many versions it has
+//   2 + n  each version: n, at most 1,024, and n bytes
+
 // Reads one version of a part onto the shelf, and answers the bytes behind it.
 fn read_version<'a, A: Allocator + Copy>(
     alloc: A,
