@@ -42,7 +42,7 @@ pub group_of-push : (ms : List Mode) (m : Mode) → group_of (ms ++ m ∷ []) �
 group_of-push [] m = refl
 group_of-push (x ∷ ms) m = ap (λ g. with_one g x) (group_of-push ms m) ∙ with_one_swap (group_of ms) m x
 
-size-with_one : (g : Counts) (m : Mode) → size (with_one g m) ≡ suc (size g)
+pub size-with_one : (g : Counts) (m : Mode) → size (with_one g m) ≡ suc (size g)
 size-with_one g IS = omega arith
 size-with_one g IX = omega arith
 size-with_one g S = omega arith

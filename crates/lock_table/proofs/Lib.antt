@@ -19,3 +19,4 @@ pub mod Others
 pub mod Seats
 pub mod Stale
 pub mod Blockers
+mod Taken

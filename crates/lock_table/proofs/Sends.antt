@@ -13,7 +13,8 @@ use Rattle.lock_table.specs.declared.locks.TheConstants.{MOST_LOCKS}
 use Rattle.lock_table.specs.contracts.locks.Lock as Lock
 use Rattle.lock_table.specs.contracts.locks.LockSet as LockSet
 use Rattle.lock_table.specs.contracts.locks.LockSet.TheInside as LockSetInside
-use Rattle.lock_table.specs.contracts.entry.Entry as Entry
+use Rattle.lock_table.specs.contracts.entry.Kept as Kept
+use Rattle.lock_table.specs.contracts.entry.Kept.TheInside as KeptInside
 use Rattle.lock_modes.specs.contracts.group.Group as Group
 use Rattle.lock_table.specs.contracts.cell.Seat as Seat
 use Rattle.lock_table.specs.contracts.cell.Cell as Cell
@@ -38,13 +39,6 @@ lock_set_send =
     let l = array_vec_send _ (number MOST_LOCKS) unit-field.row lock_send (search fields) in
     view_send _ _ _ _ _ (recorded_send _ _ _ T.to_one (struct_send (shape T) (search fields depth 20)))
 
-pub entry_send : IsSend Entry.the_row
-entry_send =
-    let T = Entry.the_type in
-    let i = claim_id_send in
-    let l = lock_set_send in
-    recorded_send _ _ _ T.to_one (struct_send (shape T) (search fields depth 20))
-
 group_send : IsSend Group.the_row
 group_send = search fields depth 20 fits 20000
 
@@ -59,10 +53,17 @@ module _ (A : RattleType) (g : Ghosts A.Denot) (s : IsSend A) (f : Frees g g.dea
       let h = group_send in
       view_send _ _ _ _ _ (recorded_send _ _ _ T.to_one (struct_send (shape T) (search fields depth 20)))
 
+  kept_send : IsSend (Kept.the_field A g).row
+  kept_send =
+      let T = KeptInside.the_type A g in
+      let i = claim_id_send in
+      let l = lock_set_send in
+      view_send _ _ _ _ _ (recorded_send _ _ _ T.to_one (struct_send (shape T) (search fields depth 20)))
+
   pub table_send : IsSend (Table.the_field A g).row
   table_send =
       let T = TableInside.the_type A g in
-      let e = entry_send in
+      let e = kept_send in
       let i = claim_id_send in
       let c = cell_send in
       view_send _ _ _ _ _ (recorded_send _ _ _ T.to_one (struct_send (shape T) (search fields depth 20)))

@@ -144,7 +144,8 @@ impl<A: Allocator> Cell<A> {
     {
         self.all.remove(mode);
         self.held = without(self.held, is_held.then_some(mode));
-        self.queue.retain(|seat| !is_same(seat.id, id));
+        let index = index_of(&self.queue, id).unwrap();
+        let _ = self.queue.remove(index);
     }
 
     /// Makes a claim's seat held, or queued, where it has one.

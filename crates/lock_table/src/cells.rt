@@ -11,7 +11,8 @@ ghost use Rattle.lock_table.specs.Locks.{mode_at, AreApart};
 ghost use Rattle.lock_table.specs.Queues.{seat_modes, held_seats, first_of, is_in_way, is_held_in_way, is_cover, IsOwn, seats_at, room_at, HaveRoom, HasSeat, seats_without, restood, by_lock, seat_of, earlier, place_of, seat_in_way, held_seat_in_way};
 
 use crate::cell::{Cell, Seat, is_same};
-use crate::{Entry, Lock, LockSet};
+use crate::entry::Kept;
+use crate::{Lock, LockSet};
 use lock_modes::{Group, Mode};
 use std::alloc::{AllocError, Allocator};
 use vault_model::{ClaimId, PlaceId};
@@ -48,14 +49,14 @@ pub(crate) fn held_at<A: Allocator>(cells: &[Cell<A>], place: PlaceId) -> Group
 }
 
 /// Where a claim stands in the line.
-pub(crate) fn index_of(entries: &[Entry], id: ClaimId) -> Option<usize>
+pub(crate) fn index_of<A: Allocator>(entries: &[Kept<A>], id: ClaimId) -> Option<usize>
     ensures { result ≡ position (λ (e : Entry). same_id e.id id) entries.now }
 {
-    entries.iter().position(|entry| is_same(entry.id, id))
+    entries.iter().position(|entry| is_same(entry.id(), id))
 }
 
 /// Where a claim stands, if there is one.
-pub(crate) fn place_of(entries: &[Entry], id: Option<ClaimId>) -> Option<usize>
+pub(crate) fn place_of<A: Allocator>(entries: &[Kept<A>], id: Option<ClaimId>) -> Option<usize>
     ensures { result ≡ place_of entries.now id }
 {
     index_of(entries, id?)
@@ -107,7 +108,7 @@ pub(crate) fn admit<A: Allocator>(cells: &[Cell<A>], locks: &LockSet) -> bool
 
 /// Where the first claim stands that is in the way of these locks.
 pub(crate) fn in_way<A: Allocator>(
-    entries: &[Entry],
+    entries: &[Kept<A>],
     cells: &[Cell<A>],
     locks: &LockSet,
 ) -> Option<usize>
@@ -123,7 +124,7 @@ pub(crate) fn in_way<A: Allocator>(
 /// Where the first held claim but one stands that is in the way of these locks, which are to take
 /// the place of its own.
 pub(crate) fn held_in_way<A: Allocator>(
-    entries: &[Entry],
+    entries: &[Kept<A>],
     cells: &[Cell<A>],
     id: ClaimId,
     own: &LockSet,

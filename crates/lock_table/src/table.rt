@@ -14,7 +14,8 @@ use crate::cells::{
     admit, cover_at, earlier, group_at, held_at, held_in_way, in_way, index_of, place_of, put_last,
     reserve, stand, take_out,
 };
-use crate::{Entry, Extension, LockSet, cells};
+use crate::entry::Kept;
+use crate::{Extension, LockSet, cells};
 use design_tree::Tree;
 use lock_modes::Group;
 use std::alloc::{Allocator, Global};
@@ -25,8 +26,8 @@ use vault_model::{ClaimId, MOST_CLAIMS, NoMemory, PlaceId, Standing};
 /// queue of those that have a mode there. Contracts see the list of its entries.
 #[derive(Drop)]
 pub struct Table<A: Allocator = Global> {
-    /// The claims in line order, each with its lock set.
-    entries: Vec<Entry, A>,
+    /// The claims in line order, each as its id and a pointer to its lock set.
+    entries: Vec<Kept<A>, A>,
     /// What each entry waits for, at its own position; none where it is held.
     blockers: Vec<Option<ClaimId>, A>,
     /// The queue and the two groups of each place, by its number, up to the highest that was ever locked.
@@ -58,21 +59,21 @@ fn standing_by(blocker: Option<ClaimId>) -> Standing
 }
 
 // The id of the claim at a position, where there is one.
-fn id_at(entries: &[Entry], index: Option<usize>) -> Option<ClaimId>
+fn id_at<A: Allocator>(entries: &[Kept<A>], index: Option<usize>) -> Option<ClaimId>
     ensures { result ≡ option_and_then (λ i. option_map (λ (e : Entry). e.id) (slice_get entries.now i)) index }
 {
     let entry = entries.get(index?)?;
-    Some(entry.id)
+    Some(entry.id())
 }
 
 // The claim before which a claim at this position waits.
-fn blocker_of<A: Allocator>(entries: &[Entry], cells: &[Cell<A>], index: usize) -> Option<ClaimId>
+fn blocker_of<A: Allocator>(entries: &[Kept<A>], cells: &[Cell<A>], index: usize) -> Option<ClaimId>
     requires there { index < length entries.now }
     requires distinct { IsDistinct same_id (map (λ (e : Entry). e.id) entries.now) }
     requires seated { AreSeated entries.now cells.now }
     ensures { (e : Entry) → slice_get entries.now index ≡ Some e → result ≡ first_in_way (take index entries.now) e.locks }
 {
-    let first = in_way(entries, cells, &entries[index].locks)?;
+    let first = in_way(entries, cells, entries[index].locks())?;
     if first < index {
         return id_at(entries, Some(first));
     }
@@ -81,7 +82,7 @@ fn blocker_of<A: Allocator>(entries: &[Entry], cells: &[Cell<A>], index: usize) 
 
 // Weighs the claim at a position again.
 fn weigh_at<A: Allocator>(
-    entries: &[Entry],
+    entries: &[Kept<A>],
     blockers: &mut Vec<Option<ClaimId>, A>,
     cells: &mut Vec<Cell<A>, A>,
     index: usize,
@@ -102,12 +103,12 @@ fn weigh_at<A: Allocator>(
         return;
     }
     let entry = &entries[index];
-    stand(cells, entry.id, &entry.locks, blocker.is_none());
+    stand(cells, entry.id(), entry.locks(), blocker.is_none());
 }
 
 // Weighs the claim at a position again where it has to be.
 fn weigh_next<A: Allocator>(
-    entries: &[Entry],
+    entries: &[Kept<A>],
     blockers: &mut Vec<Option<ClaimId>, A>,
     cells: &mut Vec<Cell<A>, A>,
     again: Again,
@@ -130,7 +131,7 @@ fn weigh_next<A: Allocator>(
 
 // Weighs those again that have to be, one after another.
 fn weigh_again<A: Allocator>(
-    entries: &[Entry],
+    entries: &[Kept<A>],
     blockers: &mut Vec<Option<ClaimId>, A>,
     cells: &mut Vec<Cell<A>, A>,
     again: Again,
@@ -148,7 +149,7 @@ fn weigh_again<A: Allocator>(
 
 // Takes the claim at a position out of the queues.
 fn leave<A: Allocator>(
-    entries: &[Entry],
+    entries: &[Kept<A>],
     blockers: &[Option<ClaimId>],
     cells: &mut Vec<Cell<A>, A>,
     index: usize,
@@ -161,7 +162,7 @@ fn leave<A: Allocator>(
     ensures room { (p : ℕ) → room_at cells.old.items p ≤ room_at cells.new.items p }
 {
     let entry = &entries[index];
-    take_out(cells, entry.id, &entry.locks, blockers[index].is_none());
+    take_out(cells, entry.id(), entry.locks(), blockers[index].is_none());
 }
 
 // Puts an item first, in place of the one at a position.
@@ -175,7 +176,7 @@ fn move_first<T: Drop, A: Allocator>(items: &mut Vec<T, A>, index: usize, item: 
 
 // Takes the claim at a position out of the line.
 fn take_away<A: Allocator>(
-    entries: &mut Vec<Entry, A>,
+    entries: &mut Vec<Kept<A>, A>,
     blockers: &mut Vec<Option<ClaimId>, A>,
     cells: &mut Vec<Cell<A>, A>,
     id: ClaimId,
@@ -197,7 +198,7 @@ fn take_away<A: Allocator>(
 }
 
 fn put_first<A: Allocator + Copy>(
-    entries: &mut Vec<Entry, A>,
+    entries: &mut Vec<Kept<A>, A>,
     blockers: &mut Vec<Option<ClaimId>, A>,
     cells: &mut Vec<Cell<A>, A>,
     id: ClaimId,
@@ -216,10 +217,11 @@ fn put_first<A: Allocator + Copy>(
     ensures unchanged { OnErr result (entries.new.items ≡ entries.old.items) }
 {
     let index = index_of(entries, id).unwrap();
+    let kept = Kept::new(*entries.allocator(), id, &locks)?;
     reserve(cells, &locks)?;
     leave(entries, blockers, cells, index);
     cells::put_first(cells, id, &locks);
-    move_first(entries, index, Entry { id, locks });
+    move_first(entries, index, kept);
     move_first(blockers, index, None);
     weigh_again(entries, blockers, cells, again);
     Ok(())
@@ -237,9 +239,10 @@ impl<A: Allocator + Copy> Table<A> {
         let mut cells = Vec::new(alloc);
         for index in 0..entries.len() {
             let entry = &entries[index];
-            reserve(&mut cells, &entry.locks)?;
-            let is_held = admit(&cells, &entry.locks);
-            put_last(&mut cells, entry.id, &entry.locks, is_held);
+            let locks = entry.locks();
+            reserve(&mut cells, locks)?;
+            let is_held = admit(&cells, locks);
+            put_last(&mut cells, entry.id(), locks, is_held);
         }
         Ok(Table {
             entries,
@@ -276,6 +279,7 @@ impl<A: Allocator + Copy> Table<A> {
         ensures asked { OnOk result (self.new ≡ self.old ++ record { id = id; locks = locks } ∷ []) }
         ensures unchanged { OnErr result (self.new ≡ self.old) }
     {
+        let kept = Kept::new(*self.entries.allocator(), id, &locks)?;
         self.entries.reserve(1)?;
         self.blockers.reserve(1)?;
         reserve(&mut self.cells, &locks)?;
@@ -286,7 +290,7 @@ impl<A: Allocator + Copy> Table<A> {
             id_at(&self.entries, in_way(&self.entries, &self.cells, &locks))
         };
         put_last(&mut self.cells, id, &locks, is_held);
-        self.entries.push(Entry { id, locks }).unwrap();
+        self.entries.push(kept).unwrap();
         self.blockers.push(blocker).unwrap();
         Ok(standing_by(blocker))
     }
@@ -306,7 +310,7 @@ impl<A: Allocator + Copy> Table<A> {
         ensures unchanged { OnErr result (self.new ≡ self.old) }
     {
         let index = index_of(&self.entries, id).unwrap();
-        let own = &self.entries[index].locks;
+        let own = self.entries[index].locks();
         let first = held_in_way(&self.entries, &self.cells, id, own, &locks);
         match id_at(&self.entries, first) {
             Some(other) => Ok(Extension::InTheWay(other)),

@@ -1,8 +1,7 @@
 -- Claims that end together, taken out one after another.
-use Rattle.std.specs.Prelude.{◌≡◌, ℕ, suc, ◌<◌, ◌≤◌, Bool, true, false, not, List, [], ◌∷◌, length, map, filter, Option, None, Some, find, All, refl}
+use Rattle.std.specs.Prelude.{◌≡◌, ℕ, zero, suc, Bool, true, false, not, List, [], ◌∷◌, length, map, filter, drop, slice_get, Option, None, Some, All, refl}
 use Rattle.std.proofs.Common.{sym, ap, subst, ◌∙◌, cond, arith}
 use Rattle.std.specs.List.{IsDistinct, AllByRecursion}
-use Rattle.std.specs.Option.{option_map}
 use Rattle.std.proofs.lemmas.List.Elements.{All-nil, All-cons, All-head, All-tail, All-filter}
 use Rattle.vault_model.specs.declared.place.Place.{Place}
 use Rattle.vault_model.specs.declared.claims.Claim.{Claim}
@@ -13,7 +12,7 @@ use Rattle.vault_model.specs.Vault.{AreThere}
 use Rattle.lock_table.specs.declared.entry.Entry.{Entry}
 use Rattle.lock_table.specs.Tables.{IsTableOf}
 use Rattle.vault_model.proofs.Stays.{ids, same_id_itself, same_id_turned}
-use Rattle.long_locks.specs.Lines.{LineSeen, IsNumbered, IsLine, is_short, ends, left_by}
+use Rattle.long_locks.specs.Lines.{LineSeen, IsNumbered, IsLine, is_short, ends, left_by, AllStay}
 use Rattle.long_locks.specs.declared.ending.Ending.{Ending}
 use Rattle.long_locks.specs.declared.ending.Ending.TheVariants.{AllShort}
 
@@ -31,64 +30,60 @@ others_stay : (id : ClaimId) (line : List Claim) → AllByRecursion (λ k. same_
 others_stay id [] all = refl
 others_stay id (c ∷ line) all = rw (same_id_turned id c.id all.0) (ap (λ rest. c ∷ rest) (others_stay id line all.1))
 
+apart_at : (id : ClaimId) (line : List Claim) (i : ℕ) (c : Claim) → AllByRecursion (λ k. same_id id k ≡ false) (ids line) → slice_get line i ≡ Some c → same_id id c.id ≡ false
+apart_at id [] i c all e = cc
+apart_at id (x ∷ line) zero c all e = let same : x ≡ c = cc in subst (λ (d : Claim). same_id id d.id ≡ false) same all.0
+apart_at id (x ∷ line) (suc i) c all e = apart_at id line i c all.1 e
+
 module _ (t : Claim → Bool) where
-  found_has : (P : ClaimId → Type 0) (line : List Claim) (c : Claim) → AllByRecursion P (ids line) → find t line ≡ Some c → P c.id
-  found_has P [] c all e = cc
-  found_has P (x ∷ line) c all e = by_test (t x) e (found_has P line c all.1)
-    where
-      by_test : (b : Bool) → cond b (Some x) (find t line) ≡ Some c → (find t line ≡ Some c → P c.id) → P c.id
-      by_test true h rest = let same : x ≡ c = cc in subst (λ (d : Claim). P d.id) same all.0
-      by_test false h rest = rest h
-
   -- what is left stays, as one that ends is taken out
-  pub left_without : (line : List Claim) (c : Claim) → IsDistinct same_id (ids line) → find t line ≡ Some c → filter (λ (d : Claim). not (t d)) (without line c.id) ≡ filter (λ (d : Claim). not (t d)) line
+  pub left_without : (line : List Claim) (i : ℕ) (c : Claim) → IsDistinct same_id (ids line) → slice_get line i ≡ Some c → t c ≡ true → filter (λ (d : Claim). not (t d)) (without line c.id) ≡ filter (λ (d : Claim). not (t d)) line
   unfolding IsDistinct
-  left_without [] c distinct e = cc
-  left_without (x ∷ line) c distinct e = by_test (t x) refl e (left_without line c distinct.1)
+  left_without [] i c distinct e h = cc
+  left_without (x ∷ line) zero c distinct e h =
+      let same : x ≡ c = cc in
+      let here : same_id x.id c.id ≡ true = subst (λ (d : Claim). same_id x.id d.id ≡ true) same (same_id_itself x.id) in
+      let gone : without line c.id ≡ line = subst (λ (d : Claim). without line d.id ≡ line) same (others_stay x.id line distinct.0) in
+      let ending : t x ≡ true = ap t same ∙ h in
+      rw (here, gone, ending) refl
+  left_without (x ∷ line) (suc i) c distinct e h = rw (apart_at x.id line i c distinct.0 e) (by_test (t x) (left_without line i c distinct.1 e h))
     where
-      by_test : (b : Bool) → t x ≡ b → cond b (Some x) (find t line) ≡ Some c → (find t line ≡ Some c → filter (λ (d : Claim). not (t d)) (without line c.id) ≡ filter (λ (d : Claim). not (t d)) line)
-          → filter (λ (d : Claim). not (t d)) (cond (not (same_id x.id c.id)) (x ∷ without line c.id) (without line c.id)) ≡ cond (not b) (x ∷ filter (λ (d : Claim). not (t d)) line) (filter (λ (d : Claim). not (t d)) line)
-      by_test true h k rest =
-          let same : x ≡ c = cc in
-          let here : same_id x.id c.id ≡ true = subst (λ (d : Claim). same_id x.id d.id ≡ true) same (same_id_itself x.id) in
-          let gone : without line c.id ≡ line = subst (λ (d : Claim). without line d.id ≡ line) same (others_stay x.id line distinct.0) in
-          rw (here, gone) refl
-      by_test false h k rest =
-          let other : same_id x.id c.id ≡ false = found_has (λ y. same_id x.id y ≡ false) line c distinct.0 k in
-          rw (other, h) (ap (λ ys. x ∷ ys) (rest k))
+      by_test : (b : Bool) → filter (λ (d : Claim). not (t d)) (without line c.id) ≡ filter (λ (d : Claim). not (t d)) line
+          → cond (not b) (x ∷ filter (λ (d : Claim). not (t d)) (without line c.id)) (filter (λ (d : Claim). not (t d)) (without line c.id)) ≡ cond (not b) (x ∷ filter (λ (d : Claim). not (t d)) line) (filter (λ (d : Claim). not (t d)) line)
+      by_test true rest = rest
+      by_test false rest = ap (λ ys. x ∷ ys) rest
 
-  -- one at least is taken out
-  pub fewer : (line : List Claim) (c : Claim) → find t line ≡ Some c → length (without line c.id) < length line
-  fewer [] c e = cc
-  fewer (x ∷ line) c e = by_test (t x) e (fewer line c) (same_id x.id c.id) refl
-    where
-      shorter : (id : ClaimId) (xs : List Claim) → length (without xs id) ≤ length xs
-      shorter id [] = omega arith
-      shorter id (y ∷ ys) = by_same (same_id y.id id) (shorter id ys)
-        where
-          by_same : (b : Bool) → length (without ys id) ≤ length ys → length (cond (not b) (y ∷ without ys id) (without ys id)) ≤ suc (length ys)
-          by_same true h = omega arith
-          by_same false h = omega arith
+  -- those behind one that isn't there, and behind one that stays
+  pub behind_none : (line : List Claim) (i : ℕ) → slice_get line i ≡ None → filter (λ (d : Claim). not (t d)) (drop i line) ≡ drop i line
+  behind_none [] zero e = refl
+  behind_none [] (suc i) e = refl
+  behind_none (x ∷ line) zero e = cc
+  behind_none (x ∷ line) (suc i) e = behind_none line i e
 
-      by_test : (b : Bool) → cond b (Some x) (find t line) ≡ Some c → (find t line ≡ Some c → length (without line c.id) < length line) → (s : Bool) → same_id x.id c.id ≡ s
-          → length (cond (not s) (x ∷ without line c.id) (without line c.id)) < suc (length line)
-      by_test true h rest true g = let few = shorter c.id line in omega arith
-      by_test true h rest false g =
-          let same : x ≡ c = cc in
-          let here : same_id x.id c.id ≡ true = subst (λ (d : Claim). same_id x.id d.id ≡ true) same (same_id_itself x.id) in
-          let clash : true ≡ false = sym here ∙ g in
-          cc
-      by_test false h rest true g = let few = shorter c.id line in omega arith
-      by_test false h rest false g = let few = rest h in omega arith
+  pub behind_kept : (line : List Claim) (i : ℕ) (c : Claim) → slice_get line i ≡ Some c → t c ≡ false → filter (λ (d : Claim). not (t d)) (drop (suc i) line) ≡ drop (suc i) line → filter (λ (d : Claim). not (t d)) (drop i line) ≡ drop i line
+  behind_kept [] i c e h rest = cc
+  behind_kept (x ∷ line) zero c e h rest = let same : x ≡ c = cc in let stays : t x ≡ false = ap t same ∙ h in rw stays (ap (λ ys. x ∷ ys) rest)
+  behind_kept (x ∷ line) (suc i) c e h rest = behind_kept line i c e h rest
 
-  -- where none ends, all are left
-  pub all_left : (line : List Claim) → find t line ≡ None → filter (λ (d : Claim). not (t d)) line ≡ line
-  all_left [] e = refl
-  all_left (x ∷ line) e = by_test (t x) e (all_left line)
-    where
-      by_test : (b : Bool) → cond b (Some x) (find t line) ≡ None → (find t line ≡ None → filter (λ (d : Claim). not (t d)) line ≡ line) → cond (not b) (x ∷ filter (λ (d : Claim). not (t d)) line) (filter (λ (d : Claim). not (t d)) line) ≡ x ∷ line
-      by_test true h rest = cc
-      by_test false h rest = ap (λ ys. x ∷ ys) (rest h)
+-- those behind one that is taken out move up
+pub behind_taken : (line : List Claim) (i : ℕ) (c : Claim) → IsDistinct same_id (ids line) → slice_get line i ≡ Some c → drop i (without line c.id) ≡ drop (suc i) line
+unfolding IsDistinct
+behind_taken [] i c distinct e = cc
+behind_taken (x ∷ line) zero c distinct e =
+    let same : x ≡ c = cc in
+    let here : same_id x.id c.id ≡ true = subst (λ (d : Claim). same_id x.id d.id ≡ true) same (same_id_itself x.id) in
+    let gone : without line c.id ≡ line = subst (λ (d : Claim). without line d.id ≡ line) same (others_stay x.id line distinct.0) in
+    rw (here, gone) refl
+behind_taken (x ∷ line) (suc i) c distinct e = rw (apart_at x.id line i c distinct.0 e) (behind_taken line i c distinct.1 e)
+
+-- of a list and the claims behind its end all stay
+pub none_behind : (ending : Ending) (line : List Claim) (n : ℕ) → n ≡ length line → AllStay ending (drop n line)
+none_behind ending line n e = behind_none (ends ending) line n (past line n e)
+  where
+    past : (xs : List Claim) (k : ℕ) → k ≡ length xs → slice_get xs k ≡ None
+    past [] k h = refl
+    past (x ∷ xs) zero h = let clash : zero ≡ suc (length xs) = h in absurd (omega (arith, clash))
+    past (x ∷ xs) (suc k) h = past xs k (let one : suc k ≡ suc (length xs) = h in omega (arith, one))
 
 pub line_left : (l : LineSeen) (table : List Entry) → IsLine l table → (ending : Ending) (new : List Entry) → IsTableOf l.tree (left_by ending l.claims) new → IsLine (record l { claims = left_by ending l.claims }) new
 line_left l table kept ending new zip = record {
@@ -97,27 +92,6 @@ line_left l table kept ending new zip = record {
   numbered = All-filter (λ (c : Claim). not (ends ending c)) (λ (c : Claim). IsNumbered l.last_long l.last_short c.id) l.claims kept.numbered;
   weighed = zip;
 }
-
-module _ (t : Claim → Bool) (line : List Claim) (id : ClaimId) (found : Some id ≡ option_map (λ (c : Claim). c.id) (find t line)) where
-  by_found : (P : ClaimId → Type 0) → ((c : Claim) → find t line ≡ Some c → P c.id) → P id
-  by_found P each = by_claim (find t line) refl found
-    where
-      by_claim : (o : Option Claim) → find t line ≡ o → Some id ≡ option_map (λ (c : Claim). c.id) o → P id
-      by_claim None e h = cc
-      by_claim (Some c) e h = let same : c.id ≡ id = cc in subst P same (each c e)
-
-  pub left_without_id : IsDistinct same_id (ids line) → filter (λ (d : Claim). not (t d)) (without line id) ≡ filter (λ (d : Claim). not (t d)) line
-  left_without_id distinct = by_found (λ k. filter (λ (d : Claim). not (t d)) (without line k) ≡ filter (λ (d : Claim). not (t d)) line) (λ c e. left_without t line c distinct e)
-
-  pub fewer_id : length (without line id) < length line
-  fewer_id = by_found (λ k. length (without line k) < length line) (λ c e. fewer t line c e)
-
-pub all_left_none : (t : Claim → Bool) (line : List Claim) → None ≡ option_map (λ (c : Claim). c.id) (find t line) → filter (λ (d : Claim). not (t d)) line ≡ line
-all_left_none t line is = by_claim (find t line) refl is
-  where
-    by_claim : (f : Option Claim) → find t line ≡ f → None ≡ option_map (λ (c : Claim). c.id) f → filter (λ (d : Claim). not (t d)) line ≡ line
-    by_claim None e h = all_left t line e
-    by_claim (Some c) e h = cc
 
 numbered_left : (last_long last_short : ℕ) (line : List Claim) → All (λ (c : Claim). IsNumbered last_long last_short c.id) line → All (λ (c : Claim). IsNumbered last_long 0 c.id) (left_by AllShort line)
 numbered_left last_long last_short [] all = All-nil (λ (c : Claim). IsNumbered last_long 0 c.id)

@@ -1,11 +1,10 @@
 //! Claims by their ids, in line order.
-ghost use Rattle.std.specs.Prelude.{◌≡◌, ◌<◌, ◌++◌, ◌∷◌, [], true, is_some, length, slice_get, find, None, IsOk, IfOk, OnOk};
-ghost use Rattle.std.specs.Option.{option_map, option_copied};
+ghost use Rattle.std.specs.Prelude.{◌≡◌, ◌<◌, ◌++◌, ◌∷◌, [], true, is_some, length, slice_get, None, IsOk, IfOk, OnOk};
+ghost use Rattle.std.specs.Option.{option_copied};
 ghost use Rattle.vault_model.specs.declared.claims.Claim.{Claim};
 ghost use Rattle.vault_model.specs.Claims.{claim_of, without};
-ghost use Rattle.long_locks.specs.Lines.{ends, put_first};
+ghost use Rattle.long_locks.specs.Lines.{put_first};
 
-use crate::ending::{Ending, ends};
 use indexmap::IndexMap;
 use std::alloc::{Allocator, Global};
 use std::hash::{BuildHasherDefault, FoldHasher};
@@ -72,14 +71,6 @@ impl<A: Allocator> Claims<A> {
     {
         let (_, claim) = self.by_id.get_index(position)?;
         Some(claim)
-    }
-
-    /// The id of the first claim that ends.
-    pub(crate) fn first_ending(&self, ending: Ending) -> Option<ClaimId>
-        ensures { result ≡ option_map (λ (c : Claim). c.id) (find (ends ending) self.now.claims) }
-    {
-        let claim = self.by_id.values().find(|claim| ends(ending, claim))?;
-        Some(claim.id)
     }
 
     /// Makes room for one claim more.

@@ -1,9 +1,16 @@
 //! Claims that end together.
-ghost use Rattle.std.specs.Prelude.{◌≡◌, ◌==◌, true, false};
+ghost use Rattle.std.specs.Prelude.{◌≡◌, ◌==◌, ◌+◌, List, map, drop, true, false};
+ghost use Rattle.std.specs.List.{IsDistinct};
+ghost use Rattle.vault_model.specs.declared.place.Place.{Place};
 ghost use Rattle.vault_model.specs.declared.claims.Claim.{Claim};
+ghost use Rattle.vault_model.specs.Claims.{same_id};
+ghost use Rattle.lock_table.specs.Tables.{IsTableOf};
 ghost use Rattle.long_locks.specs.declared.ending.Ending.{Ending};
-ghost use Rattle.long_locks.specs.Lines.{ends};
+ghost use Rattle.long_locks.specs.Lines.{ends, left_by, AllStay};
 
+use crate::claims::Claims;
+use lock_table::Table;
+use std::alloc::Allocator;
 use vault_model::{Claim, ClaimId, Owner};
 
 /// Which claims end: those of a session, or all short ones.
@@ -26,5 +33,43 @@ pub(crate) fn ends(ending: Ending, claim: &Claim) -> bool
             ClaimId::Long(_) => false,
             ClaimId::Short(_) => true,
         },
+    }
+}
+
+// Takes the claim at a position out, if it ends. Of those behind it all stay.
+fn drop_at<A: Allocator>(
+    claims: &mut Claims<A>,
+    table: &mut Table<A>,
+    ending: Ending,
+    position: usize,
+)
+    requires distinct { IsDistinct same_id (map (λ (c : Claim). c.id) claims.old.claims) }
+    requires behind { AllStay ending (drop (position + 1) claims.old.claims) }
+    ensures left { left_by ending claims.new.claims ≡ left_by ending claims.old.claims }
+    ensures distinct { IsDistinct same_id (map (λ (c : Claim). c.id) claims.new.claims) }
+    ensures behind { AllStay ending (drop position claims.new.claims) }
+    ensures table { (tree : List Place) → IsTableOf tree claims.old.claims table.old → IsTableOf tree claims.new.claims table.new }
+{
+    let Some(claim) = claims.at(position) else {
+        return;
+    };
+    if !ends(ending, claim) {
+        return;
+    }
+    let id = claim.id;
+    claims.remove(id);
+    table.release(id);
+}
+
+/// Takes all out that end. The last one goes first, since nobody waits for it.
+pub(crate) fn drop_all<A: Allocator>(claims: &mut Claims<A>, table: &mut Table<A>, ending: Ending)
+    requires { IsDistinct same_id (map (λ (c : Claim). c.id) claims.old.claims) }
+    ensures claims { claims.new.claims ≡ left_by ending claims.old.claims }
+    ensures table { (tree : List Place) → IsTableOf tree claims.old.claims table.old → IsTableOf tree claims.new.claims table.new }
+{
+    let mut position = claims.len();
+    while position > 0 {
+        position -= 1;
+        drop_at(claims, table, ending, position);
     }
 }

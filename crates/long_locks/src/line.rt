@@ -9,10 +9,10 @@ ghost use Rattle.vault_model.specs.Claims.{same_id, standing_behind, standing_of
 ghost use Rattle.vault_model.specs.Vault.{AreThere};
 ghost use Rattle.vault_model.specs.Limits.{most_claims, last_number};
 ghost use Rattle.lock_table.specs.Tables.{IsTableOf, extension_by};
-ghost use Rattle.long_locks.specs.Lines.{left_by, without_session, without_short, new_line, asked_long, asked_short, IsGrownFrom, in_way_of, put_first, extended_by};
+ghost use Rattle.long_locks.specs.Lines.{without_session, without_short, new_line, asked_long, asked_short, IsGrownFrom, in_way_of, put_first, extended_by};
 
 use crate::claims::Claims;
-use crate::ending::Ending;
+use crate::ending::{Ending, drop_all};
 use crate::remembered::Remembered;
 use design_tree::Tree;
 use lock_table::{Extension, Table, lock_set};
@@ -107,17 +107,6 @@ fn extend<A: Allocator + Copy>(
             Ok(Extension::Done)
         }
         Extension::InTheWay(other) => Ok(Extension::InTheWay(other)),
-    }
-}
-
-fn drop_all<A: Allocator>(claims: &mut Claims<A>, table: &mut Table<A>, ending: Ending)
-    requires { IsDistinct same_id (map (λ (c : Claim). c.id) claims.old.claims) }
-    ensures claims { claims.new.claims ≡ left_by ending claims.old.claims }
-    ensures table { (tree : List Place) → IsTableOf tree claims.old.claims table.old → IsTableOf tree claims.new.claims table.new }
-{
-    while let Some(id) = claims.first_ending(ending) {
-        claims.remove(id);
-        table.release(id);
     }
 }
 

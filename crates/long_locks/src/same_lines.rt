@@ -62,8 +62,8 @@ fn copies_are_refused_each_request_in_turn(rt: HostRuntime) {
     }
     assert_eq!(rt;
         refused,
-        13,
-        "four requests for the claims, nine for their modes"
+        17,
+        "four requests for the claims, thirteen for their modes"
     );
 }
 
@@ -171,8 +171,8 @@ fn a_line_of_claims_is_refused_each_request_in_turn(rt: HostRuntime) {
     }
     assert_eq!(rt;
         refused,
-        13,
-        "four requests for the claims, nine for their modes"
+        16,
+        "four requests for the claims, twelve for their modes"
     );
 
     // What no line has is told, though no memory is there.

@@ -246,7 +246,7 @@ fn a_claim_put_first_is_not_weighed(rt: HostRuntime) {
         assert_eq!(rt; line.standing(C1), Some(Standing::Queued(C2)));
         drop(line);
     }
-    assert_eq!(rt; refused, 4, "four requests, for its modes");
+    assert_eq!(rt; refused, 5, "five requests, for its modes");
     drop(tree);
 }
 
@@ -317,8 +317,8 @@ fn each_request_of_memory_of_a_new_claim_is_refused(rt: HostRuntime) {
     }
     assert_eq!(rt;
         refused,
-        (9, 9),
-        "four requests for the claim, five for its modes"
+        (10, 10),
+        "four requests for the claim, six for its modes"
     );
     drop(tree);
 }
@@ -347,7 +347,7 @@ fn each_request_of_memory_of_an_extension_is_refused(rt: HostRuntime) {
         assert_eq!(rt; line.at(0).expect(&rt, "a claim").id, C2);
         drop(line);
     }
-    assert_eq!(rt; refused, 3, "three requests, for its modes");
+    assert_eq!(rt; refused, 4, "four requests, for its modes");
     drop(tree);
 }
 
@@ -358,7 +358,8 @@ fn a_growing_line_is_refused_its_memory(rt: HostRuntime) {
     let mut line = new_line(&rt, &memory);
     let mut refused = 0;
     for count in 0..40usize {
-        memory.refuse(1);
+        // Each claim asks once for its modes, and again where something has to grow.
+        memory.refuse(2);
         if check_out(&rt, &mut line, &tree, &[look(1)]).is_err() {
             assert!(rt; !memory.is_waiting());
             assert_eq!(rt; line.len(), count);

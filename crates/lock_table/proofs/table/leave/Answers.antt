@@ -1,9 +1,9 @@
-use Rattle.std.specs.Prelude.{◌≡◌, ℕ, List, Some, slice_get, is_none, map}
+use Rattle.std.specs.Prelude.{◌≡◌, List, Some, slice_get, is_none}
 use Rattle.std.proofs.Common.{sym, ap, subst, ◌∙◌}
 use Rattle.std.proofs.lemmas.Option.{same_Some}
-use Rattle.lock_modes.specs.declared.mode.Mode.{Mode}
 use Rattle.lock_table.specs.declared.entry.Entry.{Entry}
 use Rattle.lock_table.specs.declared.cell.Seat.{Seat}
+use Rattle.lock_table.specs.declared.locks.Lock.{Lock}
 use Rattle.lock_table.specs.Locks.{mode_at}
 use Rattle.lock_table.specs.Tables.{entries_without, is_held_in}
 use Rattle.lock_table.specs.Queues.{HasSeat, seats_at, seats_by, queue_of, by_lock, seats_without, blocker_at}
@@ -21,8 +21,9 @@ take_out-requires g c = λ p m h.
     let there : slice_get table i ≡ Some e = read_at table i e c.requires.there c.index-entries-index.is in
     let beside : slice_get c.args.blockers.now i ≡ Some (blocker_at table e) = ap (λ xs. slice_get xs i) c.requires.blockers ∙ mapped_at (blocker_at table) table i e there in
     let flag : c.is_none.result ≡ is_held_in table e = none_flag _ c.is_none.result c.is_none.ensures ∙ ap is_none (get_there c.args.blockers.now i (blocker_at table e) _ beside) in
-    let mine : HasSeat e.id m (is_held_in table e) (queue_of table p) = has_seat e.id (is_held_in table) table p e m c.requires.table.distinct (found_own table i e c.requires.table.distinct there) h in
-    subst (λ (xs : List Seat). HasSeat e.id m c.is_none.result xs) (sym (c.requires.queues p)) (subst (λ b. HasSeat e.id m b (queue_of table p)) (sym flag) mine)
+    let mine : HasSeat e.id m (is_held_in table e) (queue_of table p) = has_seat e.id (is_held_in table) table p e m c.requires.table.distinct (found_own table i e c.requires.table.distinct there) (ap (λ (ls : List Lock). mode_at ls p) (sym c.locks.ensures) ∙ h) in
+    subst (λ k. HasSeat k m c.is_none.result (seats_at c.args.cells.now.items p)) (sym c.id.ensures)
+    (subst (λ (xs : List Seat). HasSeat e.id m c.is_none.result xs) (sym (c.requires.queues p)) (subst (λ b. HasSeat e.id m b (queue_of table p)) (sym flag) mine))
 
 pub returns-clause-seats : goal.returns-clause-seats
 returns-clause-seats g c = λ e there p.
@@ -31,6 +32,8 @@ returns-clause-seats g c = λ e there p.
     let mine : slice_get table c.args.index ≡ Some x = read_at table c.args.index x c.requires.there c.index-entries-index.is in
     let same : x ≡ e = same_Some x e (sym mine ∙ there) in
     let left : seats_at c.take_out.new.cells.items p ≡ seats_by (is_held_in table) (entries_without table x.id) p = c.take_out.ensures.seats p
+    ∙ (ap (λ k. by_lock (λ m. seats_without k) (mode_at c.locks.result.now p) (seats_at c.args.cells.now.items p)) c.id.ensures
+    ∙ (ap (λ (ls : List Lock). by_lock (λ m. seats_without x.id) (mode_at ls p) (seats_at c.args.cells.now.items p)) c.locks.ensures
     ∙ (ap (λ (xs : List Seat). by_lock (λ m. seats_without x.id) (mode_at x.locks p) xs) (c.requires.queues p)
-    ∙ left_by x.id (is_held_in table) table p x c.requires.table.distinct (found_own table c.args.index x c.requires.table.distinct mine)) in
+    ∙ left_by x.id (is_held_in table) table p x c.requires.table.distinct (found_own table c.args.index x c.requires.table.distinct mine)))) in
     subst (λ (y : Entry). seats_at c.take_out.new.cells.items p ≡ seats_by (is_held_in table) (entries_without table y.id) p) same left

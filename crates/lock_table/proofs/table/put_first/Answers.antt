@@ -1,16 +1,15 @@
-use Rattle.std.specs.Prelude.{◌≡◌, ◌<◌, ◌≤◌, ℕ, List, [], ◌∷◌, ◌++◌, Some, None, position, length, map, true}
+use Rattle.std.specs.Prelude.{◌≡◌, ◌≤◌, ℕ, List, ◌∷◌, ◌++◌, Some, None, position, length, true}
 use Rattle.std.proofs.Common.{refl, ap, sym, subst, ◌∙◌, arith, rules}
 use Rattle.std.proofs.lemmas.List.{length-map}
 use Rattle.std.specs.List.{remove}
-use Rattle.vault_model.specs.Limits.{most_claims}
 use Rattle.lock_table.specs.declared.entry.Entry.{Entry}
 use Rattle.lock_table.specs.Locks.{mode_at}
 use Rattle.lock_table.specs.Tables.{IsTable, put_first, entries_without, is_held_in}
-use Rattle.lock_table.specs.Queues.{AreQueues, AreStale, HaveRoom, seats_at, room_at, seats_by, seat_of, queue_of, blockers_of, blocker_at}
+use Rattle.lock_table.specs.Queues.{AreQueues, AreStale, seats_at, room_at, seat_of, queue_of, blockers_of, blocker_at}
 use Rattle.lock_table.proofs.Removals.{is_its, own_index}
-use Rattle.lock_table.proofs.TablesKept.{table_extended, table_without}
-use Rattle.lock_table.proofs.Blockers.{leave_law, taken_out, taken_beside, stale_first, stale_left}
-use Rattle.lock_table.proofs.Queuing.{located, seats_count, seats_bound, seats_fewer, one_less, room_left, first_room, put_count, same_length, apart_first, apart_without}
+use Rattle.lock_table.proofs.TablesKept.{table_extended}
+use Rattle.lock_table.proofs.Blockers.{leave_law, taken_out, taken_beside, stale_first}
+use Rattle.lock_table.proofs.Queuing.{located, seats_count, seats_bound, seats_fewer, one_less, room_left, first_room, put_count, same_length, apart_first}
 use Rattle.lock_table.proofs.table.put_first.Goals as goal
 
 pub unwrap-index-requires : goal.unwrap-index-requires
@@ -72,7 +71,8 @@ pub weigh_again-requires-clause-table : goal.weigh_again-requires-clause-table
 weigh_again-requires-clause-table g c =
     let table = c.args.entries.now.items in
     let at : position (is_its c.args.id) table ≡ Some c.unwrap-index.result = ap (position (is_its c.args.id)) (sym c.deref.ensures.value) ∙ (sym c.index_of.ensures ∙ c.unwrap-index.ensures) in
-    let done : c.move_first.new.items.items ≡ put_first table c.args.id c.args.locks = c.move_first.ensures ∙ ap (λ (xs : List Entry). record { id = c.args.id; locks = c.args.locks } ∷ xs) (taken_out table c.args.id c.unwrap-index.result c.requires.table.distinct at) in
+    let made : c.in_ok-kept.kept ≡ record { id = c.args.id; locks = c.args.locks } = search rules in
+    let done : c.move_first.new.items.items ≡ put_first table c.args.id c.args.locks = c.move_first.ensures ∙ (ap (λ (k : Entry). k ∷ remove table c.unwrap-index.result) made ∙ ap (λ (xs : List Entry). record { id = c.args.id; locks = c.args.locks } ∷ xs) (taken_out table c.args.id c.unwrap-index.result c.requires.table.distinct at)) in
     let kept : IsTable (put_first table c.args.id c.args.locks) = table_extended table c.args.id c.args.locks c.requires.table (same_length table c.args.id c.args.locks c.requires.table.distinct c.requires.there) in
     subst (λ (t : List Entry). IsTable t) (sym (c.deref-4.ensures.value ∙ done)) kept
 
@@ -80,7 +80,8 @@ pub weigh_again-requires-clause-stale : goal.weigh_again-requires-clause-stale
 weigh_again-requires-clause-stale g c =
     let table = c.args.entries.now.items in
     let at : position (is_its c.args.id) table ≡ Some c.unwrap-index.result = ap (position (is_its c.args.id)) (sym c.deref.ensures.value) ∙ (sym c.index_of.ensures ∙ c.unwrap-index.ensures) in
-    let done : c.move_first.new.items.items ≡ put_first table c.args.id c.args.locks = c.move_first.ensures ∙ ap (λ (xs : List Entry). record { id = c.args.id; locks = c.args.locks } ∷ xs) (taken_out table c.args.id c.unwrap-index.result c.requires.table.distinct at) in
+    let made : c.in_ok-kept.kept ≡ record { id = c.args.id; locks = c.args.locks } = search rules in
+    let done : c.move_first.new.items.items ≡ put_first table c.args.id c.args.locks = c.move_first.ensures ∙ (ap (λ (k : Entry). k ∷ remove table c.unwrap-index.result) made ∙ ap (λ (xs : List Entry). record { id = c.args.id; locks = c.args.locks } ∷ xs) (taken_out table c.args.id c.unwrap-index.result c.requires.table.distinct at)) in
     let kept : IsTable (put_first table c.args.id c.args.locks) = table_extended table c.args.id c.args.locks c.requires.table (same_length table c.args.id c.args.locks c.requires.table.distinct c.requires.there) in
     let left = leave_law table c.deref-2.result.now c.leave.new.cells.items c.args.id c.unwrap-index.result c.deref-2.ensures.value at c.leave.ensures.seats in
     let beside = c.move_first-2.ensures ∙ ap (λ xs. None ∷ xs) (taken_beside table c.args.blockers.now.items c.args.id c.unwrap-index.result c.requires.table.distinct at c.requires.blockers) in
@@ -92,7 +93,8 @@ pub returns-clause-done : goal.returns-clause-done
 returns-clause-done g c =
     let table = c.args.entries.now.items in
     let at : position (is_its c.args.id) table ≡ Some c.unwrap-index.result = ap (position (is_its c.args.id)) (sym c.deref.ensures.value) ∙ (sym c.index_of.ensures ∙ c.unwrap-index.ensures) in
-    let done : c.move_first.new.items.items ≡ put_first table c.args.id c.args.locks = c.move_first.ensures ∙ ap (λ (xs : List Entry). record { id = c.args.id; locks = c.args.locks } ∷ xs) (taken_out table c.args.id c.unwrap-index.result c.requires.table.distinct at) in
+    let made : c.in_ok-kept.kept ≡ record { id = c.args.id; locks = c.args.locks } = search rules in
+    let done : c.move_first.new.items.items ≡ put_first table c.args.id c.args.locks = c.move_first.ensures ∙ (ap (λ (k : Entry). k ∷ remove table c.unwrap-index.result) made ∙ ap (λ (xs : List Entry). record { id = c.args.id; locks = c.args.locks } ∷ xs) (taken_out table c.args.id c.unwrap-index.result c.requires.table.distinct at)) in
     let kept : IsTable (put_first table c.args.id c.args.locks) = table_extended table c.args.id c.args.locks c.requires.table (same_length table c.args.id c.args.locks c.requires.table.distinct c.requires.there) in
     done
 
@@ -100,7 +102,8 @@ pub returns-clause-table : goal.returns-clause-table
 returns-clause-table g c =
     let table = c.args.entries.now.items in
     let at : position (is_its c.args.id) table ≡ Some c.unwrap-index.result = ap (position (is_its c.args.id)) (sym c.deref.ensures.value) ∙ (sym c.index_of.ensures ∙ c.unwrap-index.ensures) in
-    let done : c.move_first.new.items.items ≡ put_first table c.args.id c.args.locks = c.move_first.ensures ∙ ap (λ (xs : List Entry). record { id = c.args.id; locks = c.args.locks } ∷ xs) (taken_out table c.args.id c.unwrap-index.result c.requires.table.distinct at) in
+    let made : c.in_ok-kept.kept ≡ record { id = c.args.id; locks = c.args.locks } = search rules in
+    let done : c.move_first.new.items.items ≡ put_first table c.args.id c.args.locks = c.move_first.ensures ∙ (ap (λ (k : Entry). k ∷ remove table c.unwrap-index.result) made ∙ ap (λ (xs : List Entry). record { id = c.args.id; locks = c.args.locks } ∷ xs) (taken_out table c.args.id c.unwrap-index.result c.requires.table.distinct at)) in
     let kept : IsTable (put_first table c.args.id c.args.locks) = table_extended table c.args.id c.args.locks c.requires.table (same_length table c.args.id c.args.locks c.requires.table.distinct c.requires.there) in
     subst (λ (t : List Entry). IsTable t) (sym done) kept
 
@@ -108,7 +111,8 @@ pub returns-clause-queues : goal.returns-clause-queues
 returns-clause-queues g c =
     let table = c.args.entries.now.items in
     let at : position (is_its c.args.id) table ≡ Some c.unwrap-index.result = ap (position (is_its c.args.id)) (sym c.deref.ensures.value) ∙ (sym c.index_of.ensures ∙ c.unwrap-index.ensures) in
-    let done : c.move_first.new.items.items ≡ put_first table c.args.id c.args.locks = c.move_first.ensures ∙ ap (λ (xs : List Entry). record { id = c.args.id; locks = c.args.locks } ∷ xs) (taken_out table c.args.id c.unwrap-index.result c.requires.table.distinct at) in
+    let made : c.in_ok-kept.kept ≡ record { id = c.args.id; locks = c.args.locks } = search rules in
+    let done : c.move_first.new.items.items ≡ put_first table c.args.id c.args.locks = c.move_first.ensures ∙ (ap (λ (k : Entry). k ∷ remove table c.unwrap-index.result) made ∙ ap (λ (xs : List Entry). record { id = c.args.id; locks = c.args.locks } ∷ xs) (taken_out table c.args.id c.unwrap-index.result c.requires.table.distinct at)) in
     let kept : IsTable (put_first table c.args.id c.args.locks) = table_extended table c.args.id c.args.locks c.requires.table (same_length table c.args.id c.args.locks c.requires.table.distinct c.requires.there) in
     let left = leave_law table c.deref-2.result.now c.leave.new.cells.items c.args.id c.unwrap-index.result c.deref-2.ensures.value at c.leave.ensures.seats in
     let now = put_first table c.args.id c.args.locks in

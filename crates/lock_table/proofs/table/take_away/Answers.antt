@@ -1,17 +1,13 @@
-use Rattle.std.specs.Prelude.{◌≡◌, ◌<◌, ◌≤◌, ℕ, List, [], ◌∷◌, ◌++◌, Some, None, position, length, map, true}
-use Rattle.std.proofs.Common.{refl, ap, sym, subst, ◌∙◌, arith, rules}
+use Rattle.std.specs.Prelude.{◌≡◌, List, length}
+use Rattle.std.proofs.Common.{ap, sym, subst, ◌∙◌, arith}
 use Rattle.std.proofs.lemmas.List.{length-map}
-use Rattle.std.specs.List.{remove}
-use Rattle.vault_model.specs.Limits.{most_claims}
 use Rattle.lock_table.specs.declared.entry.Entry.{Entry}
 use Rattle.lock_table.specs.declared.again.Again.TheVariants.{Behind}
-use Rattle.lock_table.specs.Locks.{mode_at}
-use Rattle.lock_table.specs.Tables.{IsTable, put_first, entries_without, is_held_in}
-use Rattle.lock_table.specs.Queues.{AreQueues, AreStale, HaveRoom, seats_at, room_at, seats_by, seat_of, queue_of, blockers_of, blocker_at}
-use Rattle.lock_table.proofs.Removals.{is_its, own_index}
-use Rattle.lock_table.proofs.TablesKept.{table_extended, table_without}
-use Rattle.lock_table.proofs.Blockers.{leave_law, taken_out, taken_beside, stale_first, stale_left}
-use Rattle.lock_table.proofs.Queuing.{located, seats_count, seats_bound, seats_fewer, one_less, room_left, first_room, apart_first, apart_without}
+use Rattle.lock_table.specs.Tables.{IsTable, entries_without, is_held_in}
+use Rattle.lock_table.specs.Queues.{AreQueues, AreStale, queue_of, blockers_of, blocker_at}
+use Rattle.lock_table.proofs.TablesKept.{table_without}
+use Rattle.lock_table.proofs.Blockers.{leave_law, taken_out, taken_beside, stale_left}
+use Rattle.lock_table.proofs.Queuing.{located, seats_fewer, apart_without}
 use Rattle.lock_table.proofs.table.take_away.Goals as goal
 
 pub leave-requires-clause-there : goal.leave-requires-clause-there

@@ -1,7 +1,6 @@
-use Rattle.std.specs.Prelude.{◌≡◌, ◌≤◌, ℕ, length, map}
-use Rattle.std.proofs.Common.{sym, ap, subst, ◌∙◌, arith, rules}
+use Rattle.std.specs.Prelude.{length}
+use Rattle.std.proofs.Common.{ap, ◌∙◌, arith}
 use Rattle.std.proofs.lemmas.List.{length-map}
-use Rattle.lock_table.specs.Queues.{room_at, blocker_at}
 use Rattle.lock_table.proofs.Stale.{weigh_start, done_blockers, done_queues}
 use Rattle.lock_table.proofs.table.weigh_again.Goals as goal
 

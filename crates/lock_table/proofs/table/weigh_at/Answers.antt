@@ -1,9 +1,10 @@
-use Rattle.std.specs.Prelude.{◌≡◌, ◌<◌, ℕ, Bool, List, Some, slice_get, is_none, take, length}
-use Rattle.std.proofs.Common.{sym, ap, subst, ◌∙◌, arith, rules}
+use Rattle.std.specs.Prelude.{◌≡◌, ◌<◌, List, Some, slice_get, is_none, take, length}
+use Rattle.std.proofs.Common.{sym, ap, ◌∙◌, arith, rules}
 use Rattle.std.specs.Option.{option_map}
 use Rattle.std.proofs.lemmas.Option.{same_Some}
 use Rattle.lock_table.specs.declared.entry.Entry.{Entry}
 use Rattle.lock_table.specs.declared.cell.Seat.{Seat}
+use Rattle.lock_table.specs.declared.locks.Lock.{Lock}
 use Rattle.lock_table.specs.Locks.{mode_at}
 use Rattle.lock_table.specs.Tables.{first_in_way}
 use Rattle.lock_table.specs.Queues.{seats_at, seats_by, held_by, by_lock, restood}
@@ -41,5 +42,7 @@ returns-clause-seats g c = λ held e there standing seats p.
     let same : x ≡ e = same_Some x e (sym mine ∙ there) in
     let now : b ≡ is_none (first_in_way (take i table) e.locks) = none_flag c.blocker_of-blocker.result c.is_none-2.result c.is_none-2.ensures ∙ ap is_none (c.blocker_of-blocker.ensures e there) in
     let stood : seats_at c.stand.new.cells.items p ≡ seats_by (held_by held x.id b) table p = c.stand.ensures.seats p
-    ∙ (ap (λ (xs : List Seat). by_lock (λ m. restood x.id b) (mode_at x.locks p) xs) (seats p) ∙ stood_by x.id held b table p x c.requires.table.distinct (found_own table i x c.requires.table.distinct mine)) in
+    ∙ (ap (λ k. by_lock (λ m. restood k b) (mode_at c.locks.result.now p) (seats_at c.args.cells.now.items p)) c.id.ensures
+    ∙ (ap (λ (ls : List Lock). by_lock (λ m. restood x.id b) (mode_at ls p) (seats_at c.args.cells.now.items p)) c.locks.ensures
+    ∙ (ap (λ (xs : List Seat). by_lock (λ m. restood x.id b) (mode_at x.locks p) xs) (seats p) ∙ stood_by x.id held b table p x c.requires.table.distinct (found_own table i x c.requires.table.distinct mine)))) in
     stood ∙ (ap (λ (y : Entry). seats_by (held_by held y.id b) table p) same ∙ ap (λ k. seats_by (held_by held e.id k) table p) now)

@@ -1,8 +1,7 @@
-use Rattle.std.specs.Prelude.{◌≡◌, ◌<◌, ℕ, Some, false, slice_get, is_none, length}
+use Rattle.std.specs.Prelude.{◌≡◌, ◌<◌, false, is_none, length}
 use Rattle.std.proofs.Common.{sym, ap, ◌∙◌, arith, rules, length-set}
 use Rattle.std.specs.Option.{option_map}
 use Rattle.lock_table.specs.declared.entry.Entry.{Entry}
-use Rattle.lock_table.specs.Queues.{is_taken}
 use Rattle.lock_table.proofs.Putting.{read_at}
 use Rattle.lock_table.proofs.Stale.{entry_at, keep_step, take_step, entry_there, beside}
 use Rattle.lock_table.proofs.table.weigh_next.Goals as goal

@@ -4,9 +4,8 @@ use Rattle.std.proofs.Common.{ap, sym, ◌∙◌, arith, rules}
 use Rattle.vault_model.specs.Limits.{most_claims}
 use Rattle.vault_model.specs.Claims.{standing_by}
 use Rattle.lock_table.specs.declared.entry.Entry.{Entry}
-use Rattle.lock_table.specs.Locks.{mode_at}
 use Rattle.lock_table.specs.Tables.{IsTable, first_in_way}
-use Rattle.lock_table.specs.Queues.{CellSeen, seats_at, seat_of, seat_in_way, blockers_of}
+use Rattle.lock_table.specs.Queues.{CellSeen, seats_at, blockers_of}
 use Rattle.lock_table.proofs.TablesKept.{table_asked}
 use Rattle.lock_table.proofs.Weighing.{admit_law, found_from, blockers_asked}
 use Rattle.lock_table.proofs.Queuing.{from_queues, queues_kept, queues_asked, few_seated, way_read, none_is}
@@ -60,3 +59,11 @@ returns-clause-standing g c =
           (w.deref-else-is_held.ensures.value ∙ c.reserve.ensures.items) (w.deref-else-is_held-2.ensures.value ∙ c.reserve.ensures.items) w.deref-else-is_held-3.ensures.value))
     ] in
     c.standing_by.ensures ∙ (ap standing_by blocker ∙ ap (λ (t : List Entry). standing_by (first_in_way t c.args.locks)) c.self.view_is)
+
+pub invariant_of-self-in_err-reserve-3 : goal.invariant_of-self-in_err-reserve-3
+invariant_of-self-in_err-reserve-3 g c =
+    let table = c.self.inside.entries.items in
+    let now = queues_kept table c.self.inside.cells.items c.reserve-3.new.cells.items c.self.invariant.1 c.reserve-3.ensures.seats c.reserve-3.ensures.room in
+    let same : c.reserve.new.self.items ≡ table = c.reserve.ensures.items in
+    let beside : c.reserve-2.new.self.items ≡ c.self.inside.blockers.items = c.reserve-2.ensures.items in
+    rw same (c.self.invariant.0, now, beside ∙ c.self.invariant.2)

@@ -1,9 +1,11 @@
 use Rattle.std.specs.Prelude.{◌≡◌, ◌<◌, ◌≤◌, ◌++◌, List, [], length, take, is_none}
 use Rattle.std.proofs.Common.{ap, sym, subst, ◌∙◌, arith, rules}
 use Rattle.std.proofs.lemmas.List.{take_all}
+use Rattle.std.proofs.lemmas.List.Elements.{same_from_all_zip}
 use Rattle.vault_model.specs.Limits.{most_claims}
 use Rattle.lock_table.specs.declared.entry.Entry.{Entry}
 use Rattle.lock_table.specs.declared.cell.Seat.{Seat}
+use Rattle.lock_table.specs.declared.locks.Lock.{Lock}
 use Rattle.lock_table.specs.Locks.{mode_at}
 use Rattle.lock_table.specs.Tables.{IsTable, first_in_way}
 use Rattle.lock_table.specs.Queues.{CellSeen, AreQueues, seats_at, seats_from, seat_of, blockers_of}
@@ -14,7 +16,7 @@ use Rattle.lock_table.proofs.table.Table.copy.Goals as goal
 pub put_last-requires-clause-few : goal.put_last-requires-clause-few
 put_last-requires-clause-few g c = λ p.
     let entries = c.in_ok-entries.entries.items in
-    let same : entries ≡ c.self.inside.entries.items = search rules in
+    let same : entries ≡ c.self.inside.entries.items = same_from_all_zip _ c.deref.result.now entries c.in_ok-entries.ensures.items (λ x y e. e) ∙ c.deref.ensures.value in
     let kept : IsTable entries = subst (λ (t : List Entry). IsTable t) (sym same) c.self.invariant.0 in
     let inside : c.loop-index.index < length entries = omega (arith, c.loop-index-test.true, c.len-index-end.ensures, c.in_ok-entries.entries.ok.0) in
     let few = seat_few entries c.loop-index.cells.items c.loop-index.index c.index-entry.result.now inside c.index-entry.ensures c.loop-index.invariant.seats most_claims kept.few p in
@@ -27,13 +29,16 @@ loop-index-preserved g c =
     let n = c.loop-index.index in
     let e = c.index-entry.result.now in
     let held = c.admit-is_held.result in
+    let locks = c.locks-locks.result.now in
     let inside : n < length entries = omega (arith, c.loop-index-test.true, c.len-index-end.ensures, c.in_ok-entries.entries.ok.0) in
     let h : held ≡ is_none (first_in_way (take n entries) e.locks) = c.admit-is_held.ensures
-    ∙ admit_law c.deref-in-loop-index.result.now (take n entries) e.locks (found_from c.deref-in-loop-index.result.now (take n entries) (λ p. ap (λ (xs : List CellSeen). seats_at xs p) c.deref-in-loop-index.ensures.value ∙ (c.reserve.ensures.seats p ∙ c.loop-index.invariant.seats p))) in
+    ∙ (admit_law c.deref-in-loop-index.result.now (take n entries) locks (found_from c.deref-in-loop-index.result.now (take n entries) (λ p. ap (λ (xs : List CellSeen). seats_at xs p) c.deref-in-loop-index.ensures.value ∙ (c.reserve.ensures.seats p ∙ c.loop-index.invariant.seats p)))
+    ∙ ap (λ (ls : List Lock). is_none (first_in_way (take n entries) ls)) c.locks-locks.ensures) in
     record {
       seats = seat_step entries c.loop-index.cells.items n e inside c.index-entry.ensures c.loop-index.invariant.seats c.put_last.new.cells.items held h
-          (λ p. c.put_last.ensures.seats p ∙ ap (λ (xs : List Seat). xs ++ seat_of held e.id (mode_at e.locks p)) (c.reserve.ensures.seats p));
-      room = put_room_kept c.reserve.new.cells.items c.put_last.new.cells.items e.locks held e.id c.in_ok-reserve.ensures.there
+          (λ p. c.put_last.ensures.seats p ∙ (ap (λ (xs : List Seat). xs ++ seat_of held c.id.result (mode_at locks p)) (c.reserve.ensures.seats p)
+          ∙ (ap (λ k. seats_at c.loop-index.cells.items p ++ seat_of held k (mode_at locks p)) c.id.ensures ∙ ap (λ (ls : List Lock). seats_at c.loop-index.cells.items p ++ seat_of held e.id (mode_at ls p)) c.locks-locks.ensures)));
+      room = put_room_kept c.reserve.new.cells.items c.put_last.new.cells.items locks held c.id.result c.in_ok-reserve.ensures.there
           (λ p. let seats = ap length (c.reserve.ensures.seats p) in let before = c.loop-index.invariant.room p in let after = c.reserve.ensures.room p in omega (arith, seats, before, after))
           c.put_last.ensures.seats c.put_last.ensures.room;
     }
@@ -41,7 +46,7 @@ loop-index-preserved g c =
 pub invariant_of-result : goal.invariant_of-result
 invariant_of-result g c =
     let entries = c.in_ok-entries.entries.items in
-    let same : entries ≡ c.self.inside.entries.items = search rules in
+    let same : entries ≡ c.self.inside.entries.items = same_from_all_zip _ c.deref.result.now entries c.in_ok-entries.ensures.items (λ x y e. e) ∙ c.deref.ensures.value in
     let kept : IsTable entries = subst (λ (t : List Entry). IsTable t) (sym same) c.self.invariant.0 in
     let beside : c.in_ok-blockers.blockers.items ≡ c.self.inside.blockers.items = search rules in
     let all : length entries ≤ c.loop-index.index = omega (arith, c.loop-index-test.false, c.len-index-end.ensures, c.in_ok-entries.entries.ok.0) in (

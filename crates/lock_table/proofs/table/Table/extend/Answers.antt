@@ -1,9 +1,10 @@
 use Rattle.std.specs.Prelude.{◌≡◌, List, Some, slice_get, position}
 use Rattle.std.proofs.Common.{refl, subst, ap, sym, ◌∙◌}
 use Rattle.std.specs.Option.{option_map, option_and_then}
+use Rattle.lock_table.specs.declared.locks.Lock.{Lock}
 use Rattle.lock_table.specs.declared.entry.Entry.{Entry}
 use Rattle.lock_table.specs.Tables.{standing_in, held_in_way, extension_by, put_first, extended_by}
-use Rattle.lock_table.specs.Queues.{CellSeen, seats_at, IsOwn, held_seat_in_way}
+use Rattle.lock_table.specs.Queues.{CellSeen, seats_at, IsOwn}
 use Rattle.lock_table.specs.Locks.{mode_at}
 use Rattle.vault_model.specs.declared.claims.Standing.TheVariants.{Held}
 use Rattle.lock_table.proofs.Removals.{is_its, own_index}
@@ -77,8 +78,9 @@ held_in_way-first-requires g c = λ p.
     let held : standing_in table c.args.id ≡ Some Held = rw c.self.view_is c.requires.held in
     let at : position (is_its c.args.id) table ≡ Some i = ap (position (is_its c.args.id)) (sym c.deref.ensures.value) ∙ (sym c.index_of.ensures ∙ c.unwrap-index.ensures) in
     let there : slice_get table i ≡ Some e = read_at table i e (located table c.args.id i at).inside c.index.ensures in
-    subst (λ (cells : List CellSeen). IsOwn c.args.id (mode_at e.locks p) (seats_at cells p)) (sym c.deref-3.ensures.value)
-    (own_law table c.self.inside.cells.items c.args.id i e c.self.invariant.0 c.self.invariant.1 at there held p)
+    subst (λ (locks : List Lock). IsOwn c.args.id (mode_at locks p) (seats_at c.deref-3.result.now p)) (sym c.locks-own.ensures)
+    (subst (λ (cells : List CellSeen). IsOwn c.args.id (mode_at e.locks p) (seats_at cells p)) (sym c.deref-3.ensures.value)
+    (own_law table c.self.inside.cells.items c.args.id i e c.self.invariant.0 c.self.invariant.1 at there held p))
 
 pub put_first-requires-clause-enough : goal.put_first-requires-clause-enough
 put_first-requires-clause-enough g c =
