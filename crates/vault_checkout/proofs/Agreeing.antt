@@ -1,6 +1,6 @@
 -- The types of check-outs agree with the line after each command and each effect.
 use Rattle.vault_model.specs.Claims.{new_check_out}
-use Rattle.std.specs.Prelude.{◌≡◌, ℕ, ◌+◌, ◌<◌, ◌≤◌, ◌==◌, nat_lt, Bool, true, false, not, List, [], ◌∷◌, ◌++◌, length, map, filter, Option, None, Some, is_some, All, refl}
+use Rattle.std.specs.Prelude.{◌≡◌, ℕ, ◌+◌, ◌<◌, ◌≤◌, ◌==◌, nat_lt, Bool, true, false, not, List, [], ◌∷◌, ◌++◌, length, map, filter, Option, None, Some, IfSome, is_some, All, refl}
 use Rattle.std.specs.List.{AllByRecursion}
 use Rattle.std.specs.Option.{option_map_or}
 use Rattle.std.proofs.Common.{arith, ap, sym, subst, cond, ◌∙◌, append-nil}
@@ -16,7 +16,7 @@ use Rattle.vault_model.specs.declared.ids.ClaimId.{ClaimId}
 use Rattle.vault_model.specs.declared.ids.ClaimId.TheVariants.{Long, Short}
 use Rattle.vault_model.specs.Claims.{same_id, claim_of, without, without_session, without_short, is_session, is_short, standing_of, standing_behind, put_first, in_way_of}
 use Rattle.vault_model.specs.Shelf.{Draft}
-use Rattle.vault_model.specs.Drafts.{SavedDraft, saved_by}
+use Rattle.vault_model.specs.Drafts.{SavedDraft, saved_by, drafts_of}
 use Rattle.vault_model.specs.Vault.{Vault, IsVault, IsClaim, AreThere, AreDrafts, IsDraft, Owns, IsGiven}
 use Rattle.vault_model.proofs.Overlaps.{eq_from}
 use Rattle.vault_model.proofs.Stays.{same_id_is, same_id_turned, own_id, standing_of-push, held_kept, held_there, claim_there}
@@ -26,7 +26,7 @@ use Rattle.vault_model.proofs.Lists.{All-back}
 use Rattle.vault_checkout.specs.declared.check_outs.AnyCheckOut.{AnyCheckOut}
 use Rattle.vault_checkout.specs.declared.check_outs.AnyCheckOut.TheVariants.{Waiting, Held}
 use Rattle.vault_checkout.specs.Typed.{number_of, is_granted, own_drafts, marked, saved, check_out_of, without_check_out, saving, with_saved, is_open, is_held_standing, is_holding, granted_if, granted, recalled_unless, recalled, IsAscending, Agrees}
-use Rattle.vault_checkout.proofs.AllDrafts.{saved-append, ascending_saved}
+use Rattle.vault_checkout.proofs.AllDrafts.{saved-append, ascending_saved, drafts_are}
 use Rattle.vault_checkout.proofs.Agreement.{claim_kept, claim_gone, found_there, stands_there, claim_of-other, both, each_found, kept_ascending, mapped_there, mapped_ascending, number_recalled, agrees_granted, agrees_moved, agrees_same}
 
 -- the claim of a new check-out, and the check-out
@@ -386,3 +386,22 @@ module _ {A : Type 0} where
       by_found (Some c) found e =
           let h = found_type (λ c. is_granted c ≡ is_holding tree line (number_of c)) xs n agrees.types c found in
           h.0 ∙ ap (is_holding tree line) h.1 ∙ ap is_held_standing held
+
+  -- a check-out that is found has the number, the type of its claim, and its own drafts
+  module _ (tree : List Place) (line : List Claim) (xs : List (AnyCheckOut A)) (agrees : Agrees tree line xs) (n : ℕ) where
+    pub stands_found : (o : Option (AnyCheckOut A)) → o ≡ check_out_of xs n → is_some o ≡ is_some (claim_of line (Long n))
+    stands_found o e = ap is_some e ∙ agrees.numbers n
+
+    pub found_number : (o : Option (AnyCheckOut A)) → o ≡ check_out_of xs n → IfSome o (λ c. number_of c ≡ n)
+    found_number None e = tt
+    found_number (Some c) e = (found_type (λ c. is_granted c ≡ is_holding tree line (number_of c)) xs n agrees.types c (sym e)).1
+
+    pub found_typed : (o : Option (AnyCheckOut A)) → o ≡ check_out_of xs n → IfSome o (λ c. is_granted c ≡ is_holding tree line n)
+    found_typed None e = tt
+    found_typed (Some c) e =
+        let h = found_type (λ c. is_granted c ≡ is_holding tree line (number_of c)) xs n agrees.types c (sym e) in
+        h.0 ∙ ap (is_holding tree line) h.1
+
+    pub found_drafts : (o : Option (AnyCheckOut A)) → o ≡ check_out_of xs n → IfSome o (λ c. own_drafts c ≡ drafts_of (saved xs) n)
+    found_drafts None e = tt
+    found_drafts (Some c) e = ap (λ o. option_map_or own_drafts o []) e ∙ sym (drafts_are n xs agrees.ascending)

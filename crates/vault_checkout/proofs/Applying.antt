@@ -5,7 +5,7 @@ use Rattle.std.specs.Option.{option_and_then}
 use Rattle.std.proofs.lemmas.Bool.Decides.{nat_tests}
 use Rattle.vault_model.specs.declared.claims.Item.{Item}
 use Rattle.vault_model.specs.Tree.{child, is_part, is_full}
-use Rattle.vault_model.specs.Limits.{most_items, most_claims}
+use Rattle.vault_model.specs.Limits.{most_items, most_claims, last_number}
 use Rattle.vault_model.specs.Vault.{Vault, AreThere}
 use Rattle.vault_model.specs.After.{only_if, are_there, may_ask, may_make, may_extend, drafts_held, after_extended, after_saved, after_checked_in}
 use Rattle.vault_model.specs.declared.claims.Claim.{Claim}
@@ -27,7 +27,8 @@ pub record MayAsk (w : Vault) (number : ℕ) (items : List Item) : Type 0 where
 
 pub may_ask_is : (w : Vault) (number : ℕ) (items : List Item) → may_ask w number items ≡ true → MayAsk w number items
 may_ask_is w number items e =
-    let room = and_both ((number == w.last_long + 1) && not (length items == 0) && nat_le (length items) most_items && are_there w.tree items) (nat_lt (length w.line) most_claims) e in
+    let last = and_both ((number == w.last_long + 1) && not (length items == 0) && nat_le (length items) most_items && are_there w.tree items && nat_lt (length w.line) most_claims) (nat_le number last_number) e in
+    let room = and_both ((number == w.last_long + 1) && not (length items == 0) && nat_le (length items) most_items && are_there w.tree items) (nat_lt (length w.line) most_claims) last.0 in
     let there = and_both ((number == w.last_long + 1) && not (length items == 0) && nat_le (length items) most_items) (are_there w.tree items) room.0 in
     let few = and_both ((number == w.last_long + 1) && not (length items == 0)) (nat_le (length items) most_items) there.0 in
     let first = and_both (number == w.last_long + 1) (not (length items == 0)) few.0 in

@@ -10,7 +10,7 @@ use Rattle.vault_model.specs.declared.claims.Claim.{Claim}
 use Rattle.vault_model.specs.declared.claims.Standing.TheVariants.{Held as Stands}
 use Rattle.vault_model.specs.declared.ids.ClaimId.{ClaimId}
 use Rattle.vault_model.specs.declared.ids.ClaimId.TheVariants.{Long, Short}
-use Rattle.vault_model.specs.Limits.{most_drafts}
+use Rattle.vault_model.specs.Limits.{most_drafts, last_number}
 use Rattle.vault_model.specs.Tree.{IsTree}
 use Rattle.vault_model.specs.Claims.{same_id, is_short, claim_of, change_set, blocker, standing_of, standing_by, without_short}
 use Rattle.vault_model.specs.Shelf.{Draft}
@@ -224,14 +224,15 @@ module _ (A : Type 0) where
     abbrev pub made : Vault
     made = record { tree = tree; shelf = shelf; line = claims; drafts = saved (opened_all {A = A} claims drafts); sessions = []; last_session = 0; last_long = last_long; last_short = 0; door_count = 0 }
 
-    pub vault_made : IsVaultOf (record { tree = tree; shelf = shelf; last_long = last_long; claims = claims; drafts = drafts }) made
-    vault_made = record {
+    pub vault_made : last_long ≤ last_number → IsVaultOf (record { tree = tree; shelf = shelf; last_long = last_long; claims = claims; drafts = drafts }) made
+    vault_made below = record {
       well_formed = record {
         tree = is_tree;
         few_claims = line.few;
         claims = line.each;
         apart = line.apart;
         sessions = kept_new.sessions;
+        numbers = record { session = kept_new.numbers.session; long = below; short = kept_new.numbers.short };
         versions = fit.versions;
         drafts = drafts_made tree claims drafts (all_long tree last_long claims line) fit.may_have;
         light = rw (weight_opened A claims drafts (match_of tree [] claims drafts fit.may_have)) fit.light;

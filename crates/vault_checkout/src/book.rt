@@ -1,16 +1,18 @@
 //! The book: a vault, and what each command does to it.
-ghost use Rattle.std.specs.Prelude.{◌≡◌, ℕ, ◌+◌, ◌-◌, ◌<◌, ◌≤◌, ◌==◌, ◌^◌, ◌||◌, List, length, Option, Ok, IsOk, IfOk, OnOk, OnErr, Some, All, is_some, find, filter, not, true};
+ghost use Rattle.std.specs.Prelude.{◌≡◌, ℕ, ◌+◌, ◌-◌, ◌<◌, ◌≤◌, ◌==◌, ◌^◌, ◌||◌, List, length, Option, Ok, IsOk, IfOk, OnOk, OnErr, Some, IfSome, All, is_some, find, filter, not, true};
 ghost use Rattle.std.specs.Option.{option_copied};
-ghost use Rattle.vault_model.specs.Vault.{Vault, CountsBelow, session_of, one_more, counted, counted_in, new_vault, durable};
+ghost use Rattle.vault_model.specs.Vault.{Vault, IsVault, CountsBelow, session_of, one_more, counted, counted_in, new_vault, durable};
 ghost use Rattle.vault_model.specs.Claims.{claim_of, standing_of, is_held};
 ghost use Rattle.vault_model.specs.Drafts.{drafts_of};
 ghost use Rattle.vault_model.specs.Step.{usable, permitted, join, make, check_out, extend, abandon, hold, release, leave, asked, extension, is_designer, is_owned_by, decide, step};
 ghost use Rattle.vault_model.specs.declared.session.Session.{Session};
 ghost use Rattle.vault_model.specs.declared.claims.Standing.TheVariants as standings;
 ghost use Rattle.long_locks.specs.Lines.{IsGrownFrom};
+ghost use Rattle.vault_model.specs.declared.ids.ClaimId.TheVariants.{Long};
+ghost use Rattle.vault_checkout.specs.Typed.{number_of, is_granted, own_drafts, is_holding};
 ghost use Rattle.vault_checkout.specs.Done.{Follows};
 
-use crate::check_outs::{AnyCheckOut, drafts_at, grant_held};
+use crate::check_outs::{AnyCheckOut, check_out_at, drafts_at, grant_held};
 use crate::done::{Done, Stop};
 use crate::places::{is_changed_by, joined, places_of};
 use design_tree::Tree;
@@ -162,6 +164,18 @@ impl<A: Allocator + Copy> Book<A> {
         ensures { result.now ≡ drafts_of self.now.drafts number }
     {
         drafts_at(&self.check_outs, number)
+    }
+
+    /// The check-out of this number, typed as it stands; none where there is no such claim. Its contract says, too, what every
+    /// book keeps.
+    pub fn check_out_of(&self, number: u32) -> Option<&AnyCheckOut<A>>
+        ensures well_formed { IsVault self.now }
+        ensures stands { is_some (option_copied result) ≡ is_some (claim_of self.now.line (Long number)) }
+        ensures number { IfSome (option_copied result) (λ c. number_of c ≡ number) }
+        ensures typed { IfSome (option_copied result) (λ c. is_granted c ≡ is_holding self.now.tree self.now.line number) }
+        ensures drafts { IfSome (option_copied result) (λ c. own_drafts c ≡ drafts_of self.now.drafts number) }
+    {
+        check_out_at(&self.check_outs, number)
     }
 
     /// The line of claims.

@@ -22,7 +22,7 @@ pub enum AnyCheckOut<A: Allocator> {
 
 impl<A: Allocator> AnyCheckOut<A> {
     /// The number of its claim.
-    pub(crate) fn number(&self) -> u32
+    pub fn number(&self) -> u32
         ensures { result ≡ number_of self.now }
     {
         match self {
@@ -32,7 +32,7 @@ impl<A: Allocator> AnyCheckOut<A> {
     }
 
     /// Its drafts, by rising place.
-    pub(crate) fn drafts(&self) -> &[DraftIn<A>]
+    pub fn drafts(&self) -> &[DraftIn<A>]
         ensures { result.now ≡ own_drafts self.now }
     {
         match self {
@@ -104,7 +104,11 @@ pub(crate) fn index_of<A: Allocator>(check_outs: &[AnyCheckOut<A>], number: u32)
     position_of(check_outs, number)
 }
 
-fn check_out_at<A: Allocator>(check_outs: &[AnyCheckOut<A>], number: u32) -> Option<&AnyCheckOut<A>>
+/// The check-out of this number.
+pub(crate) fn check_out_at<A: Allocator>(
+    check_outs: &[AnyCheckOut<A>],
+    number: u32,
+) -> Option<&AnyCheckOut<A>>
     ensures { option_copied result ≡ check_out_of check_outs.now number }
 {
     check_outs

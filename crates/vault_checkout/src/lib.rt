@@ -2,8 +2,8 @@
 //!
 //! Promises: `act` is the step of the definitions: reply, effect and vault. `apply` makes an effect as defined. `restart`
 //! leaves the durable vault. A book is made of the parts of a durable vault exactly where there is one, and there is at most
-//! one (`from_parts`). A copy equals its source. Want of memory comes last and changes nothing. That each check-out's type
-//! agrees with the line is invariant 3, which no public clause says.
+//! one (`from_parts`). A copy equals its source. Want of memory comes last and changes nothing. Each check-out's type agrees
+//! with the line, and the vault is well formed (`check_out_of`).
 //! Stands on: vault_model, design_tree, part_versions, lock_table, long_locks. Must not know: devices, bytes of records, the
 //! history, tickets.
 //!
@@ -36,4 +36,5 @@ mod weights;
 pub use apply::ApplyError;
 pub use book::Book;
 pub use check_out::{CheckOut, Held, Waiting};
+pub use check_outs::AnyCheckOut;
 pub use from_parts::FromPartsError;

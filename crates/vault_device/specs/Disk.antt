@@ -48,13 +48,14 @@ pub record Elapses (old new : Disk) (Inside : List ℕ → Type 0) : Type 0 wher
   pub nothing_else : (t : ℕ) (x : List ℕ) → t ≤ old.moment → new.WasImage t x → old.WasImage t x ⊎ Inside x
   pub keeps : (t : ℕ) (x : List ℕ) → t ≤ old.moment → old.WasImage t x → new.WasImage t x
 
--- One call was counted, and a fault is answered only where one was counted or no more can be.
+-- One call was counted. A fault is answered only where one was counted or no more can be, and counted only where it is answered.
 pub record IsOneCall {A E : Type 0} (old new : Disk) (result : Result A E) : Type 0 where
   pub same_honesty : new.honest ≡ old.honest
   pub counted : new.calls ≡ min (old.calls + 1) last_count
   pub no_fewer_faults : old.faults ≤ new.faults
   pub fault_count : new.faults ≤ last_count
   pub cause : IsErr result → (old.faults < new.faults) ⊎ (new.faults ≡ last_count)
+  pub no_fault : OnOk result (new.faults ≡ old.faults)
 
 -- what is shown, settled and may be left is as it was
 pub record IsRead (old new : Disk) : Type 0 where

@@ -1,15 +1,18 @@
 -- A device in memory, as its callers see it.
-use Rattle.std.specs.Prelude.{◌≡◌, ◌+◌, ℕ, ◌-◌, min, List, IsErr, OnOk, OnErr, Result}
+use Rattle.std.specs.Prelude.{◌≡◌, ◌⊎◌, ◌+◌, ℕ, ◌-◌, ◌∷◌, min, List, IsErr, OnOk, OnErr, Result}
 use Rattle.vault_device.specs.Disk.{Disk, last_count}
+use Rattle.vault_device.specs.declared.history.Event.TheVariants.{Wrote}
 use Rattle.vault_device.specs.Memory.{Event}
 use Rattle.vault_device.specs.MemoryLaws.{memory_disk}
 
--- all that was done to the device, counts of calls and of faults, and which call from now is to fail
+-- all that was done to the device, counts of calls, of faults and of growths that were refused, and which call from now is to fail
 pub record MemDisk : Type 0 where
   -- all that was done to it, the latest first
   pub history : List Event
   pub calls : ℕ
   pub faults : ℕ
+  -- how many growths found no memory; each is a fault, too
+  pub refused : ℕ
   -- the how manieth call from now is to fail, 0 for none
   pub failing : ℕ
 
@@ -24,3 +27,9 @@ pub record IsCounted {A E : Type 0} (old new : MemDisk) (result : Result A E) : 
   pub fails : old.failing ≡ 1 → IsErr result
   pub no_fault : OnOk result (new.faults ≡ old.faults)
   pub fault : OnErr result (new.faults ≡ min (old.faults + 1) last_count)
+
+-- What a write that failed did: it was to fail, and has put its bytes in place; or a growth was refused, and what was there stays.
+abbrev pub IsFailedWrite : ℕ → List ℕ → MemDisk → MemDisk → Type 0
+IsFailedWrite at bytes old new =
+    ((old.failing ≡ 1) × (new.refused ≡ old.refused) × (new.history ≡ Wrote at bytes ∷ old.history))
+    ⊎ ((new.refused ≡ min (old.refused + 1) last_count) × (new.history ≡ old.history))

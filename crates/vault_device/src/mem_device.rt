@@ -1,9 +1,9 @@
 //! The device over a memory.
-ghost use Rattle.std.specs.Prelude.{◌≡◌, ◌≢◌, ◌≤◌, ◌<◌, ◌+◌, ◌-◌, ◌^◌, ◌∷◌, ◌↔◌, ◌⊎◌, [], ℕ, min, true, false, IsTrue, IsErr, IfOk, OnOk, OnErr, length, slice_range};
+ghost use Rattle.std.specs.Prelude.{◌≡◌, ◌≢◌, ◌≤◌, ◌<◌, ◌+◌, ◌-◌, ◌^◌, ◌∷◌, ◌↔◌, ◌⊎◌, if◌then◌else◌, [], ℕ, min, true, false, IsTrue, IsErr, IfOk, OnOk, OnErr, length, slice_range};
 ghost use Rattle.vault_device.specs.Disk.{IsOneCall, IsRead, IsWrite, IsSync, LeavesOnly, last_count};
 ghost use Rattle.vault_device.specs.Memory.{picked, content_of, after_sync, after_crash};
 ghost use Rattle.vault_device.specs.declared.history.Event.TheVariants.{Wrote};
-ghost use Rattle.vault_device.specs.MemDevice.{MemDisk, disk_of, IsCounted};
+ghost use Rattle.vault_device.specs.MemDevice.{MemDisk, disk_of, IsCounted, IsFailedWrite};
 ghost use Rattle.vault_device.specs.MemoryLaws.{memory_lawful};
 
 use crate::history::Pick;
@@ -12,11 +12,12 @@ use crate::{Device, Fault};
 use std::alloc::{AllocError, Allocator, Global};
 use std::marker::Model;
 
-// Counts of calls and of faults, and which call is to fail.
+// Counts of calls, of faults and of growths that were refused, and which call is to fail.
 #[derive(Drop)]
 struct Counts {
     calls: u64,
     faults: u64,
+    refused: u64,
     // Which call from now fails, counted from 1; 0 for none.
     failing: u64,
 }
@@ -31,6 +32,7 @@ impl Counts {
         ensures fault { result ≡ true → self.new.faults ≡ min (self.old.faults + 1) last_count }
         ensures no_fault { result ≡ false → self.new.faults ≡ self.old.faults }
         ensures few { self.old.faults ≤ last_count }
+        ensures refused { self.new.refused ≡ self.old.refused }
     {
         let fails = self.failing == 1;
         self.calls = self.calls.saturating_add(1);
@@ -39,11 +41,14 @@ impl Counts {
         fails
     }
 
-    // Counts one fault.
-    fn fault(&mut self)
-        ensures { self.new ≡ record self.old { faults = min (self.old.faults + 1) last_count } }
+    // Counts a growth that was refused, and a fault of it, where the call isn't one that fails already.
+    fn refuse(&mut self, fails: bool)
+        ensures { self.new ≡ record self.old { refused = min (self.old.refused + 1) last_count; faults = if fails then self.old.faults else min (self.old.faults + 1) last_count } }
     {
-        self.faults = self.faults.saturating_add(1);
+        self.refused = self.refused.saturating_add(1);
+        if !fails {
+            self.faults = self.faults.saturating_add(1);
+        }
     }
 }
 
@@ -60,19 +65,20 @@ impl<A: Allocator> Model for MemDevice<A> {
 
     ghost Value = { MemDisk };
 
-    ghost view = { λ d. record { history = d.memory; calls = d.counts.calls; faults = d.counts.faults; failing = d.counts.failing } };
+    ghost view = { λ d. record { history = d.memory; calls = d.counts.calls; faults = d.counts.faults; refused = d.counts.refused; failing = d.counts.failing } };
 }
 
 impl<A: Allocator + Copy> MemDevice<A> {
     /// An empty device, with room for its first events.
     pub fn new(alloc: A) -> Result<MemDevice<A>, AllocError>
-        ensures { IfOk result (λ device. device ≡ record { history = []; calls = 0; faults = 0; failing = 0 }) }
+        ensures { IfOk result (λ device. device ≡ record { history = []; calls = 0; faults = 0; refused = 0; failing = 0 }) }
     {
         Ok(MemDevice {
             memory: Memory::new(alloc)?,
             counts: Counts {
                 calls: 0,
                 faults: 0,
+                refused: 0,
                 failing: 0,
             },
         })
@@ -96,6 +102,13 @@ impl<A: Allocator + Copy> MemDevice<A> {
         self.counts.calls
     }
 
+    /// How many growths found no memory. Each was a write that failed and left what was there.
+    pub fn refused(&self) -> u64
+        ensures { result ≡ self.now.refused }
+    {
+        self.counts.refused
+    }
+
     /// Has the nth device call from now fail; 0 has none fail.
     pub fn fail_at(&mut self, n: u64)
         ensures { self.new ≡ record self.old { failing = n } }
@@ -115,6 +128,7 @@ impl<A: Allocator + Copy> Device for MemDevice<A> {
         ensures length { IfOk result (λ n. n ≡ length (disk_of self.old).shown) }
         ensures counts { IsCounted self.old self.new result }
         ensures history { self.new.history ≡ self.old.history }
+        ensures refused { self.new.refused ≡ self.old.refused }
         ensures fails { IsErr result → self.old.failing ≡ 1 }
     {
         if self.counts.call() {
@@ -130,6 +144,7 @@ impl<A: Allocator + Copy> Device for MemDevice<A> {
         ensures bytes { OnOk result (buffer.new ≡ slice_range (disk_of self.old).shown at (at + length buffer.old)) }
         ensures counts { IsCounted self.old self.new result }
         ensures history { self.new.history ≡ self.old.history }
+        ensures refused { self.new.refused ≡ self.old.refused }
         ensures fails { IsErr result → self.old.failing ≡ 1 }
     {
         if self.counts.call() {
@@ -148,16 +163,15 @@ impl<A: Allocator + Copy> Device for MemDevice<A> {
         ensures write { IsWrite at bytes.now result (disk_of self.old) (disk_of self.new) }
         ensures counts { IsCounted self.old self.new result }
         ensures history { OnOk result (self.new.history ≡ Wrote at bytes.now ∷ self.old.history) }
-        ensures fault { OnErr result ((self.new.history ≡ self.old.history) ⊎ ((self.old.failing ≡ 1) × (self.new.history ≡ Wrote at bytes.now ∷ self.old.history))) }
+        ensures fault { OnErr result (IsFailedWrite at bytes.now self.old self.new) }
+        ensures refused { OnOk result (self.new.refused ≡ self.old.refused) }
     {
         let fails = self.counts.call();
         match self.memory.put(at as usize, bytes) {
             Ok(()) if !fails => Ok(()),
             Ok(()) => Err(Fault),
             Err(AllocError) => {
-                if !fails {
-                    self.counts.fault();
-                }
+                self.counts.refuse(fails);
                 Err(Fault)
             }
         }
@@ -169,6 +183,7 @@ impl<A: Allocator + Copy> Device for MemDevice<A> {
         ensures counts { IsCounted self.old self.new result }
         ensures history { OnOk result (self.new.history ≡ after_sync self.old.history) }
         ensures fault { OnErr result (self.new.history ≡ self.old.history) }
+        ensures refused { self.new.refused ≡ self.old.refused }
         ensures fails { IsErr result → self.old.failing ≡ 1 }
     {
         if self.counts.call() {

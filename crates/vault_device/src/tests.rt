@@ -112,6 +112,7 @@ fn failing_calls(rt: HostRuntime) -> Result<(), Fail> {
     device.fail_at(1);
     device.fail_at(0);
     assert!(rt; shows(rt.alloc(), &mut device, b"in place")?);
+    assert_eq!(rt; device.refused(), 0);
     device.crash(Pick::Old);
     assert_eq!(rt; device.len(), Ok(0));
     Ok(())
@@ -130,8 +131,9 @@ fn grows_without(alloc: Global, memory: &Refusing<Global>, number: u64) -> Resul
     let waits = memory.is_waiting();
     memory.refuse(0);
     let counted = device.calls().checked_sub(before) == Some(2);
+    let told = device.refused() == u64::from(answer.is_err());
     let kept = answer.is_ok() || shows(alloc, &mut device, b"oooo")?;
-    (counted && kept && answer.is_ok() == waits)
+    (counted && told && kept && answer.is_ok() == waits)
         .then_some(waits)
         .ok_or(Fault)?;
     Ok(waits)

@@ -18,7 +18,7 @@ counted_low n bound v low = by_count (CountsBelow (bound + 1)) n v (record {
 -- no change raises a count: a new session has given no command
 transition_low : (bound : ℕ) (v : Vault) → CountsBelow bound v → (effect : Option Effect) (w : Vault) → Transition v effect w → CountsBelow bound w
 transition_low bound v low effect w answered = low
-transition_low bound v low effect w (joined name room) = record { door = low.door; each = All-push (λ (s : Session). s.count < bound) v.sessions _ low.each (let h = low.door in omega arith) }
+transition_low bound v low effect w (joined name room unspent) = record { door = low.door; each = All-push (λ (s : Session). s.count < bound) v.sessions _ low.each (let h = low.door in omega arith) }
 transition_low bound v low effect w (left session) = counts_left session bound v _ low
 transition_low bound v low effect w change = record { door = low.door; each = low.each }
 

@@ -275,7 +275,7 @@ before_trans x y z e f = before_from x z (by_cases (before_cases x y e) (before_
     by_cases (inr h) (inl k) = let e = h.0 in inl (omega arith)
     by_cases (inr h) (inr k) = let e = h.0 in let f = k.0 in let l = h.1 in let m = k.1 in inr (omega arith, omega arith)
 
-not_both : (x y : SavedDraft) → comes_before x y ≡ true → comes_before y x ≡ false
+pub not_both : (x y : SavedDraft) → comes_before x y ≡ true → comes_before y x ≡ false
 not_both x y e = by_test (comes_before y x) refl
   where
     clash : (x.claim < y.claim) ⊎ ((x.claim ≡ y.claim) × (x.draft.place < y.draft.place)) → (y.claim < x.claim) ⊎ ((y.claim ≡ x.claim) × (y.draft.place < x.draft.place)) → ⊥

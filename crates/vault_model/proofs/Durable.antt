@@ -6,7 +6,7 @@ use Rattle.std.proofs.lemmas.Bool.Decides.{nat_tests}
 use Rattle.std.proofs.lemmas.List.{append-nil}
 use Rattle.std.proofs.lemmas.List.Elements.{filter-append, All-weaker, All-head, All-tail, All-cons, All-nil, All-append}
 use Rattle.std.proofs.lemmas.List.Sums.{length-filter, count_by-le-length}
-use Rattle.vault_model.specs.Limits.{most_items, most_claims}
+use Rattle.vault_model.specs.Limits.{most_items, most_claims, last_number}
 use Rattle.vault_model.specs.Tree.{child, is_part, is_full}
 use Rattle.vault_model.specs.Said.{Effect}
 use Rattle.vault_model.specs.declared.effects.Effect.TheVariants as effects
@@ -32,7 +32,7 @@ use Rattle.vault_model.proofs.Kept.{kept_first, kept_without, kept_checked_in, k
 use Rattle.vault_model.proofs.Transitions.{CanMake, CanExtend, Transition, answered, joined, left, made, asked, taken, extended, saved, checked_in, abandoned, released, by_transition, by_count}
 use Rattle.vault_model.specs.Changes.{gone, with_place, with_check_out, with_items, with_content, with_versions, without_check_out}
 use Rattle.vault_model.proofs.DraftsKept.{all_held, drafts_put_first}
-use Rattle.vault_model.proofs.WellFormed.{transition_keeps}
+use Rattle.vault_model.proofs.WellFormed.{transition_keeps, not_last}
 use Rattle.vault_model.proofs.Lists.{not_false, three, four, five}
 
 only_if_true : (b : Bool) (w : Vault) → b ≡ true → only_if b w ≡ Some w
@@ -115,16 +115,17 @@ makes : (w : Vault) (parent : ℕ) (name : List ℕ) → CanMake w.tree parent n
 unfolding after after_made
 makes w parent name can = let there = can.there in let near : nat_le parent (length w.tree) ≡ true = grind (arith, nat_tests, there) in rw (near, can.above, can.fresh, can.room) refl
 
-asks_for : (w : Vault) (designer : List ℕ) (items : List Item) → 0 < length items → length items ≤ most_items → AreThere w.tree items → length w.line < most_claims
+asks_for : (w : Vault) (designer : List ℕ) (items : List Item) → 0 < length items → length items ≤ most_items → AreThere w.tree items → length w.line < most_claims → w.last_long < last_number
     → after w (effects.Asked (w.last_long + 1) designer items)
     ≡ Some (with_check_out w (w.last_long + 1) designer items)
 unfolding after after_asked
-asks_for w designer items some few there room =
+asks_for w designer items some few there room below =
     let own : (w.last_long + 1 == w.last_long + 1) ≡ true = eq_itself (w.last_long + 1) in
     let any : (length items == 0) ≡ false = grind (arith, nat_tests, some) in
     let most : nat_le (length items) most_items ≡ true = grind (arith, nat_tests, few) in
     let free : nat_lt (length w.line) most_claims ≡ true = grind (arith, nat_tests, room) in
-    rw (own, any, most, all_there w.tree items there, free) refl
+    let may : nat_le (w.last_long + 1) last_number ≡ true = grind (arith, nat_tests, below) in
+    rw (own, any, most, all_there w.tree items there, free, may) refl
 
 extends : (w : Vault) (number : ℕ) (claim : Claim) (items : List Item) → claim_of w.line (Long number) ≡ Some claim → is_held w.tree w.line claim ≡ true → length claim.items + length items ≤ most_items → AreThere w.tree items → drafts_held w.tree (put_first w.line (Long number) (claim.items ++ items)) w.drafts ≡ true
     → after w (effects.Extended number items) ≡ Some (with_items w (Long number) (claim.items ++ items))
@@ -214,7 +215,7 @@ module _ (v : Vault) (kept : IsVault v) where
   -- each change is its effect, made on the durable vault
   transition_durable : (effect : Option Effect) (w : Vault) → Transition v effect w → IsDurableChange v effect w
   transition_durable effect w answered = refl
-  transition_durable effect w (joined name room) = refl
+  transition_durable effect w (joined name room unspent) = refl
   transition_durable effect w (left session) = gone_durable session
   transition_durable effect w (made parent name can) = makes (durable v) parent name can
   transition_durable effect w (asked designer items can) =
@@ -222,7 +223,7 @@ module _ (v : Vault) (kept : IsVault v) where
       let shorter = length-filter lasts v.line in
       let bound = count_by-le-length lasts v.line in
       let fewer : length (without_short v.line) < most_claims = omega arith in
-      asks_for (durable v) designer items can.some can.few can.there fewer
+      asks_for (durable v) designer items can.some can.few can.there fewer (not_last v.last_long kept.numbers.long can.unspent)
       ∙ ap Some (sym (asked_lasts (v.last_long + 1) designer items))
   transition_durable effect w (taken session items stands can) =
       ap (λ line. record (durable v) { line = line }) (filter-append lasts v.line (new_hold (v.last_short + 1) session items ∷ []) ∙ append-nil (without_short v.line))
@@ -256,14 +257,17 @@ module _ (w : Vault) (kept : IsVault w) where
   unfolding after_asked
   asked_stays number designer items next e =
       let is = only_if_some (may_ask w number items) _ next e in
-      let all = five (number == w.last_long + 1) (not (length items == 0)) (nat_le (length items) most_items) (are_there w.tree items) (nat_lt (length w.line) most_claims) is.0 in
+      let last = and_both ((number == w.last_long + 1) && not (length items == 0) && nat_le (length items) most_items && are_there w.tree items && nat_lt (length w.line) most_claims) (nat_le number last_number) is.0 in
+      let all = five (number == w.last_long + 1) (not (length items == 0)) (nat_le (length items) most_items) (are_there w.tree items) (nat_lt (length w.line) most_claims) last.0 in
       let own : number ≡ w.last_long + 1 = eq_from number (w.last_long + 1) all.0 in
       let any = not_false (length items == 0) all.1 in
       let some : 0 < length items = grind (arith, nat_tests, any) in
       let few : length items ≤ most_items = grind (arith, nat_tests, all.2) in
       let room : length w.line < most_claims = grind (arith, nat_tests, all.4) in
+      let below = true_le number last_number last.1 in
+      let unspent : (w.last_long == last_number) ≡ false = grind (arith, nat_tests, own, below) in
       subst (λ (x : Vault). IsVault x × (IsDurable w → IsDurable x)) is.1 (
-        rw own (transition_keeps w kept _ _ (asked designer items (record { some = some; few = few; there = there_all w.tree items all.3; room = room }))),
+        rw own (transition_keeps w kept _ _ (asked designer items (record { some = some; few = few; there = there_all w.tree items all.3; room = room; unspent = unspent }))),
         stays w kept (λ x. with_check_out x number designer items) (asked_lasts w kept number designer items),
       )
 

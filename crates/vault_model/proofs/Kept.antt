@@ -18,7 +18,7 @@ use Rattle.vault_model.proofs.Walks.{depth-top}
 use Rattle.std.specs.List.{IsDistinct, AllByRecursion}
 use Rattle.vault_model.specs.Changes.{with_check_out, with_hold}
 use Rattle.vault_model.specs.Claims.{new_check_out, new_hold, same_id, claim_of, without, without_session, without_short, is_session, is_short, put_first}
-use Rattle.vault_model.specs.Limits.{most_items, most_claims, most_sessions}
+use Rattle.vault_model.specs.Limits.{most_items, most_claims, most_sessions, last_number}
 use Rattle.vault_model.specs.Vault.{Vault, weight_of, IsDraft, AreDrafts, AreThere, IsGiven, Owns, IsClaim, AreSessions, IsVault, new_vault, durable, session_of, one_more, counted_in, CountsBelow}
 use Rattle.vault_model.specs.declared.claims.PathItem.{PathItem}
 use Rattle.vault_model.specs.Step.{placed}
@@ -149,7 +149,7 @@ lighter_drafts keep (x ∷ xs) = by_test (keep x) (lighter_drafts keep xs)
     by_test false h = rw split (omega arith)
 
 -- the drafts of a check-out and those of the others weigh what all do
-split_weight : (number : ℕ) (xs : List SavedDraft) → drafts_weight (drafts_of xs number) + saved_weight (without_drafts xs number) ≡ saved_weight xs
+pub split_weight : (number : ℕ) (xs : List SavedDraft) → drafts_weight (drafts_of xs number) + saved_weight (without_drafts xs number) ≡ saved_weight xs
 split_weight number [] = refl
 split_weight number (x ∷ xs) = by_test (x.claim == number) (split_weight number xs)
   where
@@ -193,6 +193,7 @@ module _ (v : Vault) (kept : IsVault v) where
         (λ c h. record { given = h.given; owned = h.owned; some = h.some; few = h.few; there = AreThere-push v.tree x c.items h.there }) v.line kept.claims;
     apart = kept.apart;
     sessions = kept.sessions;
+    numbers = kept.numbers;
     versions = record {
       shelf_is = kept.versions.shelf_is;
       parts = λ place some.
@@ -213,6 +214,7 @@ module _ (v : Vault) (kept : IsVault v) where
     claims = All-filter keep (IsClaim v.tree v.sessions v.last_long v.last_short) v.line kept.claims;
     apart = IsDistinct-filter same_id (λ (c : Claim). c.id) keep v.line kept.apart;
     sessions = kept.sessions;
+    numbers = kept.numbers;
     versions = kept.versions;
     drafts = are;
     light = let old = kept.light in omega arith;
@@ -245,8 +247,8 @@ module _ (v : Vault) (kept : IsVault v) where
   kept_without number = kept_left (λ c. not (same_id c.id (Long number))) (without_drafts v.drafts number) (drafts_without number) (lighter_drafts (λ (x : SavedDraft). not (x.claim == number)) v.drafts)
 
   pub kept_asked : (c : Claim) (m n : ℕ) → v.last_long ≤ m → v.last_short ≤ n → IsGiven m n c.id → ((id : ClaimId) → IsGiven v.last_long v.last_short id → same_id id c.id ≡ false) → Owns v.sessions c.owner c.id
-      → length v.line < most_claims → 0 < length c.items → length c.items ≤ most_items → AreThere v.tree c.items → IsVault (record v { line = v.line ++ c ∷ []; last_long = m; last_short = n })
-  kept_asked c m n long short given fresh owned room some few there = record {
+      → m ≤ last_number → n ≤ last_number → length v.line < most_claims → 0 < length c.items → length c.items ≤ most_items → AreThere v.tree c.items → IsVault (record v { line = v.line ++ c ∷ []; last_long = m; last_short = n })
+  kept_asked c m n long short given fresh owned below_long below_short room some few there = record {
     tree = kept.tree;
     few_claims = let longer = length-append v.line (c ∷ []) in omega arith;
     claims = All-push (IsClaim v.tree v.sessions m n) v.line c
@@ -255,6 +257,7 @@ module _ (v : Vault) (kept : IsVault v) where
     apart = IsDistinct-push same_id (λ (d : Claim). d.id) v.line c kept.apart
         (All-weaker (IsClaim v.tree v.sessions v.last_long v.last_short) (λ (d : Claim). same_id d.id c.id ≡ false) (λ d h. fresh d.id h.given) v.line kept.claims);
     sessions = kept.sessions;
+    numbers = record { session = kept.numbers.session; long = below_long; short = below_short };
     versions = kept.versions;
     drafts = drafts_asked v.tree v.line c v.drafts kept.drafts;
     light = kept.light;
@@ -264,17 +267,21 @@ module _ (v : Vault) (kept : IsVault v) where
       later (Long k) h = let low = h.0 in let high = h.1 in (omega arith, omega arith)
       later (Short k) h = let low = h.0 in let high = h.1 in (omega arith, omega arith)
 
-  pub kept_asked_long : (designer : List ℕ) (items : List Item) → length v.line < most_claims → 0 < length items → length items ≤ most_items → AreThere v.tree items
+  pub kept_asked_long : (designer : List ℕ) (items : List Item) → v.last_long < last_number → length v.line < most_claims → 0 < length items → length items ≤ most_items → AreThere v.tree items
       → IsVault (with_check_out v (v.last_long + 1) designer items)
-  kept_asked_long designer items room some few there = kept_asked (new_check_out (v.last_long + 1) designer items) (v.last_long + 1) v.last_short (omega arith) (omega arith) (omega arith, omega arith) fresh tt room some few there
+  kept_asked_long designer items below room some few there =
+      kept_asked (new_check_out (v.last_long + 1) designer items) (v.last_long + 1) v.last_short (omega arith) (omega arith) (omega arith, omega arith) fresh tt
+      (omega (arith, below)) kept.numbers.short room some few there
     where
       fresh : (id : ClaimId) → IsGiven v.last_long v.last_short id → same_id id (Long (v.last_long + 1)) ≡ false
       fresh (Long n) h = let high = h.1 in grind (arith, nat_tests)
       fresh (Short n) h = refl
 
-  pub kept_asked_short : (session : ℕ) (items : List Item) → is_some (session_of v.sessions session) ≡ true → length v.line < most_claims → 0 < length items → length items ≤ most_items → AreThere v.tree items
+  pub kept_asked_short : (session : ℕ) (items : List Item) → is_some (session_of v.sessions session) ≡ true → v.last_short < last_number → length v.line < most_claims → 0 < length items → length items ≤ most_items → AreThere v.tree items
       → IsVault (with_hold v (v.last_short + 1) session items)
-  kept_asked_short session items stands room some few there = kept_asked (new_hold (v.last_short + 1) session items) v.last_long (v.last_short + 1) (omega arith) (omega arith) (omega arith, omega arith) fresh stands room some few there
+  kept_asked_short session items stands below room some few there =
+      kept_asked (new_hold (v.last_short + 1) session items) v.last_long (v.last_short + 1) (omega arith) (omega arith) (omega arith, omega arith) fresh stands
+      kept.numbers.long (omega (arith, below)) room some few there
     where
       fresh : (id : ClaimId) → IsGiven v.last_long v.last_short id → same_id id (Short (v.last_short + 1)) ≡ false
       fresh (Long n) h = refl
@@ -297,26 +304,28 @@ module _ (v : Vault) (kept : IsVault v) where
       IsDistinct-filter same_id (λ (c : Claim). c.id) (λ c. not (same_id c.id id)) v.line kept.apart,
     );
     sessions = kept.sessions;
+    numbers = kept.numbers;
     versions = kept.versions;
     drafts = rw found at drafts;
     light = kept.light;
   })
 
   -- sessions that have those of the claims
-  kept_sessions : (sessions : List Session) (last : ℕ) → AreSessions last sessions → ((number : ℕ) → is_some (session_of v.sessions number) ≡ true → is_some (session_of sessions number) ≡ true) → IsVault (record v { sessions = sessions; last_session = last })
-  kept_sessions sessions last are more = record {
+  kept_sessions : (sessions : List Session) (last : ℕ) → last ≤ last_number → AreSessions last sessions → ((number : ℕ) → is_some (session_of v.sessions number) ≡ true → is_some (session_of sessions number) ≡ true) → IsVault (record v { sessions = sessions; last_session = last })
+  kept_sessions sessions last below are more = record {
     tree = kept.tree;
     few_claims = kept.few_claims;
     claims = All-weaker (IsClaim v.tree v.sessions v.last_long v.last_short) (IsClaim v.tree sessions v.last_long v.last_short) (λ c h. claim_with v.tree v.sessions sessions v.last_long v.last_short c more h) v.line kept.claims;
     apart = kept.apart;
     sessions = are;
+    numbers = record { session = below; long = kept.numbers.long; short = kept.numbers.short };
     versions = kept.versions;
     drafts = kept.drafts;
     light = kept.light;
   }
 
-  pub kept_joined : (s : Session) → s.number ≡ v.last_session + 1 → length v.sessions < most_sessions → IsVault (record v { sessions = v.sessions ++ s ∷ []; last_session = v.last_session + 1 })
-  kept_joined s is room = kept_sessions (v.sessions ++ s ∷ []) (v.last_session + 1) are (stands_push v.sessions s)
+  pub kept_joined : (s : Session) → s.number ≡ v.last_session + 1 → v.last_session < last_number → length v.sessions < most_sessions → IsVault (record v { sessions = v.sessions ++ s ∷ []; last_session = v.last_session + 1 })
+  kept_joined s is below room = kept_sessions (v.sessions ++ s ∷ []) (v.last_session + 1) (omega (arith, below)) are (stands_push v.sessions s)
     where
       are : AreSessions (v.last_session + 1) (v.sessions ++ s ∷ [])
       are = record {
@@ -339,6 +348,7 @@ module _ (v : Vault) (kept : IsVault v) where
     versions = kept.versions;
     drafts = drafts_left v.tree v.line (λ (c : Claim). not (is_session gone c.owner)) v.drafts kept.apart (still v.drafts kept.drafts.each) kept.drafts;
     light = kept.light;
+    numbers = kept.numbers;
     sessions = record {
       few = let same = length-filter (λ (s : Session). not (s.number == gone)) v.sessions in let bound = count_by-le-length (λ (s : Session). not (s.number == gone)) v.sessions in let few = kept.sessions.few in omega arith;
       numbers = All-filter (λ (s : Session). not (s.number == gone)) (λ (s : Session). (0 < s.number) × (s.number ≤ v.last_session)) v.sessions kept.sessions.numbers;
@@ -385,6 +395,7 @@ module _ (v : Vault) (kept : IsVault v) where
     versions = kept.versions;
     drafts = drafts_left v.tree v.line (λ (c : Claim). not (is_short c.id)) v.drafts kept.apart (still v.drafts kept.drafts.each) kept.drafts;
     light = kept.light;
+    numbers = record { session = omega arith; long = kept.numbers.long; short = omega arith };
     sessions = record { few = omega arith; numbers = All-nil (λ (s : Session). (0 < s.number) × (s.number ≤ 0)); distinct = tt };
   }
     where
@@ -413,6 +424,7 @@ module _ (v : Vault) (kept : IsVault v) where
     claims = kept.claims;
     apart = kept.apart;
     sessions = kept.sessions;
+    numbers = kept.numbers;
     versions = kept.versions;
     drafts = drafts_saved v.tree v.line v.drafts new kept.drafts fits few;
     light = light;
@@ -446,6 +458,7 @@ module _ (v : Vault) (kept : IsVault v) where
         claims = left.claims;
         apart = left.apart;
         sessions = kept.sessions;
+        numbers = kept.numbers;
         versions = record {
           shelf_is = shelf_stays v.shelf (drafts_of v.drafts number) kept.versions.shelf_is fits;
           parts = λ place some. by_old place (versions_of v.shelf place) refl (λ e. some (versions_of-shelved_all v.shelf (drafts_of v.drafts number) place ∙ e));
@@ -468,7 +481,7 @@ numbers_stay n [] = refl
 numbers_stay n (s ∷ sessions) = rw (number_stays n s) (ap (λ rest. s.number ∷ rest) (numbers_stay n sessions))
 
 pub kept_counted : (v : Vault) (n : ℕ) → IsVault v → IsVault (record v { sessions = counted_in n v.sessions })
-kept_counted v n kept = kept_sessions v kept (counted_in n v.sessions) v.last_session are (λ number stands. stands_counted n v.sessions number ∙ stands)
+kept_counted v n kept = kept_sessions v kept (counted_in n v.sessions) v.last_session kept.numbers.session are (λ number stands. stands_counted n v.sessions number ∙ stands)
   where
     are : AreSessions v.last_session (counted_in n v.sessions)
     are = record {
@@ -515,6 +528,7 @@ kept_new = record {
   few_claims = omega arith;
   claims = All-nil (IsClaim [] [] 0 0);
   apart = tt;
+  numbers = record { session = omega arith; long = omega arith; short = omega arith };
   sessions = record { few = omega arith; numbers = All-nil (λ (s : Session). (0 < s.number) × (s.number ≤ 0)); distinct = tt };
   versions = record { shelf_is = none_shelved; parts = λ place some. absurd (some refl) };
   drafts = record { each = All-nil (IsDraft [] []); few = λ number. omega arith; ordered = tt };

@@ -21,3 +21,6 @@ pub mod Counts
 pub mod DraftsKept
 pub mod Grown
 pub mod Sends
+pub mod Ways
+pub mod CheckIns
+pub mod SecondSaves

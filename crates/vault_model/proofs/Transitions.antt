@@ -35,12 +35,13 @@ pub record CanMake (tree : List Place) (parent : ℕ) (name : List ℕ) : Type 0
   pub fresh : is_some (child tree parent name) ≡ false
   pub room : is_full tree parent ≡ false
 
--- that items may be asked for
-pub record CanAsk (v : Vault) (items : List Item) : Type 0 where
+-- that items may be asked for, where this is the last number given to a claim of its kind
+pub record CanAsk (v : Vault) (last : ℕ) (items : List Item) : Type 0 where
   pub some : 0 < length items
   pub few : length items ≤ most_items
   pub there : AreThere v.tree items
   pub room : length v.line < most_claims
+  pub unspent : (last == last_number) ≡ false
 
 -- that a claim is held
 pub record IsUsed (v : Vault) (id : ClaimId) (claim : Claim) : Type 0 where
@@ -67,15 +68,15 @@ pub record CanSave (v : Vault) (claim : Claim) (number place : ℕ) (content : L
 -- is answered. Each law of the step is one match on this.
 pub data Transition (v : Vault) : Option Effect → Vault → Type 0 where
   answered : Transition v None v
-  joined : (name : List ℕ) → length v.sessions < most_sessions
+  joined : (name : List ℕ) → length v.sessions < most_sessions → (v.last_session == last_number) ≡ false
       → Transition v None (with_session v name)
   left : (session : ℕ)
       → Transition v None (gone v session)
   made : (parent : ℕ) (name : List ℕ) → CanMake v.tree parent name
       → Transition v (Some (effects.Made parent name)) (with_place v parent name)
-  asked : (designer : List ℕ) (items : List Item) → CanAsk v items
+  asked : (designer : List ℕ) (items : List Item) → CanAsk v v.last_long items
       → Transition v (Some (effects.Asked (v.last_long + 1) designer items)) (with_check_out v (v.last_long + 1) designer items)
-  taken : (session : ℕ) (items : List Item) → is_some (session_of v.sessions session) ≡ true → CanAsk v items
+  taken : (session : ℕ) (items : List Item) → is_some (session_of v.sessions session) ≡ true → CanAsk v v.last_short items
       → Transition v None (with_hold v (v.last_short + 1) session items)
   extended : (id : ClaimId) (claim : Claim) (items : List Item) → CanExtend v id claim items
       → Transition v (extension id items) (with_items v id (claim.items ++ items))
@@ -164,12 +165,12 @@ module _ (v : Vault) where
           by_tests true true held = next c (record { found = found; held = held })
 
   -- as many items were asked for as may be, at places that are there, and there is room
-  can_ask : (wanted : List PathItem) (items : List Item) (spent : Bool) → ((length wanted == 0) || nat_lt most_items (length wanted)) ≡ false → placed v.tree wanted ≡ Some items → (nat_le most_claims (length v.line) || spent) ≡ false → CanAsk v items
-  can_ask wanted items spent number found room =
+  can_ask : (wanted : List PathItem) (items : List Item) (last : ℕ) → ((length wanted == 0) || nat_lt most_items (length wanted)) ≡ false → placed v.tree wanted ≡ Some items → (nat_le most_claims (length v.line) || (last == last_number)) ≡ false → CanAsk v last items
+  can_ask wanted items last number found room =
       let counts = neither (length wanted == 0) (nat_lt most_items (length wanted)) number in
-      let free = neither (nat_le most_claims (length v.line)) spent room in
+      let free = neither (nat_le most_claims (length v.line)) (last == last_number) room in
       let same = length-placed v.tree wanted items found in
-      record { some = grind (arith, nat_tests, counts.0, same); few = grind (arith, nat_tests, counts.1, same); there = placed_there v.tree wanted items found; room = grind (arith, nat_tests, free.0) }
+      record { some = grind (arith, nat_tests, counts.0, same); few = grind (arith, nat_tests, counts.1, same); there = placed_there v.tree wanted items found; room = grind (arith, nat_tests, free.0); unspent = free.1 }
 
   -- a claim may have these items, too
   can_extend : (id : ClaimId) (wanted : List PathItem) (claim : Claim) (items : List Item) → IsUsed v id claim → ((length wanted == 0) || nat_lt most_items (length claim.items + length wanted)) ≡ false → placed v.tree wanted ≡ Some items
@@ -184,7 +185,7 @@ module _ (v : Vault) where
   unfolding join Decided
   join_is name = passes _ _ _ (λ room.
       let free = neither (nat_le most_sessions (length v.sessions)) (v.last_session == last_number) room in
-      joined name (grind (arith, nat_tests, free.0)))
+      joined name (grind (arith, nat_tests, free.0)) free.1)
 
   session_is : (session : Session) → is_some (session_of v.sessions session.number) ≡ true → (command : Command) → Decided v (in_session v session command)
   unfolding Decided make check_out extend save check_in abandon hold release state list fetch count
@@ -193,9 +194,9 @@ module _ (v : Vault) where
       finds _ _ _ (λ name _. finds_place _ _ _ (λ parent there. passes _ _ _ (λ above. passes _ _ _ (λ fresh. follows _ _ (λ _ _. passes _ _ _ (λ room.
       made parent name (record { there = there; above = above; fresh = fresh; room = room })))))))
   session_is session stands (commands.CheckOut wanted) = passes _ _ _ (λ number. finds _ _ _ (λ items found. passes _ _ _ (λ room.
-      asked session.name items (can_ask wanted items (v.last_long == last_number) number found room))))
+      asked session.name items (can_ask wanted items v.last_long number found room))))
   session_is session stands (commands.Hold wanted) = passes _ _ _ (λ number. finds _ _ _ (λ items found. passes _ _ _ (λ room.
-      taken session.number items stands (can_ask wanted items (v.last_short == last_number) number found room))))
+      taken session.number items stands (can_ask wanted items v.last_short number found room))))
   session_is session stands (commands.Extend id wanted) = uses _ _ _ (λ claim used. passes _ _ _ (λ number. finds _ _ _ (λ items found. is_clear _ _ _ (λ free.
       extended id claim items (can_extend id wanted claim items used number found free)))))
   session_is session stands (commands.Save number path content) = uses _ _ _ (λ claim used. finds_place _ _ _ (λ place there. holds _ _ _ (λ part. holds _ _ _ (λ changed. holds _ _ _ (λ limits.

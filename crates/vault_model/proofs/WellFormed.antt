@@ -1,9 +1,9 @@
 -- A well-formed vault stays well formed under each step.
-use Rattle.std.specs.Prelude.{◌≡◌, ℕ, ◌+◌, ◌<◌, ◌≤◌, ◌&&◌, nat_le, Bool, true, false, ◌++◌, length, Option, None, Some, is_some, refl}
+use Rattle.std.specs.Prelude.{◌≡◌, ℕ, ◌+◌, ◌<◌, ◌≤◌, ◌==◌, ◌&&◌, nat_le, Bool, true, false, ◌++◌, length, Option, None, Some, is_some, refl}
 use Rattle.std.proofs.Common.{arith, length-append, sym, subst, ◌∙◌}
 use Rattle.std.proofs.lemmas.Bool.Decides.{nat_tests}
 use Rattle.std.proofs.lemmas.List.Elements.{All-append}
-use Rattle.vault_model.specs.Limits.{greatest_depth, most_items, longest_content, most_drafts, most_weight}
+use Rattle.vault_model.specs.Limits.{greatest_depth, last_number, most_items, longest_content, most_drafts, most_weight}
 use Rattle.vault_model.specs.Tree.{depth}
 use Rattle.vault_model.specs.Said.{Command, Effect}
 use Rattle.vault_model.specs.declared.claims.Item.{Item}
@@ -28,8 +28,12 @@ pub absent : (o : Option ℕ) → is_some o ≡ false → o ≡ None
 absent None e = refl
 absent (Some x) e = cc
 
+-- a number that is not the last one is below it
+pub not_last : (n : ℕ) → n ≤ last_number → (n == last_number) ≡ false → n < last_number
+not_last n most other = grind (arith, nat_tests, most, other)
+
 kept_door : (v : Vault) → IsVault v → IsVault (record v { door_count = v.door_count + 1 })
-kept_door v kept = record { tree = kept.tree; few_claims = kept.few_claims; claims = kept.claims; apart = kept.apart; sessions = kept.sessions; versions = kept.versions; drafts = kept.drafts; light = kept.light }
+kept_door v kept = record { tree = kept.tree; few_claims = kept.few_claims; claims = kept.claims; apart = kept.apart; sessions = kept.sessions; numbers = kept.numbers; versions = kept.versions; drafts = kept.drafts; light = kept.light }
 
 kept_told : (n : ℕ) (v : Vault) → IsVault v → IsVault (counted n v)
 kept_told n v kept = by_count IsVault n v (kept_door v kept) (kept_counted v n kept)
@@ -37,14 +41,14 @@ kept_told n v kept = by_count IsVault n v (kept_door v kept) (kept_counted v n k
 -- a well-formed vault stays so under each change
 pub transition_keeps : (v : Vault) → IsVault v → (effect : Option Effect) (w : Vault) → Transition v effect w → IsVault w
 transition_keeps v kept effect w answered = kept
-transition_keeps v kept effect w (joined name room) = kept_joined v kept _ refl room
+transition_keeps v kept effect w (joined name room unspent) = kept_joined v kept _ refl (not_last v.last_session kept.numbers.session unspent) room
 transition_keeps v kept effect w (left session) = kept_gone v kept session
 transition_keeps v kept effect w (made parent name can) =
     let above = can.above in
     let low : depth v.tree parent < greatest_depth = grind (arith, nat_tests, above) in
     kept_made v kept _ (IsTree-push v.tree _ kept.tree can.there low above (absent _ can.fresh) can.room) can.there
-transition_keeps v kept effect w (asked designer items can) = kept_asked_long v kept designer items can.room can.some can.few can.there
-transition_keeps v kept effect w (taken session items stands can) = kept_asked_short v kept session items stands can.room can.some can.few can.there
+transition_keeps v kept effect w (asked designer items can) = kept_asked_long v kept designer items (not_last v.last_long kept.numbers.long can.unspent) can.room can.some can.few can.there
+transition_keeps v kept effect w (taken session items stands can) = kept_asked_short v kept session items stands (not_last v.last_short kept.numbers.short can.unspent) can.room can.some can.few can.there
 transition_keeps v kept effect w (extended id claim items can) =
     let found = can.used.found in
     let own = claim_there (IsClaim v.tree v.sessions v.last_long v.last_short) v.line id kept.claims claim found in

@@ -8,7 +8,7 @@ use Rattle.vault_model.specs.declared.place.Place.{Place}
 use Rattle.vault_model.specs.declared.claims.Item.{Item}
 use Rattle.vault_model.specs.declared.claims.Claim.{Claim}
 use Rattle.vault_model.specs.declared.ids.ClaimId.TheVariants.{Long}
-use Rattle.vault_model.specs.Limits.{most_items, most_claims}
+use Rattle.vault_model.specs.Limits.{most_items, most_claims, last_number}
 use Rattle.vault_model.specs.Tree.{child, is_part, is_full}
 use Rattle.vault_model.specs.Claims.{claim_of, is_held, change_set, put_first}
 use Rattle.vault_model.specs.Shelf.{is_shelvable}
@@ -30,9 +30,12 @@ are_there tree items = list_all (λ (item : Item). nat_le item.place (length tre
 abbrev pub may_make : Vault → ℕ → List ℕ → Bool
 may_make w parent name = nat_le parent (length w.tree) && not (is_part w.tree parent) && not (is_some (child w.tree parent name)) && not (is_full w.tree parent)
 
--- a check-out may be asked for: it has the next number, 1 to the most items at places that are there, and there is room
+-- a check-out may be asked for: it has the next number, 1 to the most items at places that are there, there is room, and its number is one
+-- that may be given
 abbrev pub may_ask : Vault → ℕ → List Item → Bool
-may_ask w number items = (number == w.last_long + 1) && not (length items == 0) && nat_le (length items) most_items && are_there w.tree items && nat_lt (length w.line) most_claims
+may_ask w number items =
+    (number == w.last_long + 1) && not (length items == 0) && nat_le (length items) most_items && are_there w.tree items && nat_lt (length w.line) most_claims
+    && nat_le number last_number
 
 -- a claim may be extended: it is held, has no more than the most items with these, and their places are there
 abbrev pub may_extend : Vault → Claim → List Item → Bool

@@ -1,5 +1,6 @@
 -- Laws of the definitions: what they say in the subject's own words.
-use Rattle.std.specs.Prelude.{◌≡◌, ℕ, ◌+◌, ◌≤◌, ◌↔◌, ◌⊎◌, true, List, Some, is_some, length, false}
+use Rattle.std.specs.Prelude.{◌≡◌, ℕ, ◌+◌, ◌≤◌, ◌↔◌, ◌⊎◌, true, List, Some, is_some, length, false, Ok, Err}
+use Rattle.std.specs.List.{Contains}
 use Rattle.vault_model.specs.declared.place.Place.{Place}
 use Rattle.vault_model.specs.declared.claims.Item.{Item}
 use Rattle.vault_model.specs.declared.claims.Standing.TheVariants.{Held}
@@ -7,12 +8,18 @@ use Rattle.vault_model.specs.declared.ids.ClaimId.{ClaimId}
 use Rattle.vault_model.specs.declared.ids.ClaimId.TheVariants.{Long}
 use Rattle.vault_model.specs.declared.claims.Claim.{Claim}
 use Rattle.vault_model.specs.Path.{IsPath, path_text, path_in}
-use Rattle.vault_model.specs.Tree.{IsTree, parent_of, is_under}
+use Rattle.vault_model.specs.declared.session.Session.{Session}
+use Rattle.vault_model.specs.declared.commands.Command.TheVariants as commands
+use Rattle.vault_model.specs.declared.replies.Refusal.TheVariants.{Limit}
+use Rattle.vault_model.specs.Limits.{most_versions}
+use Rattle.vault_model.specs.Tree.{IsTree, parent_of, is_under, path_of, find_place}
+use Rattle.vault_model.specs.Shelf.{Draft, versions_of}
+use Rattle.vault_model.specs.Drafts.{drafts_of}
 use Rattle.vault_model.specs.Claims.{same_id, look_set, change_set, overlap, claim_of, standing_of}
-use Rattle.vault_model.specs.Vault.{Vault, IsVault, CountsBelow, new_vault, durable}
+use Rattle.vault_model.specs.Vault.{Vault, IsVault, CountsBelow, new_vault, durable, weight_of}
 use Rattle.vault_model.specs.Said.{Command, Effect}
 use Rattle.vault_model.specs.After.{after, IsDurable, IsDurableChange}
-use Rattle.vault_model.specs.Step.{step}
+use Rattle.vault_model.specs.Step.{Outcome, usable, save, check_in, step}
 
 -- a text is read as a path exactly where it is the path's spelling
 abbrev pub PathIsItsText : Type 0
@@ -63,3 +70,21 @@ EffectIsTheDurableChange = (v : Vault) (n : ℕ) (command : Command) → IsVault
 -- a well-formed durable vault stays well formed and durable under each effect that is applicable
 abbrev pub DurableStays : Type 0
 DurableStays = (w next : Vault) (effect : Effect) → IsVault w → after w effect ≡ Some next → IsVault next × (IsDurable w → IsDurable next)
+
+-- a place's path leads to it
+abbrev pub PathLeadsBack : Type 0
+PathLeadsBack = (tree : List Place) (place : ℕ) → IsTree tree → place ≤ length tree → find_place tree (path_of tree place) ≡ Some place
+
+-- a check-in, refused or not, leaves the weight of the vault as it is
+abbrev pub CheckInKeepsTheWeight : Type 0
+CheckInKeepsTheWeight = (v : Vault) (n number : ℕ) → weight_of (step v n (commands.CheckIn number)).vault ≡ weight_of v
+
+-- a check-out that may be used is refused by a limit exactly where a part of which it has a draft has the most versions already
+abbrev pub CheckInIsRefusedForFullParts : Type 0
+CheckInIsRefusedForFullParts = (v : Vault) (session : Session) (number : ℕ) (claim : Claim) → IsVault v → usable v session (Long number) ≡ Ok claim
+    → (check_in v session number ≡ Err Limit) ↔ ((draft : Draft) × Contains (drafts_of v.drafts number) draft × (length (versions_of v.shelf draft.place) ≡ most_versions))
+
+-- behind a save, a second one of the same place answers and leaves what it would without the first
+abbrev pub SecondSaveReplaces : Type 0
+SecondSaveReplaces = (v : Vault) (session : Session) (number : ℕ) (path : List (List ℕ)) (first second : List ℕ) (saved : Outcome)
+    → save v session number path first ≡ Ok saved → save saved.vault session number path second ≡ save v session number path second

@@ -11,7 +11,7 @@ use Rattle.vault_model.specs.Tree.{IsTree, is_part}
 use Rattle.vault_model.specs.Shelf.{weight, versions_of, IsShelf}
 use Rattle.vault_model.specs.Drafts.{SavedDraft, saved_weight, drafts_of, IsOrdered}
 use Rattle.vault_model.specs.Claims.{same_id, without_short, claim_of, change_set, standing_of}
-use Rattle.vault_model.specs.Limits.{most_items, most_claims, most_sessions, most_drafts, most_weight, longest_content}
+use Rattle.vault_model.specs.Limits.{most_items, most_claims, most_sessions, last_number, most_drafts, most_weight, longest_content}
 use Rattle.vault_model.specs.declared.claims.Standing.TheVariants.{Held}
 use Rattle.vault_model.specs.declared.claims.Owner.{Owner}
 use Rattle.vault_model.specs.declared.claims.Owner.TheVariants as owners
@@ -107,6 +107,12 @@ pub record AreVersions (tree : List Place) (shelf : List (List (List ℕ))) : Ty
   pub shelf_is : IsShelf shelf
   pub parts : (place : ℕ) → versions_of shelf place ≢ [] → (place ≤ length tree) × (is_part tree place ≡ true)
 
+-- each of the last numbers given is one that may be given
+pub record AreLastNumbers (last_session last_long last_short : ℕ) : Type 0 where
+  pub session : last_session ≤ last_number
+  pub long : last_long ≤ last_number
+  pub short : last_short ≤ last_number
+
 -- What every vault keeps.
 pub record IsVault (v : Vault) : Type 0 where
   pub tree : IsTree v.tree
@@ -114,6 +120,7 @@ pub record IsVault (v : Vault) : Type 0 where
   pub claims : All (IsClaim v.tree v.sessions v.last_long v.last_short) v.line
   pub apart : IsDistinct same_id (map (λ (c : Claim). c.id) v.line)
   pub sessions : AreSessions v.last_session v.sessions
+  pub numbers : AreLastNumbers v.last_session v.last_long v.last_short
   pub versions : AreVersions v.tree v.shelf
   pub drafts : AreDrafts v.tree v.line v.drafts
   pub light : weight_of v ≤ most_weight

@@ -1,5 +1,5 @@
 //! Laws of the definitions, on which the program's theorems rest.
-ghost use Rattle.vault_model.specs.Laws.{PathIsItsText, UnderIsByParents, OverlapIsAMeeting, OverlapIsSymmetric, WellFormedStays, CountsRise, HeldStays, HeldIsDurable, HeldAreApart, EffectIsTheDurableChange, DurableStays};
+ghost use Rattle.vault_model.specs.Laws.{PathIsItsText, UnderIsByParents, OverlapIsAMeeting, OverlapIsSymmetric, WellFormedStays, CountsRise, HeldStays, HeldIsDurable, HeldAreApart, EffectIsTheDurableChange, DurableStays, PathLeadsBack, CheckInKeepsTheWeight, CheckInIsRefusedForFullParts, SecondSaveReplaces};
 ghost use Rattle.vault_model.specs.Rows.{Rows};
 
 /// A text is read as a path exactly where it is the path's spelling.
@@ -55,6 +55,26 @@ pub fn effect_is_the_durable_change()
 /// A well-formed durable vault stays so under each effect that is applicable.
 pub fn durable_stays()
     ensures { DurableStays }
+{}
+
+/// The path of a place leads back to it.
+pub fn path_leads_back()
+    ensures { PathLeadsBack }
+{}
+
+/// A check-in leaves the weight as it is: what were drafts are versions, or it was refused.
+pub fn check_in_keeps_the_weight()
+    ensures { CheckInKeepsTheWeight }
+{}
+
+/// A check-in by who may use the check-out is refused by a limit exactly where a drafted part has 65,535 versions.
+pub fn check_in_is_refused_for_full_parts()
+    ensures { CheckInIsRefusedForFullParts }
+{}
+
+/// A second save of a place replaces the first: it answers and leaves what it would without it.
+pub fn second_save_replaces()
+    ensures { SecondSaveReplaces }
 {}
 
 /// The definitions give the conversations that were worked out by hand.

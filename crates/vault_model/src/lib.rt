@@ -2,8 +2,9 @@
 //!
 //! Promises: names and paths are read exactly from their spelling (`Name::read`, `Path::read`). The definitions have the laws
 //! of `laws`: a well-formed vault stays so, held stays held, held claims are apart, an effect is the durable change of its
-//! step, overlap and "under" are the sentences that they stand for. A copy of a command, a reply or an effect equals its source
-//! (`copy`). Conversations worked out by hand hold of the step, by proof.
+//! step, overlap and "under" are the sentences that they stand for, a path leads back to its place, a check-in leaves the
+//! weight and is refused for full parts alone, a second save replaces the first. A copy of a command, a reply or an effect
+//! equals its source (`copy`). Conversations worked out by hand hold of the step, by proof.
 //! Stands on: no crate of this repository. Must not know: an allocator in a definition, a device, a line of text, how a tree
 //! is indexed.
 //!

@@ -14,7 +14,7 @@ invariant_of-self-2 g c =
     rw (c.in_ok-standing.ensures.standing, c.last_long.ensures, c.in_ok-standing.ensures.asked, c.reserve.ensures.items) at c.put_last.ensures in
     let whole = rw (← c.self.view_is) at c.requires.there in
     rw (c.in_ok-standing.ensures.asked, items, saved_asked c.self.inside.check_outs.items (is_held_standing (Some (standing_behind c.self.inside.tree c.self.inside.line.claims c.args.items.now))) (c.self.inside.line.last_long + 1)) (
-      kept_asked_long (vault_of c.self.inside) c.self.invariant.0 c.args.designer c.args.items.now (rw (← c.self.view_is) at c.requires.room) c.requires.some c.requires.few whole,
+      kept_asked_long (vault_of c.self.inside) c.self.invariant.0 c.args.designer c.args.items.now (rw (← c.self.view_is) at c.requires.number) (rw (← c.self.view_is) at c.requires.room) c.requires.some c.requires.few whole,
       grown_itself c.self.inside.tree,
       agrees_asked (vault_of c.self.inside) c.self.invariant.0 c.self.inside.check_outs.items c.self.invariant.2 c.args.designer c.args.items.now,
     )

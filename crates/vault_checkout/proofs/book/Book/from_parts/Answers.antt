@@ -1,4 +1,4 @@
-use Rattle.std.proofs.Common.{◌≡◌, ◌∙◌, [], sym, ap, subst, length, true}
+use Rattle.std.proofs.Common.{◌≡◌, ◌∙◌, [], sym, ap, subst, arith, length, true}
 use Rattle.std.specs.Prelude.{map}
 use Rattle.vault_model.specs.Tree.{IsTree}
 use Rattle.long_locks.specs.Lines.{LineSeen, IsGrownFrom}
@@ -26,7 +26,7 @@ returns-in-Err-NoMemory-clause-refused g c =
     let fit : AreFit c.args.tree c.args.shelf c.args.claims.items c.args.drafts.items = rw (c.deref.ensures.value, c.deref-2.ensures.value) at (c.are_fit.ensures.0 c.if-not-are_fit.false) in
     let line = rw c.in-Err-NoMemory.field-0-is at c.in-Err-NoMemory.ensures.refused in
     let is_tree : IsTree c.args.tree = subst IsTree c.tree.view_is c.tree.invariant.tree_is in
-    (made (Unit {0}) c.args.tree c.args.shelf c.args.last_long c.args.claims.items c.args.drafts.items is_tree line fit, vault_made (Unit {0}) c.args.tree c.args.shelf c.args.last_long c.args.claims.items c.args.drafts.items is_tree line fit)
+    (made (Unit {0}) c.args.tree c.args.shelf c.args.last_long c.args.claims.items c.args.drafts.items is_tree line fit, vault_made (Unit {0}) c.args.tree c.args.shelf c.args.last_long c.args.claims.items c.args.drafts.items is_tree line fit (omega arith))
 
 pub opened_all-requires-clause-same : goal.opened_all-requires-clause-same
 opened_all-requires-clause-same g c =
@@ -43,7 +43,7 @@ returns-in_default-clause-refused g c =
     let fit : AreFit c.args.tree c.args.shelf c.args.claims.items c.args.drafts.items = rw (c.deref.ensures.value, c.deref-2.ensures.value) at (c.are_fit.ensures.0 c.if-not-are_fit.false) in
     let line = c.in-Ok.ensures.well_formed in
     let is_tree : IsTree c.args.tree = subst IsTree c.tree.view_is c.tree.invariant.tree_is in
-    (made (Unit {0}) c.args.tree c.args.shelf c.args.last_long c.args.claims.items c.args.drafts.items is_tree line fit, vault_made (Unit {0}) c.args.tree c.args.shelf c.args.last_long c.args.claims.items c.args.drafts.items is_tree line fit)
+    (made (Unit {0}) c.args.tree c.args.shelf c.args.last_long c.args.claims.items c.args.drafts.items is_tree line fit, vault_made (Unit {0}) c.args.tree c.args.shelf c.args.last_long c.args.claims.items c.args.drafts.items is_tree line fit (omega arith))
 
 pub invariant_of-result : goal.invariant_of-result
 invariant_of-result g c =
@@ -56,7 +56,7 @@ invariant_of-result g c =
     ∙ ap (λ (l : LineSeen). map (granted c.args.tree l.claims) c.in-Ok-opened_all.check_outs.items) line_is
     ∙ ap (map (granted c.args.tree c.args.claims.items)) (c.in-Ok-opened_all.ensures ∙ ap (λ (l : LineSeen). opened_all l.claims c.args.drafts.items) line_is) in
     rw (line_is, items, c.new.ensures.items, saved_granted c.args.tree c.args.claims.items (opened_all c.args.claims.items c.args.drafts.items)) (
-      (vault_made g.row.A.Denot c.args.tree c.args.shelf c.args.last_long c.args.claims.items c.args.drafts.items is_tree line fit).well_formed,
+      (vault_made g.row.A.Denot c.args.tree c.args.shelf c.args.last_long c.args.claims.items c.args.drafts.items is_tree line fit (omega arith)).well_formed,
       grown_itself c.args.tree,
       agrees_made g.row.A.Denot c.args.tree c.args.claims.items c.args.drafts.items (all_long c.args.tree c.args.last_long c.args.claims.items line) fit.may_have,
     )
@@ -72,7 +72,7 @@ returns-clause-made g c =
     ∙ ap (λ (l : LineSeen). map (granted c.args.tree l.claims) c.in-Ok-opened_all.check_outs.items) line_is
     ∙ ap (map (granted c.args.tree c.args.claims.items)) (c.in-Ok-opened_all.ensures ∙ ap (λ (l : LineSeen). opened_all l.claims c.args.drafts.items) line_is) in
     rw (line_is, items, c.new.ensures.items, saved_granted c.args.tree c.args.claims.items (opened_all c.args.claims.items c.args.drafts.items))
-    (vault_made g.row.A.Denot c.args.tree c.args.shelf c.args.last_long c.args.claims.items c.args.drafts.items is_tree line fit)
+    (vault_made g.row.A.Denot c.args.tree c.args.shelf c.args.last_long c.args.claims.items c.args.drafts.items is_tree line fit (omega arith))
 
 pub returns-clause-only : goal.returns-clause-only
 returns-clause-only g c = λ v is.
@@ -87,4 +87,4 @@ returns-clause-only g c = λ v is.
     rw (line_is, items, c.new.ensures.items, saved_granted c.args.tree c.args.claims.items (opened_all c.args.claims.items c.args.drafts.items))
     (one_vault (record { tree = c.args.tree; shelf = c.args.shelf; last_long = c.args.last_long; claims = c.args.claims.items; drafts = c.args.drafts.items })
     (made g.row.A.Denot c.args.tree c.args.shelf c.args.last_long c.args.claims.items c.args.drafts.items is_tree line fit) v
-    (vault_made g.row.A.Denot c.args.tree c.args.shelf c.args.last_long c.args.claims.items c.args.drafts.items is_tree line fit) is)
+    (vault_made g.row.A.Denot c.args.tree c.args.shelf c.args.last_long c.args.claims.items c.args.drafts.items is_tree line fit (omega arith)) is)

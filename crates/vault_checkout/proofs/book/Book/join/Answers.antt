@@ -11,7 +11,8 @@ use Rattle.vault_checkout.proofs.book.Book.join.Goals as goal
 pub invariant_of-self-2 : goal.invariant_of-self-2
 invariant_of-self-2 g c =
     let room : length c.self.inside.sessions.items < most_sessions = search rules in
-    rw c.in_ok-push.ensures.items (kept_joined (vault_of c.self.inside) c.self.invariant.0 _ refl room, c.self.invariant.1, c.self.invariant.2)
+    let below : c.self.inside.last_session < last_number = let other = c.if-self.false in let most = c.self.invariant.0.numbers.session in grind (arith, nat_tests, other, most) in
+    rw c.in_ok-push.ensures.items (kept_joined (vault_of c.self.inside) c.self.invariant.0 _ refl below room, c.self.invariant.1, c.self.invariant.2)
 
 pub returns-clause-counts : goal.returns-clause-counts
 returns-clause-counts g c = λ bound h. rw c.in_ok-push.ensures.items (counts_joined bound (vault_of c.self.inside) _ _ refl (rw (← c.self.view_is) at h))
