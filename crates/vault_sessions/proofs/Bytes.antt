@@ -1,8 +1,15 @@
--- Bytes come in pieces, and make a line one by one.
-use Rattle.std.proofs.Common.{◌≡◌, ◌≢◌, ℕ, ◌+◌, ◌<◌, ◌≤◌, Bool, List, [], ◌∷◌, ◌++◌, length, ap, sym, ◌∙◌, arith, append_assoc, length-append}
-use Rattle.std.proofs.lemmas.List.Elements.{All-push}
+-- Bytes come in pieces, and make a line piece by piece.
+use Rattle.std.proofs.Common.{◌≡◌, ◌≢◌, ℕ, suc, ◌+◌, ◌-◌, ◌<◌, ◌≤◌, Bool, List, [], ◌∷◌, ◌++◌, length, take, drop, ap, sym, ◌∙◌, subst, arith, length-drop, append_assoc, append-nil, length-append, Option, Some, None}
+use Rattle.std.proofs.Math.ListN.{get_or}
+use Rattle.std.proofs.Math.Seq.{split_at}
+use Rattle.std.proofs.lemmas.Bool.Decides.{nat_tests}
+use Rattle.std.proofs.lemmas.List.{drop-drop, drop-take, get_or-take, length-take-le}
+use Rattle.std.proofs.lemmas.List.Elements.{All-append, All-from_get_or}
+use Rattle.memchr.specs.Find.{IsFirstByte, is_byte}
 use Rattle.vault_sessions.specs.Inflow.{Inflow}
-use Rattle.vault_sessions.specs.Incoming.{most_bytes, IsOneLine, KeepsLine, CutsLine}
+use Rattle.vault_sessions.specs.Incoming.{most_bytes, IsOneLine, KeepsLine, CutsLine, TakesPiece, GivesPiece}
+use Rattle.vault_sessions.specs.declared.inlet.Piece.{Piece}
+use Rattle.vault_sessions.specs.declared.inlet.Piece.TheVariants as pieces
 
 -- what was pending and given is the line so far, which is kept, and what is pending now
 pub record IsSoFar (old : Inflow) (given so_far kept : List ℕ) (is_long : Bool) (now : Inflow) : Type 0 where
@@ -16,27 +23,37 @@ append_more : (pending given so_far rest more : List ℕ) → pending ++ given �
 append_more pending given so_far rest more e =
     sym (append_assoc pending given more) ∙ (ap (λ l. l ++ more) e ∙ append_assoc so_far rest more)
 
--- one byte more belongs to the line
-pub goes_on : (old now next : Inflow) (given so_far kept longer : List ℕ) (is_long will_be : Bool) (more : List ℕ) (b : ℕ)
-    → IsSoFar old given so_far kept is_long now → now.pending ++ more ≡ b ∷ next.pending → next.taken ≡ now.taken + 1 → b ≢ 10
-    → KeepsLine (so_far ++ b ∷ []) longer will_be → IsSoFar old (given ++ more) (so_far ++ b ∷ []) longer will_be next
-goes_on old now next given so_far kept longer is_long will_be more b h split taken other keeps = record {
-  bytes = append_more old.pending given so_far now.pending more h.bytes ∙ (ap (λ l. so_far ++ l) split ∙ sym (append_assoc so_far (b ∷ []) next.pending));
-  one = All-push (λ x. x ≢ 10) so_far b h.one other;
-  keeps = keeps;
-  taken = omega (arith, length-append so_far (b ∷ []), h.taken, taken);
+-- a piece more belongs to the line, and nothing is pending behind it
+pub goes_on : (old now next : Inflow) (given so_far kept longer : List ℕ) (is_long will_be : Bool) (more : List ℕ)
+    → IsSoFar old given so_far kept is_long now → IsOneLine (now.pending ++ more) → next.pending ≡ []
+    → KeepsLine (so_far ++ (now.pending ++ more)) longer will_be → next.taken ≡ now.taken + length (now.pending ++ more)
+    → IsSoFar old (given ++ more) (so_far ++ (now.pending ++ more)) longer will_be next
+goes_on old now next given so_far kept longer is_long will_be more h one none keeps taken =
+    let all = so_far ++ (now.pending ++ more) in
+    record {
+      bytes = append_more old.pending given so_far now.pending more h.bytes ∙ (sym (append-nil all) ∙ ap (λ l. all ++ l) (sym none));
+      one = All-append (λ x. x ≢ 10) so_far (now.pending ++ more) h.one one;
+      keeps = keeps;
+      taken = omega (arith, length-append so_far (now.pending ++ more), h.taken, taken);
+    }
+
+-- a piece with a line feed behind it ends the line
+pub cuts : (old now next : Inflow) (given so_far kept piece : List ℕ) (is_long : Bool) (more : List ℕ)
+    → IsSoFar old given so_far kept is_long now → CutsLine now more piece next → CutsLine old (given ++ more) (so_far ++ piece) next
+cuts old now next given so_far kept piece is_long more h cut = record {
+  bytes = append_more old.pending given so_far now.pending more h.bytes ∙ (ap (λ l. so_far ++ l) cut.bytes ∙ sym (append_assoc so_far piece (10 ∷ next.pending)));
+  one = All-append (λ x. x ≢ 10) so_far piece h.one cut.one;
+  taken = omega (arith, length-append so_far piece, h.taken, cut.taken);
+  within = cut.within;
 }
 
--- a line feed ends it
-pub cuts : (old now next : Inflow) (given so_far kept : List ℕ) (is_long : Bool) (more : List ℕ)
-    → IsSoFar old given so_far kept is_long now → now.pending ++ more ≡ 10 ∷ next.pending → next.taken ≡ now.taken + 1 → next.taken ≤ most_bytes
-    → CutsLine old (given ++ more) so_far next
-cuts old now next given so_far kept is_long more h split taken within = record {
-  bytes = append_more old.pending given so_far now.pending more h.bytes ∙ ap (λ l. so_far ++ l) split;
-  one = h.one;
-  taken = omega (arith, h.taken, taken);
-  within = within;
-}
+-- where no more comes, all was of one line
+pub ends : (old now : Inflow) (given so_far kept : List ℕ) (is_long : Bool) (more : List ℕ)
+    → IsSoFar old given so_far kept is_long now → now.pending ++ more ≡ [] → IsOneLine (old.pending ++ (given ++ more))
+ends old now given so_far kept is_long more h none =
+    let all : old.pending ++ (given ++ more) ≡ so_far =
+    append_more old.pending given so_far now.pending more h.bytes ∙ (ap (λ l. so_far ++ l) none ∙ append-nil so_far) in
+    subst IsOneLine (sym all) h.one
 
 -- too many bytes are too many
 pub exceeds : (old now : Inflow) (given so_far kept : List ℕ) (is_long : Bool) (more : List ℕ)
@@ -45,3 +62,99 @@ exceeds old now given so_far kept is_long more h many =
     let size : length (old.pending ++ (given ++ more)) ≡ length so_far + length (now.pending ++ more) =
     ap length (append_more old.pending given so_far now.pending more h.bytes) ∙ length-append so_far (now.pending ++ more) in
     omega (arith, size, h.taken, many)
+
+-- no line feed stands before the first one
+pub before_feed : (bytes : List ℕ) (count : ℕ) → IsFirstByte (is_byte 10) bytes (Some count) → IsOneLine (take count bytes)
+before_feed bytes count h =
+    All-from_get_or (λ b. b ≢ 10) (take count bytes) 0 (λ i less.
+    let size : length (take count bytes) ≡ count = length-take-le count bytes (omega (arith, h.0.high)) in
+    let here : i < count = omega (arith, less, size) in
+    let same : get_or (take count bytes) i 0 ≡ get_or bytes i 0 = get_or-take count bytes i 0 here in
+    λ feed. h.0.before i (omega arith) here (grind (arith, nat_tests, same, feed)))
+
+-- where there is none, all bytes are of one line
+pub without_feed : (bytes : List ℕ) → IsFirstByte (is_byte 10) bytes None → IsOneLine bytes
+without_feed bytes h = All-from_get_or (λ b. b ≢ 10) bytes 0 (λ i less. λ feed. h i (omega arith) less (grind (arith, nat_tests, feed)))
+
+-- bytes up to the first line feed, that, and the bytes behind it
+pub at_feed : (bytes : List ℕ) (count : ℕ) → IsFirstByte (is_byte 10) bytes (Some count) → bytes ≡ take count bytes ++ 10 ∷ drop (suc count) bytes
+at_feed bytes count h =
+    let feed : get_or bytes count 0 ≡ 10 = grind (arith, nat_tests, h.1) in
+    split_at bytes count 0 h.0.high ∙ ap (λ b. take count bytes ++ b ∷ drop (suc count) bytes) feed
+
+-- what waits behind a piece and its line feed
+pub behind_feed : (chunk : List ℕ) (at end count : ℕ) → at + count + 1 ≤ end
+    → drop (suc count) (take (end - at) (drop at chunk)) ≡ take (end - (at + (count + 1))) (drop (at + (count + 1)) chunk)
+behind_feed chunk at end count within =
+    let left : end - at ≡ suc count + (end - (at + (count + 1))) = omega arith in
+    let next : at + suc count ≡ at + (count + 1) = omega arith in
+    ap (λ n. drop (suc count) (take n (drop at chunk))) left
+    ∙ (drop-take (suc count) (end - (at + (count + 1))) (drop at chunk)
+    ∙ (ap (λ l. take (end - (at + (count + 1))) l) (drop-drop (suc count) at chunk)
+    ∙ ap (λ n. take (end - (at + (count + 1))) (drop n chunk)) next))
+
+-- what waits in the chunk is cut at its first line feed
+pub cuts_waiting : (old next : Inflow) (chunk : List ℕ) (at end count : ℕ)
+    → old.pending ≡ take (end - at) (drop at chunk) → at ≤ end → end ≤ length chunk
+    → IsFirstByte (is_byte 10) (take (end - at) (drop at chunk)) (Some count)
+    → next.pending ≡ take (end - (at + (count + 1))) (drop (at + (count + 1)) chunk)
+    → next.taken ≡ old.taken + (count + 1) → next.taken ≤ most_bytes
+    → CutsLine old [] (take count (take (end - at) (drop at chunk))) next
+cuts_waiting old next chunk at end count pending low high first rest taken within =
+    let bytes = take (end - at) (drop at chunk) in
+    let room : end - at ≤ length (drop at chunk) = omega (arith, length-drop at chunk) in
+    let size : length bytes ≡ end - at = length-take-le (end - at) (drop at chunk) room in
+    let few : at + count + 1 ≤ end = omega (arith, first.0.high, size, low) in
+    let short : length (take count bytes) ≡ count = length-take-le count bytes (omega (arith, first.0.high)) in
+    record {
+      bytes = append-nil old.pending ∙ (pending ∙ (at_feed bytes count first ∙ ap (λ l. take count bytes ++ 10 ∷ l) (behind_feed chunk at end count few ∙ sym rest)));
+      one = before_feed bytes count first;
+      taken = omega (arith, taken, short);
+      within = within;
+    }
+
+-- what waits has no line feed, and is taken whole
+pub takes_waiting : (old next : Inflow) (chunk : List ℕ) (at end : ℕ) (so_far kept : List ℕ) (is_long : Bool)
+    → old.pending ≡ take (end - at) (drop at chunk)
+    → IsFirstByte (is_byte 10) (take (end - at) (drop at chunk)) None
+    → KeepsLine (so_far ++ take (end - at) (drop at chunk)) kept is_long
+    → next.pending ≡ take (end - end) (drop end chunk)
+    → next.taken ≡ old.taken + length (take (end - at) (drop at chunk)) → next.taken ≤ most_bytes
+    → TakesPiece old so_far (pieces.More is_long) kept next
+takes_waiting old next chunk at end so_far kept is_long pending without keeps rest taken within =
+    let none : end - end ≡ 0 = omega arith in (
+      subst IsOneLine (sym pending) (without_feed (take (end - at) (drop at chunk)) without),
+      rest ∙ ap (λ n. take n (drop end chunk)) none,
+      subst (λ l. KeepsLine (so_far ++ l) kept is_long) (sym pending) keeps,
+      omega (arith, taken, ap length pending),
+      within,
+    )
+
+moved_cut : (old mid new : Inflow) (given piece : List ℕ) → mid.pending ≡ old.pending ++ given → mid.taken ≡ old.taken → CutsLine mid [] piece new → CutsLine old given piece new
+moved_cut old mid new given piece pending taken cut = record {
+  bytes = sym pending ∙ (sym (append-nil mid.pending) ∙ cut.bytes);
+  one = cut.one;
+  taken = omega (arith, cut.taken, taken);
+  within = cut.within;
+}
+
+-- a piece of what waits behind a read is a piece of what was pending and given
+pub gives_read : (old mid new : Inflow) (given so_far kept : List ℕ) (piece : Piece) (rest : Option (List ℕ))
+    → mid.pending ≡ old.pending ++ given → 0 < length mid.pending → mid.taken ≡ old.taken
+    → TakesPiece mid so_far piece kept new → GivesPiece old given so_far piece kept new rest
+gives_read old mid new given so_far kept pieces.Whole rest pending some taken takes =
+    (takes.0, moved_cut old mid new given takes.0 pending taken takes.1, takes.2)
+gives_read old mid new given so_far kept pieces.TooLong rest pending some taken takes =
+    (takes.0, moved_cut old mid new given takes.0 pending taken takes.1, takes.2)
+gives_read old mid new given so_far kept (pieces.More is_long) rest pending some taken takes =
+    let (one, none, keeps, grown, within) = takes in (
+      subst IsOneLine pending one,
+      none,
+      subst (λ l. KeepsLine (so_far ++ l) kept is_long) pending keeps,
+      omega (arith, grown, taken, ap length pending),
+      within,
+      omega (arith, grown, taken, some),
+    )
+gives_read old mid new given so_far kept pieces.End rest pending some taken takes = absurd takes
+gives_read old mid new given so_far kept pieces.Fault rest pending some taken takes = absurd takes
+gives_read old mid new given so_far kept pieces.Limit rest pending some taken takes = omega (arith, takes, taken, ap length pending)

@@ -3,7 +3,6 @@ use denote.RattleType.{RattleType}
 use denote.Param.Send.{IsSend, IsSync, Frees, sendable, struct_send, recorded_send, view_send, view_sync, struct_sync, recorded_sync}
 use denote.Struct.Declared.{shape}
 use Rattle.std.specs.declared.alloc.Allocator.{Ghosts}
-use Rattle.std.proofs.CrossingOver.{crosses}
 use Rattle.std.proofs.Crossing.{crosses as locks}
 use Rattle.std.specs.declared.sync.ledger.Ledger.{Ghosts as LedgerGhosts}
 use Rattle.std.proofs.sync.ledger.Book.TheSendSync as Tallied

@@ -7,9 +7,11 @@ use Rattle.vault_sessions.specs.declared.inlet.NextByte.{NextByte}
 use Rattle.vault_sessions.specs.declared.inlet.NextByte.TheVariants as bytes
 use Rattle.vault_sessions.specs.declared.inlet.NextLine.{NextLine}
 use Rattle.vault_sessions.specs.declared.inlet.NextLine.TheVariants as lines
+use Rattle.vault_sessions.specs.declared.inlet.Piece.{Piece}
+use Rattle.vault_sessions.specs.declared.inlet.Piece.TheVariants as pieces
 use Rattle.vault_sessions.specs.declared.inlet.Filled.{Filled}
 use Rattle.vault_sessions.specs.declared.inlet.Filled.TheVariants as filled
-use Rattle.vault_sessions.specs.declared.inlet.TheConstants.{MOST_BYTES}
+use Rattle.vault_sessions.specs.declared.inlet.TheConstants.{MOST_BYTES, CHUNK}
 use Rattle.vault_protocol.specs.declared.limits.TheConstants.{MOST_READS}
 
 -- the most bytes of a connection that are taken
@@ -19,6 +21,10 @@ most_bytes = MOST_BYTES
 -- the most calls of a connection's reader
 abbrev pub most_reads : ℕ
 most_reads = MOST_READS
+
+-- the most bytes that one read gives
+abbrev pub chunk_size : ℕ
+chunk_size = CHUNK
 
 -- no line feed is among the bytes
 abbrev pub IsOneLine : List ℕ → Type 0
@@ -53,7 +59,7 @@ GivesLine old given lines.Limit line new rest = most_bytes < old.taken + length 
 
 -- a read gave the first bytes of the chunk, none only at the end
 abbrev pub ReadsChunk : Option (List ℕ) → Option (List ℕ) → List ℕ → Option ℕ → Type 0
-ReadsChunk old new chunk (Some count) = (count ≤ length chunk) × (count ≤ 1024) × Consumes old new (take count chunk) × (count ≡ 0 → IsAtEnd new)
+ReadsChunk old new chunk (Some count) = (count ≤ length chunk) × (count ≤ chunk_size) × Consumes old new (take count chunk) × (count ≡ 0 → IsAtEnd new)
 ReadsChunk old new chunk None = (given : List ℕ) × Consumes old new given
 
 -- bytes wait now, or none is left
@@ -68,3 +74,26 @@ TakesByte old (bytes.Byte b) new = (old.pending ≡ b ∷ new.pending) × (new.t
 TakesByte old bytes.End new = ⊥
 TakesByte old bytes.Fault new = ⊥
 TakesByte old bytes.Limit new = most_bytes < old.taken + length old.pending
+
+-- What the bytes that wait gave to the line so far: its end, with the line feed behind these bytes, or all of them, none of which is
+-- a line feed; or the most bytes would be passed.
+abbrev pub TakesPiece : Inflow → List ℕ → Piece → List ℕ → Inflow → Type 0
+TakesPiece old so_far pieces.Whole kept new = (piece : List ℕ) × CutsLine old [] piece new × KeepsLine (so_far ++ piece) kept false
+TakesPiece old so_far pieces.TooLong kept new = (piece : List ℕ) × CutsLine old [] piece new × KeepsLine (so_far ++ piece) kept true
+TakesPiece old so_far (pieces.More is_long) kept new =
+    IsOneLine old.pending × (new.pending ≡ []) × KeepsLine (so_far ++ old.pending) kept is_long
+    × (new.taken ≡ old.taken + length old.pending) × (new.taken ≤ most_bytes)
+TakesPiece old so_far pieces.End kept new = ⊥
+TakesPiece old so_far pieces.Fault kept new = ⊥
+TakesPiece old so_far pieces.Limit kept new = most_bytes < old.taken + length old.pending
+
+-- the same of what was pending and what a read gave, of which there is something where no line feed is
+abbrev pub GivesPiece : Inflow → List ℕ → List ℕ → Piece → List ℕ → Inflow → Option (List ℕ) → Type 0
+GivesPiece old given so_far pieces.Whole kept new rest = (piece : List ℕ) × CutsLine old given piece new × KeepsLine (so_far ++ piece) kept false
+GivesPiece old given so_far pieces.TooLong kept new rest = (piece : List ℕ) × CutsLine old given piece new × KeepsLine (so_far ++ piece) kept true
+GivesPiece old given so_far (pieces.More is_long) kept new rest =
+    IsOneLine (old.pending ++ given) × (new.pending ≡ []) × KeepsLine (so_far ++ (old.pending ++ given)) kept is_long
+    × (new.taken ≡ old.taken + length (old.pending ++ given)) × (new.taken ≤ most_bytes) × (old.taken < new.taken)
+GivesPiece old given so_far pieces.End kept new rest = (old.pending ++ given ≡ []) × IsAtEnd rest
+GivesPiece old given so_far pieces.Fault kept new rest = Unit {0}
+GivesPiece old given so_far pieces.Limit kept new rest = most_bytes < old.taken + length (old.pending ++ given)

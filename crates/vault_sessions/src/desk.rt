@@ -12,6 +12,7 @@ ghost use Rattle.vault_sessions.specs.Pumping.{IsPumped, IsAtRest};
 ghost use Rattle.vault_sessions.specs.declared.flusher.Flushed.TheVariants as Flushed;
 
 use crate::flusher::Flushed;
+use crate::pace::Pace;
 use crate::tally::{Share, Tally};
 use group_commit::promises::a_vault_keeps_its_history;
 use group_commit::{Forgotten, Pumped, Redeemed, Ticket, Vault};
@@ -22,7 +23,7 @@ use vault_device::{Device, Fault};
 use vault_model::{CommandIn, Outside};
 
 /// A vault and the books of both tallies, of what was counted before, and whether it is closed: the flusher is to end then.
-/// Contracts see the vault, and whether it is closed.
+/// Contracts see the vault, and whether it is closed, but not when the flusher sleeps.
 #[derive(Drop)]
 pub struct Desk<D: Device, S: Tally, T: Tally, A: Allocator = Global> {
     /// The vault that all workers share.
@@ -35,6 +36,7 @@ pub struct Desk<D: Device, S: Tally, T: Tally, A: Allocator = Global> {
     pub(crate) opening: Share<S, T>,
     /// Whether the flusher is to end once all is settled.
     pub(crate) closed: bool,
+    pub(crate) pace: Pace,
 }
 
 impl<D: Device, S: Tally, T: Tally, A: Allocator> Model for Desk<D, S, T, A> {
@@ -123,11 +125,48 @@ impl<D: Device, S: Tally, T: Tally, A: Allocator + Copy> Desk<D, S, T, A> {
 }
 
 impl<D: Device, S: Tally, T: Tally, A: Allocator + Copy> Desk<D, S, T, A> {
-    // How many commands were staged.
-    pub(crate) fn len(&self) -> u64
-        ensures { result ≡ length_of self.now.vault.view }
+    // How many entries aren't settled.
+    pub(crate) fn waiting(&self) -> u64 {
+        self.vault.len().saturating_sub(self.vault.durable())
+    }
+
+    // A command was staged that may change the vault, or doesn't. Whether the flusher sleeps and has to be woken.
+    pub(crate) fn wakes_flusher(&mut self, may_change: bool) -> bool
+        ensures { self.new ≡ self.old }
     {
-        self.vault.len()
+        let waiting = self.waiting();
+        self.pace.staged(waiting, may_change)
+    }
+
+    // Whether the flusher sleeps, since there is nothing to pump and more may come.
+    pub(crate) fn rests(&mut self) -> bool
+        ensures { self.new ≡ self.old }
+    {
+        let is_quiet = self.is_quiet();
+        self.pace.sleeps(is_quiet, 1)
+    }
+
+    // Whether the flusher waits for those whom the last commit told.
+    pub(crate) fn gathers(&mut self) -> bool
+        ensures { self.new ≡ self.old }
+    {
+        if self.closed || self.vault.is_broken() {
+            return false;
+        }
+        let waiting = self.waiting();
+        self.pace.gathers(waiting)
+    }
+
+    // Does the next step of a commit, and keeps how many entries waited.
+    pub(crate) fn pump_on(&mut self) -> Result<Pumped, Fault>
+        ensures pumped { IsPumped self.old.vault result self.new.vault }
+        ensures open { self.new.closed ≡ self.old.closed }
+        ensures next { IsNext D.disk self.old.vault self.new.vault }
+    {
+        let waiting = self.waiting();
+        let pumped = self.pump();
+        self.pace.pumped(waiting, pumped);
+        pumped
     }
 
     /// Whether there is nothing to pump, and more may come.

@@ -1,12 +1,13 @@
 //! The flusher commits what the workers staged.
 
 use crate::gate::{Gate, Point};
+use crate::pace::{Commit, LOOKS};
 use crate::shared::Shared;
 use crate::tally::Tally;
 use group_commit::Pumped;
 use std::alloc::Allocator;
 use std::sync::Wait;
-use std::thread;
+use std::time::{Clock, Instant};
 use vault_device::Device;
 
 /// Why a flusher ended.
@@ -19,54 +20,92 @@ pub enum Flushed {
 }
 
 /// Pumps while something is unsettled and waits else, until the desk is closed or the vault is broken. The lock is held for one
-/// pump at a time, which makes at most one device call, and workers are woken only where a pump settled entries or failed.
-pub fn run_flusher<D: Device, S: Tally, T: Tally, A: Allocator + Copy, G: Gate, H: Wait>(
+/// pump at a time, which makes at most one device call, and workers are woken only where a pump settled entries or failed. Before
+/// a commit it waits for those whom the last one told, for a small part of the time that this one took.
+pub fn run_flusher<D: Device, S: Tally, T: Tally, A: Allocator + Copy, G: Gate, H: Wait + Clock>(
     rt: &H,
     shared: &Shared<D, S, T, A>,
     gate: &G,
 ) -> Flushed {
-    let mut is_first_step = true;
+    let flusher = Flusher { rt, shared, gate };
+    let mut last = Commit::none();
     for _ in rt.forever() {
-        if let Some(flushed) = wait_for_work(rt, shared) {
+        flusher.wait_for_group(&last);
+        if let Some(flushed) = flusher.wait_for_work() {
             return flushed;
         }
-        gate.at(Point::Pump);
-        if is_first_step {
-            let_others_stage(rt, shared);
-        }
-        let pumped = shared.desk.lock(rt).pump();
-        is_first_step = pumped != Ok(Pumped::Moved);
-        if is_first_step {
-            shared.settled.notify_all();
+        if let Some(commit) = flusher.settle() {
+            last = commit;
         }
     }
     unreachable!()
 }
 
-// Waits until there is something to pump, and then answers none.
-fn wait_for_work<D: Device, S: Tally, T: Tally, A: Allocator + Copy, H: Wait>(
-    rt: &H,
-    shared: &Shared<D, S, T, A>,
-) -> Option<Flushed> {
-    let desk = shared
-        .work
-        .wait_while(rt, shared.desk.lock(rt), |desk| desk.is_quiet());
-    desk.flushed()
+// A flusher, with what it works on.
+#[derive(Drop)]
+struct Flusher<'a, D: Device, S: Tally, T: Tally, A: Allocator, G: Gate, H> {
+    rt: &'a H,
+    shared: &'a Shared<D, S, T, A>,
+    gate: &'a G,
 }
 
-// Lets workers that are about to stage go first, so that they share the commit: looks again while commands come, at most as often
-// as there are workers.
-fn let_others_stage<D: Device, S: Tally, T: Tally, A: Allocator + Copy, H: Wait>(
-    rt: &H,
-    shared: &Shared<D, S, T, A>,
-) {
-    let mut staged = shared.desk.lock(rt).len();
-    for _ in 0..shared.workers() {
-        thread::yield_now();
-        let now = shared.desk.lock(rt).len();
-        if now == staged {
-            return;
+impl<D: Device, S: Tally, T: Tally, A: Allocator + Copy, G: Gate, H: Wait + Clock> Flusher<
+    '_,
+    D,
+    S,
+    T,
+    A,
+    G,
+    H,
+> {
+    // Waits until as many entries wait as did when the last commit ended, and goes on without those that don't come: it ends at the
+    // first look at which no more wait than at the look before.
+    fn wait_for_group(&self, last: &Commit) {
+        let shared = self.shared;
+        let mut seen = 0;
+        for look in 1..LOOKS + 1 {
+            let Some(left) = last.left(self.rt, look) else {
+                continue;
+            };
+            let desk = shared.desk.lock(self.rt);
+            let (desk, waited) = shared
+                .work
+                .wait_timeout_while(self.rt, desk, left, |desk| desk.gathers());
+            let waiting = desk.waiting();
+            if !waited.timed_out() || waiting <= seen {
+                return;
+            }
+            seen = waiting;
         }
-        staged = now;
+    }
+
+    // Waits until there is something to pump, and then answers none.
+    fn wait_for_work(&self) -> Option<Flushed> {
+        let shared = self.shared;
+        let desk = shared.desk.lock(self.rt);
+        let desk = shared.work.wait_while(self.rt, desk, |desk| desk.rests());
+        desk.flushed()
+    }
+
+    // Pumps until entries are settled, or a device call failed, and wakes the workers. The commit that it made, where it called the
+    // device.
+    fn settle(&self) -> Option<Commit> {
+        let shared = self.shared;
+        let began = Instant::now(self.rt).ok();
+        let mut was_moved = false;
+        for _ in self.rt.forever() {
+            self.gate.at(Point::Pump);
+            let pumped = shared.desk.lock(self.rt).pump_on();
+            if pumped != Ok(Pumped::Moved) {
+                break;
+            }
+            was_moved = true;
+        }
+        shared.settled.notify_all();
+        if was_moved {
+            Some(Commit::since(self.rt, began))
+        } else {
+            None
+        }
     }
 }

@@ -4,8 +4,9 @@ ghost use Rattle.std.specs.Prelude.{◌≡◌, ◌+◌, ◌≤◌, ◌<◌, List
 ghost use Rattle.std.specs.Io.KnownBytes.{Consumes, IsAtEnd};
 ghost use Rattle.vault_protocol.specs.Limits.{longest_line};
 ghost use Rattle.vault_sessions.specs.Inflow.{Inflow};
-ghost use Rattle.vault_sessions.specs.Incoming.{most_bytes, most_reads, GivesByte, GivesLine, KeepsLine, ReadsChunk, Fills, TakesByte};
+ghost use Rattle.vault_sessions.specs.Incoming.{most_bytes, most_reads, GivesByte, GivesLine, GivesPiece, KeepsLine, ReadsChunk, Fills, TakesByte, TakesPiece};
 
+use memchr::memchr;
 use std::alloc::Allocator;
 use std::io::{ErrorKind, Read};
 use std::marker::Model;
@@ -14,8 +15,8 @@ use vault_protocol::{LONGEST_LINE, MOST_READS};
 // The most bytes of a connection that are taken. It ends at the first one behind them.
 const MOST_BYTES: u64 = 16_777_216;
 
-// How many bytes a read may give.
-const CHUNK: usize = 1024;
+// How many bytes a read may give: nearly any line comes by one read.
+const CHUNK: usize = 4096;
 
 /// What comes next.
 #[derive(Debug, Clone, Copy, PartialEq, Eq)]
@@ -26,6 +27,22 @@ pub(crate) enum NextByte {
     /// The reader failed, or was called too often.
     Fault,
     /// There is a byte, but too many were taken.
+    Limit,
+}
+
+// What the bytes that wait gave to the line.
+enum Piece {
+    /// Its end: it lies in the buffer.
+    Whole,
+    /// Its end, but it has too many bytes.
+    TooLong,
+    /// No line feed. Whether it has too many bytes by now.
+    More(bool),
+    /// The reader has no more.
+    End,
+    /// The reader failed, or was called too often.
+    Fault,
+    /// Too many bytes would be taken.
     Limit,
 }
 
@@ -62,14 +79,14 @@ pub(crate) struct Inlet {
 impl Model for Inlet {
     ghost use Rattle.std.specs.Prelude.{◌-◌, ◌≤◌, take, drop};
     ghost use Rattle.vault_sessions.specs.Inflow.{Inflow};
-    ghost use Rattle.vault_sessions.specs.Incoming.{most_bytes, most_reads};
+    ghost use Rattle.vault_sessions.specs.Incoming.{most_bytes, most_reads, chunk_size};
 
     ghost Value = { Inflow };
 
     ghost view = { λ i. record { pending = take (i.end - i.at) (drop i.at i.chunk); taken = i.taken } };
 
     // Invariant 6 of lib.rt.
-    ghost invariant = { λ i. (i.at ≤ i.end) × (i.end ≤ 1024) × (i.taken ≤ most_bytes) × (i.reads ≤ most_reads) };
+    ghost invariant = { λ i. (i.at ≤ i.end) × (i.end ≤ chunk_size) × (i.taken ≤ most_bytes) × (i.reads ≤ most_reads) };
 }
 
 impl Inlet {
@@ -131,6 +148,59 @@ impl Inlet {
         NextByte::Byte(byte)
     }
 
+    // Takes what waits into the line, up to its line feed.
+    fn take_piece<A: Allocator>(&mut self, line: &mut Vec<u8, A>, is_long: bool) -> Piece
+        requires room { longest_line ≤ vec_capacity line.old }
+        ensures room { vec_capacity line.old ≤ vec_capacity line.new }
+        ensures taken { (so_far : List ℕ) → KeepsLine so_far line.old.items is_long → TakesPiece self.old so_far result line.new.items self.new }
+    {
+        let waiting = &self.chunk[self.at..self.end];
+        let left = MOST_BYTES - self.taken;
+        match memchr(b'\n', waiting) {
+            Some(count) => {
+                if left <= count as u64 {
+                    return Piece::Limit;
+                }
+                let is_long = keep(line, is_long, &waiting[..count]);
+                self.at += count + 1;
+                self.taken += count as u64 + 1;
+                if is_long {
+                    return Piece::TooLong;
+                }
+                Piece::Whole
+            }
+            None => {
+                let count = waiting.len() as u64;
+                if left < count {
+                    return Piece::Limit;
+                }
+                let is_long = keep(line, is_long, waiting);
+                self.at = self.end;
+                self.taken += count;
+                Piece::More(is_long)
+            }
+        }
+    }
+
+    // The next piece of a line. Reads where nothing waits.
+    fn next_piece<R: Read, A: Allocator>(
+        &mut self,
+        reader: &mut R,
+        line: &mut Vec<u8, A>,
+        is_long: bool,
+    ) -> Piece
+        requires room { longest_line ≤ vec_capacity line.old }
+        ensures room { vec_capacity line.old ≤ vec_capacity line.new }
+        ensures given { (so_far : List ℕ) → KeepsLine so_far line.old.items is_long → (given : List ℕ) × Consumes (R.remaining reader.old) (R.remaining reader.new) given
+            × GivesPiece self.old given so_far result line.new.items self.new (R.remaining reader.new) }
+    {
+        match self.fill(reader) {
+            Filled::Waiting => self.take_piece(line, is_long),
+            Filled::End => Piece::End,
+            Filled::Fault => Piece::Fault,
+        }
+    }
+
     /// The next line, into a buffer that has room for the longest. Of a longer one all bytes are taken.
     pub fn next_line<R: Read, A: Allocator>(
         &mut self,
@@ -140,34 +210,33 @@ impl Inlet {
         requires { longest_line ≤ vec_capacity line.old }
         ensures line { (given : List ℕ) × Consumes (R.remaining reader.old) (R.remaining reader.new) given
             × GivesLine self.old given result line.new.items self.new (R.remaining reader.new) }
-        ensures room { vec_capacity line.new ≡ vec_capacity line.old }
+        ensures room { vec_capacity line.old ≤ vec_capacity line.new }
     {
         line.clear();
         let mut is_long = false;
         loop {
-            match self.next_byte(reader) {
-                NextByte::Byte(b'\n') if is_long => return NextLine::TooLong,
-                NextByte::Byte(b'\n') => return NextLine::Whole,
-                NextByte::Byte(byte) => is_long = keep(line, is_long, byte),
-                NextByte::End => return NextLine::End,
-                NextByte::Fault => return NextLine::Fault,
-                NextByte::Limit => return NextLine::Limit,
+            match self.next_piece(reader, line, is_long) {
+                Piece::Whole => return NextLine::Whole,
+                Piece::TooLong => return NextLine::TooLong,
+                Piece::More(is_longer) => is_long = is_longer,
+                Piece::End => return NextLine::End,
+                Piece::Fault => return NextLine::Fault,
+                Piece::Limit => return NextLine::Limit,
             }
         }
     }
 }
 
-// Puts one more byte to the line, while it isn't too long. Answers whether it is.
-fn keep<A: Allocator>(line: &mut Vec<u8, A>, is_long: bool, byte: u8) -> bool
+// Puts more bytes to the line, while it isn't too long. Answers whether it is.
+fn keep<A: Allocator>(line: &mut Vec<u8, A>, is_long: bool, piece: &[u8]) -> bool
     requires { longest_line ≤ vec_capacity line.old }
-    ensures room { vec_capacity line.new ≡ vec_capacity line.old }
-    ensures kept { (so_far : List ℕ) → KeepsLine so_far line.old.items is_long → KeepsLine (so_far ++ byte ∷ []) line.new.items result }
+    ensures room { vec_capacity line.old ≤ vec_capacity line.new }
+    ensures kept { (so_far : List ℕ) → KeepsLine so_far line.old.items is_long → KeepsLine (so_far ++ piece.now) line.new.items result }
 {
-    if is_long || line.len() >= LONGEST_LINE {
+    if is_long || piece.len() > LONGEST_LINE.saturating_sub(line.len()) {
         return true;
     }
-    line.push_reserved(byte);
-    false
+    line.extend_from_slice(piece).is_err()
 }
 
 // Whether bytes wait.

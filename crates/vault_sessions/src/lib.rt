@@ -15,12 +15,13 @@
 //! 5. `Share`: it has one part of each ledger, which counts what the share says.
 //! 6. `Inlet`: what waits lies within the chunk, and no more bytes and reads were taken than may be.
 //!
-//! Only tested: two sessions share a frame; a second one is answered while the first waits; the flusher stays until it is
-//! closed; one pump a holding; a round over TCP; a client that reads late is told all; a silent one is ended after the idle
-//! time; an accept fault; a full history; each request of `Shared::new` and `serve_one` for memory, refused.
+//! Only tested: two sessions share a frame; a second one is answered while the first waits; the flusher waits for a client
+//! that comes back, goes on without one that doesn't, and stays until it is closed; one pump a holding; a round over TCP; a
+//! client that reads late is told all; a silent one is ended after the idle time; an accept fault; a full history; each
+//! request of `Shared::new` and `serve_one` for memory, refused.
 //! Neither: that anybody is served or woken; fairness, time; what the channel of connections delivers, and what a TCP peer gets;
 //! whom a name belongs to; `run_server` under refused memory.
-//! Start at: desk.rt (what is done under the lock), serve.rt (one connection), flusher.rt, server.rt.
+//! Start at: desk.rt (what is done under the lock), serve.rt (one connection), flusher.rt and pace.rt (when), server.rt.
 #![tactic(auto)]
 
 mod desk;
@@ -28,6 +29,7 @@ mod flusher;
 mod gate;
 mod inlet;
 mod outlet;
+mod pace;
 mod report;
 mod serve;
 mod server;

@@ -11,6 +11,7 @@ ghost use Rattle.vault_sessions.specs.declared.report.Ended.{Ended};
 use crate::gate::{Gate, Point};
 use crate::inlet::{Inlet, NextByte, NextLine};
 use crate::outlet::write_text;
+use crate::pace::may_change;
 use crate::report::{Ended, Out, Report};
 use crate::shared::Shared;
 use crate::tally::{Share, Tally};
@@ -143,7 +144,7 @@ impl<D: Device, S: Tally, T: Tally, A: Allocator + Copy, G: Gate, H: Wait> Worke
         share: &mut Share<S, T>,
     ) -> Result<Out<A>, Ended>
         requires { longest_line ≤ vec_capacity line.old }
-        ensures room { vec_capacity line.new ≡ vec_capacity line.old }
+        ensures room { vec_capacity line.old ≤ vec_capacity line.new }
         ensures heard { (start : Option (List ℕ)) (outs : List (Out A)) → HeardSoFar start (R.remaining reader.old) inlet.old outs
             → MatchResult result (λ out. HeardSoFar start (R.remaining reader.new) inlet.new (outs ++ out ∷ [])) (λ ended. HeardAll start (R.remaining reader.new) outs ended) }
         ensures spoken { IfOk result (IsOf session) }
@@ -202,7 +203,7 @@ impl<D: Device, S: Tally, T: Tally, A: Allocator + Copy, G: Gate, H: Wait> Worke
         }
     }
 
-    // Stages a command, and wakes the flusher.
+    // Stages a command, and wakes the flusher where it sleeps.
     fn stage(
         &self,
         session: u32,
@@ -213,10 +214,15 @@ impl<D: Device, S: Tally, T: Tally, A: Allocator + Copy, G: Gate, H: Wait> Worke
         ensures err { IfErr result (λ outside. (outside ≢ Outside.BadLine) × (share.new ≡ share.old)) }
     {
         let shared = self.shared;
-        let staged = shared.desk.lock(self.rt).stage(session, command, share);
-        match staged {
+        let may_change = may_change(&command);
+        let mut desk = shared.desk.lock(self.rt);
+        match desk.stage(session, command, share) {
             Ok(ticket) => {
-                shared.work.notify_all();
+                let wakes = desk.wakes_flusher(may_change);
+                drop(desk);
+                if wakes {
+                    shared.work.notify_one();
+                }
                 Ok(ticket)
             }
             Err((outside, _command)) => Err(outside),

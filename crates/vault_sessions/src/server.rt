@@ -5,9 +5,8 @@ ghost use Rattle.group_commit.specs.View.{length_of};
 ghost use Rattle.vault_sessions.specs.Tallies.{HasGrown};
 ghost use denote.Param.Send.{Frees};
 
-use crate::flusher::run_flusher;
+use crate::flusher::{Flushed, run_flusher};
 use crate::gate::Gate;
-use crate::report::Ended;
 use crate::serve::serve_one;
 use crate::shared::{Shared, gather};
 use crate::stream::{give_up, prepare};
@@ -19,16 +18,24 @@ use std::marker::Brand;
 use std::net::{TcpListener, TcpStream};
 use std::sync::Wait;
 use std::sync::ledger::Blank;
-use std::thread;
 use std::thread::{JoinHandle, Scope, Threads};
 use std::time::{Clock, Duration};
+use std::{io, thread};
 use thiserror::Error;
 use vault_device::Device;
+
+// How many accepts may fail in a row, and for how many milliseconds the server rests behind each.
+const MOST_FAULTS: u32 = 20;
+
+const REST: u64 = 50;
+
+// The system's numbers of a want of memory, of descriptors of all programs, of descriptors of this one, and of buffers.
+const WANTS: [i32; 4] = [libc::ENOMEM, 23, libc::EMFILE, 105];
 
 /// Why a server stopped.
 #[derive(Debug, Clone, Copy, PartialEq, Eq, Error)]
 pub enum ServerError {
-    /// A connection can't be accepted.
+    /// Connections can't be accepted for good.
     #[error("read fault")]
     Accept,
     /// Memory was wanted and refused, or a thread can't be started.
@@ -167,7 +174,7 @@ impl<
     S: Tally + Send + Sync,
     T: Tally + Send + Sync,
 > Server<'_, D, A, G, H, S, T> {
-    // Starts the threads, hands the connections out, and joins the threads.
+    // Serves by threads of its own, all of which have ended when it returns.
     fn serve_all(
         &self,
         shares: Vec<Share<S, T>, A>,
@@ -176,7 +183,25 @@ impl<
     ) -> Result<Vec<Share<S, T>, A>, ServerError>
         requires { Frees A.Allocator A.dealloc_token }
     {
-        let (rt, shared, gate) = (self.rt, self.shared, self.gate);
+        thread::scope(
+            thread::scope_env(),
+            self.rt,
+            |scope| -> Result<Vec<Share<S, T>, A>, ServerError>
+                requires { IsSend D.row × IsSend A.row × IsSync A.row × Frees A.Allocator A.dealloc_token × IsSync G.row × IsSync H.row × IsSend S.row × IsSync S.row × IsSend T.row × IsSync T.row }
+            { self.serve_within(scope, shares, listener, terms) },
+        )
+    }
+
+    // Starts the threads, hands the connections out, and joins the threads.
+    fn serve_within<'s, E>(
+        &'s self,
+        scope: &'s Scope<'s, E>,
+        shares: Vec<Share<S, T>, A>,
+        listener: &TcpListener,
+        terms: &Terms,
+    ) -> Result<Vec<Share<S, T>, A>, ServerError>
+        requires { Frees A.Allocator A.dealloc_token }
+    {
         let count = shares.len();
         let Ok((sender, receiver)) = bounded::<Connection, A>(self.alloc, count) else {
             return Err(ServerError::NoMemory);
@@ -186,26 +211,26 @@ impl<
         if running.reserve(count).is_err() || returned.reserve(count).is_err() {
             return Err(ServerError::NoMemory);
         }
-        thread::scope(
-            thread::scope_env(),
-            rt,
-            |scope| -> Result<Vec<Share<S, T>, A>, ServerError>
-                requires { IsSend D.row × IsSend A.row × IsSync A.row × Frees A.Allocator A.dealloc_token × IsSync G.row × IsSync H.row × IsSend S.row × IsSync S.row × IsSend T.row × IsSync T.row }
-            {
-                let Ok(flusher) = scope.spawn(move || run_flusher(rt, shared, gate)) else {
-                    return Err(ServerError::NoMemory);
-                };
-                let started = self.start_all(scope, &receiver, shares, &mut running);
-                drop(receiver);
-                let accepted = started.and_then(|()| accept_all(rt, listener, &sender, terms));
-                drop(sender);
-                join_all(rt, running, &mut returned);
-                shared.close(rt);
-                flusher.join(rt);
-                accepted?;
-                Ok(returned)
-            },
-        )
+        let Some(flusher) = self.start_flusher(scope) else {
+            return Err(ServerError::NoMemory);
+        };
+        let started = self.start_all(scope, &receiver, shares, &mut running);
+        drop(receiver);
+        let accepted = started.and_then(|()| accept_all(self.rt, listener, &sender, terms));
+        drop(sender);
+        join_all(self.rt, running, &mut returned);
+        self.shared.close(self.rt);
+        flusher.join(self.rt);
+        accepted?;
+        Ok(returned)
+    }
+
+    // Starts the flusher, unless there is no memory for it.
+    fn start_flusher<'s, E>(&'s self, scope: &'s Scope<'s, E>) -> Option<JoinHandle<Flushed>>
+        requires { Frees A.Allocator A.dealloc_token }
+    {
+        let (rt, shared, gate) = (self.rt, self.shared, self.gate);
+        scope.spawn(move || run_flusher(rt, shared, gate)).ok()
     }
 
     // Starts a worker for each share, into the room that was taken for them, unless there is no memory for one.
@@ -238,9 +263,45 @@ impl<
     {
         let receiver = receiver.clone().ok()?;
         let (rt, alloc, shared, gate) = (self.rt, self.alloc, self.shared, self.gate);
-        scope
-            .spawn(move || work(rt, alloc, shared, gate, receiver, share))
-            .ok()
+        let work = move || {
+            let server = Server {
+                rt,
+                alloc,
+                shared,
+                gate,
+            };
+            server.work(receiver, share)
+        };
+        scope.spawn(work).ok()
+    }
+
+    // Serves connections until there are no more.
+    fn work(&self, receiver: Receiver<Connection, A>, share: Share<S, T>) -> Share<S, T> {
+        let mut share = share;
+        for _ in self.rt.forever() {
+            let Ok(connection) = receiver.recv(self.rt) else {
+                break;
+            };
+            share = self.serve(&connection, share);
+        }
+        share
+    }
+
+    // Serves a connection, and gives it up.
+    fn serve(&self, connection: &Connection, share: Share<S, T>) -> Share<S, T> {
+        let stream = &connection.stream;
+        let report = serve_one(
+            self.rt,
+            self.alloc,
+            self.shared,
+            self.gate,
+            connection.number,
+            &mut &*stream,
+            &mut &*stream,
+            share,
+        );
+        give_up(self.rt, stream, report.ended);
+        report.share
     }
 }
 
@@ -256,56 +317,43 @@ fn join_all<A: Allocator, H: Threads, S: Tally, T: Tally>(
 }
 
 // Hands connections out until there were enough, or no more can be accepted.
-fn accept_all<A: Allocator, H: Wait>(
+fn accept_all<A: Allocator, H: Wait + Clock>(
     rt: &H,
     listener: &TcpListener,
     sender: &Sender<Connection, A>,
     terms: &Terms,
 ) -> Result<(), ServerError> {
-    let most = terms.connections.map_or(usize::MAX, |most| most as usize);
     let mut number = 0u32;
-    for stream in listener.incoming().take(most) {
+    let mut faults = 0u32;
+    if terms.connections == Some(0) {
+        return Ok(());
+    }
+    for stream in listener.incoming() {
         let Ok(stream) = stream else {
-            return Err(ServerError::Accept);
+            faults = faults.saturating_add(1);
+            rest(rt, stream, faults)?;
+            continue;
         };
-        prepare(&stream, terms.idle);
+        faults = 0;
         number = number.wrapping_add(1);
+        prepare(&stream, terms.idle);
         if sender.send(rt, Connection { number, stream }).is_err() {
             return Err(ServerError::NoMemory);
+        }
+        if terms.connections == Some(number) {
+            return Ok(());
         }
     }
     Ok(())
 }
 
-// Serves connections until there are no more.
-fn work<D: Device, A: Allocator + Copy, G: Gate, H: Wait + Clock, S: Tally, T: Tally>(
-    rt: &H,
-    alloc: A,
-    shared: &Shared<D, S, T, A>,
-    gate: &G,
-    receiver: Receiver<Connection, A>,
-    share: Share<S, T>,
-) -> Share<S, T> {
-    let mut share = share;
-    for _ in rt.forever() {
-        let Ok(Connection { number, stream }) = receiver.recv(rt) else {
-            break;
-        };
-        let report = serve_one(
-            rt,
-            alloc,
-            shared,
-            gate,
-            number,
-            &mut &stream,
-            &mut &stream,
-            share,
-        );
-        share = report.share;
-        // At the other ends there is nothing unread, or nobody who reads.
-        if matches!(report.ended, Ended::Quit | Ended::Limit | Ended::NoMemory) {
-            give_up(rt, &stream);
-        }
+// Rests behind an accept that failed, so many times in a row, unless it fails for good. Descriptors and memory, where these are short,
+// come free with other connections, so that is waited for as long as it takes.
+fn rest<H: Clock>(rt: &H, stream: io::Result<TcpStream>, faults: u32) -> Result<(), ServerError> {
+    let code = stream.err().and_then(|error| error.raw_os_error());
+    if faults > MOST_FAULTS && !code.is_some_and(|code| WANTS.contains(&code)) {
+        return Err(ServerError::Accept);
     }
-    share
+    thread::sleep(rt, Duration::from_millis(REST));
+    Ok(())
 }

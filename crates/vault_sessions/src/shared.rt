@@ -3,6 +3,7 @@ ghost use Rattle.std.specs.Prelude.{◌≡◌, ◌+◌, ◌<◌, ◌≤◌, ◌^
 ghost use Rattle.group_commit.specs.View.{length_of};
 
 use crate::desk::Desk;
+use crate::pace::Pace;
 use crate::tally::{Share, Tally, Totals};
 use group_commit::Vault;
 use std::alloc::{AllocError, Allocator, Global};
@@ -77,6 +78,7 @@ impl<D: Device, S: Tally, T: Tally, A: Allocator + Copy> Shared<D, S, T, A> {
                 told: told_rest,
             },
             closed: false,
+            pace: Pace::new(),
         };
         let shared = Shared {
             desk: Mutex::new(desk),
@@ -92,13 +94,6 @@ impl<D: Device, S: Tally, T: Tally, A: Allocator + Copy> Shared<D, S, T, A> {
     pub fn close<H: Wait>(&self, rt: &H) {
         self.desk.lock(rt).close();
         self.work.notify_all();
-    }
-
-    // How many shares were given out.
-    pub(crate) fn workers(&self) -> usize
-        ensures { result ≡ self.now }
-    {
-        self.workers
     }
 }
 
@@ -166,6 +161,7 @@ fn merge<D: Device, S: Tally, T: Tally, A: Allocator + Copy>(
         told,
         opening,
         closed: _,
+        pace: _,
     } = desk;
     let _length = vault.len();
     let _told = vault.told();

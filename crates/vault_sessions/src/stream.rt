@@ -2,6 +2,7 @@
 
 ghost use Rattle.libc.specs.Net.{SockOption};
 
+use crate::report::Ended;
 use libc::net as c;
 use std::io::{ErrorKind, Read};
 use std::net::{Shutdown, TcpStream};
@@ -15,12 +16,16 @@ const ASKED_AGAIN: u8 = 10;
 
 const ASKED: u8 = 6;
 
-// How many seconds are waited for a client's further bytes once no more is answered, in all and at a time, and how many reads there are.
+// How many seconds are waited for a client's further bytes once no more is answered, and how many reads there are.
 const LONGEST_WAIT: u64 = 5;
 
-const WAIT: u64 = 1;
-
 const MOST_CHUNKS: u32 = 4096;
+
+// For how many milliseconds nothing may come: from a client that may be about to send more, and from one that has quit and sent nothing
+// since.
+const WAIT: u64 = 1000;
+
+const WAIT_BEHIND_QUIT: u64 = 100;
 
 // Sets an option of a connection to a small number. The kernel may refuse it, and nothing depends on it.
 fn set(stream: &TcpStream, level: i32, option: i32, number: u8)
@@ -48,13 +53,23 @@ pub(crate) fn prepare(stream: &TcpStream, idle: Option<Duration>) {
     keep_alive(stream);
 }
 
-/// Says that no more comes, and throws away what the client still sends, for some seconds at most and 16 MiB. A connection that is
-/// dropped with bytes unread is reset, and then a client that reads late loses replies that were written.
-pub(crate) fn give_up(clock: &impl Clock, stream: &TcpStream) {
+/// Gives a connection up that ended so. At the ends that aren't named here there is nothing unread, or nobody who reads.
+pub(crate) fn give_up(clock: &impl Clock, stream: &TcpStream, ended: Ended) {
+    match ended {
+        Ended::Quit => drain(clock, stream, WAIT_BEHIND_QUIT),
+        Ended::Limit | Ended::NoMemory => drain(clock, stream, WAIT),
+        Ended::EndOfInput | Ended::Read | Ended::Write => {}
+    }
+}
+
+// Says that no more comes, and throws away what the client still sends, for some seconds at most and 16 MiB, and until nothing has
+// come for a while. A connection that is dropped with bytes unread is reset, and then a client that reads late loses replies that
+// were written.
+fn drain(clock: &impl Clock, stream: &TcpStream, first_wait: u64) {
     let Ok(start) = Instant::now(clock) else {
         return;
     };
-    let wait = Some(Duration::from_secs(WAIT));
+    let wait = Some(Duration::from_millis(first_wait));
     if stream.shutdown(Shutdown::Write).is_err() || stream.set_read_timeout(wait).is_err() {
         return;
     }
@@ -63,7 +78,9 @@ pub(crate) fn give_up(clock: &impl Clock, stream: &TcpStream) {
     for _ in 0..MOST_CHUNKS {
         match rest.read(&mut chunk) {
             Ok(0) => return,
-            Ok(_) => {}
+            Ok(_) => {
+                let _ = stream.set_read_timeout(Some(Duration::from_millis(WAIT)));
+            }
             Err(error) if error.kind() == ErrorKind::Interrupted => {}
             Err(_) => return,
         }

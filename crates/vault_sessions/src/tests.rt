@@ -5,6 +5,7 @@ mod devices;
 mod flushing;
 mod limits;
 mod memory;
+mod pacing;
 mod serving;
 mod talk;
 mod tcp;

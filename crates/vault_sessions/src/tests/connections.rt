@@ -8,6 +8,7 @@ use crate::tally::Totals;
 use std::alloc::{AllocError, Global};
 use std::sync::Wait;
 use std::thread::Threads;
+use std::time::Clock;
 use vault_protocol::LONGEST_LINE;
 
 // What conversations over a new vault come to, one behind the other, if they were told just this.
@@ -23,7 +24,7 @@ fn talked<H: Wait>(rt: &H, alloc: Global, inputs: &mut [&[u8]], text: &[u8]) -> 
 }
 
 // What a conversation comes to beside a flusher, if it was told just this. The nth device call fails.
-fn flushed<H: Threads + Wait + Sync>(
+fn flushed<H: Threads + Wait + Clock + Sync>(
     rt: &H,
     alloc: Global,
     failing: u64,

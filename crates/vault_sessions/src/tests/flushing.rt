@@ -17,6 +17,7 @@ use std::sync::Wait;
 use std::sync::atomic::{AtomicBool, Ordering};
 use std::sync::ledger::Blank;
 use std::thread::{self, Threads};
+use std::time::Clock;
 use vault_device::{Device, MemDevice};
 
 // What a flusher answers that still ran after some turns, and was closed then. Beside it, whether one of two shares alone isn't
@@ -26,7 +27,7 @@ fn closed_over<
     T: Tally + Send + Sync,
     D: Device + Drop + Send,
     A: Allocator + Copy + Send + Sync,
-    H: Threads + Wait + Sync,
+    H: Threads + Wait + Clock + Sync,
 >(rt: &H, alloc: A, staged: Blank, told: Blank, vault: Vault<D, A>) -> Option<(Flushed, bool)>
     requires whole { (S.all ≡ S.parts) × (T.all ≡ T.parts) }
     requires staged { (staged.name ≡ S.name) × (staged.parts ≡ S.parts) × (S.all ≡ 3) × (S.opening ≡ length_of vault.view) }
@@ -108,7 +109,7 @@ fn gathers_all<S: Tally, T: Tally, D: Device + Drop, A: Allocator + Copy>(
 }
 
 // The same over a device in memory.
-fn closed<H: Threads + Wait + Sync>(
+fn closed<H: Threads + Wait + Clock + Sync>(
     rt: &H,
     alloc: Global,
     vault: Vault<MemDevice>,

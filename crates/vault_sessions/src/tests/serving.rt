@@ -2,7 +2,7 @@
 
 use super::talk::CREATION;
 use super::tcp::{client, has_one_of, hears, listening, open_client, served, served_on, stopped};
-use super::turns::{TURNS, is_up_within};
+use super::turns::{TURNS, is_reached_within, is_up_within};
 use crate::gate::{Gate, OpenGate, Point};
 use crate::server::{ServerError, Terms};
 use crate::tally::Totals;
@@ -11,8 +11,9 @@ use std::io;
 use std::net::{Net, TcpListener, TcpStream};
 use std::sync::Wait;
 use std::sync::atomic::{AtomicBool, AtomicU64, Ordering};
-use std::thread::Threads;
+use std::thread::{self, Threads};
 use std::time::{Clock, Duration};
+use vault_device::MemDevice;
 
 #[test]
 fn tcp_round(rt: HostRuntime) {
@@ -81,60 +82,97 @@ fn second_answered_while_first_waits(rt: HostRuntime) {
     }
 }
 
-// Whether a connection was told its first reply, and whether it has staged its second command.
+// How many commands a connection has staged, and how many replies it was told.
 #[derive(Drop)]
 struct Progress {
-    is_told: AtomicBool,
-    has_made: AtomicBool,
+    staged: AtomicU64,
+    told: AtomicU64,
 }
 
 impl Progress {
     fn new() -> Progress {
         Progress {
-            is_told: AtomicBool::new(false),
-            has_made: AtomicBool::new(false),
+            staged: AtomicU64::new(0),
+            told: AtomicU64::new(0),
         }
-    }
-
-    fn is_told(&self) -> bool {
-        self.is_told.load(Ordering::SeqCst)
     }
 }
 
-/// Holds both connections until both were told their first reply, and then the flusher until both have staged another command.
+// What the second connection waits for before its third command.
+#[derive(Clone, Copy, PartialEq, Eq)]
+enum Third {
+    // The first has staged its own.
+    Comes,
+    // The first was told the reply to its own.
+    StaysAway,
+}
+
+/// Holds both connections until both were told their first reply, and the flusher until both have staged a second command. That
+/// commit takes two seconds. Then the second connection is held.
 #[derive(Drop)]
-struct Together {
+struct Together<'a, H: Clock> {
+    rt: &'a H,
+    third: Third,
     first: Progress,
     second: Progress,
+    pumps: AtomicU64,
     gave_up: AtomicBool,
 }
 
-impl Together {
-    fn wait(&self, flag: &AtomicBool) {
-        if !is_up_within(flag, TURNS) {
+impl<H: Clock> Together<'_, H> {
+    fn new(rt: &H, third: Third) -> Together<'_, H> {
+        Together {
+            rt,
+            third,
+            first: Progress::new(),
+            second: Progress::new(),
+            pumps: AtomicU64::new(0),
+            gave_up: AtomicBool::new(false),
+        }
+    }
+
+    fn wait(&self, count: &AtomicU64, least: u64) {
+        if !is_reached_within(count, least, TURNS) {
             self.gave_up.store(true, Ordering::SeqCst);
+        }
+    }
+
+    fn hold_flusher(&self) {
+        let told = [&self.first.told, &self.second.told];
+        if told.iter().any(|count| count.load(Ordering::SeqCst) == 0) {
+            return;
+        }
+        self.wait(&self.first.staged, 2);
+        self.wait(&self.second.staged, 2);
+        if self.pumps.fetch_add(1, Ordering::SeqCst) == 1 {
+            thread::sleep(self.rt, Duration::from_secs(2));
         }
     }
 
     fn hold(&self, point: Point, own: &Progress, other: &Progress) {
         match point {
-            Point::Read(_) if own.is_told() => self.wait(&other.is_told),
-            Point::Told(_) => own.is_told.store(true, Ordering::SeqCst),
-            Point::Staged(_) if own.is_told() => own.has_made.store(true, Ordering::SeqCst),
-            _ => (),
+            Point::Staged(_) => {
+                own.staged.fetch_add(1, Ordering::SeqCst);
+            }
+            Point::Told(_) => {
+                own.told.fetch_add(1, Ordering::SeqCst);
+            }
+            _ => match own.told.load(Ordering::SeqCst) {
+                1 => self.wait(&other.told, 1),
+                2 if point == Point::Read(2) && self.third == Third::Comes => {
+                    self.wait(&other.staged, 3)
+                }
+                2 if point == Point::Read(2) => self.wait(&other.told, 3),
+                _ => {}
+            },
         }
     }
 }
 
-impl Gate for Together {
+impl<H: Clock> Gate for Together<'_, H> {
     fn at(&self, point: Point) {
         match point {
-            Point::Pump => {
-                if self.first.is_told() && self.second.is_told() {
-                    self.wait(&self.first.has_made);
-                    self.wait(&self.second.has_made);
-                }
-            }
+            Point::Pump => self.hold_flusher(),
             Point::Read(1) | Point::Told(1) | Point::Staged(1) => {
                 self.hold(point, &self.first, &self.second);
             }
@@ -179,16 +217,56 @@ fn share_places(alloc: Global, first: TcpStream, second: TcpStream) -> bool {
     }
 }
 
+// What a server comes to whose two clients make two places each, and whether none of its threads waited too long.
+fn gathered<R: Net<Listener = TcpListener, Stream = TcpStream> + Threads + Wait + Clock + Sync>(
+    rt: &R,
+    alloc: Global,
+    third: Third,
+) -> Option<(Totals, MemDevice)> {
+    let listener = listening(rt)?;
+    let first = client(rt, &listener, b"hello anna\nmake /e\nmake /e/a\nquit\n")?;
+    let second = client(rt, &listener, b"hello ben\nmake /f\nmake /f/b\nquit\n")?;
+    let gate = Together::new(rt, third);
+    let terms = Terms {
+        workers: 2,
+        connections: Some(2),
+        idle: None,
+    };
+    let served = served_on(rt, alloc, listener, &terms, &gate)?;
+    drop(first);
+    drop(second);
+    if gate.gave_up.load(Ordering::SeqCst) {
+        return None;
+    }
+    Some(served)
+}
+
+// Two commits of two effects each: the second one waits for the connection that comes back a little later.
+#[test]
+fn flusher_waits_for_one_that_comes(rt: HostRuntime) {
+    let served = gathered(&rt, rt.alloc(), Third::Comes);
+    let (totals, file) = served.expect(&rt, "a server");
+    assert_eq!(rt; totals, Totals { staged: 8, told: 8 });
+    assert_eq!(rt; file.calls(), CREATION + 8);
+    drop(file);
+}
+
+// Three commits: it goes on without the connection that doesn't come back before the first was told.
+#[test]
+fn flusher_goes_on_without_one_that_stays_away(rt: HostRuntime) {
+    let served = gathered(&rt, rt.alloc(), Third::StaysAway);
+    let (totals, file) = served.expect(&rt, "a server");
+    assert_eq!(rt; totals, Totals { staged: 8, told: 8 });
+    assert_eq!(rt; file.calls(), CREATION + 12);
+    drop(file);
+}
+
 #[test]
 fn two_sessions_one_frame(rt: HostRuntime) {
     let listener = listening(&rt).expect(&rt, "a listener");
     let first = client(&rt, &listener, b"hello anna\nmake /e\nquit\n").expect(&rt, "a client");
     let second = client(&rt, &listener, b"hello ben\nmake /f\nquit\n").expect(&rt, "a client");
-    let gate = Together {
-        first: Progress::new(),
-        second: Progress::new(),
-        gave_up: AtomicBool::new(false),
-    };
+    let gate = Together::new(&rt, Third::Comes);
     let terms = Terms {
         workers: 2,
         connections: Some(2),
@@ -291,7 +369,7 @@ fn silent_client_is_ended(rt: HostRuntime) {
     drop(file);
 }
 
-// Where no more connections can be accepted, those that were are served to their end.
+// Where no more connections can be accepted for good, those that were are served to their end.
 #[test]
 fn accept_fault_ends_the_server(rt: HostRuntime) {
     let listener = listening(&rt).expect(&rt, "a listener");
@@ -300,4 +378,26 @@ fn accept_fault_ends_the_server(rt: HostRuntime) {
     let stopped = stopped(&rt, rt.alloc(), listener, &OpenGate);
     assert_eq!(rt; stopped, Some(ServerError::Accept));
     assert!(rt; hears(rt.alloc(), client, "OK session 1\nOK left\n"));
+}
+
+// A listener at which nobody can be accepted for a while.
+#[test]
+fn accept_fault_that_passes(rt: HostRuntime) {
+    let listener = listening(&rt).expect(&rt, "a listener");
+    let again = listener.try_clone().expect(&rt, "the same listener");
+    assert!(rt; again.set_nonblocking(true).is_ok());
+    let (served, is_told) = thread::join(
+        &rt,
+        || served(&rt, rt.alloc(), listener, 0, 1, 1, &OpenGate),
+        || {
+            thread::sleep(&rt, Duration::from_millis(300));
+            match client(&rt, &again, b"hello anna\nquit\n") {
+                Some(client) => hears(rt.alloc(), client, "OK session 1\nOK left\n"),
+                None => false,
+            }
+        },
+    );
+    let served = served.expect(&rt, "a server");
+    assert_eq!(rt; served.totals, Totals { staged: 2, told: 2 });
+    assert!(rt; is_told);
 }

@@ -17,6 +17,7 @@ use std::marker::Brand;
 use std::sync::Wait;
 use std::sync::ledger::Blank;
 use std::thread::{self, Threads};
+use std::time::Clock;
 use vault_device::{Device, MemDevice};
 
 /// What a conversation came to.
@@ -115,7 +116,7 @@ fn flushed_over<
     T: Tally + Send + Sync,
     D: Device + Drop + Send,
     A: Allocator + Copy + Send + Sync,
-    H: Threads + Wait + Sync,
+    H: Threads + Wait + Clock + Sync,
 >(
     rt: &H,
     alloc: A,
@@ -151,7 +152,7 @@ fn flushed_over<
 }
 
 /// Serves a connection of a vault beside a flusher. What both came to.
-pub fn converse_beside_flusher<H: Threads + Wait + Sync>(
+pub fn converse_beside_flusher<H: Threads + Wait + Clock + Sync>(
     rt: &H,
     alloc: Global,
     vault: Vault<MemDevice>,

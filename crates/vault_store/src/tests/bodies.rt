@@ -184,5 +184,5 @@ fn damaged_snapshots(rt: HostRuntime) {
 
 #[test]
 fn each_request_of_a_body_for_memory_is_refused(rt: HostRuntime) {
-    assert_eq!(rt; refusals(&rt, rt.alloc()), 27);
+    assert_eq!(rt; refusals(&rt, rt.alloc()), 29);
 }

@@ -1,0 +1,106 @@
+#!/usr/bin/env python3
+"""How commits gather: cycles a second of clients that send one command at a time, each durable before it is told.
+
+A cycle is a check-out, a save of 1,000 bytes and a check-in; each client has its own part. The load is load.c, one thread without a wait of
+its own; the server has 64 workers. --slow makes each sync so many milliseconds longer (slow_sync.c), as a plain disk would; with --folder on
+a file system in memory that is the whole sync. The limit is what the format leaves then: two syncs for each of a cycle's commits.
+
+usage, at the top of the repository:  python3 bench/commits.py [--program PROGRAM] [--folder FOLDER] [--clients 1,4,16,64] [--slow MS]
+                                      [--rounds N] [--port P] [--tiny]
+Needs gcc.
+"""
+import json
+import os
+import socket
+import statistics
+import subprocess
+import time
+
+from measure import arguments, head, prepared, table
+
+HERE = os.path.dirname(os.path.abspath(__file__))
+# One start of the server takes 4,096 commands: 67 for the places, three for each client beside its cycles.
+MOST_COMMANDS = 4096
+PARTS = 64
+
+
+def made(folder, name, *words):
+    subprocess.run(["gcc", "-O2", *words, "-o", f"{folder}/{name}", f"{HERE}/{name}.c"], check=True)
+    return f"{folder}/{name}"
+
+
+def told(port, lines):
+    """Sends lines one by one, and expects each to be done."""
+    with socket.create_connection(("127.0.0.1", port)) as link, link.makefile("rb") as back:
+        for line in lines:
+            link.sendall(line.encode() + b"\n")
+            reply = back.readline().decode()
+            if not reply.startswith("OK"):
+                raise SystemExit(f"{line} was told: {reply}")
+
+
+def plan(client):
+    part = f"/w/a/p{client}"
+    return "\n".join("\t".join(step) for step in (
+        ("setup", "OK session", f"hello d{client}\\n"), ("take", "OK held", f"checkout w:{part}\\n"),
+        ("cycle", "OK saved", f"save {{c}} {part} {{fresh:2000}}\\n"), ("cycle", "OK checked in 1", "checkin {c}\\n")))
+
+
+def processor(pid):
+    with open(f"/proc/{pid}/stat", encoding="ascii") as file:
+        fields = file.read().rsplit(")", 1)[1].split()
+    return (int(fields[11]) + int(fields[12])) / os.sysconf("SC_CLK_TCK")
+
+
+def measured(program, folder, options, load, clients):
+    """One run over a new vault: load.c's figures, and the server's processor time a cycle in microseconds."""
+    files = [f"{folder}/commits.{which}" for which in "ab"]
+    for path in files:
+        if os.path.exists(path):
+            os.remove(path)
+    subprocess.run([program, "create", *files], check=True, stdout=subprocess.DEVNULL)
+    slow = {"LD_PRELOAD": f"{folder}/slow_sync", "SLOW_SYNC_MS": str(options.slow)} if options.slow else {}
+    words = [program, "serve", *files, f"127.0.0.1:{options.port}", "--workers", str(PARTS)]
+    server = subprocess.Popen(words, stdout=subprocess.PIPE, env=os.environ | slow)
+    try:
+        if server.stdout.readline().strip() != b"listening":
+            raise SystemExit("the server didn't start")
+        told(options.port, ["hello z", "make /w", "make /w/a"] + [f"make /w/a/p{k}" for k in range(PARTS)] + ["quit"])
+        with open(f"{folder}/plan", "w", encoding="ascii") as file:
+            file.write("\n\n".join(plan(client) for client in range(clients)) + "\n")
+        cycles = (MOST_COMMANDS - 70 - 6 * clients) // 3
+        cycles = clients if options.tiny else cycles
+        used = processor(server.pid)
+        run = [load, str(options.port), "line", f"{folder}/plan", str(clients), "20", str(cycles), "0", "1000"]
+        figures = json.loads(subprocess.run(run, check=True, capture_output=True).stdout)
+        time.sleep(0.1)
+        figures["cpu_us"] = (processor(server.pid) - used) / figures["cycles"] * 1e6
+        return figures
+    finally:
+        server.kill()
+        server.wait()
+
+
+def main():
+    parser = arguments("How commits gather.")
+    parser.add_argument("--clients", default="1,4,16,64", help="numbers of clients, with commas between; 64 at most")
+    parser.add_argument("--slow", type=float, default=0, help="how many milliseconds longer each sync takes")
+    parser.add_argument("--rounds", type=int, default=3, help="how many runs a line has; it shows their medians")
+    parser.add_argument("--port", type=int, default=7373)
+    options = parser.parse_args()
+    program, folder = prepared(options)
+    load = made(folder, "load")
+    made(folder, "slow_sync", "-shared", "-fPIC")
+    head(program, f"{PARTS} workers, syncs {options.slow:g} ms longer, medians of {options.rounds} runs")
+
+    def rows():
+        for clients in map(int, options.clients.split(",")):
+            runs = [measured(program, folder, options, load, clients) for _ in range(options.rounds)]
+            rate, median, late, used = (statistics.median(run[key] for run in runs) for key in ("rate", "p50_us", "p99_us", "cpu_us"))
+            yield (str(clients), f"{rate:,.0f}", f"{median / 1000:.2f} and {late / 1000:.1f} ms",
+                   f"{min(run['least'] for run in runs)} to {max(run['greatest'] for run in runs)}", f"{used:.0f} µs")
+    table(("Clients", "Cycles a second", "Median and 99th percentile of a cycle", "Cycles of a client", "Processor time a cycle"), rows())
+
+
+if __name__ == "__main__":
+    main()

@@ -1,0 +1,64 @@
+//! For how many the flusher waits.
+
+use crate::pace::{Pace, may_change};
+use group_commit::Pumped;
+use std::alloc::Global;
+use vault_model::{ClaimId, Command, CommandIn};
+
+// A commit for which so many waited.
+fn commit(pace: &mut Pace, waiting: u64) {
+    for _step in 0..3 {
+        pace.pumped(waiting, Ok(Pumped::Moved));
+    }
+    pace.pumped(waiting, Ok(Pumped::Settled));
+}
+
+// Behind a commit of three it waits for three, then without one that stays away for two, and behind one alone for none.
+#[test]
+fn waits_for_as_many_as_waited(rt: HostRuntime) {
+    let mut pace = Pace::new();
+    assert!(rt; !pace.gathers(0));
+    commit(&mut pace, 3);
+    assert!(rt; pace.gathers(0));
+    assert!(rt; !pace.staged(1, true));
+    assert!(rt; !pace.staged(2, true));
+    assert!(rt; pace.gathers(2));
+    assert!(rt; pace.staged(3, true));
+    assert!(rt; !pace.gathers(3));
+    commit(&mut pace, 2);
+    assert!(rt; pace.gathers(0));
+    assert!(rt; !pace.gathers(2));
+    commit(&mut pace, 1);
+    assert!(rt; !pace.gathers(0));
+}
+
+// What only asks is pumped at once, and is no commit; behind a change it waits with it.
+#[test]
+fn questions_are_not_held_back(rt: HostRuntime) {
+    let mut pace = Pace::new();
+    commit(&mut pace, 3);
+    assert!(rt; pace.gathers(0));
+    assert!(rt; pace.staged(1, false));
+    assert!(rt; !pace.gathers(1));
+    pace.pumped(1, Ok(Pumped::Settled));
+    assert!(rt; pace.gathers(0));
+    assert!(rt; !pace.staged(1, true));
+    assert!(rt; !pace.staged(2, false));
+    assert!(rt; pace.staged(3, false));
+}
+
+// A flusher that sleeps since nothing is to be done is woken once, by whatever is staged.
+#[test]
+fn sleeper_is_woken_once(rt: HostRuntime) {
+    let mut pace = Pace::new();
+    assert!(rt; !pace.staged(1, true));
+    assert!(rt; pace.sleeps(true, 1));
+    assert!(rt; pace.staged(2, true));
+    assert!(rt; !pace.staged(3, true));
+    let asks: CommandIn<Global> = Command::State(ClaimId::Long(1));
+    assert!(rt; !may_change(&asks));
+    let gives_up: CommandIn<Global> = Command::Abandon(1);
+    assert!(rt; may_change(&gives_up));
+    drop(asks);
+    drop(gives_up);
+}
