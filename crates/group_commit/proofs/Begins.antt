@@ -29,4 +29,4 @@ begun_view disk base book kept store life same none stands =
 pub begun_kept : {D : Type 0} (disk : D → Disk) (base book : Vault) (kept : List Kept) (store : StoreSeen D) (life : ℕ) → base ≡ book → kept ≡ [] → Keeps disk store (at_rest book) → IsKept disk (begun base kept store life) book
 begun_kept disk base book kept store life same none stands =
     subst (λ (v : View). IsKept disk (record { view = v; life = life; store = store }) book) (sym (begun_view disk base book kept store life same none stands))
-    (record { book_is = refl; sound = opened_sound book stands.well_formed stands.durable; stands = subst (Keeps disk store) (sym (state_opened book stands.durable)) stands })
+    (record { book_is = refl; sound = opened_sound book stands.spelled.well_formed stands.spelled.durable; stands = subst (Keeps disk store) (sym (state_opened book stands.spelled.durable)) stands })

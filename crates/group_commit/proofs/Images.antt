@@ -6,7 +6,7 @@ use Rattle.vault_model.specs.Vault.{Vault, durable}
 use Rattle.vault_device.specs.Disk.{Disk}
 use Rattle.vault_store.specs.Files.{StandFor}
 use Rattle.vault_store.specs.Phases.{is_opening}
-use Rattle.vault_store.specs.Seen.{of_file, Keeps, settled_reading, sealed_reading, IsByGate, IsLeftWhile, IsLeft}
+use Rattle.vault_store.specs.Seen.{of_file, Keeps, settled_reading, sealed_reading, gate_at, gated, IsByGate, IsLeftWhile, IsLeft}
 use Rattle.vault_store.specs.Laws.{CrashLeavesWhatIsKept, OneGateIsOpened}
 use Rattle.group_commit.specs.World.{new_world}
 use Rattle.group_commit.specs.Runs.{run}
@@ -24,9 +24,9 @@ Stands v x y = (left : Vault) × MayLeave v left × StandFor x y left
 sealed_stands : (v : View) → is_opening v.phase ≡ true → (state_of v).sealed ≡ durable (view_at v v.sealed)
 sealed_stands v opening = ap (λ b. durable (view_at v (cond b v.settled v.sealed))) (opening_is_busy v.phase opening)
 
-by_gate : {D : Type 0} (seen : Seen D) (active x y : List ℕ) → is_opening seen.view.phase ≡ true
-    → IsByGate seen.store.tail (settled_reading seen.store (state_of seen.view)) (sealed_reading seen.store (state_of seen.view)) active x y → Stands seen.view x y
-by_gate seen active x y opening left = elim (cases_eq (slice_index active seen.store.tail) 1) [
+by_gate : {D : Type 0} (seen : Seen D) (gate : ℕ) (file x y : List ℕ) → is_opening seen.view.phase ≡ true
+    → IsByGate gate (settled_reading seen.store (state_of seen.view)) (sealed_reading seen.store (state_of seen.view)) file x y → Stands seen.view x y
+by_gate seen gate file x y opening left = elim (cases_eq (slice_index file gate) 1) [
   | inl is ↦ ((state_of seen.view).sealed, inr (opening, sealed_stands seen.view opening), (sealed_reading seen.store (state_of seen.view), left.opened is, refl))
   | inr other ↦ ((state_of seen.view).settled, inl refl, (settled_reading seen.store (state_of seen.view), left.shut other, refl))
 ]
@@ -34,8 +34,9 @@ by_gate seen active x y opening left = elim (cases_eq (slice_index active seen.s
 stands : {D : Type 0} (seen : Seen D) (x y : List ℕ) → IsLeft seen.store (state_of seen.view) x y → Stands seen.view x y
 stands seen x y = by_phase (is_opening seen.view.phase) refl
   where
-    by_phase : (b : Bool) → is_opening seen.view.phase ≡ b → IsLeftWhile b seen.store.tail (settled_reading seen.store (state_of seen.view)) (sealed_reading seen.store (state_of seen.view)) (of_file seen.store.which x y) x y → Stands seen.view x y
-    by_phase true e left = by_gate seen (of_file seen.store.which x y) x y e left
+    by_phase : (b : Bool) → is_opening seen.view.phase ≡ b → IsLeftWhile b (gate_at seen.store seen.view.phase) (settled_reading seen.store (state_of seen.view)) (sealed_reading seen.store (state_of seen.view)) (gated seen.view.phase (of_file seen.store.which x y) (of_file seen.store.which y x)) x y
+        → Stands seen.view x y
+    by_phase true e left = by_gate seen (gate_at seen.store seen.view.phase) (gated seen.view.phase (of_file seen.store.which x y) (of_file seen.store.which y x)) x y e left
     by_phase false e left = ((state_of seen.view).settled, inl refl, (settled_reading seen.store (state_of seen.view), left, refl))
 
 pub images_stand : {D : Type 0} (disk : D → Disk) (seen : Seen D) → CrashLeavesWhatIsKept disk → OneGateIsOpened disk → Keeps disk seen.store (state_of seen.view) → ImagesStand disk seen

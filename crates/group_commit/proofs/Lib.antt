@@ -18,6 +18,7 @@ pub mod HasRecords
 pub mod Closed
 pub mod Tickets
 pub mod Staged
+pub mod Starts
 pub mod Pumps
 pub mod Begins
 pub mod Images

@@ -11,11 +11,12 @@ use Rattle.vault_device.specs.declared.device.Fault.{Fault as DeviceFault}
 use Rattle.vault_journal.specs.Spelling.{records_of}
 use Rattle.vault_store.specs.declared.phase.Advanced.{Advanced as Pumped}
 use Rattle.vault_store.specs.declared.phase.Advanced.TheVariants as answers
-use Rattle.vault_store.specs.Files.{frame_extra}
-use Rattle.vault_store.specs.Step.{IsStep, IsAtMostOneCall, MayBeLeft, gained as store_gained, AreNumbers as AreStoreNumbers}
-use Rattle.vault_store.specs.Phases.{Waiting, DeviceCall, NoCall, Write, Sync, NoMore, TheSealed, All, Row, row, rests, ends, seals, is_idle, settled_by, after_fault}
+use Rattle.vault_store.specs.Files.{header, frame_extra}
+use Rattle.vault_store.specs.Step.{IsStep, IsAtMostOneCall, MayBeLeft, renews as store_renews, gained as store_gained, AreNumbers as AreStoreNumbers}
+use Rattle.vault_store.specs.Phases.{Waiting, DeviceCall, NoCall, Write, Sync, NoMore, TheSealed, All, Row, row, rests, ends, seals, is_idle, is_snapshot, settled_by, after_fault}
 use Rattle.vault_store.specs.State.{StoreState, waiting_in, row_of, advanced, failed}
-use Rattle.vault_store.specs.Seen.{Seen as StoreSeen, first_of, second_of, Keeps, IsLeftInside}
+use Rattle.vault_store.specs.Seen.{Seen as StoreSeen, other, first_of, second_of, Keeps, IsLeftInside}
+use Rattle.vault_store.proofs.Asides.{length-behind}
 use Rattle.group_commit.specs.Entries.{Kept}
 use Rattle.group_commit.specs.History.{effects}
 use Rattle.group_commit.specs.Phases.{waiting, InOrder}
@@ -23,7 +24,7 @@ use Rattle.group_commit.specs.World.{Pump, Fault}
 use Rattle.group_commit.specs.View.{View, length_of, view_at, view_row, ViewAllows, view_acted}
 use Rattle.group_commit.specs.Seen.{Seen, snapshot_length, effects_from, effects_between, state_of, IsSoundView}
 use Rattle.group_commit.specs.Inside.{IsKept}
-use Rattle.group_commit.specs.Calls.{gained, AreNumbers}
+use Rattle.group_commit.specs.Calls.{renews, gained, behind_snapshot, AreNumbers}
 use Rattle.group_commit.specs.Promises.{MomentsStand}
 use Rattle.group_commit.proofs.States.{state_pumped, state_failed}
 use Rattle.group_commit.proofs.SoundViews.{pumped_sound, failed_sound}
@@ -80,7 +81,7 @@ vault_under_way : (v : View) → is_idle v.phase ≡ false → IsUnderWay (vault
 vault_under_way v busy = under_way v.phase _ _ busy
 
 -- rows of Idle
-idle_is : (p : Phase) → is_idle p ≡ true → p ≡ Idle
+pub idle_is : (p : Phase) → is_idle p ≡ true → p ≡ Idle
 idle_is Idle h = refl
 idle_is Written h = absurd (cc)
 idle_is Bodied h = absurd (cc)
@@ -217,6 +218,23 @@ pub record IsStoreStep {D : Type 0} (disk : D → Disk) (old new : StoreSeen D) 
   pub rests : (result ≡ Ok answers.Idle) ⊎ (result ≡ Ok answers.Broken) → new ≡ old
   pub moments : (x y : List ℕ) → IsTrue (disk (first_of old)).honest → IsTrue (disk (second_of old)).honest → MayBeLeft (disk (first_of old)) (disk (second_of old)) (disk (first_of new)) (disk (second_of new)) x y → IsLeftInside old s x y
 
+chosen : {A : Type 0} (b c : Bool) (x y z w : A) → b ≡ c → (c ≡ true → x ≡ z) → (c ≡ false → y ≡ w) → cond b x y ≡ cond c z w
+chosen b true x y z w e t f = ap (λ d. cond d x y) e ∙ t refl
+chosen b false x y z w e t f = ap (λ d. cond d x y) e ∙ f refl
+
+-- a snapshot under way
+snapshot_is_busy : (p : Phase) → is_snapshot p ≡ true → is_idle p ≡ false
+snapshot_is_busy Idle e = absurd (cc)
+snapshot_is_busy Written e = refl
+snapshot_is_busy Bodied e = refl
+snapshot_is_busy Opening e = refl
+snapshot_is_busy Start e = refl
+snapshot_is_busy Closing e = refl
+snapshot_is_busy (Writing left) e = refl
+snapshot_is_busy Filled e = refl
+snapshot_is_busy Ready e = refl
+snapshot_is_busy SnapOpening e = refl
+
 clash : {b : Bool} → b ≡ false → b ≡ true → {P : Type 0} → P
 clash e f = let x : false ≡ true = sym e ∙ f in absurd (cc)
 
@@ -236,11 +254,31 @@ module _ {D : Type 0} (disk : D → Disk) (seen : Seen D) (book : Vault) (k : Is
       ∙ ap (λ p. cond (is_idle p && not seen.store.broken) [] seen.store.buffer) k.stands.phase
       ∙ ap (λ b. cond (is_idle seen.view.phase && not b) [] seen.store.buffer) k.stands.broken
 
-  numbers_are : (settled sealed : ℕ) (broken : Bool) (result answer : Result Pumped DeviceFault) → Made result → store_gained seen.store result ≡ gained seen.view answer → AreNumbers seen (after_step disk seen book k store settled sealed broken) answer
-  numbers_are settled sealed broken result answer made same = record {
-    generation = made.numbers.generation;
-    tail = made.numbers.tail ∙ ap (λ n. seen.store.tail + n) same;
-    journal = made.numbers.journal ∙ ap (λ n. seen.store.journal + n) same;
+  -- what a snapshot writes ends with its tail gate
+  rest_is : is_snapshot seen.view.phase ≡ true → length seen.store.rest ≡ behind_snapshot seen.view
+  rest_is under =
+      ap length (k.stands.renewal under).bytes
+      ∙ length-behind (seen.store.generation + 1) (state_of seen.view).sealed
+      ∙ ap (λ b. header + snapshot_length (durable (view_at seen.view (cond b seen.view.settled seen.view.sealed)))) (snapshot_is_busy seen.view.phase under)
+
+  -- the store's answer and the vault's speak of the same numbers
+  record AnswersAlike (result answer : Result Pumped DeviceFault) : Type 0 where
+    renewed : store_renews seen.store result ≡ renews seen.view answer
+    under : renews seen.view answer ≡ true → is_snapshot seen.view.phase ≡ true
+    gains : renews seen.view answer ≡ false → store_gained seen.store result ≡ gained seen.view answer
+
+  numbers_are : (settled sealed : ℕ) (broken : Bool) (result answer : Result Pumped DeviceFault) → Made result → AnswersAlike result answer → AreNumbers seen (after_step disk seen book k store settled sealed broken) answer
+  numbers_are settled sealed broken result answer made alike = record {
+    which = made.numbers.which ∙ ap (λ b. cond b (other seen.store.which) seen.store.which) alike.renewed;
+    generation = made.numbers.generation ∙ ap (λ b. cond b (seen.store.generation + 1) seen.store.generation) alike.renewed;
+    tail =
+        made.numbers.tail
+        ∙ chosen (store_renews seen.store result) (renews seen.view answer) (length seen.store.rest) (seen.store.tail + store_gained seen.store result) (behind_snapshot seen.view) (seen.store.tail + gained seen.view answer)
+        alike.renewed (λ e. rest_is (alike.under e)) (λ e. ap (λ n. seen.store.tail + n) (alike.gains e));
+    journal =
+        made.numbers.journal
+        ∙ chosen (store_renews seen.store result) (renews seen.view answer) 0 (seen.store.journal + store_gained seen.store result) 0 (seen.store.journal + gained seen.view answer)
+        alike.renewed (λ e. refl) (λ e. ap (λ n. seen.store.journal + n) (alike.gains e));
     buffer = buffer_is result made;
   }
 
@@ -249,9 +287,9 @@ module _ {D : Type 0} (disk : D → Disk) (seen : Seen D) (book : Vault) (k : Is
 
   -- whatever the store answered, where it is no fault
   ok_pump : (settled sealed : ℕ) (answer other : Pumped) → Made (Ok answer) → settled ≡ (view_acted snapshot_length seen.view Pump).settled → sealed ≡ (view_acted snapshot_length seen.view Pump).sealed
-      → other ≡ (vault_row seen.view).answer → ((vault_row seen.view).call ≡ NoCall → store ≡ seen.store) → store_gained seen.store (Ok answer) ≡ gained seen.view (Ok other)
+      → other ≡ (vault_row seen.view).answer → ((vault_row seen.view).call ≡ NoCall → store ≡ seen.store) → AnswersAlike (Ok answer) (Ok other)
       → IsPump disk seen (after_pump settled sealed) (Ok other)
-  ok_pump settled sealed answer other made d e a still same = record {
+  ok_pump settled sealed answer other made d e a still alike = record {
     broken = λ b. clash whole b;
     answer = λ _. a;
     pumped = λ _. pumped_view disk seen book k store settled sealed whole made.step.1 d e;
@@ -259,7 +297,7 @@ module _ {D : Type 0} (disk : D → Disk) (seen : Seen D) (book : Vault) (k : Is
     life = refl;
     still = still;
     calls = ok_calls answer other made;
-    numbers = numbers_are settled sealed seen.view.broken (Ok answer) (Ok other) made same;
+    numbers = numbers_are settled sealed seen.view.broken (Ok answer) (Ok other) made alike;
     moments = λ _ x y honest left. made.moments x y honest.first honest.second left;
   }
 
@@ -276,7 +314,7 @@ module _ {D : Type 0} (disk : D → Disk) (seen : Seen D) (book : Vault) (k : Is
   pub rested : Made (Ok answers.Idle) → seen.view.settled ≡ length_of seen.view → IsPump disk seen (after_pump seen.view.settled seen.view.sealed) (Ok answers.Idle)
   rested made all =
       let r = row_rests seen.view (answered answers.Idle made) all in
-      ok_pump seen.view.settled seen.view.sealed answers.Idle answers.Idle made (row_is_settled rests r) (row_is_sealed rests r) (row_answers rests r) (λ _. made.rests (inl refl)) refl
+      ok_pump seen.view.settled seen.view.sealed answers.Idle answers.Idle made (row_is_settled rests r) (row_is_sealed rests r) (row_answers rests r) (λ _. made.rests (inl refl)) (record { renewed = refl; under = λ e. clash refl e; gains = λ _. refl })
 
   idle_phase : (row_of (state_of seen.view)).answer ≡ answers.Idle → seen.view.phase ≡ Idle
   idle_phase e = ⊎_elim (λ idle. idle) (λ busy. absurd ((under_way seen.view.phase _ _ busy).not_idle e)) (by_idle seen.view)
@@ -284,23 +322,29 @@ module _ {D : Type 0} (disk : D → Disk) (seen : Seen D) (book : Vault) (k : Is
   no_frame : seen.view.phase ≡ Idle → ◌≡◌ {A = ℕ} 0 (gained seen.view (Ok answers.Settled))
   no_frame idle = ap (λ p. cond (is_idle p) 0 (frame_extra + length (records_of (effects_between seen.view seen.view.settled seen.view.sealed)))) (sym idle)
 
+  all_at_once : seen.view.phase ≡ Idle → AnswersAlike (Ok answers.Idle) (Ok answers.Settled)
+  all_at_once idle = record { renewed = sym (ap is_snapshot idle); under = λ e. e; gains = λ _. no_frame idle }
+
   -- it rested, and the rest is settled without a commit
   pub settled_all : Made (Ok answers.Idle) → seen.view.settled ≢ length_of seen.view → IsPump disk seen (after_pump (length_of seen.view) seen.view.sealed) (Ok answers.Settled)
   settled_all made some =
       let r = row_settles_all seen.view k.sound (answered answers.Idle made) some in
-      ok_pump (length_of seen.view) seen.view.sealed answers.Idle answers.Settled made (row_is_settled (ends NoCall All) r) (row_is_sealed (ends NoCall All) r) (row_answers (ends NoCall All) r) (λ _. made.rests (inl refl)) (no_frame (idle_phase (answered answers.Idle made)))
+      ok_pump (length_of seen.view) seen.view.sealed answers.Idle answers.Settled made (row_is_settled (ends NoCall All) r) (row_is_sealed (ends NoCall All) r) (row_answers (ends NoCall All) r) (λ _. made.rests (inl refl)) (all_at_once (idle_phase (answered answers.Idle made)))
 
   pub settled_all_kept : Made (Ok answers.Idle) → seen.view.settled ≢ length_of seen.view → IsKept disk (after_pump (length_of seen.view) seen.view.sealed) book
   settled_all_kept made some =
       let r = row_settles_all seen.view k.sound (answered answers.Idle made) some in
       pumped_kept disk seen book k store (length_of seen.view) seen.view.sealed whole made.step.1 (row_is_settled (ends NoCall All) r) (row_is_sealed (ends NoCall All) r)
 
-  frame_is : is_idle seen.view.phase ≡ false → frame_extra + seen.store.sealed ≡ gained seen.view (Ok answers.Settled)
-  frame_is busy =
-      ap (λ n. frame_extra + n) (k.stands.sealed_bytes ∙ ap (λ b. length (records_of (cond b [] (effects_between seen.view seen.view.settled seen.view.sealed)))) busy)
+  frame_is : is_idle seen.view.phase ≡ false → is_snapshot seen.view.phase ≡ false → frame_extra + seen.store.sealed ≡ gained seen.view (Ok answers.Settled)
+  frame_is busy commit =
+      ap (λ n. frame_extra + n) (k.stands.sealed_bytes ∙ ap (λ b. cond b 0 (length (records_of (state_of seen.view).sealing))) commit ∙ ap (λ b. length (records_of (cond b [] (effects_between seen.view seen.view.settled seen.view.sealed)))) busy)
       ∙ ap (λ b. cond b 0 (frame_extra + length (records_of (effects_between seen.view seen.view.settled seen.view.sealed)))) (sym busy)
 
-  -- the commit is settled
+  last_of : is_idle seen.view.phase ≡ false → AnswersAlike (Ok answers.Settled) (Ok answers.Settled)
+  last_of busy = record { renewed = ap is_snapshot k.stands.phase; under = λ e. e; gains = frame_is busy }
+
+  -- the commit or the snapshot is settled
   last_settled : (r : ((is_idle seen.view.phase ≡ false) × ((vault_row seen.view).settles ≡ TheSealed) × ((vault_row seen.view).seals ≡ false) × ((vault_row seen.view).answer ≡ answers.Settled))) → seen.view.sealed ≡ (view_acted snapshot_length seen.view Pump).settled
   last_settled r = ap (λ x. settled_by x seen.view.settled seen.view.sealed (length_of seen.view)) (sym r.1)
 
@@ -310,7 +354,7 @@ module _ {D : Type 0} (disk : D → Disk) (seen : Seen D) (book : Vault) (k : Is
   pub settled_sealed : Made (Ok answers.Settled) → IsPump disk seen (after_pump seen.view.sealed seen.view.sealed) (Ok answers.Settled)
   settled_sealed made =
       let r = row_settles seen.view (answered answers.Settled made) in
-      ok_pump seen.view.sealed seen.view.sealed answers.Settled answers.Settled made (last_settled r) (unsealed r.2) (sym r.3) (λ e. absurd ((vault_under_way seen.view r.0).calls e)) (frame_is r.0)
+      ok_pump seen.view.sealed seen.view.sealed answers.Settled answers.Settled made (last_settled r) (unsealed r.2) (sym r.3) (λ e. absurd ((vault_under_way seen.view r.0).calls e)) (last_of r.0)
 
   pub settled_sealed_kept : Made (Ok answers.Settled) → IsKept disk (after_pump seen.view.sealed seen.view.sealed) book
   settled_sealed_kept made =
@@ -350,7 +394,7 @@ module _ {D : Type 0} (disk : D → Disk) (seen : Seen D) (book : Vault) (k : Is
   pub moved : (sealed : ℕ) → Made (Ok answers.Moved) → sealed ≡ sealed_next → IsPump disk seen (after_pump seen.view.settled sealed) (Ok answers.Moved)
   moved sealed made is =
       let m = has_moved (answered answers.Moved made) in
-      ok_pump seen.view.settled sealed answers.Moved answers.Moved made m.settled (is ∙ m.sealed) m.answer (λ e. absurd (m.calls e)) refl
+      ok_pump seen.view.settled sealed answers.Moved answers.Moved made m.settled (is ∙ m.sealed) m.answer (λ e. absurd (m.calls e)) (record { renewed = refl; under = λ e. clash refl e; gains = λ _. refl })
 
   pub moved_kept : (sealed : ℕ) → Made (Ok answers.Moved) → sealed ≡ sealed_next → IsKept disk (after_pump seen.view.settled sealed) book
   moved_kept sealed made is =
@@ -382,7 +426,7 @@ module _ {D : Type 0} (disk : D → Disk) (seen : Seen D) (book : Vault) (k : Is
         life = refl;
         still = λ e. absurd (f.1 e);
         calls = made.calls;
-        numbers = numbers_are seen.view.settled sealed true (Err why) (Err why) made refl;
+        numbers = numbers_are seen.view.settled sealed true (Err why) (Err why) made (record { renewed = refl; under = λ e. clash refl e; gains = λ _. refl });
         moments = λ _ x y honest left. made.moments x y honest.first honest.second left;
       }
 

@@ -12,12 +12,12 @@ use Rattle.group_commit.specs.declared.mark.Mark.TheVariants.{Open, Told, Forgot
 use Rattle.group_commit.specs.Entries.{opened, mark_at, with_mark, told_in}
 use Rattle.group_commit.specs.History.{replay, IsLegal, entry_of, members}
 use Rattle.group_commit.specs.Phases.{InOrder}
-use Rattle.group_commit.specs.World.{Pump, Fault}
+use Rattle.group_commit.specs.World.{Pump, Fault, StartSnapshot}
 use Rattle.group_commit.specs.View.{View, length_of, book_of, opened_view, view_acted}
 use Rattle.group_commit.specs.Seen.{snapshot_length, most_kept, IsSoundView}
 use Rattle.group_commit.proofs.Folds.{legal_append, members-append}
 use Rattle.group_commit.proofs.Marks.{members-with_mark, length-with_mark, mark_same, mark_other, mark_below, told_before, told_open, told_one_more, told_same, told_below_length}
-use Rattle.group_commit.proofs.Order.{order_row, order_fault, more_settled}
+use Rattle.group_commit.proofs.Order.{order_row, order_fault, order_start, more_settled}
 use Rattle.group_commit.proofs.Sound.{some_mark}
 use Rattle.group_commit.proofs.Counts.{weaker, counts_after}
 use Rattle.group_commit.proofs.States.{staged}
@@ -72,6 +72,19 @@ failed_sound v s = record {
   well_formed = s.well_formed;
   legal = s.legal;
   order = order_fault (length_of v) v.retired v.settled v.sealed v.phase _ _ s.order;
+  told = s.told;
+  told_least = s.told_least;
+  told_most = s.told_most;
+  few = s.few;
+  counts = s.counts;
+}
+
+-- the start of a snapshot
+pub started_sound : (v : View) → IsSoundView v → IsSoundView (view_acted snapshot_length v StartSnapshot)
+started_sound v s = record {
+  well_formed = s.well_formed;
+  legal = s.legal;
+  order = order_start (length_of v) v.retired v.settled v.sealed v.phase s.order;
   told = s.told;
   told_least = s.told_least;
   told_most = s.told_most;

@@ -11,11 +11,11 @@ use Rattle.vault_store.specs.declared.phase.Phase.{Phase}
 use Rattle.vault_store.specs.declared.phase.Phase.TheVariants.{Idle, Written, Bodied, Opening, Start, Closing, Writing, Filled, Ready, SnapOpening}
 use Rattle.vault_store.specs.Files.{applied}
 use Rattle.vault_store.specs.Phases.{row, is_idle, most_piece}
-use Rattle.vault_store.specs.State.{StoreState, with_effect, waiting_in, row_of, stepped, failed, advanced}
+use Rattle.vault_store.specs.State.{StoreState, with_effect, started, waiting_in, row_of, stepped, failed, advanced}
 use Rattle.group_commit.specs.Entries.{Kept, opened}
 use Rattle.group_commit.specs.History.{replay, outcome_of, entry_of, members, effects}
 use Rattle.group_commit.specs.Phases.{waiting, InOrder}
-use Rattle.group_commit.specs.World.{Stage, Pump, Fault}
+use Rattle.group_commit.specs.World.{Stage, Pump, Fault, StartSnapshot}
 use Rattle.group_commit.specs.View.{View, length_of, view_at, book_of, view_pumped, view_failed, view_acted}
 use Rattle.group_commit.specs.Seen.{snapshot_length, framed, effects_between, effects_from, state_of, IsSoundView}
 use Rattle.group_commit.proofs.Facts.{effect_is_the_durable_change}
@@ -221,3 +221,12 @@ fail_in SnapOpening v = refl
 
 pub state_failed : (v : View) → state_of (view_acted snapshot_length v Fault) ≡ failed (row_of (state_of v)) (state_of v)
 state_failed v = fail_in v.phase v
+
+-- The start of a snapshot
+
+started_in : (v : View) → state_of (view_acted snapshot_length (record v { phase = Idle }) StartSnapshot) ≡ started (state_of (record v { phase = Idle }))
+started_in v = ap (λ (s : StoreState). record s { phase = Start }) (all_sealed v)
+
+pub state_started : (v : View) → v.phase ≡ Idle → state_of (view_acted snapshot_length v StartSnapshot) ≡ started (state_of v)
+state_started v idle =
+    subst (λ p. state_of (view_acted snapshot_length (record v { phase = p }) StartSnapshot) ≡ started (state_of (record v { phase = p }))) (sym idle) (started_in v)

@@ -1,22 +1,23 @@
 -- When each answer comes. This project's own.
-use Rattle.std.specs.Prelude.{◌≡◌, ◌⊎◌, ℕ, ◌+◌, ◌-◌, ◌^◌, ◌<◌, ◌≤◌, ◌&&◌, not, true, false, if◌then◌else◌, [], ◌++◌, length, Option, None, Some, slice_get, Result, Ok}
+use Rattle.std.specs.Prelude.{◌≡◌, ◌⊎◌, ℕ, ◌+◌, ◌-◌, ◌^◌, ◌<◌, ◌≤◌, Bool, ◌&&◌, not, true, false, if◌then◌else◌, [], ◌++◌, length, Option, None, Some, slice_get, Result, Ok}
 use Rattle.vault_model.specs.Said.{Effect}
+use Rattle.vault_model.specs.Vault.{durable}
 use Rattle.vault_model.specs.declared.replies.Outside.{Outside}
 use Rattle.vault_model.specs.declared.replies.Outside.TheVariants as outsides
 use Rattle.vault_device.specs.declared.device.Fault.{Fault as DeviceFault}
 use Rattle.vault_journal.specs.Spelling.{record_of, records_of}
 use Rattle.vault_store.specs.declared.phase.Advanced.{Advanced as Pumped}
 use Rattle.vault_store.specs.declared.phase.Advanced.TheVariants as answers
-use Rattle.vault_store.specs.Files.{frame_extra}
-use Rattle.vault_store.specs.Phases.{is_idle}
-use Rattle.vault_store.specs.Seen.{Seen as StoreSeen, has_room}
+use Rattle.vault_store.specs.Files.{header, frame_extra}
+use Rattle.vault_store.specs.Phases.{is_idle, is_snapshot}
+use Rattle.vault_store.specs.Seen.{Seen as StoreSeen, other, has_room}
 use Rattle.group_commit.specs.declared.answers.Redeemed.{Redeemed}
 use Rattle.group_commit.specs.declared.answers.Redeemed.TheVariants as redeemed
 use Rattle.group_commit.specs.declared.answers.Forgotten.{Forgotten}
 use Rattle.group_commit.specs.declared.answers.Forgotten.TheVariants as forgotten
 use Rattle.group_commit.specs.Entries.{Kept}
-use Rattle.group_commit.specs.World.{Tell, Forget}
-use Rattle.group_commit.specs.View.{View, length_of, ViewAllows, view_acted}
+use Rattle.group_commit.specs.World.{StartSnapshot, Tell, Forget}
+use Rattle.group_commit.specs.View.{View, length_of, view_at, ViewAllows, view_acted}
 use Rattle.group_commit.specs.Ticket.{Claim, Told, told_for}
 use Rattle.group_commit.specs.Seen.{Seen, snapshot_length, most_kept, effects_between}
 
@@ -36,18 +37,42 @@ abbrev pub noted : {D : Type 0} → Option Effect → StoreSeen D → StoreSeen 
 noted None store = store
 noted (Some effect) store = record store { buffer = store.buffer ++ record_of effect }
 
+-- whether a pump makes the spare the active file: the last one of a snapshot does
+abbrev pub renews : View → Result Pumped DeviceFault → Bool
+renews v (Ok answers.Settled) = is_snapshot v.phase
+renews v _ = false
+
 -- how many bytes of frames a pump adds: the whole frame under way, where the pump settles it
 abbrev pub gained : View → Result Pumped DeviceFault → ℕ
 gained v (Ok answers.Settled) = if is_idle v.phase then 0 else frame_extra + length (records_of (effects_between v v.settled v.sealed))
 gained v _ = 0
 
--- The numbers after a pump: the last one of a commit moves the tail gate behind the frame; the first one empties the buffer, also
+-- where the tail gate stands behind a snapshot of the sealed entries
+abbrev pub behind_snapshot : View → ℕ
+behind_snapshot v = header + snapshot_length (durable (view_at v v.sealed))
+
+-- where the tail gate stands after a pump
+abbrev pub tail_after : View → Result Pumped DeviceFault → ℕ → ℕ
+tail_after v result tail = if renews v result then behind_snapshot v else tail + gained v result
+
+-- and the generation of the active file
+abbrev pub generation_after : View → Result Pumped DeviceFault → ℕ → ℕ
+generation_after v result generation = if renews v result then generation + 1 else generation
+
+-- The active file and its numbers after a pump: the last one of a commit moves the tail gate behind the frame; the last one of a
+-- snapshot exchanges the files, and the tail gate then stands behind the snapshot; the first one of a commit empties the buffer, also
 -- where its device call fails; no other changes them.
 pub record AreNumbers {D : Type 0} (old new : Seen D) (result : Result Pumped DeviceFault) : Type 0 where
-  pub generation : new.store.generation ≡ old.store.generation
-  pub tail : new.store.tail ≡ old.store.tail + gained old.view result
-  pub journal : new.store.journal ≡ old.store.journal + gained old.view result
+  pub which : new.store.which ≡ (if renews old.view result then other old.store.which else old.store.which)
+  pub generation : new.store.generation ≡ generation_after old.view result old.store.generation
+  pub tail : new.store.tail ≡ tail_after old.view result old.store.tail
+  pub journal : new.store.journal ≡ (if renews old.view result then 0 else old.store.journal + gained old.view result)
   pub buffer : new.store.buffer ≡ (if is_idle old.view.phase && not old.view.broken then [] else old.store.buffer)
+
+-- whether a snapshot may be begun: nothing is under way, no device call failed, and there is a next generation
+pub record MayStart {D : Type 0} (seen : Seen D) : Type 0 where
+  pub allowed : ViewAllows snapshot_length seen.view StartSnapshot
+  pub fits : seen.store.generation + 1 < 2 ^ 64
 
 -- a ticket names an open entry of this life
 abbrev pub NamesOpen : {D : Type 0} → Seen D → Claim → Type 0

@@ -1,11 +1,11 @@
 -- What is promised of the files of a vault. This project's own.
-use Rattle.std.specs.Prelude.{◌≡◌, ℕ, false, List}
+use Rattle.std.specs.Prelude.{◌≡◌, ℕ, true, false, List}
 use Rattle.vault_model.specs.Vault.{Vault}
 use Rattle.vault_device.specs.Disk.{Disk}
-use Rattle.vault_store.specs.declared.phase.Phase.TheVariants.{Opening}
 use Rattle.vault_store.specs.Files.{StandFor}
 use Rattle.vault_store.specs.Laws.{AreHonest, IsOneGate}
-use Rattle.vault_store.specs.Seen.{first_of, second_of, IsLeft, IsLeftInside}
+use Rattle.vault_store.specs.Phases.{is_opening}
+use Rattle.vault_store.specs.Seen.{first_of, second_of, gate_at, gated, IsLeft, IsLeftInside}
 use Rattle.vault_store.specs.Step.{MayBeLeft}
 use Rattle.group_commit.specs.World.{new_world, Gate, recovered}
 use Rattle.group_commit.specs.Runs.{Event, run, IsRun}
@@ -22,8 +22,8 @@ IsCrash disk seen x y = AreHonest disk seen.store × (disk (first_of seen.store)
 pub record ImagesStand {D : Type 0} (disk : D → Disk) (seen : Seen D) : Type 0 where
   pub left : (x y : List ℕ) → IsCrash disk seen x y → IsLeft seen.store (state_of seen.view) x y
   pub stands : (x y : List ℕ) → IsCrash disk seen x y → (left : Vault) × MayLeave seen.view left × StandFor x y left
-  -- while a frame's gate is being opened, and before a device call failed, a crash changes that byte of the active file alone
-  pub gate : AreHonest disk seen.store → seen.view.phase ≡ Opening → seen.view.broken ≡ false → IsOneGate (disk seen.store.active) seen.store.tail
+  -- while a gate is being opened, and before a device call failed, a crash changes that byte of its file alone
+  pub gate : AreHonest disk seen.store → is_opening seen.view.phase ≡ true → seen.view.broken ≡ false → IsOneGate (disk (gated seen.view.phase seen.store.active seen.store.spare)) (gate_at seen.store seen.view.phase)
 
 -- what a stop inside a call leaves is read as the vault after the entries settled before or, where a gate may be opened, after the
 -- sealed ones

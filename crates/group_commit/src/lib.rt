@@ -12,7 +12,7 @@
 //! Invariants, of `Vault`:
 //! 1. The book is the vault after the kept entries.
 //! 2. The kept history is legal from the base: each entry's number and reply are its step's.
-//! 3. Settled entries are in order: retired, settled, all; and sealed behind settled while a commit is under way.
+//! 3. Settled entries are in order: retired, settled, all; and sealed behind settled while a commit or a snapshot is under way.
 //! 4. What is told is settled, and `told` counts it.
 //! 5. At most 4,096 entries are kept.
 //! 6. The store keeps the durable vaults after the settled entries, after the sealed ones and after all.
@@ -34,6 +34,7 @@ pub mod promises;
 mod pumping;
 mod redeeming;
 mod staging;
+mod starting;
 #[cfg(test)]
 mod tests;
 mod ticket;
@@ -44,4 +45,4 @@ pub use answers::{Forgotten, Redeemed};
 pub use mark::Mark;
 pub use ticket::{Receipt, Ticket};
 pub use vault::Vault;
-pub use vault_store::{Advanced as Pumped, CreateError, File, OpenError, Phase, Refused};
+pub use vault_store::{Advanced as Pumped, CreateError, File, OpenError, Phase, Refused, Started};

@@ -1,4 +1,4 @@
-//! The steps of a commit.
+//! The steps of a commit or of a snapshot.
 ghost use Rattle.std.specs.Prelude.{◌≡◌, ◌⊎◌, IfOk, OnOk, OnErr, Ok, true, false, if◌then◌else◌};
 ghost use Rattle.vault_store.specs.declared.phase.Advanced.TheVariants as answers;
 ghost use Rattle.vault_store.specs.Phases.{NoCall, is_idle};
@@ -22,7 +22,7 @@ fn is_idle(phase: Phase) -> bool
 }
 
 impl<D: Device, A: Allocator + Copy> Vault<D, A> {
-    // How many entries are sealed after the next step, where that makes a device call and isn't the last of a commit.
+    // How many entries are sealed after the next step, where that makes a device call and isn't the last of a commit or of a snapshot.
     fn sealed_next(&self) -> u64
         ensures { result ≡ (if is_idle self.now.store.phase then length_of self.now.view else self.now.view.sealed) }
     {
@@ -33,7 +33,7 @@ impl<D: Device, A: Allocator + Copy> Vault<D, A> {
         }
     }
 
-    /// Does the next step of a commit, with at most one device call and no memory. A fault breaks the vault: until the devices
+    /// Does the next step of a commit or of a snapshot, with at most one device call and no memory. A fault breaks the vault: until the devices
     /// are opened again it answers `Broken`, with no device call.
     pub fn pump(&mut self) -> Result<Pumped, Fault>
         ensures broken { self.old.view.broken ≡ true → (result ≡ Ok answers.Broken) × (self.new ≡ self.old) }

@@ -1,6 +1,7 @@
 mod given;
 mod memory;
 mod past;
+mod renewing;
 
 use super::*;
 use given::{
@@ -10,6 +11,7 @@ use given::{
 };
 use memory::refused_in_turn;
 use past::{inside_a_pump, inside_an_opening, three_lives, two_lives};
+use renewing::{is_renewed, is_renewed_around, saves_a_frame};
 use std::alloc::Global;
 use std::process::Abort;
 use test_memory::Refusing;
@@ -80,6 +82,36 @@ fn full_buffer(rt: HostRuntime) {
     assert!(rt; first.len() == Ok(77 + 5 + 261_855));
 }
 
+// What is staged before a snapshot is settled with it, in the second file, and what is staged behind its start isn't.
+#[test]
+fn snapshot(rt: HostRuntime) {
+    let mut vault = new_vault(rt.alloc(), 0, 1).expect(&rt, "a new vault");
+    assert!(rt; joins(&mut vault, b"anna", 1));
+    assert!(rt; is_renewed_around(&mut vault, b"/e", b"/f"));
+    let (first, second) = vault.into_devices();
+    assert!(rt; first.calls() == CREATION.0 && second.calls() == CREATION.1 + 6);
+    let mut vault = stopped(rt.alloc(), first, second).expect(&rt, "another life");
+    assert!(rt; joins(&mut vault, b"anna", 1));
+    assert!(rt; is_listed(&mut vault, rt.alloc(), b"e"));
+    drop(vault);
+}
+
+// Frames of 38 bytes of records, of 253 records of 1,035 bytes four times, and of one such record twice: 1,047,483 bytes, then
+// 1,048,523 and 1,049,563.
+#[test]
+fn snapshot_wanted(rt: HostRuntime) {
+    let mut vault = new_vault(rt.alloc(), 0, 1).expect(&rt, "a new vault");
+    assert!(rt; joins(&mut vault, b"anna", 1));
+    assert!(rt; checked_out(&mut vault, rt.alloc()));
+    for _ in 0..4 {
+        assert!(rt; saves_a_frame(&mut vault, rt.alloc(), 253));
+    }
+    assert!(rt; saves_a_frame(&mut vault, rt.alloc(), 1) && !vault.wants_snapshot());
+    assert!(rt; saves_a_frame(&mut vault, rt.alloc(), 1) && vault.wants_snapshot());
+    assert!(rt; is_renewed(&mut vault) && !vault.wants_snapshot());
+    drop(vault);
+}
+
 #[test]
 fn full_history(rt: HostRuntime) {
     let mut vault = new_vault(rt.alloc(), 0, 1).expect(&rt, "a new vault");
@@ -105,7 +137,7 @@ fn no_vault_to_open(rt: HostRuntime) {
 #[test]
 fn refused_memory(rt: HostRuntime) {
     let memory = Refusing::new(rt.alloc());
-    assert_eq!(rt; refused_in_turn(&rt, rt.alloc(), &memory), (4, 8));
+    assert_eq!(rt; refused_in_turn(&rt, rt.alloc(), &memory), (4, 1, 8));
 }
 
 // Whether this is a new life, behind which a receipt was kept for that reply.

@@ -2,6 +2,7 @@
 ghost use Rattle.std.specs.Prelude.{◌≡◌, length};
 ghost use Rattle.vault_store.specs.Seen.{first_of, second_of};
 
+use crate::Phase;
 use crate::window::Window;
 use std::alloc::{Allocator, Global};
 use std::marker::Model;
@@ -74,6 +75,13 @@ impl<D: Device, A: Allocator + Copy> Vault<D, A> {
         ensures { result ≡ self.now.view.told }
     {
         self.told
+    }
+
+    /// Which step of a commit or of a snapshot comes next.
+    pub fn phase(&self) -> Phase
+        ensures { result ≡ self.now.view.phase }
+    {
+        self.store.phase()
     }
 
     /// Whether a device call failed.

@@ -42,6 +42,11 @@ impl<A: Allocator + Copy> Window<A> {
         })
     }
 
+    /// Where their room was taken.
+    pub fn allocator(&self) -> A {
+        *self.entries.allocator()
+    }
+
     /// How many there are.
     pub fn len(&self) -> usize
         ensures len { result ≡ length self.now }
@@ -81,7 +86,7 @@ impl<A: Allocator + Copy> Window<A> {
         requires { place < length self.now }
         ensures { IfOk result (λ reply. (kept : Kept) → slice_get self.now place ≡ Some kept → reply ≡ kept.entry.reply) }
     {
-        let alloc = *self.entries.allocator();
+        let alloc = self.allocator();
         self.entries[place].reply(alloc)
     }
 }

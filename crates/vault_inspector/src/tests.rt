@@ -5,6 +5,9 @@ use std::alloc::Global;
 use std::process::Abort;
 use test_memory::Refusing;
 use vault_device::{Device, MemDevice};
+use vault_model::{EffectIn, Name, PlaceId};
+use vault_store::laws::what_is_noted_is_spelled;
+use vault_store::{Advanced, Started, Store};
 
 // A new vault, and one with a project made in a frame.
 const NEW: &[u8; 35] = b"\x01LLVAULT\0\0\0\x01\0\0\0\0\0\0\0\x01\0\0\0\x0a\0\0\0\0\0\0\0\x01\0\0\0";
@@ -64,6 +67,52 @@ fn reports_on_vaults(rt: HostRuntime) {
 
 // Two closed files; two alike; a frame that is cut off; a wrong head beside a right one, first or second; a wrong body beside an
 // older file.
+// Makes a snapshot of the vault in two devices, and behind it a project in a frame.
+fn renewed(
+    rt: &impl Abort,
+    alloc: Global,
+    first: MemDevice,
+    second: MemDevice,
+) -> (MemDevice, MemDevice) {
+    what_is_noted_is_spelled::<MemDevice>();
+    let Ok((mut store, book)) = Store::open(alloc, first, second) else {
+        panic!(rt; "a vault");
+    };
+    let started = store.start_snapshot(alloc, &book);
+    drop(book);
+    assert!(rt; started == Ok(Started::Yes));
+    assert!(rt; is_settled_by(&mut store, 6) && store.room());
+    let f = Name::read(b"f").expect(rt, "a name");
+    store.note(&EffectIn::<Global>::Made(PlaceId(0), f));
+    assert!(rt; is_settled_by(&mut store, 4));
+    store.into_devices()
+}
+
+// Whether the last of so many steps settles.
+fn is_settled_by(store: &mut Store<MemDevice>, steps: u8) -> bool {
+    for _ in 1..steps {
+        let _ = store.advance();
+    }
+    store.advance() == Ok(Advanced::Settled)
+}
+
+#[test]
+fn reports_behind_a_snapshot(rt: HostRuntime) {
+    let alloc = rt.alloc();
+    let first = holding(&rt, alloc, WITH_E);
+    let second = holding(&rt, alloc, b"");
+    let (mut a, mut b) = renewed(&rt, alloc, first, second);
+    let report = inspect(alloc, &mut a, &mut b).expect(&rt, "a report");
+    let mut printed = Vec::new(alloc);
+    assert!(rt; print(&report, &mut printed).is_ok());
+    let text =
+        b"file a: older, generation 1\nfile b: open, generation 2, frames 1, tail 52\nplaces 3, versions 0, claims 0, drafts 0\n";
+    assert!(rt; printed.as_slice() == text);
+    drop(report);
+    drop(a);
+    drop(b);
+}
+
 #[test]
 fn reports_on_no_vault(rt: HostRuntime) {
     let alloc = rt.alloc();

@@ -1,13 +1,16 @@
--- Seven pumps end the commit under way, and one behind it.
-use Rattle.std.proofs.Common.{◌≡◌, ℕ, zero, suc, ◌-◌, ◌≤◌, true, false, List, [], ◌∷◌, length, drop, refl, sym, ap, ◌∙◌, subst, arith, length-drop}
-use Rattle.std.specs.Prelude.{nat_lt}
-use Rattle.std.proofs.lemmas.Bool.{cond-true, lt-ltb}
+-- The pumps of a commit settle all.
+use Rattle.std.proofs.Common.{◌≡◌, ℕ, zero, suc, ◌+◌, ◌-◌, ◌*◌, ◌<◌, ◌≤◌, Bool, true, false, cond, List, [], ◌∷◌, length, drop, refl, sym, ap, ◌∙◌, subst, arith, length-drop}
+use Rattle.std.specs.Prelude.{◌/◌, ◌↔◌, IsTrue, nat_le, nat_lt}
+use Rattle.std.proofs.Math.Nat.{add-div_right}
+use Rattle.std.proofs.lemmas.Nat.{div-mul-add}
+use Rattle.std.proofs.lemmas.Bool.{cond-true, lt-ltb, leb-true, leb-false}
 use Rattle.std.proofs.lemmas.List.{drop_all}
 use Rattle.vault_model.specs.Said.{Effect}
 use Rattle.vault_model.specs.Vault.{durable}
 use Rattle.vault_store.specs.declared.phase.Phase.{Phase}
 use Rattle.vault_store.specs.declared.phase.Phase.TheVariants.{Idle, Written, Bodied, Opening, Start, Closing, Writing, Filled, Ready, SnapOpening}
-use Rattle.vault_store.specs.Phases.{Waiting, Nothing, NoEffects, Effects, row, is_idle}
+use Rattle.vault_store.specs.Files.{header}
+use Rattle.vault_store.specs.Phases.{Waiting, Nothing, NoEffects, Effects, row, behind_piece, most_piece}
 use Rattle.group_commit.specs.Entries.{Kept}
 use Rattle.group_commit.specs.History.{effects}
 use Rattle.group_commit.specs.Phases.{InOrder, waiting}
@@ -16,12 +19,12 @@ use Rattle.group_commit.specs.Runs.{run}
 use Rattle.group_commit.specs.View.{View, length_of, view_at, view_pumped, view_acted}
 use Rattle.group_commit.specs.Seen.{snapshot_length}
 use Rattle.group_commit.specs.Laws.{IsReachable}
+use Rattle.group_commit.proofs.Order.{order_row}
 use Rattle.group_commit.proofs.Sound.{IsSound, after_run}
 use Rattle.group_commit.proofs.ViewLaw.{len_is}
-use Rattle.vault_protocol.specs.Limits.{most_steps}
-use Rattle.vault_protocol.specs.Talk.{Line, Known, Awaited, Talk, Said, told, said_of, said, pumped, pumps, committed}
+use Rattle.vault_protocol.specs.Talk.{Line, Known, Awaited, Talk, Said, told, said_of, said, pumped, pumps, pieces, pumps_for, waits_behind, pumps_needed, committed}
 use Rattle.vault_protocol.proofs.OpenLines.{AreBelow, open_below}
-use Rattle.vault_protocol.proofs.ScriptRuns.{is_commit, IsSoundTalk}
+use Rattle.vault_protocol.proofs.ScriptRuns.{IsSoundTalk}
 
 -- a pump, on the view alone
 abbrev pump : View → View
@@ -31,44 +34,87 @@ abbrev pumps_on : ℕ → View → View
 pumps_on zero v = v
 pumps_on (suc n) v = pumps_on n (pump v)
 
--- what waits behind the settled entries
-abbrev waits : View → Waiting
-waits v = waiting (drop (v.settled - v.retired) v.kept) (effects (view_at v v.settled) (drop (v.settled - v.retired) v.kept))
-
--- all is settled, and no commit is under way
-abbrev all_settled : View → ℕ → View
+-- all is settled, and nothing is under way
+abbrev pub all_settled : View → ℕ → View
 all_settled v sealed = record v { settled = length_of v; sealed = sealed; phase = Idle }
 
--- a pump makes the row of its phase and of what waits
-by_row : (v : View) (phase : Phase) (waiting : Waiting) → v.phase ≡ phase → waits v ≡ waiting → pump v ≡ view_pumped (row phase waiting (snapshot_length (durable (view_at v v.sealed)))) v
-by_row v phase waiting e w =
-    ap (λ p. view_pumped (row p (waits v) (snapshot_length (durable (view_at v v.sealed)))) v) e
-    ∙ ap (λ p. view_pumped (row phase p (snapshot_length (durable (view_at v v.sealed)))) v) w
+-- The pieces of a snapshot.
 
--- A commit under way ends, and settles what it sealed.
+pieces_last : (n : ℕ) → n ≤ most_piece → pieces n ≡ 1
+pieces_last n h =
+    let small : n - 1 < most_piece = omega arith in
+    let same : n - 1 ≡ 0 * most_piece + (n - 1) = omega arith in
+    ap (λ x. suc (x / most_piece)) same ∙ ap suc (div-mul-add 0 most_piece (n - 1) small)
 
-from_opening : (v : View) → v.phase ≡ Opening → pump v ≡ record v { settled = v.sealed; phase = Idle }
-from_opening v e = by_row v Opening (waits v) e refl
+pieces_more : (n : ℕ) → most_piece < n → pieces n ≡ suc (pieces (n - most_piece))
+pieces_more n h =
+    let same : n - 1 ≡ n - most_piece - 1 + most_piece = omega arith in
+    let next : (n - most_piece - 1 + most_piece) / most_piece ≡ (n - most_piece - 1) / most_piece + 1 = add-div_right (n - most_piece - 1) (omega arith) in
+    let one : (n - most_piece - 1) / most_piece + 1 ≡ suc ((n - most_piece - 1) / most_piece) = omega arith in
+    ap (λ x. suc (x / most_piece)) same ∙ ap suc (next ∙ one)
 
-from_bodied : (v : View) → v.phase ≡ Bodied → pumps_on 2 v ≡ record v { settled = v.sealed; phase = Idle }
-from_bodied v e = ap pump (by_row v Bodied (waits v) e refl) ∙ from_opening (record v { phase = Opening }) refl
+-- Each pump leaves one less to make.
 
-from_written : (v : View) → v.phase ≡ Written → pumps_on 3 v ≡ record v { settled = v.sealed; phase = Idle }
-from_written v e = ap (pumps_on 2) (by_row v Written (waits v) e refl) ∙ from_bodied (record v { phase = Bodied }) refl
+abbrev waits : View → Waiting
+waits v = waits_behind v v.settled
 
--- Where all is settled and none is under way, a pump changes nothing.
+none_wait : (v : View) (position : ℕ) → length v.kept ≤ position - v.retired → waits_behind v position ≡ Nothing
+none_wait v position h = ap (λ entries. waiting entries (effects (view_at v position) entries)) (drop_all (position - v.retired) v.kept h)
 
-none_wait : (v : View) → length v.kept ≤ v.settled - v.retired → waits v ≡ Nothing
-none_wait v h = ap (λ entries. waiting entries (effects (view_at v v.settled) entries)) (drop_all (v.settled - v.retired) v.kept h)
+all_behind : (v : View) → length v.kept ≤ length_of v - v.retired
+all_behind v = omega arith
 
-rests : (v : View) → v.phase ≡ Idle → v.settled ≡ length_of v → pump v ≡ v
-rests v e all = by_row v Idle Nothing e (none_wait v (omega (arith, all))) ∙ ap (λ phase. record v { phase = phase }) (sym e)
+one_less : (a b x k : ℕ) → a ≡ suc b → a + x ≡ suc k → b + x ≡ k
+one_less a b x k h e = omega arith
 
-stays_settled : (n : ℕ) (v : View) → v.phase ≡ Idle → v.settled ≡ length_of v → pumps_on n v ≡ v
-stays_settled zero v e all = refl
-stays_settled (suc n) v e all = ap (pumps_on n) (rests v e all) ∙ stays_settled n v e all
+none_more : (a x k : ℕ) → x ≡ 0 → suc a ≡ suc k → a + x ≡ k
+none_more a x k h e = omega arith
 
--- From rest four pumps settle all.
+plain : (x n : ℕ) → 0 + x ≡ n → x ≡ n
+plain x n e = omega arith
+
+-- from rest
+idle_falls : (v : View) (k : ℕ) (w : Waiting) → waits v ≡ w → pumps_for w ≡ suc k
+    → pumps_needed (view_pumped (row Idle w (snapshot_length (durable (view_at v v.sealed)))) (record v { phase = Idle })) ≡ k
+idle_falls v k Nothing w e = absurd (cc)
+idle_falls v k NoEffects w e =
+    let none : pumps_for (waits_behind v (length_of v)) ≡ 0 = ap pumps_for (none_wait v (length_of v) (all_behind v)) in
+    none_more 0 (pumps_for (waits_behind v (length_of v))) k none e
+idle_falls v k Effects w e =
+    let none : pumps_for (waits_behind v (length_of v)) ≡ 0 = ap pumps_for (none_wait v (length_of v) (all_behind v)) in
+    none_more 3 (pumps_for (waits_behind v (length_of v))) k none e
+
+-- behind a piece
+piece_falls : (v : View) (left x k : ℕ) → 3 + pieces left + x ≡ suc k → x ≡ pumps_for (waits_behind v v.sealed) → pumps_needed (record v { phase = behind_piece left }) ≡ k
+piece_falls v left x k e same = by_test (nat_le left most_piece) refl
+  where
+    by_test : (b : Bool) → nat_le left most_piece ≡ b → pumps_needed (record v { phase = cond b Filled (Writing (left - most_piece)) }) ≡ k
+    by_test true h = let last : pieces left ≡ 1 = pieces_last left (leb-true _ _ h) in ap (λ y. 3 + y) (sym same) ∙ one_less 4 3 x k refl (ap (λ p. 3 + p + x) (sym last) ∙ e)
+    by_test false h =
+        let more : pieces left ≡ suc (pieces (left - most_piece)) = pieces_more left (leb-false _ _ h) in
+        ap (λ y. 3 + pieces (left - most_piece) + y) (sym same)
+        ∙ one_less (3 + pieces left) (3 + pieces (left - most_piece)) x k (omega (arith, more)) e
+
+falls_in : (p : Phase) (v : View) (k : ℕ) → pumps_needed (record v { phase = p }) ≡ suc k → pumps_needed (pump (record v { phase = p })) ≡ k
+falls_in Idle v k e = idle_falls v k (waits v) refl (plain (pumps_for (waits v)) (suc k) e)
+falls_in Written v k e = one_less 3 2 (pumps_for (waits_behind v v.sealed)) k refl e
+falls_in Bodied v k e = one_less 2 1 (pumps_for (waits_behind v v.sealed)) k refl e
+falls_in Opening v k e = one_less 1 0 (pumps_for (waits_behind v v.sealed)) k refl e
+falls_in Start v k e =
+    let n = pieces (header + snapshot_length (durable (view_at v v.sealed))) in
+    one_less (5 + n) (4 + n) (pumps_for (waits_behind v v.sealed)) k (omega arith) e
+falls_in Closing v k e =
+    let n = pieces (header + snapshot_length (durable (view_at v v.sealed))) in
+    one_less (4 + n) (3 + n) (pumps_for (waits_behind v v.sealed)) k (omega arith) e
+falls_in (Writing left) v k e = piece_falls v left (pumps_for (waits_behind v v.sealed)) k e refl
+falls_in Filled v k e = one_less 3 2 (pumps_for (waits_behind v v.sealed)) k refl e
+falls_in Ready v k e = one_less 2 1 (pumps_for (waits_behind v v.sealed)) k refl e
+falls_in SnapOpening v k e = one_less 1 0 (pumps_for (waits_behind v v.sealed)) k refl e
+
+pub needed_falls : (v : View) (k : ℕ) → pumps_needed v ≡ suc k → pumps_needed (pump v) ≡ k
+needed_falls v k e = falls_in v.phase v k e
+
+-- Where none is left to make, all is settled, and nothing is under way.
 
 some_waits : (x : Kept) (xs : List Kept) (effects : List Effect) → waiting (x ∷ xs) effects ≡ Nothing → ⊥
 some_waits x xs [] h = cc h
@@ -85,57 +131,83 @@ all_was_settled v h kept within =
     by_entries [] h = refl
     by_entries (x ∷ xs) h = absurd (some_waits x xs (effects (view_at v v.settled) (x ∷ xs)) h)
 
-from_rest : (v : View) → v.phase ≡ Idle → v.retired ≤ v.settled → v.settled ≤ length_of v → (sealed : ℕ) × (pumps_on 4 v ≡ all_settled v sealed)
-from_rest v e kept within = by_waiting (waits v) refl
-  where
-    by_waiting : (waiting : Waiting) → waits v ≡ waiting → (sealed : ℕ) × (pumps_on 4 v ≡ all_settled v sealed)
-    by_waiting Nothing w =
-        let all = all_was_settled v w kept within in
-        (v.sealed, stays_settled 4 v e all ∙ λ i. record v { settled = all i; phase = e i })
-    by_waiting NoEffects w = (v.sealed, ap (pumps_on 3) (by_row v Idle NoEffects e w) ∙ stays_settled 3 (all_settled v v.sealed) refl refl)
-    by_waiting Effects w = (length_of v, ap (pumps_on 3) (by_row v Idle Effects e w) ∙ from_written (record v { sealed = length_of v; phase = Written }) refl)
+none_for : (w : Waiting) → pumps_for w ≡ 0 → w ≡ Nothing
+none_for Nothing e = refl
+none_for NoEffects e = absurd (cc)
+none_for Effects e = absurd (cc)
 
--- From any phase of a commit seven do.
+abbrev pub IsAtRest : View → Type 0
+IsAtRest v = (v.phase ≡ Idle) × (v.settled ≡ length_of v)
 
--- the rest of seven pumps, once a commit under way has ended
-from_ended : (v : View) → is_idle v.phase ≡ false → InOrder (length_of v) v.retired v.settled v.sealed v.phase
-    → (sealed : ℕ) × (pumps_on 4 (record v { settled = v.sealed; phase = Idle }) ≡ all_settled v sealed)
-from_ended v busy o =
-    let kept : v.retired ≤ v.settled = o.retired_settled in
-    let seals : v.settled ≤ v.sealed = o.sealing busy in
-    from_rest (record v { settled = v.sealed; phase = Idle }) refl (omega (arith, kept, seals)) o.sealed_all
+some_left : (a x : ℕ) → 1 ≤ a → a + x ≡ 0 → ⊥
+some_left a x h e = omega arith
 
-seven_settle : (v : View) → is_commit v.phase ≡ true → InOrder (length_of v) v.retired v.settled v.sealed v.phase → (sealed : ℕ) × (pumps_on 7 v ≡ all_settled v sealed)
-seven_settle v commits o = by_phase v.phase refl commits
-  where
-    by_phase : (phase : Phase) → v.phase ≡ phase → is_commit phase ≡ true → (sealed : ℕ) × (pumps_on 7 v ≡ all_settled v sealed)
-    by_phase Idle e h =
-        let four = from_rest v e o.retired_settled o.settled_all in
-        (four.0, ap (pumps_on 3) four.1 ∙ stays_settled 3 (all_settled v four.0) refl refl)
-    by_phase Written e h =
-        let four = from_ended v (ap is_idle e) o in
-        (four.0, ap (pumps_on 4) (from_written v e) ∙ four.1)
-    by_phase Bodied e h =
-        let four = from_ended v (ap is_idle e) o in
-        (four.0, ap (pumps_on 5) (from_bodied v e) ∙ ap (pumps_on 1) four.1 ∙ stays_settled 1 (all_settled v four.0) refl refl)
-    by_phase Opening e h =
-        let four = from_ended v (ap is_idle e) o in
-        (four.0, ap (pumps_on 6) (from_opening v e) ∙ ap (pumps_on 2) four.1 ∙ stays_settled 2 (all_settled v four.0) refl refl)
-    by_phase Start e h = absurd (cc)
-    by_phase Closing e h = absurd (cc)
-    by_phase (Writing left) e h = absurd (cc)
-    by_phase Filled e h = absurd (cc)
-    by_phase Ready e h = absurd (cc)
-    by_phase SnapOpening e h = absurd (cc)
+rest_in : (p : Phase) (v : View) → InOrder (length_of v) v.retired v.settled v.sealed p → pumps_needed (record v { phase = p }) ≡ 0 → IsAtRest (record v { phase = p })
+rest_in Idle v o e = (refl, all_was_settled v (none_for (waits v) (plain (pumps_for (waits v)) 0 e)) o.retired_settled o.settled_all)
+rest_in Written v o e = absurd (some_left 3 (pumps_for (waits_behind v v.sealed)) (omega arith) e)
+rest_in Bodied v o e = absurd (some_left 2 (pumps_for (waits_behind v v.sealed)) (omega arith) e)
+rest_in Opening v o e = absurd (some_left 1 (pumps_for (waits_behind v v.sealed)) (omega arith) e)
+rest_in Start v o e = absurd (some_left (5 + pieces (header + snapshot_length (durable (view_at v v.sealed)))) (pumps_for (waits_behind v v.sealed)) (omega arith) e)
+rest_in Closing v o e = absurd (some_left (4 + pieces (header + snapshot_length (durable (view_at v v.sealed)))) (pumps_for (waits_behind v v.sealed)) (omega arith) e)
+rest_in (Writing left) v o e = absurd (some_left (3 + pieces left) (pumps_for (waits_behind v v.sealed)) (omega arith) e)
+rest_in Filled v o e = absurd (some_left 3 (pumps_for (waits_behind v v.sealed)) (omega arith) e)
+rest_in Ready v o e = absurd (some_left 2 (pumps_for (waits_behind v v.sealed)) (omega arith) e)
+rest_in SnapOpening v o e = absurd (some_left 1 (pumps_for (waits_behind v v.sealed)) (omega arith) e)
+
+pub at_rest : (v : View) → InOrder (length_of v) v.retired v.settled v.sealed v.phase → pumps_needed v ≡ 0 → IsAtRest v
+at_rest v o e = rest_in v.phase v o e
+
+pub rest_needs_none : (v : View) → IsAtRest v → pumps_needed v ≡ 0
+rest_needs_none v rest =
+    ap (λ (p : Phase). pumps_needed (record v { phase = p })) rest.0
+    ∙ ap (λ w. 0 + pumps_for w) (none_wait v v.settled (let all : v.settled ≡ length_of v = rest.1 in omega arith))
+
+-- So many pumps settle all.
+
+orders : (v : View) → InOrder (length_of v) v.retired v.settled v.sealed v.phase → InOrder (length_of (pump v)) (pump v).retired (pump v).settled (pump v).sealed (pump v).phase
+orders v o = order_row (length_of v) v.retired v.settled v.sealed v.phase _ _ o
+
+pumps_settle : (n : ℕ) (v : View) → InOrder (length_of v) v.retired v.settled v.sealed v.phase → pumps_needed v ≡ n → (sealed : ℕ) × (pumps_on n v ≡ all_settled v sealed)
+pumps_settle zero v o e = let rest = at_rest v o e in (v.sealed, λ i. record v { settled = rest.1 i; phase = rest.0 i })
+pumps_settle (suc n) v o e = let more = pumps_settle n (pump v) (orders v o) (needed_falls v n e) in (more.0, more.1)
+
+-- where it isn't so that none is needed
+pub some_needed : (b : Bool) (v : View) → (IsTrue b ↔ (pumps_needed v ≡ 0)) → b ≡ false → pumps_needed v ≡ 0 → ⊥
+some_needed true v is goes e = cc goes
+some_needed false v is goes e = let none : false ≡ true = is.1 e in cc none
+
+-- one of the pumps that are needed was made
+module _ (talk next : Talk) (some : pumps_needed talk.view ≡ 0 → ⊥) (same : next ≡ pumped talk) where
+  needed_next : (k : ℕ) → pumps_needed talk.view ≡ suc k → pumps_needed next.view ≡ k
+  unfolding pumped
+  needed_next k e = ap (λ (t : Talk). pumps_needed t.view) same ∙ needed_falls talk.view k e
+
+  pub one_pump : (all : Talk) → pumps (pumps_needed talk.view) talk ≡ all → pumps (pumps_needed next.view) next ≡ all
+  one_pump all is = by_count (pumps_needed talk.view) refl
+    where
+      by_count : (n : ℕ) → pumps_needed talk.view ≡ n → pumps (pumps_needed next.view) next ≡ all
+      by_count zero e = absurd (some e)
+      by_count (suc k) e = ap (λ n. pumps n next) (needed_next k e) ∙ ap (pumps k) same ∙ sym (ap (λ n. pumps n talk) e) ∙ is
+
+  pub one_fewer : suc (pumps_needed next.view) ≤ pumps_needed talk.view
+  one_fewer = by_count (pumps_needed talk.view) refl
+    where
+      by_count : (n : ℕ) → pumps_needed talk.view ≡ n → suc (pumps_needed next.view) ≤ pumps_needed talk.view
+      by_count zero e = absurd (some e)
+      by_count (suc k) e = let next_needs : pumps_needed next.view ≡ k = needed_next k e in omega (arith, next_needs, e)
+
+-- none is needed any more
+pub no_pump : (talk all : Talk) → pumps_needed talk.view ≡ 0 → pumps (pumps_needed talk.view) talk ≡ all → talk ≡ all
+no_pump talk all e is = sym (ap (λ n. pumps n talk) e) ∙ is
 
 pumps_view : (n : ℕ) (talk : Talk) → (pumps n talk).view ≡ pumps_on n talk.view
 unfolding pumped
 pumps_view zero talk = refl
 pumps_view (suc n) talk = pumps_view n (pumped talk)
 
-committed_view : (talk : Talk) → (committed talk).view ≡ pumps_on 7 talk.view
+committed_view : (talk : Talk) → (committed talk).view ≡ pumps_on (pumps_needed talk.view) talk.view
 unfolding committed
-committed_view talk = pumps_view most_steps talk
+committed_view talk = pumps_view (pumps_needed talk.view) talk
 
 -- the numbers of a view that some run reaches are in order
 in_order : (view : View) → IsReachable snapshot_length view → InOrder (length_of view) view.retired view.settled view.sealed view.phase
@@ -148,8 +220,8 @@ in_order view r =
 -- all is settled by a commit, and nothing else of the view changes but the number sealed
 pub commit_settles : (talk : Talk) → IsSoundTalk (IsReachable snapshot_length) talk → (committed talk).view ≡ all_settled talk.view (committed talk).view.sealed
 commit_settles talk s =
-    let seven = seven_settle talk.view s.vault.commits (in_order talk.view s.vault.holds) in
-    let whole = committed_view talk ∙ seven.1 in
+    let all = pumps_settle (pumps_needed talk.view) talk.view (in_order talk.view s.vault.holds) refl in
+    let whole = committed_view talk ∙ all.1 in
     whole ∙ ap (all_settled talk.view) (sym (ap (λ (v : View). v.sealed) whole))
 
 -- What is printed once all is settled.

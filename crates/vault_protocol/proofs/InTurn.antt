@@ -10,8 +10,7 @@ use Rattle.group_commit.specs.History.{entry_of}
 use Rattle.group_commit.specs.View.{length_of, book_of}
 use Rattle.group_commit.proofs.Marks.{length-with_mark}
 use Rattle.vault_protocol.specs.Grammar.{command_of}
-use Rattle.vault_protocol.specs.Limits.{most_steps}
-use Rattle.vault_protocol.specs.Talk.{Line, Known, Awaited, Talk, Said, told, said_of, said, with_text, pumped, pumps, committed, is_full, staged, is_awaited, is_known, crashed}
+use Rattle.vault_protocol.specs.Talk.{Line, Known, Awaited, Talk, Said, told, said_of, said, with_text, pumped, pumps, pumps_needed, committed, may_start, started, is_full, staged, is_awaited, is_known, crashed}
 use Rattle.vault_protocol.specs.Script.{is_skipped, connection_line, crash_line, answered, ready, heard_of, said_with, said_for}
 use Rattle.vault_protocol.specs.ScriptLaws.{talk_after}
 use Rattle.vault_protocol.proofs.ScriptRuns.{either}
@@ -65,7 +64,11 @@ in_turn_pumps (suc n) talk t = in_turn_pumps n (pumped talk) (in_turn_pump talk 
 
 pub in_turn_commit : (talk : Talk) → IsInTurn talk → IsInTurn (committed talk)
 unfolding committed
-in_turn_commit talk t = in_turn_pumps most_steps talk t
+in_turn_commit talk t = in_turn_pumps (pumps_needed talk.view) talk t
+
+pub in_turn_start : (talk : Talk) → IsInTurn talk → IsInTurn (started talk)
+unfolding started
+in_turn_start talk t = either IsInTurn (may_start talk) (record { whole = t.whole; turns = t.turns }) t
 
 pub in_turn_text : (talk : Talk) (text : List ℕ) → IsInTurn talk → IsInTurn (with_text talk text)
 in_turn_text talk text t = record { whole = t.whole; turns = next_known talk.view.told (length talk.view.kept) text talk.lines t.turns }
@@ -102,7 +105,8 @@ in_turn_with : (talk : Talk) (line : List ℕ) (pick : Option Pick) → IsInTurn
 in_turn_with talk line None t =
     either LeavesInTurn (is_skipped line) t
     (either LeavesInTurn (bytes_eq line (codes "!commit")) (now_in_turn (committed talk) (in_turn_commit talk t))
-    (either LeavesInTurn (bytes_eq line (codes "!pump")) (now_in_turn (pumped talk) (in_turn_pump talk t)) (in_turn_line talk (connection_line line) t)))
+    (either LeavesInTurn (bytes_eq line (codes "!pump")) (now_in_turn (pumped talk) (in_turn_pump talk t))
+    (either LeavesInTurn (bytes_eq line (codes "!snapshot")) (now_in_turn (started talk) (in_turn_start talk t)) (in_turn_line talk (connection_line line) t))))
 in_turn_with talk line (Some pick) t = now_in_turn (crashed pick talk) (in_turn_crash pick talk)
 
 pub in_turn_after : (talk : Talk) (lines : List (List ℕ)) → IsInTurn talk → IsInTurn (talk_after talk lines)

@@ -11,15 +11,14 @@ use Rattle.group_commit.specs.Entries.{Kept, with_mark}
 use Rattle.group_commit.specs.View.{View}
 use Rattle.group_commit.proofs.Marks.{entry_there, length-with_mark}
 use Rattle.vault_protocol.specs.Grammar.{command_of}
-use Rattle.vault_protocol.specs.Limits.{most_steps}
-use Rattle.vault_protocol.specs.Talk.{Line, Known, Awaited, Talk, Said, reply_at, told, told_text, said_of, said, with_text, pumped, pumps, committed, is_full, is_awaited, is_known, crashed}
+use Rattle.vault_protocol.specs.Talk.{Line, Known, Awaited, Talk, Said, reply_at, told, told_text, said_of, said, with_text, pumped, pumps, pumps_needed, committed, may_start, started, is_full, is_awaited, is_known, crashed}
 use Rattle.vault_protocol.specs.Script.{is_skipped, connection_line, crash_line, answered, ready, heard, heard_of, said_by, said_with, said_for}
 use Rattle.vault_protocol.specs.ScriptLaws.{talk_after, IsOutside, IsToldAt, AreTold, joined, IsMadeOfTold}
 use Rattle.vault_protocol.specs.Saying.{known_texts}
 use Rattle.vault_protocol.proofs.Saying.{known_said}
-use Rattle.vault_protocol.proofs.InTurn.{AreNext, IsInTurn, in_turn_pump, in_turn_commit, in_turn_answer, in_turn_ready, in_turn_text}
+use Rattle.vault_protocol.proofs.InTurn.{AreNext, IsInTurn, in_turn_pump, in_turn_start, in_turn_commit, in_turn_answer, in_turn_ready, in_turn_text}
 use Rattle.vault_protocol.proofs.OpenLines.{AreOpen, open_from, still_open}
-use Rattle.vault_protocol.proofs.ScriptRuns.{KeepsActs, IsSoundTalk, either, commit_sound, pump_sound, text_sound, ready_sound, answer_sound}
+use Rattle.vault_protocol.proofs.ScriptRuns.{KeepsActs, IsSoundTalk, either, commit_sound, pump_sound, start_sound, text_sound, ready_sound, answer_sound}
 
 -- The known texts of lines are outside the history.
 
@@ -60,7 +59,11 @@ pump_outside talk o = o
 
 commit_outside : (talk : Talk) → AreOutside talk.lines → AreOutside (committed talk).lines
 unfolding committed
-commit_outside talk o = pumps_outside most_steps talk o
+commit_outside talk o = pumps_outside (pumps_needed talk.view) talk o
+
+start_outside : (talk : Talk) → AreOutside talk.lines → AreOutside (started talk).lines
+unfolding started
+start_outside talk o = either (λ (t : Talk). AreOutside t.lines) (may_start talk) o o
 
 abbrev LeavesOutside : Said → Type 0
 LeavesOutside said = AreOutside said.talk.lines
@@ -87,7 +90,8 @@ with_outside talk line None o =
     either LeavesOutside (is_skipped line) o
     (either LeavesOutside (bytes_eq line (codes "!commit")) (said_outside (committed talk) (committed talk).lines (commit_outside talk o))
     (either LeavesOutside (bytes_eq line (codes "!pump")) (said_outside (pumped talk) (pumped talk).lines (pump_outside talk o))
-    (line_outside talk (connection_line line) o)))
+    (either LeavesOutside (bytes_eq line (codes "!snapshot")) (said_outside (started talk) (started talk).lines (start_outside talk o))
+    (line_outside talk (connection_line line) o))))
 with_outside talk line (Some pick) o = said_outside (crashed pick talk) (crashed pick talk).lines (known_outside talk.lines o)
 
 pub after_outside : (talk : Talk) (lines : List (List ℕ)) → AreOutside talk.lines → AreOutside (talk_after talk lines).lines
@@ -218,7 +222,11 @@ pumps_tell_none (suc n) talk = pumps_tell_none n (pumped talk)
 
 commit_tells_none : (talk : Talk) → (committed talk).view.told ≡ talk.view.told
 unfolding committed
-commit_tells_none talk = pumps_tell_none most_steps talk
+commit_tells_none talk = pumps_tell_none (pumps_needed talk.view) talk
+
+start_tells_none : (talk : Talk) → (started talk).view.told ≡ talk.view.told
+unfolding started
+start_tells_none talk = either (λ (t : Talk). t.view.told ≡ talk.view.told) (may_start talk) refl refl
 
 pub end_made : (P : View → Type 0) (k : KeepsActs P) (talk : Talk) → IsSoundTalk P talk → AreOutside talk.lines → IsInTurn talk → IsMade talk.view.told (said (committed talk))
 end_made P k talk s o t =
@@ -256,12 +264,18 @@ pump_made P k talk s o t =
     subst (λ from. IsMade from (said (pumped talk))) (pumps_tell_none 1 talk)
     (now_made P (pumped talk) (pump_sound P k talk s) (pump_outside talk o) (in_turn_pump talk t))
 
+start_made : (P : View → Type 0) (k : KeepsActs P) (talk : Talk) → IsSoundTalk P talk → AreOutside talk.lines → IsInTurn talk → IsMade talk.view.told (said (started talk))
+start_made P k talk s o t =
+    subst (λ from. IsMade from (said (started talk))) (start_tells_none talk)
+    (now_made P (started talk) (start_sound P k talk s) (start_outside talk o) (in_turn_start talk t))
+
 pub by_made : (P : View → Type 0) (k : KeepsActs P) (talk : Talk) (line : List ℕ) → IsSoundTalk P talk → AreOutside talk.lines → IsInTurn talk → IsMade talk.view.told (said_by talk line)
 by_made P k talk line s o t =
     let Q = IsMade talk.view.told in
     either Q (is_skipped line) (made_of_none talk.view talk.view.told)
     (either Q (bytes_eq line (codes "!commit")) (end_made P k talk s o t)
-    (either Q (bytes_eq line (codes "!pump")) (pump_made P k talk s o t) (line_made P k talk (connection_line line) s o t)))
+    (either Q (bytes_eq line (codes "!pump")) (pump_made P k talk s o t)
+    (either Q (bytes_eq line (codes "!snapshot")) (start_made P k talk s o t) (line_made P k talk (connection_line line) s o t))))
 
 -- A stop prints what is known.
 

@@ -25,7 +25,7 @@ reaches_openings : KeepsOpenings (IsReachable snapshot_length)
 reaches_openings = record { opens = (reachable_goes_on snapshot_length).opens }
 
 new_sound : IsSoundTalk (IsReachable snapshot_length) new_talk
-new_sound = record { vault = record { holds = (reachable_goes_on snapshot_length).begins; unbroken = refl; commits = refl }; awaited = tt }
+new_sound = record { vault = record { holds = (reachable_goes_on snapshot_length).begins; unbroken = refl }; awaited = tt }
 
 reached_sound : (lines : List (List ℕ)) → IsSoundTalk (IsReachable snapshot_length) (reached_by lines)
 reached_sound lines = after_sound (IsReachable snapshot_length) reaches_acts reaches_openings new_talk lines new_sound
@@ -42,7 +42,7 @@ scripts_are_runs lines =
 sound_with : (P : View → Type 0) (lines : List (List ℕ)) → P (reached_by lines).view → IsSoundTalk P (reached_by lines)
 sound_with P lines holds =
     let reached = reached_sound lines in
-    record { vault = record { holds = holds; unbroken = reached.vault.unbroken; commits = reached.vault.commits }; awaited = reached.awaited }
+    record { vault = record { holds = holds; unbroken = reached.vault.unbroken }; awaited = reached.awaited }
 
 after_parts : (talk : Talk) (lines more : List (List ℕ)) → talk_after talk (lines ++ more) ≡ talk_after (talk_after talk lines) more
 after_parts talk [] more = refl

@@ -6,19 +6,17 @@ use Rattle.std.proofs.lemmas.Bool.{and_parts, ltb-true}
 use Rattle.vault_model.specs.Said.{Command}
 use Rattle.vault_model.specs.Vault.{Vault, durable}
 use Rattle.vault_device.specs.declared.history.Pick.{Pick}
-use Rattle.vault_store.specs.declared.phase.Phase.{Phase}
-use Rattle.vault_store.specs.declared.phase.Phase.TheVariants.{Idle, Written, Bodied, Opening, Start, Closing, Writing, Filled, Ready, SnapOpening}
-use Rattle.vault_store.specs.Phases.{Waiting, Nothing, NoEffects, Effects, row, is_opening}
+use Rattle.vault_store.specs.Phases.{is_idle, is_opening}
 use Rattle.group_commit.specs.declared.mark.Mark.TheVariants.{Open, Told}
 use Rattle.group_commit.specs.Entries.{mark_at, with_mark}
 use Rattle.group_commit.specs.History.{entry_of}
-use Rattle.group_commit.specs.World.{Act, Stage, Pump, Tell}
+use Rattle.group_commit.specs.World.{Act, Stage, Pump, StartSnapshot, Tell}
 use Rattle.group_commit.specs.View.{View, opened_view, view_at, book_of, ViewAllows, view_acted, MayLeave}
 use Rattle.group_commit.specs.Seen.{snapshot_length}
+use Rattle.group_commit.proofs.Pumps.{idle_is}
 use Rattle.vault_device.specs.Picks.{gives_one}
 use Rattle.vault_protocol.specs.Grammar.{command_of}
-use Rattle.vault_protocol.specs.Limits.{most_steps}
-use Rattle.vault_protocol.specs.Talk.{Line, Known, Awaited, Talk, Said, told, told_text, reply_at, behind, said_of, said, with_text, pumped, pumps, committed, is_full, staged, is_awaited, crashed}
+use Rattle.vault_protocol.specs.Talk.{Line, Known, Awaited, Talk, Said, told, told_text, reply_at, behind, said_of, said, with_text, pumped, pumps, pumps_needed, committed, may_start, started, is_full, staged, is_awaited, crashed}
 use Rattle.vault_protocol.specs.Script.{is_skipped, connection_line, crash_line, answered, ready, heard, heard_of, said_by, said_with, said_for}
 use Rattle.vault_protocol.specs.ScriptLaws.{talk_after}
 use Rattle.vault_protocol.proofs.OpenLines.{AreOpen, none_open, open_from, with_known, still_open, with_awaited}
@@ -31,38 +29,15 @@ pub record KeepsActs (P : View → Type 0) : Type 0 where
 pub record KeepsOpenings (P : View → Type 0) : Type 0 where
   pub opens : (view : View) (left : Vault) → P view → MayLeave view left → P (opened_view left)
 
--- whether this is a phase of a commit, or of rest
-abbrev pub is_commit : Phase → Bool
-is_commit Idle = true
-is_commit Written = true
-is_commit Bodied = true
-is_commit Opening = true
-is_commit _ = false
-
--- the vault of a conversation: no device call failed, and no snapshot is under way
+-- the vault of a conversation: no device call failed
 pub record IsServing (P : View → Type 0) (view : View) : Type 0 where
   pub holds : P view
   pub unbroken : view.broken ≡ false
-  pub commits : is_commit view.phase ≡ true
 
 -- a conversation over it, whose lines wait for open entries
 pub record IsSoundTalk (P : View → Type 0) (talk : Talk) : Type 0 where
   pub vault : IsServing P talk.view
   pub awaited : AreOpen talk.view.kept talk.view.retired talk.view.retired talk.lines
-
-next_commits : (phase : Phase) (waiting : Waiting) (length : ℕ) → is_commit phase ≡ true → is_commit (row phase waiting length).next ≡ true
-next_commits Idle Nothing length h = refl
-next_commits Idle NoEffects length h = refl
-next_commits Idle Effects length h = refl
-next_commits Written waiting length h = refl
-next_commits Bodied waiting length h = refl
-next_commits Opening waiting length h = refl
-next_commits Start waiting length h = absurd (cc)
-next_commits Closing waiting length h = absurd (cc)
-next_commits (Writing left) waiting length h = absurd (cc)
-next_commits Filled waiting length h = absurd (cc)
-next_commits Ready waiting length h = absurd (cc)
-next_commits SnapOpening waiting length h = absurd (cc)
 
 -- Each change of a conversation.
 
@@ -71,7 +46,6 @@ serves_told : (P : View → Type 0) (k : KeepsActs P) (view : View) (position : 
 serves_told P k view position s settled kept is_open = record {
   holds = k.acts view (Tell position) s.holds (settled, kept, is_open);
   unbroken = s.unbroken;
-  commits = s.commits;
 }
 
 said_sound : (P : View → Type 0) (k : KeepsActs P) (talk : Talk) (lines : List Line) → IsServing P talk.view
@@ -103,7 +77,6 @@ pump_sound P k talk s = record {
   vault = record {
     holds = k.acts talk.view Pump s.vault.holds s.vault.unbroken;
     unbroken = s.vault.unbroken;
-    commits = next_commits talk.view.phase _ _ s.vault.commits;
   };
   awaited = s.awaited;
 }
@@ -114,7 +87,21 @@ pumps_sound P k (suc n) talk s = pumps_sound P k n (pumped talk) (pump_sound P k
 
 pub commit_sound : (P : View → Type 0) (k : KeepsActs P) (talk : Talk) → IsSoundTalk P talk → IsSoundTalk P (committed talk)
 unfolding committed
-commit_sound P k talk s = pumps_sound P k most_steps talk s
+commit_sound P k talk s = pumps_sound P k (pumps_needed talk.view) talk s
+
+pub start_sound : (P : View → Type 0) (k : KeepsActs P) (talk : Talk) → IsSoundTalk P talk → IsSoundTalk P (started talk)
+unfolding started
+start_sound P k talk s = by_test (may_start talk) refl
+  where
+    by_test : (b : Bool) → may_start talk ≡ b → IsSoundTalk P (cond b (record talk { view = view_acted snapshot_length talk.view StartSnapshot; buffer = 0 }) talk)
+    by_test true e = record {
+      vault = record {
+        holds = k.acts talk.view StartSnapshot s.vault.holds (s.vault.unbroken, idle_is talk.view.phase (and_parts (is_idle talk.view.phase) _ e).0);
+        unbroken = s.vault.unbroken;
+      };
+      awaited = s.awaited;
+    }
+    by_test false e = s
 
 stage_sound : (P : View → Type 0) (k : KeepsActs P) (talk : Talk) (connection : ℕ) (command : Command) → IsSoundTalk P talk → IsSoundTalk P (staged talk connection command)
 stage_sound P k talk connection command s =
@@ -123,7 +110,6 @@ stage_sound P k talk connection command s =
       vault = record {
         holds = k.acts talk.view (Stage session command) s.vault.holds s.vault.unbroken;
         unbroken = s.vault.unbroken;
-        commits = s.vault.commits;
       };
       awaited = with_awaited talk.view.kept (entry_of (book_of talk.view) session command) talk.view.retired talk.view.retired connection talk.lines (omega arith) (omega arith) s.awaited;
     }
@@ -138,7 +124,7 @@ may_be_left pick view = by_test (gives_one pick && is_opening view.phase) refl
 
 pub crash_sound : (P : View → Type 0) (o : KeepsOpenings P) (pick : Pick) (talk : Talk) → IsSoundTalk P talk → IsSoundTalk P (crashed pick talk)
 crash_sound P o pick talk s = record {
-  vault = record { holds = o.opens talk.view _ s.vault.holds (may_be_left pick talk.view); unbroken = refl; commits = refl };
+  vault = record { holds = o.opens talk.view _ s.vault.holds (may_be_left pick talk.view); unbroken = refl };
   awaited = none_open talk.lines;
 }
 
@@ -173,7 +159,8 @@ by_sound P k talk line s =
     either (LeavesSound P) (is_skipped line) s
     (either (LeavesSound P) (bytes_eq line (codes "!commit")) (now_said P k (committed talk) (commit_sound P k talk s))
     (either (LeavesSound P) (bytes_eq line (codes "!pump")) (now_said P k (pumped talk) (pump_sound P k talk s))
-    (line_sound P k talk (connection_line line) s)))
+    (either (LeavesSound P) (bytes_eq line (codes "!snapshot")) (now_said P k (started talk) (start_sound P k talk s))
+    (line_sound P k talk (connection_line line) s))))
 
 with_sound : (P : View → Type 0) (k : KeepsActs P) (o : KeepsOpenings P) (talk : Talk) (line : List ℕ) (pick : Option Pick) → IsSoundTalk P talk → LeavesSound P (said_with talk line pick)
 with_sound P k o talk line None s = by_sound P k talk line s

@@ -18,7 +18,7 @@ use Rattle.vault_protocol.specs.Talk.{Line, Awaited, Talk, is_full, noted_length
 
 -- what contracts see of a runner
 abbrev pub talk_of : {D : Type 0} → Seen D → List ℕ → List ℕ → List Line → Talk
-talk_of seen sessions asked lines = record { view = seen.view; buffer = length seen.store.buffer; tail = seen.store.tail; sessions = sessions; asked = asked; lines = lines }
+talk_of seen sessions asked lines = record { view = seen.view; buffer = length seen.store.buffer; generation = seen.store.generation; tail = seen.store.tail; sessions = sessions; asked = asked; lines = lines }
 
 noted_size : {D : Type 0} (effect : Option Effect) (store : StoreSeen D) → length (noted effect store).buffer ≡ length store.buffer + noted_length effect
 noted_size None store = omega arith
@@ -27,6 +27,10 @@ noted_size (Some effect) store = length-append store.buffer (record_of effect)
 noted_tail : {D : Type 0} (effect : Option Effect) (store : StoreSeen D) → (noted effect store).tail ≡ store.tail
 noted_tail None store = refl
 noted_tail (Some effect) store = refl
+
+noted_generation : {D : Type 0} (effect : Option Effect) (store : StoreSeen D) → (noted effect store).generation ≡ store.generation
+noted_generation None store = refl
+noted_generation (Some effect) store = refl
 
 one_longer : (v : View) (session : ℕ) (command : Command) → length_of (view_acted snapshot_length v (Stage session command)) ≡ length_of v + 1
 one_longer v session command = omega (arith, length-append v.kept (opened (entry_of (book_of v) session command) ∷ []))
@@ -88,6 +92,7 @@ staged_talk old new sessions asked lines more now refused connection session pla
     path = λ i. record {
       view = (view ∙ ap (λ s. view_acted snapshot_length old.view (Stage s command)) is_session) i;
       buffer = (ap (λ s. length s.buffer) store ∙ noted_size (step (book_of old.view) session command).effect old.store ∙ ap (λ s. length old.store.buffer + noted_length (step (book_of old.view) s command).effect) is_session) i;
+      generation = (ap (λ s. s.generation) store ∙ noted_generation (step (book_of old.view) session command).effect old.store) i;
       tail = (ap (λ s. s.tail) store ∙ noted_tail (step (book_of old.view) session command).effect old.store) i;
       sessions = sessions;
       asked = (ap (λ p. slice_set asked p len) is_place ∙ ap (λ n. slice_set asked (connection - 1) n) (is_len ∙ ap length_of view ∙ one_longer old.view session command)) i;

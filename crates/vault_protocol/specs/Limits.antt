@@ -1,6 +1,6 @@
 -- The limits of lines and scripts; `src/limits.rt` has the numbers. This project's own.
 use Rattle.std.specs.Prelude.{ℕ}
-use Rattle.vault_protocol.specs.declared.limits.TheConstants.{LONGEST_LINE, LONGEST_SCRIPT, LAST_CONNECTION, MOST_STEPS}
+use Rattle.vault_protocol.specs.declared.limits.TheConstants.{LONGEST_LINE, LONGEST_SCRIPT, LAST_CONNECTION}
 
 -- the most bytes of a line, without the line feed at its end
 abbrev pub longest_line : ℕ
@@ -13,7 +13,3 @@ longest_script = LONGEST_SCRIPT
 -- the last connection of a script; the first is 1
 abbrev pub last_connection : ℕ
 last_connection = LAST_CONNECTION
-
--- how many steps a commit under way may have left, and one behind it has
-abbrev pub most_steps : ℕ
-most_steps = MOST_STEPS

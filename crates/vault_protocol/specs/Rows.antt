@@ -93,7 +93,7 @@ Refusals =
 -- empty lines and comments print nothing; lines of no connection, and of no command, are bad
 abbrev pub BadLines : Type 0
 BadLines =
-    output (codes "\n# @1 hello anna\n@1 \n@1\n@01 hello anna\n@0 hello anna\n@65 hello anna\n@64  hello anna\n!pumps\n!crash 0A\n!snapshot\n @1 hello anna\n@2 hello ben\r\n\n")
+    output (codes "\n# @1 hello anna\n@1 \n@1\n@01 hello anna\n@0 hello anna\n@65 hello anna\n@64  hello anna\n!pumps\n!crash 0A\n!snapshots\n @1 hello anna\n@2 hello ben\r\n\n")
     ≡ codes "@1 ERR 10\n! ERR 10\n! ERR 10\n! ERR 10\n! ERR 10\n@64 ERR 10\n! ERR 10\n! ERR 10\n! ERR 10\n! ERR 10\n@2 ERR 10\n"
 
 -- so many bytes 0, in digits

@@ -11,7 +11,7 @@ use Rattle.vault_protocol.specs.Reading.{◌>>=◌}
 use Rattle.vault_protocol.specs.Words.{number_in}
 use Rattle.vault_protocol.specs.Grammar.{command_of}
 use Rattle.vault_protocol.specs.Texts.{outside_text}
-use Rattle.vault_protocol.specs.Talk.{Talk, Said, behind, new_talk, said, with_text, connection_text, pumped, committed, is_full, staged, is_awaited, crashed}
+use Rattle.vault_protocol.specs.Talk.{Talk, Said, behind, new_talk, said, with_text, connection_text, pumped, committed, started, is_full, staged, is_awaited, crashed}
 
 -- the number of a connection
 abbrev pub connection_in : List ℕ → Option ℕ
@@ -95,6 +95,7 @@ said_by talk line =
     if is_skipped line then record { text = []; talk = talk }
     else if bytes_eq line (codes "!commit") then said (committed talk)
     else if bytes_eq line (codes "!pump") then said (pumped talk)
+    else if bytes_eq line (codes "!snapshot") then said (started talk)
     else heard_of talk (connection_line line)
 
 -- what is printed for a stop, or for another line

@@ -1,5 +1,5 @@
 -- A conversation of several connections with one vault: what is told, and what each order to the vault does. This project's own.
-use Rattle.std.specs.Prelude.{ℕ, zero, suc, ◌+◌, ◌-◌, ◌^◌, ◌==◌, ◌&&◌, ◌||◌, nat_le, nat_lt, Bool, true, false, List, [], ◌∷◌, ◌++◌, codes, decimal, length, filter, replicate, slice_get, slice_index, slice_set, Option, Some, None, Ok, if◌then◌else◌}
+use Rattle.std.specs.Prelude.{ℕ, zero, suc, ◌+◌, ◌-◌, ◌/◌, ◌^◌, ◌==◌, ◌&&◌, ◌||◌, nat_le, nat_lt, Bool, true, false, List, [], ◌∷◌, ◌++◌, codes, decimal, length, drop, filter, replicate, slice_get, slice_index, slice_set, Option, Some, None, Ok, if◌then◌else◌}
 use Rattle.std.specs.Option.{option_map}
 use Rattle.vault_model.specs.Said.{Command, Reply, Effect}
 use Rattle.vault_model.specs.declared.replies.Reply.TheVariants as replies
@@ -7,16 +7,21 @@ use Rattle.vault_model.specs.Vault.{new_vault, durable}
 use Rattle.vault_model.specs.Step.{step}
 use Rattle.vault_device.specs.declared.history.Pick.{Pick}
 use Rattle.vault_device.specs.Picks.{gives_one}
-use Rattle.vault_journal.specs.Spelling.{record_of, records_of}
-use Rattle.vault_store.specs.Files.{frame_extra}
-use Rattle.vault_store.specs.Phases.{is_idle, is_opening}
+use Rattle.vault_journal.specs.Spelling.{record_of}
+use Rattle.vault_store.specs.declared.phase.Advanced.TheVariants.{Settled}
+use Rattle.vault_store.specs.declared.phase.Phase.{Phase}
+use Rattle.vault_store.specs.declared.phase.Phase.TheVariants.{Idle, Written, Bodied, Opening, Start, Closing, Writing, Filled, Ready, SnapOpening}
+use Rattle.vault_store.specs.Files.{header}
+use Rattle.vault_store.specs.Phases.{Waiting, Nothing, NoEffects, Effects, most_piece, is_idle, is_opening}
 use Rattle.vault_store.specs.Seen.{most_noted, last_tail}
 use Rattle.group_commit.specs.Entries.{Kept}
-use Rattle.group_commit.specs.World.{Stage, Pump, Tell}
+use Rattle.group_commit.specs.History.{effects}
+use Rattle.group_commit.specs.Phases.{waiting}
+use Rattle.group_commit.specs.World.{Stage, Pump, StartSnapshot, Tell}
 use Rattle.group_commit.specs.View.{View, opened_view, length_of, view_at, book_of, view_row, view_acted}
-use Rattle.group_commit.specs.Seen.{snapshot_length, most_kept, effects_between}
-use Rattle.group_commit.specs.Calls.{gained}
-use Rattle.vault_protocol.specs.Limits.{last_connection, most_steps}
+use Rattle.group_commit.specs.Seen.{snapshot_length, most_kept, framed}
+use Rattle.group_commit.specs.Calls.{generation_after, tail_after}
+use Rattle.vault_protocol.specs.Limits.{last_connection}
 use Rattle.vault_protocol.specs.Texts.{reply_text}
 
 -- a line that isn't printed yet: its text, or its connection and the position of its entry
@@ -24,12 +29,13 @@ pub data Line : Type 0 where
   Known : List ℕ → Line
   Awaited : ℕ → ℕ → Line
 
--- what contracts see of the vault; how many bytes of records are in no frame yet, and where the file's tail gate stands; the session
--- that each connection speaks for; how many entries this life had with each connection's last command, 0 for none; the lines that
--- aren't printed yet, in order
+-- what contracts see of the vault; how many bytes of records are in no frame yet; of the active file its generation, and where its
+-- tail gate stands; the session that each connection speaks for; how many entries this life had with each connection's last command,
+-- 0 for none; the lines that aren't printed yet, in order
 pub record Talk : Type 0 where
   pub view : View
   pub buffer : ℕ
+  pub generation : ℕ
   pub tail : ℕ
   pub sessions : List ℕ
   pub asked : List ℕ
@@ -50,7 +56,7 @@ none_each = replicate last_connection 0
 
 -- a new vault, and no connection with a session: each speaks for the door, which is session 0
 abbrev pub new_talk : Talk
-new_talk = record { view = opened_view new_vault; buffer = 0; tail = first_tail; sessions = none_each; asked = none_each; lines = [] }
+new_talk = record { view = opened_view new_vault; buffer = 0; generation = 1; tail = first_tail; sessions = none_each; asked = none_each; lines = [] }
 
 -- a connection speaks for the session that it was told last, and for the door again once it left
 abbrev pub sessions_after : List ℕ → ℕ → Reply → List ℕ
@@ -106,20 +112,64 @@ with_text talk text = record talk { lines = talk.lines ++ Known text ∷ [] }
 
 -- a pump
 unfoldable pub pumped : Talk → Talk
-pumped talk = record talk {
-  view = view_acted snapshot_length talk.view Pump;
-  buffer = if is_idle talk.view.phase then 0 else talk.buffer;
-  tail = talk.tail + gained talk.view (Ok (view_row snapshot_length talk.view).answer);
-}
+pumped talk =
+    let answered = Ok (view_row snapshot_length talk.view).answer in
+    record talk {
+      view = view_acted snapshot_length talk.view Pump;
+      buffer = if is_idle talk.view.phase then 0 else talk.buffer;
+      generation = generation_after talk.view answered talk.generation;
+      tail = tail_after talk.view answered talk.tail;
+    }
 
 -- so many pumps
 abbrev pub pumps : ℕ → Talk → Talk
 pumps zero talk = talk
 pumps (suc n) talk = pumps n (pumped talk)
 
--- Pumps until all is settled and no commit is under way: a pump that finds nothing to do changes nothing.
+-- in how many pieces so many bytes are written
+abbrev pub pieces : ℕ → ℕ
+pieces bytes = suc ((bytes - 1) / most_piece)
+
+-- how many pumps the commit or the snapshot under way has left, where the snapshot's vault has so many bytes
+abbrev pub pumps_left : Phase → ℕ → ℕ
+pumps_left Idle length = 0
+pumps_left Written length = 3
+pumps_left Bodied length = 2
+pumps_left Opening length = 1
+pumps_left Start length = 5 + pieces (header + length)
+pumps_left Closing length = 4 + pieces (header + length)
+pumps_left (Writing left) length = 3 + pieces left
+pumps_left Filled length = 3
+pumps_left Ready length = 2
+pumps_left SnapOpening length = 1
+
+-- how many pumps settle what waits, once nothing is under way
+abbrev pub pumps_for : Waiting → ℕ
+pumps_for Nothing = 0
+pumps_for NoEffects = 1
+pumps_for Effects = 4
+
+-- what waits behind the entries up to a position
+abbrev pub waits_behind : View → ℕ → Waiting
+waits_behind v position =
+    let entries = drop (position - v.retired) v.kept in
+    waiting entries (effects (view_at v position) entries)
+
+-- how many pumps settle all
+abbrev pub pumps_needed : View → ℕ
+pumps_needed v = pumps_left v.phase (snapshot_length (durable (view_at v v.sealed))) + pumps_for (waits_behind v (framed v))
+
+-- pumps until all is settled, and neither a commit nor a snapshot is under way
 unfoldable pub committed : Talk → Talk
-committed talk = pumps most_steps talk
+committed talk = pumps (pumps_needed talk.view) talk
+
+-- whether a snapshot may be begun: nothing is under way, and there is a next generation
+abbrev pub may_start : Talk → Bool
+may_start talk = is_idle talk.view.phase && nat_lt (talk.generation + 1) (2 ^ 64)
+
+-- a snapshot is begun, where one may be
+unfoldable pub started : Talk → Talk
+started talk = if may_start talk then record talk { view = view_acted snapshot_length talk.view StartSnapshot; buffer = 0 } else talk
 
 -- no more commands get a place in the history: this life has the most entries, or there is no room for their records
 abbrev pub is_full : Talk → Bool
@@ -157,12 +207,14 @@ abbrev pub opens : Pick → Talk → Bool
 opens pick talk = gives_one pick && is_opening talk.view.phase
 
 -- Both devices stop, and the vault is opened again: after the settled entries or, where the gate that was being opened is found open,
--- after the sealed ones. No connection has a session, and the lines whose replies weren't told are lost.
+-- after the sealed ones, with the numbers that the settling pump gives. No connection has a session, and the lines whose replies
+-- weren't told are lost.
 abbrev pub crashed : Pick → Talk → Talk
 crashed pick talk = record {
   view = opened_view (durable (view_at talk.view (if opens pick talk then talk.view.sealed else talk.view.settled)));
   buffer = 0;
-  tail = if opens pick talk then talk.tail + frame_extra + length (records_of (effects_between talk.view talk.view.settled talk.view.sealed)) else talk.tail;
+  generation = if opens pick talk then generation_after talk.view (Ok Settled) talk.generation else talk.generation;
+  tail = if opens pick talk then tail_after talk.view (Ok Settled) talk.tail else talk.tail;
   sessions = none_each;
   asked = none_each;
   lines = filter is_known talk.lines;

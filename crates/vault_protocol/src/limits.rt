@@ -9,8 +9,5 @@ pub const LONGEST_SCRIPT: usize = 16_777_216;
 /// The last connection of a script. The first is 1.
 pub const LAST_CONNECTION: u32 = 64;
 
-/// How many steps a commit under way may have left, and one behind it has.
-pub(crate) const MOST_STEPS: u32 = 7;
-
 /// The most calls of a script's reader.
 pub const MOST_READS: u32 = 33_554_432;

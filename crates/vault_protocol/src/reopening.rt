@@ -1,13 +1,12 @@
 //! The devices of a vault stop, and it is opened again.
 
-ghost use Rattle.std.specs.Prelude.{◌≡◌, ◌+◌, ◌&&◌, IfOk, IfErr, [], length, if◌then◌else◌};
+ghost use Rattle.std.specs.Prelude.{◌≡◌, ◌&&◌, IfOk, IfErr, Ok, [], if◌then◌else◌};
 ghost use Rattle.vault_model.specs.Vault.{durable};
 ghost use Rattle.vault_device.specs.Picks.{gives_one};
-ghost use Rattle.vault_journal.specs.Spelling.{records_of};
-ghost use Rattle.vault_store.specs.Files.{frame_extra};
+ghost use Rattle.vault_store.specs.declared.phase.Advanced.TheVariants.{Settled};
 ghost use Rattle.vault_store.specs.Phases.{is_opening};
 ghost use Rattle.group_commit.specs.View.{opened_view, view_at};
-ghost use Rattle.group_commit.specs.Seen.{effects_between};
+ghost use Rattle.group_commit.specs.Calls.{generation_after, tail_after};
 
 use crate::error::ScriptError;
 use group_commit::Vault;
@@ -25,7 +24,8 @@ pub(crate) fn reopened<A: Allocator + Copy>(
 ) -> Result<Vault<MemDevice<A>, A>, ScriptError>
     ensures view { IfOk result (λ next. next.view ≡ opened_view (durable (view_at vault.view (if gives_one pick && is_opening vault.view.phase then vault.view.sealed else vault.view.settled)))) }
     ensures buffer { IfOk result (λ next. next.store.buffer ≡ []) }
-    ensures tail { IfOk result (λ next. next.store.tail ≡ (if gives_one pick && is_opening vault.view.phase then vault.store.tail + frame_extra + length (records_of (effects_between vault.view vault.view.settled vault.view.sealed)) else vault.store.tail)) }
+    ensures generation { IfOk result (λ next. next.store.generation ≡ (if gives_one pick && is_opening vault.view.phase then generation_after vault.view (Ok Settled) vault.store.generation else vault.store.generation)) }
+    ensures tail { IfOk result (λ next. next.store.tail ≡ (if gives_one pick && is_opening vault.view.phase then tail_after vault.view (Ok Settled) vault.store.tail else vault.store.tail)) }
     ensures cause { IfErr result (λ e. e ≡ ScriptError.NoMemory) }
 {
     if vault.is_broken() {

@@ -1,27 +1,28 @@
 //! A conversation of several connections with one vault, line by line.
 
-ghost use Rattle.std.specs.Prelude.{◌≡◌, ◌++◌, IfErr, IfOk, OnOk, Some, [], replicate};
+ghost use Rattle.std.specs.Prelude.{◌≡◌, ◌++◌, ◌↔◌, IsTrue, IfErr, IfOk, OnOk, Some, [], replicate};
 ghost use Rattle.vault_model.specs.Said.{Command};
 ghost use Rattle.vault_protocol.specs.Limits.{last_connection};
 ghost use Rattle.vault_protocol.specs.Grammar.{command_of};
 ghost use Rattle.vault_protocol.specs.Texts.{outside_text};
-ghost use Rattle.vault_protocol.specs.Talk.{new_talk, connection_text, sessions_after, with_text, said, pumped, committed, crashed, told, told_text, reply_at, is_awaited};
+ghost use Rattle.vault_protocol.specs.Talk.{new_talk, connection_text, sessions_after, with_text, said, pumped, pumps_needed, committed, started, crashed, told, told_text, reply_at, is_awaited};
 ghost use Rattle.vault_protocol.specs.Script.{answered, connection_line, heard, heard_of, with_refusal, ready, said_by, said_for};
 ghost use Rattle.vault_protocol.specs.Saying.{is_sayable, said_first};
 
 use crate::error::{LineError, ScriptError};
-use crate::limits::{LAST_CONNECTION, MOST_STEPS};
+use crate::limits::LAST_CONNECTION;
 use crate::lines::{Connection, connection_of, crash_of};
 use crate::losing::{give_up, lose};
 use crate::reading::read_line_of;
 use crate::reopening::reopened;
 use crate::text::{outside_text, text_of};
 use crate::waiting::Waiting;
-use group_commit::{Pumped, Redeemed, Ticket, Vault};
+use group_commit::promises::a_vault_keeps_its_history;
+use group_commit::{Phase, Pumped, Redeemed, Ticket, Vault};
 use std::alloc::{AllocError, Allocator};
 use std::collections::VecDeque;
 use std::marker::Model;
-use vault_device::{MemDevice, Pick};
+use vault_device::{Device, MemDevice, Pick};
 use vault_model::{CommandIn, Listing, Outside, Reply, ReplyIn};
 
 /// A vault over two devices in memory, the session that each connection speaks for, how many entries this life had with each
@@ -41,7 +42,7 @@ impl<A: Allocator + Copy> Model for Runner<A> {
 
     ghost Value = { Talk };
 
-    ghost view = { λ r. record { view = r.vault.view; buffer = length r.vault.store.buffer; tail = r.vault.store.tail; sessions = r.sessions; asked = r.asked; lines = lines_of r.lines.items } };
+    ghost view = { λ r. record { view = r.vault.view; buffer = length r.vault.store.buffer; generation = r.vault.store.generation; tail = r.vault.store.tail; sessions = r.sessions; asked = r.asked; lines = lines_of r.lines.items } };
 }
 
 /// A connection speaks for the session that it was told last, and for session 0 again once it left.
@@ -71,6 +72,14 @@ fn prefixed<A: Allocator>(
     let mut whole = format!(in alloc; "@{number} ")?.into_bytes();
     whole.extend_from_slice(text)?;
     Ok(whole)
+}
+
+/// Whether all is settled, and neither a commit nor a snapshot is under way.
+fn is_at_rest<D: Device, A: Allocator + Copy>(vault: &Vault<D, A>) -> bool
+    ensures { IsTrue result ↔ (pumps_needed vault.now.view ≡ 0) }
+{
+    a_vault_keeps_its_history(vault);
+    vault.phase() == Phase::Idle && vault.durable() == vault.len()
 }
 
 impl<A: Allocator + Copy> Runner<A> {
@@ -186,9 +195,23 @@ impl<A: Allocator + Copy> Runner<A> {
         ensures state { OnOk result (self.new ≡ committed self.old) }
         ensures cause { IfErr result (λ e. e ≡ ScriptError.NoMemory) }
     {
-        for _step in 0..MOST_STEPS {
+        while !is_at_rest(&self.vault) {
             self.pump()?;
         }
+        Ok(())
+    }
+
+    // Begins a snapshot, where one may be begun.
+    fn snapshot(&mut self) -> Result<(), ScriptError>
+        ensures state { OnOk result (self.new ≡ started self.old) }
+        ensures cause { IfErr result (λ e. e ≡ ScriptError.NoMemory) }
+    {
+        if self.vault.is_broken() {
+            return Err(ScriptError::NoMemory);
+        }
+        let Ok(_started) = self.vault.start_snapshot() else {
+            return Err(ScriptError::NoMemory);
+        };
         Ok(())
     }
 
@@ -337,6 +360,10 @@ impl<A: Allocator + Copy> Runner<A> {
         }
         if line == b"!pump".as_slice() {
             self.pump()?;
+            return self.say(alloc, out);
+        }
+        if line == b"!snapshot".as_slice() {
+            self.snapshot()?;
             return self.say(alloc, out);
         }
         self.answer_line(alloc, line, out)

@@ -1,16 +1,19 @@
 -- What each call of the vault leaves of the two lengths that the tallies count.
 use Rattle.std.proofs.Common.{◌≡◌, ◌∙◌, ap, ◌+◌, ◌≤◌, ℕ, length, Bool, true, false, arith, refl}
-use Rattle.std.specs.Prelude.{Result, Ok, Err}
+use Rattle.std.specs.Prelude.{Result, Ok, Err, OnErr}
 use Rattle.vault_device.specs.declared.device.Fault.{Fault as DeviceFault}
 use Rattle.vault_store.specs.declared.phase.Advanced.{Advanced as Pumped}
+use Rattle.vault_store.specs.declared.starting.Started.{Started}
+use Rattle.vault_store.specs.declared.starting.Started.TheVariants as starts
 use Rattle.group_commit.specs.declared.mark.Mark.{Mark}
 use Rattle.group_commit.specs.declared.mark.Mark.TheVariants as marks
 use Rattle.group_commit.specs.declared.answers.Redeemed.TheVariants as redeemed
 use Rattle.group_commit.specs.declared.answers.Forgotten.{Forgotten}
 use Rattle.group_commit.specs.declared.answers.Forgotten.TheVariants as forgotten
 use Rattle.group_commit.specs.Entries.{with_mark}
-use Rattle.group_commit.specs.View.{View, length_of}
-use Rattle.group_commit.specs.Seen.{Seen}
+use Rattle.group_commit.specs.World.{StartSnapshot}
+use Rattle.group_commit.specs.View.{View, length_of, view_acted}
+use Rattle.group_commit.specs.Seen.{Seen, snapshot_length}
 use Rattle.group_commit.specs.Ticket.{Claim, Told}
 use Rattle.group_commit.specs.Calls.{IsRedeemed, IsForgotten}
 use Rattle.group_commit.proofs.Marks.{length-with_mark}
@@ -39,6 +42,12 @@ pumped_from {D} old new (Err fault) false e h = let made = h.failed.1 in (ap len
 
 pub pump_keeps : {D : Type 0} (old new : Seen D) (result : Result Pumped DeviceFault) → IsPumped old result new → (length_of new.view ≡ length_of old.view) × (new.view.told ≡ old.view.told)
 pump_keeps old new result h = pumped_from old new result old.view.broken refl h
+
+pub start_keeps : {D E : Type 0} (old new : Seen D) (result : Result Started E) → (result ≡ Ok starts.Yes → new.view ≡ view_acted snapshot_length old.view StartSnapshot) → (result ≡ Ok starts.NotNow → new ≡ old) → OnErr result (new ≡ old)
+    → (length_of new.view ≡ length_of old.view) × (new.view.told ≡ old.view.told)
+start_keeps old new (Ok starts.Yes) started not_now refused = let made = started refl in (ap length_of made, ap (λ (v : View). v.told) made)
+start_keeps {D} old new (Ok starts.NotNow) started not_now refused = let same = not_now refl in (ap (λ (s : Seen D). length_of s.view) same, ap (λ (s : Seen D). s.view.told) same)
+start_keeps {D} old new (Err error) started not_now refused = (ap (λ (s : Seen D). length_of s.view) refused, ap (λ (s : Seen D). s.view.told) refused)
 
 -- a share and the opening one lie within a tally
 pub least_staged : {inside shown other opening total counted : ℕ} → inside ≡ shown → other ≡ opening → shown + other ≤ total → total ≡ counted → inside + opening ≤ counted

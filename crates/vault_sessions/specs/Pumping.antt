@@ -16,6 +16,6 @@ pub record IsPumped {D : Type 0} (old : Seen D) (result : Result Pumped DeviceFa
   pub failed : OnErr result (ViewAllows snapshot_length old.view Fault × (new.view ≡ view_acted snapshot_length old.view Fault))
   pub life : new.life ≡ old.life
 
--- every entry is settled, and no commit is under way
+-- every entry is settled, and neither a commit nor a snapshot is under way
 abbrev pub IsAtRest : View → Type 0
 IsAtRest v = (v.settled ≡ length_of v) × (v.phase ≡ Idle)

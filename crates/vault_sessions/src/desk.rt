@@ -1,11 +1,13 @@
 //! What lies under the lock.
-ghost use Rattle.std.specs.Prelude.{◌≡◌, ◌+◌, ◌≤◌, ◌↔◌, IsTrue, IfOk, IfErr, OnOk, OnErr, Some, true, false};
+ghost use Rattle.std.specs.Prelude.{◌≡◌, ◌+◌, ◌≤◌, ◌↔◌, IsTrue, IfOk, IfErr, OnOk, OnErr, Ok, Some, true, false};
 ghost use Rattle.group_commit.specs.History.{entry_of};
-ghost use Rattle.group_commit.specs.World.{Stage};
+ghost use Rattle.vault_store.specs.declared.starting.Started.TheVariants as Started;
+ghost use Rattle.vault_store.specs.Seen.{wants_snapshot};
+ghost use Rattle.group_commit.specs.World.{Stage, StartSnapshot};
 ghost use Rattle.group_commit.specs.View.{length_of, book_of, view_acted};
 ghost use Rattle.group_commit.specs.Seen.{snapshot_length};
 ghost use Rattle.group_commit.specs.Ticket.{claim_of};
-ghost use Rattle.group_commit.specs.Calls.{IsReason, IsRedeemed, IsForgotten};
+ghost use Rattle.group_commit.specs.Calls.{IsReason, IsRedeemed, IsForgotten, MayStart};
 ghost use Rattle.group_commit.specs.Pasts.{IsNext};
 ghost use Rattle.vault_sessions.specs.Tallies.{IsOfTicket, CountsRedeem};
 ghost use Rattle.vault_sessions.specs.Pumping.{IsPumped, IsAtRest};
@@ -14,13 +16,12 @@ ghost use Rattle.vault_sessions.specs.declared.flusher.Flushed.TheVariants as Fl
 use crate::flusher::Flushed;
 use crate::pace::Pace;
 use crate::tally::{Share, Tally};
-use group_commit::promises::a_vault_keeps_its_history;
-use group_commit::{Forgotten, Pumped, Redeemed, Ticket, Vault};
+use group_commit::{Forgotten, Phase, Pumped, Redeemed, Started, Ticket, Vault};
 use std::alloc::{Allocator, Global};
 use std::marker::Model;
 use std::sync::ledger::Book;
 use vault_device::{Device, Fault};
-use vault_model::{CommandIn, Outside};
+use vault_model::{CommandIn, NoMemory, Outside};
 
 /// A vault and the books of both tallies, of what was counted before, and whether it is closed: the flusher is to end then.
 /// Contracts see the vault, and whether it is closed, but not when the flusher sleeps.
@@ -113,7 +114,7 @@ impl<D: Device, S: Tally, T: Tally, A: Allocator + Copy> Desk<D, S, T, A> {
         self.vault.forget(ticket)
     }
 
-    /// Does the next step of a commit. No tally changes.
+    /// Does the next step of a commit or of a snapshot. No tally changes.
     pub fn pump(&mut self) -> Result<Pumped, Fault>
         ensures pumped { IsPumped self.old.vault result self.new.vault }
         ensures same { (length_of self.new.vault.view ≡ length_of self.old.vault.view) × (self.new.vault.view.told ≡ self.old.vault.view.told) }
@@ -122,9 +123,30 @@ impl<D: Device, S: Tally, T: Tally, A: Allocator + Copy> Desk<D, S, T, A> {
     {
         self.vault.pump()
     }
+
+    /// Begins a snapshot, and takes all its memory at once. No tally changes.
+    pub fn start_snapshot(&mut self) -> Result<Started, NoMemory>
+        ensures started { result ≡ Ok Started.Yes → self.new.vault.view ≡ view_acted snapshot_length self.old.vault.view StartSnapshot }
+        ensures may { result ≡ Ok Started.Yes → MayStart self.old.vault }
+        ensures may_not { result ≡ Ok Started.NotNow → MayStart self.old.vault → ⊥ }
+        ensures not_now { result ≡ Ok Started.NotNow → self.new ≡ self.old }
+        ensures refused { OnErr result (self.new ≡ self.old) }
+        ensures same { (length_of self.new.vault.view ≡ length_of self.old.vault.view) × (self.new.vault.view.told ≡ self.old.vault.view.told) }
+        ensures open { self.new.closed ≡ self.old.closed }
+        ensures next { IsNext D.disk self.old.vault self.new.vault }
+    {
+        self.vault.start_snapshot()
+    }
 }
 
 impl<D: Device, S: Tally, T: Tally, A: Allocator + Copy> Desk<D, S, T, A> {
+    // Whether many frames stand in the active file, and nothing is under way.
+    pub(crate) fn wants_snapshot(&self) -> bool
+        ensures { result ≡ wants_snapshot self.now.vault.store }
+    {
+        self.vault.wants_snapshot()
+    }
+
     // How many entries aren't settled.
     pub(crate) fn waiting(&self) -> u64 {
         self.vault.len().saturating_sub(self.vault.durable())
@@ -197,12 +219,10 @@ impl<D: Device, S: Tally, T: Tally, A: Allocator + Copy> Desk<D, S, T, A> {
         self.closed = true;
     }
 
-    // Whether every entry is settled. Then no commit is under way, since a commit has an effect to settle.
+    // Whether every entry is settled, and no snapshot is under way.
     fn is_settled(&self) -> bool
-        ensures settled { IsTrue result ↔ (self.now.vault.view.settled ≡ length_of self.now.vault.view) }
-        ensures at_rest { IsTrue result → IsAtRest self.now.vault.view }
+        ensures { IsTrue result ↔ IsAtRest self.now.vault.view }
     {
-        a_vault_keeps_its_history(&self.vault);
-        self.vault.durable() == self.vault.len()
+        self.vault.durable() == self.vault.len() && self.vault.phase() == Phase::Idle
     }
 }

@@ -4,7 +4,7 @@ use crate::gate::{Gate, Point};
 use crate::pace::{Commit, LOOKS};
 use crate::shared::Shared;
 use crate::tally::Tally;
-use group_commit::Pumped;
+use group_commit::{Pumped, Started};
 use std::alloc::Allocator;
 use std::sync::Wait;
 use std::time::{Clock, Instant};
@@ -13,7 +13,7 @@ use vault_device::Device;
 /// Why a flusher ended.
 #[derive(Debug, Clone, Copy, PartialEq, Eq)]
 pub enum Flushed {
-    /// `Shared::close` was called, and every entry is settled.
+    /// `Shared::close` was called, every entry is settled, and no snapshot is under way.
     Closed,
     /// A device call failed.
     Broken,
@@ -21,7 +21,8 @@ pub enum Flushed {
 
 /// Pumps while something is unsettled and waits else, until the desk is closed or the vault is broken. The lock is held for one
 /// pump at a time, which makes at most one device call, and workers are woken only where a pump settled entries or failed. Before
-/// a commit it waits for those whom the last one told, for a small part of the time that this one took.
+/// a commit it waits for those whom the last one told, for a small part of the time that this one took. Where many frames stand in
+/// the active file, it begins a snapshot, and pumps that to its end.
 pub fn run_flusher<D: Device, S: Tally, T: Tally, A: Allocator + Copy, G: Gate, H: Wait + Clock>(
     rt: &H,
     shared: &Shared<D, S, T, A>,
@@ -30,12 +31,16 @@ pub fn run_flusher<D: Device, S: Tally, T: Tally, A: Allocator + Copy, G: Gate, 
     let flusher = Flusher { rt, shared, gate };
     let mut last = Commit::none();
     for _ in rt.forever() {
-        flusher.wait_for_group(&last);
+        let is_snapshot = flusher.begin_snapshot();
+        if !is_snapshot {
+            flusher.wait_for_group(&last);
+        }
         if let Some(flushed) = flusher.wait_for_work() {
             return flushed;
         }
-        if let Some(commit) = flusher.settle() {
-            last = commit;
+        match flusher.settle() {
+            Some(commit) if !is_snapshot => last = commit,
+            _ => {}
         }
     }
     unreachable!()
@@ -58,6 +63,13 @@ impl<D: Device, S: Tally, T: Tally, A: Allocator + Copy, G: Gate, H: Wait + Cloc
     G,
     H,
 > {
+    // Begins a snapshot where one is wanted, and says whether it did. Where it is refused memory, the flusher goes on, and this is
+    // tried again once more entries are settled.
+    fn begin_snapshot(&self) -> bool {
+        let mut desk = self.shared.desk.lock(self.rt);
+        desk.wants_snapshot() && desk.start_snapshot() == Ok(Started::Yes)
+    }
+
     // Waits until as many entries wait as did when the last commit ended, and goes on without those that don't come: it ends at the
     // first look at which no more wait than at the look before.
     fn wait_for_group(&self, last: &Commit) {

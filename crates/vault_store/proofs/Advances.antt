@@ -13,19 +13,21 @@ use Rattle.vault_store.specs.declared.phase.Phase.{Phase}
 use Rattle.vault_store.specs.declared.phase.Phase.TheVariants.{Idle, Written, Bodied, Opening, Start, Closing, Writing, Filled, Ready, SnapOpening}
 use Rattle.vault_store.specs.declared.phase.Advanced.{Advanced}
 use Rattle.vault_store.specs.declared.phase.Advanced.TheVariants as answers
-use Rattle.vault_store.specs.Files.{most_records, frame_bytes, EndsBehind}
-use Rattle.vault_store.specs.Phases.{is_idle, may_open}
+use Rattle.vault_store.specs.Files.{most_records, frame_bytes, EndsBehind, IsSpare}
+use Rattle.vault_store.specs.Phases.{is_idle, is_snapshot, may_open}
 use Rattle.vault_store.specs.State.{StoreState}
 use Rattle.vault_store.specs.OnDisk.{IsEither, IsOnDisk}
-use Rattle.vault_store.specs.Seen.{Seen, of_file, first_of, second_of, Keeps, IsLeftInside}
-use Rattle.vault_store.specs.Step.{gained, IsAtMostOneCall, IsStep, AreNumbers, MayBeLeft, IsAdvance}
+use Rattle.vault_store.specs.Spares.{IsSpareOn}
+use Rattle.vault_store.specs.Seen.{Seen, of_file, other, first_of, second_of, Keeps, IsLeftInside}
+use Rattle.vault_store.specs.Step.{renews, gained, IsAtMostOneCall, IsStep, AreNumbers, MayBeLeft, IsAdvance}
+use Rattle.vault_store.proofs.Asides.{aside_of}
 use Rattle.vault_store.proofs.Disks.{to_written, to_bodied, to_gated, to_idle, behind_ends, opening_either}
 use Rattle.vault_store.proofs.Kept.{IsMove, phase_kept, sealed_kept, settled_kept}
 use Rattle.vault_store.proofs.Left.{IsLeftHere, left, inside_front, inside_either}
 use Rattle.vault_store.proofs.Placed.{inside_exchanged, calls_placed, moments_placed}
 
 -- a state in a phase is the state with that phase
-at_phase : (s : StoreState) (p : Phase) → s.phase ≡ p → s.broken ≡ false → record s { phase = p; broken = false } ≡ s
+pub at_phase : (s : StoreState) (p : Phase) → s.phase ≡ p → s.broken ≡ false → record s { phase = p; broken = false } ≡ s
 at_phase s p is unbroken = λ i. record s { phase = sym is i; broken = sym unbroken i }
 
 -- what one call of the active device leaves of the counts of both
@@ -51,7 +53,7 @@ none_called first second result never = record {
 -- what is left between steps may be left inside one
 inside_in : {D : Type 0} (store : Seen D) (s : StoreState) (p : Phase) (x y : List ℕ) → IsLeftHere store (record s { phase = p }) x y → IsLeftInside store (record s { phase = p }) x y
 inside_in store s Opening x y was = elim (cases_eq (get_or x store.tail 0) 1) [ inl is ↦ inr (refl, was.opened is) | inr other ↦ inl (was.shut other) ]
-inside_in store s SnapOpening x y was = elim (cases_eq (get_or x store.tail 0) 1) [ inl is ↦ inr (refl, was.opened is) | inr other ↦ inl (was.shut other) ]
+inside_in store s SnapOpening x y was = elim (cases_eq (get_or y 0 0) 1) [ inl is ↦ inr (refl, was.opened is) | inr other ↦ inl (was.shut other) ]
 inside_in store s Idle x y was = inl was
 inside_in store s Written x y was = inl was
 inside_in store s Bodied x y was = inl was
@@ -89,57 +91,61 @@ module _ {D : Type 0} (disk : D → Disk) (old : Seen D) (active : D) (p : Phase
   pub keeps_in : (s : StoreState) → Keeps disk old s → Keeps disk old (record s { phase = p; broken = false })
   keeps_in s keeps = subst (Keeps disk old) (sym (in_phase s keeps)) keeps
 
+  -- the spare of a commit
+  aside_left : is_snapshot p ≡ false → IsSpareOn (IsSpare old.generation) (disk old.spare) p false old.shut old.rest → (y : List ℕ) → (disk old.spare).IsImage y → IsSpare old.generation y
+  aside_left commit is y image = let aside = aside_of (IsSpare old.generation) (disk old.spare) old.shut old.rest p commit is in subst (IsSpare old.generation) (sym (aside.settled.only y image)) aside.stands
+
   -- a stop inside a step that leaves the front
-  pub leaves_front : (IsTrue (disk old.active).honest → LeavesFront (disk old.active) (disk active) old.tail p) → (s : StoreState) (x y : List ℕ) → Keeps disk old s → AreMoments disk old active s x y
-  leaves_front move s x y keeps =
+  pub leaves_front : is_snapshot p ≡ false → (IsTrue (disk old.active).honest → LeavesFront (disk old.active) (disk active) old.tail p) → (s : StoreState) (x y : List ℕ) → Keeps disk old s → AreMoments disk old active s x y
+  leaves_front commit move s x y keeps =
       moments_placed disk old.which old.active old.spare active old.spare (IsLeftInside old s) (inside_exchanged old s)
       (λ v w one two may.
       let here = keeps_in s keeps in
       let files = here.files one two in
       subst (λ (t : StoreState). IsLeftInside old t v w) (in_phase s keeps)
       (inside_front disk old (record s { phase = p; broken = false }) here files.front files.is_front v w
-      (move one files.front (records_of s.sealing) v (sym files.is_front.tail_is) files.active may.0) (files.spare w ((lawful_spare two).only_now w may.1)))) x y
+      (move one files.front (records_of s.sealing) v (sym files.is_front.tail_is) files.active may.0) (aside_left commit files.spare w ((lawful_spare two).only_now w may.1)))) x y
 
   -- a stop inside a step that leaves the gate open or closed
-  pub leaves_either : is_idle p ≡ false → may_open p ≡ true → (IsTrue (disk old.active).honest → LeavesEither (disk old.active) (disk active) old.tail p) → (s : StoreState) (x y : List ℕ) → Keeps disk old s → AreMoments disk old active s x y
-  leaves_either busy opens move s x y keeps =
+  pub leaves_either : is_idle p ≡ false → is_snapshot p ≡ false → may_open p ≡ true → (IsTrue (disk old.active).honest → LeavesEither (disk old.active) (disk active) old.tail p) → (s : StoreState) (x y : List ℕ) → Keeps disk old s → AreMoments disk old active s x y
+  leaves_either busy commit opens move s x y keeps =
       moments_placed disk old.which old.active old.spare active old.spare (IsLeftInside old s) (inside_exchanged old s)
       (λ v w one two may.
       let here = keeps_in s keeps in
       let files = here.files one two in
       subst (λ (t : StoreState). IsLeftInside old t v w) (in_phase s keeps)
-      (inside_either disk old (record s { phase = p; broken = false }) here files.front files.is_front v w busy opens
-      (move one files.front (records_of s.sealing) v (sym files.is_front.tail_is) files.active may.0) (files.spare w ((lawful_spare two).only_now w may.1)))) x y
+      (inside_either disk old (record s { phase = p; broken = false }) here files.front files.is_front v w busy commit opens
+      (move one files.front (records_of s.sealing) v (sym files.is_front.tail_is) files.active may.0) (aside_left commit files.spare w ((lawful_spare two).only_now w may.1)))) x y
 
   -- the numbers of a step that changes the phase alone
-  phase_numbers : (q : Phase) (broken : Bool) (result : Result Advanced Fault) → is_idle p ≡ false → gained old result ≡ 0 → AreNumbers old (record old { active = active; phase = q; broken = broken }) result
-  phase_numbers q broken result busy none = record {
-    which = refl;
-    generation = refl;
-    tail = omega (arith, none);
-    journal = omega (arith, none);
+  phase_numbers : (q : Phase) (broken : Bool) (result : Result Advanced Fault) → is_idle p ≡ false → renews old result ≡ false → gained old result ≡ 0 → AreNumbers old (record old { active = active; phase = q; broken = broken }) result
+  phase_numbers q broken result busy still none = record {
+    which = ap (λ (b : Bool). cond b (other old.which) old.which) (sym still);
+    generation = ap (λ (b : Bool). cond b (old.generation + 1) old.generation) (sym still);
+    tail = let same : old.tail ≡ old.tail + gained old result = omega (arith, none) in same ∙ ap (λ (b : Bool). cond b (length old.rest) (old.tail + gained old result)) (sym still);
+    journal = let same : old.journal ≡ old.journal + gained old result = omega (arith, none) in same ∙ ap (λ (b : Bool). cond b 0 (old.journal + gained old result)) (sym still);
     buffer = ap (λ (b : Bool). cond (b && not old.broken) [] old.buffer) (sym (ap is_idle is ∙ busy));
   }
 
   -- a step that changes the phase alone, by a call that was counted
-  pub phase_advance : {A E : Type 0} (q : Phase) (broken : Bool) (made : Result A E) (result : Result Advanced Fault) → is_idle p ≡ false → gained old result ≡ 0 → ((result ≡ Ok answers.Idle) ⊎ (result ≡ Ok answers.Broken) → ⊥)
+  pub phase_advance : {A E : Type 0} (q : Phase) (broken : Bool) (made : Result A E) (result : Result Advanced Fault) → is_idle p ≡ false → renews old result ≡ false → gained old result ≡ 0 → ((result ≡ Ok answers.Idle) ⊎ (result ≡ Ok answers.Broken) → ⊥)
       → IsOneCall (disk old.active) (disk active) made → (IsErr result → IsErr made)
       → ((s : StoreState) → Keeps disk old (record s { phase = p; broken = false }) → IsStep disk old (record old { active = active; phase = q; broken = broken }) result (record s { phase = p; broken = false }))
       → ((s : StoreState) (x y : List ℕ) → Keeps disk old s → AreMoments disk old active s x y)
       → IsAdvance disk old (record old { active = active; phase = q; broken = broken }) result
-  phase_advance q broken made result busy none moved call failed step moments = record {
+  phase_advance q broken made result busy still none moved call failed step moments = record {
     step = λ s keeps. subst (λ (t : StoreState). IsStep disk old (record old { active = active; phase = q; broken = broken }) result t) (in_phase s keeps) (step s (keeps_in s keeps));
-    numbers = phase_numbers q broken result busy none;
+    numbers = phase_numbers q broken result busy still none;
     rests = λ idle. absurd (moved idle);
     calls = calls_placed disk old.which old.active old.spare active old.spare result (active_called (disk old.active) (disk old.spare) (disk active) made result call failed);
     moments = moments;
   }
 
 -- an answer that is neither of these
-moved_on : (answer : Advanced) → (answer ≡ answers.Idle → ⊥) → (answer ≡ answers.Broken → ⊥) → (◌≡◌ {A = Result Advanced Fault} (Ok answer) (Ok answers.Idle)) ⊎ (◌≡◌ {A = Result Advanced Fault} (Ok answer) (Ok answers.Broken)) → ⊥
+pub moved_on : (answer : Advanced) → (answer ≡ answers.Idle → ⊥) → (answer ≡ answers.Broken → ⊥) → (◌≡◌ {A = Result Advanced Fault} (Ok answer) (Ok answers.Idle)) ⊎ (◌≡◌ {A = Result Advanced Fault} (Ok answer) (Ok answers.Broken)) → ⊥
 moved_on answer not_idle not_broken = elim [ inl is ↦ not_idle cc | inr is ↦ not_broken cc ]
 
-failed_on : (fault : Fault) → (◌≡◌ {A = Result Advanced Fault} (Err fault) (Ok answers.Idle)) ⊎ (◌≡◌ {A = Result Advanced Fault} (Err fault) (Ok answers.Broken)) → ⊥
+pub failed_on : (fault : Fault) → (◌≡◌ {A = Result Advanced Fault} (Err fault) (Ok answers.Idle)) ⊎ (◌≡◌ {A = Result Advanced Fault} (Err fault) (Ok answers.Broken)) → ⊥
 failed_on fault = elim [ inl is ↦ cc | inr is ↦ cc ]
 
 module _ {D : Type 0} (disk : D → Disk) (old : Seen D) (active : D) (unbroken : old.broken ≡ false) (lawful : IsTrue (disk old.active).honest → IsLawful (disk old.active)) (lawful_spare : IsTrue (disk old.spare).honest → IsLawful (disk old.spare)) where
@@ -156,18 +162,18 @@ module _ {D : Type 0} (disk : D → Disk) (old : Seen D) (active : D) (unbroken 
       → (IsTrue (disk old.active).honest → LeavesSince (disk old.active) (disk active) (disk old.active).IsImage) → IsAdvance disk old (record old { active = active; phase = Bodied }) (Ok answers.Moved)
   body_settled is call sync moments =
       subst (λ (b : Bool). IsAdvance disk old (record old { active = active; phase = Bodied; broken = b }) (Ok answers.Moved)) (sym unbroken)
-      (phase_advance disk old active Written is unbroken lawful_spare Bodied false (Ok tt) (Ok answers.Moved) refl refl (moved_on answers.Moved (λ e. cc) (λ e. cc)) call (λ err. err)
-      (λ s keeps. (refl, phase_kept disk old active call.same_honesty s Written Bodied false refl refl (λ honest. settles_body honest (sync honest)) keeps))
-      (leaves_front disk old active Written is unbroken lawful_spare (λ honest front records x stands on was. on.images x ((moments honest).each x was))))
+      (phase_advance disk old active Written is unbroken lawful_spare Bodied false (Ok tt) (Ok answers.Moved) refl refl refl (moved_on answers.Moved (λ e. cc) (λ e. cc)) call (λ err. err)
+      (λ s keeps. (refl, phase_kept disk old active call.same_honesty s Written Bodied false refl refl refl refl (λ honest. settles_body honest (sync honest)) keeps))
+      (leaves_front disk old active Written is unbroken lawful_spare refl (λ honest front records x stands on was. on.images x ((moments honest).each x was))))
 
   -- the body's sync failed
   pub body_left : (fault : Fault) → old.phase ≡ Written → IsOneCall {A = Unit {0}} {E = Fault} (disk old.active) (disk active) (Err fault) → (IsTrue (disk old.active).honest → IsSync (Err fault) (disk old.active) (disk active))
       → (IsTrue (disk old.active).honest → LeavesSince (disk old.active) (disk active) (disk old.active).IsImage) → IsAdvance disk old (record old { active = active; broken = true }) (Err fault)
   body_left fault is call sync moments =
       subst (λ (q : Phase). IsAdvance disk old (record old { active = active; phase = q; broken = true }) (Err fault)) (sym is)
-      (phase_advance disk old active Written is unbroken lawful_spare Written true (Err fault) (Err fault) refl refl (failed_on fault) call (λ err. err)
-      (λ s keeps. (refl, λ e. cc, phase_kept disk old active call.same_honesty s Written Written true refl refl (λ honest. body_unsettled fault (sync honest)) keeps))
-      (leaves_front disk old active Written is unbroken lawful_spare (λ honest front records x stands on was. on.images x ((moments honest).each x was))))
+      (phase_advance disk old active Written is unbroken lawful_spare Written true (Err fault) (Err fault) refl refl refl (failed_on fault) call (λ err. err)
+      (λ s keeps. (refl, λ e. cc, phase_kept disk old active call.same_honesty s Written Written true refl refl refl refl (λ honest. body_unsettled fault (sync honest)) keeps))
+      (leaves_front disk old active Written is unbroken lawful_spare refl (λ honest front records x stands on was. on.images x ((moments honest).each x was))))
 
   pub opens_gate : IsWrite {E = Fault} old.tail (1 ∷ []) (Ok tt) (disk old.active) (disk active) → (disk active).shown ≡ set (disk old.active).shown old.tail 1
       → ((x : List ℕ) → (disk active).IsImage x → IsOpening old.tail (disk old.active).shown x) → ((x : List ℕ) → (disk active).IsImage x → SameBut old.tail (disk active).shown x)
@@ -190,17 +196,17 @@ module _ {D : Type 0} (disk : D → Disk) (old : Seen D) (active : D) (unbroken 
       → IsAdvance disk old (record old { active = active; phase = Opening }) (Ok answers.Moved)
   gate_opened is call wrote shown images same moments =
       subst (λ (b : Bool). IsAdvance disk old (record old { active = active; phase = Opening; broken = b }) (Ok answers.Moved)) (sym unbroken)
-      (phase_advance disk old active Bodied is unbroken lawful_spare Opening false (Ok tt) (Ok answers.Moved) refl refl (moved_on answers.Moved (λ e. cc) (λ e. cc)) call (λ err. err)
-      (λ s keeps. (refl, phase_kept disk old active call.same_honesty s Bodied Opening false refl refl (λ honest. opens_gate (wrote honest) (shown honest) (images honest) (same honest)) keeps))
-      (leaves_either disk old active Bodied is unbroken lawful_spare refl refl (opening_inside moments)))
+      (phase_advance disk old active Bodied is unbroken lawful_spare Opening false (Ok tt) (Ok answers.Moved) refl refl refl (moved_on answers.Moved (λ e. cc) (λ e. cc)) call (λ err. err)
+      (λ s keeps. (refl, phase_kept disk old active call.same_honesty s Bodied Opening false refl refl refl refl (λ honest. opens_gate (wrote honest) (shown honest) (images honest) (same honest)) keeps))
+      (leaves_either disk old active Bodied is unbroken lawful_spare refl refl refl (opening_inside moments)))
 
   -- the gate's write failed
   pub gate_left : (fault : Fault) → old.phase ≡ Bodied → IsOneCall {A = Unit {0}} {E = Fault} (disk old.active) (disk active) (Err fault) → (IsTrue (disk old.active).honest → (x : List ℕ) → (disk active).IsImage x → IsOpening old.tail (disk old.active).shown x)
       → (IsTrue (disk old.active).honest → LeavesSince (disk old.active) (disk active) (IsOpening old.tail (disk old.active).shown)) → IsAdvance disk old (record old { active = active; phase = Opening; broken = true }) (Err fault)
   gate_left fault is call images moments =
-      phase_advance disk old active Bodied is unbroken lawful_spare Opening true (Err fault) (Err fault) refl refl (failed_on fault) call (λ err. err)
-      (λ s keeps. (refl, λ e. cc, phase_kept disk old active call.same_honesty s Bodied Opening true refl refl (λ honest. gate_torn (images honest)) keeps))
-      (leaves_either disk old active Bodied is unbroken lawful_spare refl refl (opening_inside moments))
+      phase_advance disk old active Bodied is unbroken lawful_spare Opening true (Err fault) (Err fault) refl refl refl (failed_on fault) call (λ err. err)
+      (λ s keeps. (refl, λ e. cc, phase_kept disk old active call.same_honesty s Bodied Opening true refl refl refl refl (λ honest. gate_torn (images honest)) keeps))
+      (leaves_either disk old active Bodied is unbroken lawful_spare refl refl refl (opening_inside moments))
 
   pub gate_unsettled : (fault : Fault) → IsSync (Err fault) (disk old.active) (disk active) → IsMove (disk old.active) (disk active) old.tail old.sealed Opening Opening true
   gate_unsettled fault sync front records stands size on = λ x image. on.images x (sync.images x image)
@@ -213,9 +219,9 @@ module _ {D : Type 0} (disk : D → Disk) (old : Seen D) (active : D) (unbroken 
       → (IsTrue (disk old.active).honest → LeavesSince (disk old.active) (disk active) (disk old.active).IsImage) → IsAdvance disk old (record old { active = active; broken = true }) (Err fault)
   gate_still_open fault is call sync moments =
       subst (λ (q : Phase). IsAdvance disk old (record old { active = active; phase = q; broken = true }) (Err fault)) (sym is)
-      (phase_advance disk old active Opening is unbroken lawful_spare Opening true (Err fault) (Err fault) refl refl (failed_on fault) call (λ err. err)
-      (λ s keeps. (refl, λ e. cc, phase_kept disk old active call.same_honesty s Opening Opening true refl refl (λ honest. gate_unsettled fault (sync honest)) keeps))
-      (leaves_either disk old active Opening is unbroken lawful_spare refl refl (gate_inside moments)))
+      (phase_advance disk old active Opening is unbroken lawful_spare Opening true (Err fault) (Err fault) refl refl refl (failed_on fault) call (λ err. err)
+      (λ s keeps. (refl, λ e. cc, phase_kept disk old active call.same_honesty s Opening Opening true refl refl refl refl (λ honest. gate_unsettled fault (sync honest)) keeps))
+      (leaves_either disk old active Opening is unbroken lawful_spare refl refl refl (gate_inside moments)))
 
   -- what the sync of the gate makes of the disk
   abbrev pub Settles : Type 0
@@ -234,15 +240,15 @@ module _ {D : Type 0} (disk : D → Disk) (old : Seen D) (active : D) (unbroken 
             subst (λ (t : StoreState). IsStep disk old (record old { active = active; tail = tail; journal = journal; sealed = 0; phase = Idle; broken = false }) (Ok answers.Settled) t) (in_phase disk old active Opening is unbroken lawful_spare s keeps)
             (refl, settled_kept disk old active call.same_honesty s tail journal tail_is journal_is (λ honest. settles_gate honest (sync honest)) (keeps_in disk old active Opening is unbroken lawful_spare s keeps));
         numbers = record {
-          which = refl;
-          generation = refl;
-          tail = omega (arith, tail_is);
-          journal = omega (arith, journal_is);
+          which = ap (λ (p : Phase). cond (is_snapshot p) (other old.which) old.which) (sym is);
+          generation = ap (λ (p : Phase). cond (is_snapshot p) (old.generation + 1) old.generation) (sym is);
+          tail = let same : tail ≡ old.tail + (5 + old.sealed) = omega (arith, tail_is) in same ∙ ap (λ (p : Phase). cond (is_snapshot p) (length old.rest) (old.tail + (5 + old.sealed))) (sym is);
+          journal = let same : journal ≡ old.journal + (5 + old.sealed) = omega (arith, journal_is) in same ∙ ap (λ (p : Phase). cond (is_snapshot p) 0 (old.journal + (5 + old.sealed))) (sym is);
           buffer = ap (λ (b : Bool). cond (b && not old.broken) [] old.buffer) (sym (ap is_idle is));
         };
         rests = λ idle. absurd (moved_on answers.Settled (λ e. cc) (λ e. cc) idle);
         calls = calls_placed disk old.which old.active old.spare active old.spare (Ok answers.Settled) (active_called (disk old.active) (disk old.spare) (disk active) (Ok tt) (Ok answers.Settled) call (λ err. err));
-        moments = leaves_either disk old active Opening is unbroken lawful_spare refl refl (gate_inside moments);
+        moments = leaves_either disk old active Opening is unbroken lawful_spare refl refl refl (gate_inside moments);
       })
 
   -- what the write of the body makes of the disk
@@ -277,12 +283,12 @@ module _ {D : Type 0} (disk : D → Disk) (old : Seen D) (active : D) (unbroken 
   seal_err fault s [] some few move same keeps = absurd (some refl)
   seal_err fault s (e ∷ es) some few move same keeps = (refl, λ e. cc, sealed_kept disk old active same (record s { buffer = e ∷ es }) true some few move keeps)
 
-  seal_numbers : (broken : Bool) (result : Result Advanced Fault) → old.phase ≡ Idle → gained old result ≡ 0 → AreNumbers old (sealed_seen broken) result
-  seal_numbers broken result is none = record {
-    which = refl;
-    generation = refl;
-    tail = omega (arith, none);
-    journal = omega (arith, none);
+  seal_numbers : (broken : Bool) (result : Result Advanced Fault) → old.phase ≡ Idle → renews old result ≡ false → gained old result ≡ 0 → AreNumbers old (sealed_seen broken) result
+  seal_numbers broken result is still none = record {
+    which = ap (λ (b : Bool). cond b (other old.which) old.which) (sym still);
+    generation = ap (λ (b : Bool). cond b (old.generation + 1) old.generation) (sym still);
+    tail = let same : old.tail ≡ old.tail + gained old result = omega (arith, none) in same ∙ ap (λ (b : Bool). cond b (length old.rest) (old.tail + gained old result)) (sym still);
+    journal = let same : old.journal ≡ old.journal + gained old result = omega (arith, none) in same ∙ ap (λ (b : Bool). cond b 0 (old.journal + gained old result)) (sym still);
     buffer = ap (λ (b : Bool). cond b [] old.buffer) (sym (ap (λ (q : Phase). is_idle q && not old.broken) is ∙ ap (λ (b : Bool). not b) unbroken));
   }
 
@@ -295,10 +301,10 @@ module _ {D : Type 0} (disk : D → Disk) (old : Seen D) (active : D) (unbroken 
         step = λ s keeps.
             subst (λ (t : StoreState). IsStep disk old (sealed_seen false) (Ok answers.Moved) t) (in_phase disk old active Idle is unbroken lawful_spare s keeps)
             (seal_ok s s.buffer (some_effects s keeps some) (omega (arith, room)) (λ honest. writes_body (wrote honest) (images honest)) call.same_honesty (keeps_in disk old active Idle is unbroken lawful_spare s keeps));
-        numbers = seal_numbers false (Ok answers.Moved) is refl;
+        numbers = seal_numbers false (Ok answers.Moved) is refl refl;
         rests = λ idle. absurd (moved_on answers.Moved (λ e. cc) (λ e. cc) idle);
         calls = calls_placed disk old.which old.active old.spare active old.spare (Ok answers.Moved) (active_called (disk old.active) (disk old.spare) (disk active) (Ok tt) (Ok answers.Moved) call (λ err. err));
-        moments = leaves_front disk old active Idle is unbroken lawful_spare (body_inside moments);
+        moments = leaves_front disk old active Idle is unbroken lawful_spare refl (body_inside moments);
       })
 
   -- the body's write failed
@@ -309,10 +315,10 @@ module _ {D : Type 0} (disk : D → Disk) (old : Seen D) (active : D) (unbroken 
     step = λ s keeps.
         subst (λ (t : StoreState). IsStep disk old (sealed_seen true) (Err fault) t) (in_phase disk old active Idle is unbroken lawful_spare s keeps)
         (seal_err fault s s.buffer (some_effects s keeps some) (omega (arith, room)) (λ honest. body_torn (images honest)) call.same_honesty (keeps_in disk old active Idle is unbroken lawful_spare s keeps));
-    numbers = seal_numbers true (Err fault) is refl;
+    numbers = seal_numbers true (Err fault) is refl refl;
     rests = λ idle. absurd (failed_on fault idle);
     calls = calls_placed disk old.which old.active old.spare active old.spare (Err fault) (active_called (disk old.active) (disk old.spare) (disk active) (Err fault) (Err fault) call (λ err. err));
-    moments = leaves_front disk old active Idle is unbroken lawful_spare (body_inside moments);
+    moments = leaves_front disk old active Idle is unbroken lawful_spare refl (body_inside moments);
   }
 
 -- each record has a byte

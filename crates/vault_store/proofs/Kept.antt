@@ -1,27 +1,28 @@
 -- What a store keeps, from step to step.
-use Rattle.std.proofs.Common.{◌≡◌, ◌≢◌, ℕ, ◌+◌, ◌≤◌, IsTrue, Bool, false, List, [], ◌++◌, length, Some, refl, sym, ◌∙◌, ap, subst, arith}
+use Rattle.std.proofs.Common.{◌≡◌, ◌≢◌, ℕ, ◌+◌, ◌≤◌, IsTrue, Bool, false, cond, List, [], ◌++◌, length, Some, refl, sym, ◌∙◌, ap, subst, arith}
 use Rattle.std.proofs.lemmas.Bool.{false≢true}
 use Rattle.vault_model.specs.Said.{Effect}
-use Rattle.vault_model.specs.Vault.{Vault, IsVault}
-use Rattle.vault_model.specs.After.{after, IsDurable}
+use Rattle.vault_model.specs.Vault.{Vault}
+use Rattle.vault_model.specs.After.{after}
 use Rattle.vault_device.specs.Disk.{Disk}
 use Rattle.vault_journal.specs.Spelling.{record_of, records_of, HasRecord}
 use Rattle.vault_store.specs.declared.phase.Phase.{Phase}
 use Rattle.vault_store.specs.declared.phase.Phase.TheVariants.{Idle, Written, Opening}
-use Rattle.vault_store.specs.Files.{most_records, frame_bytes, IsFrame, applied}
-use Rattle.vault_store.specs.Phases.{is_idle}
+use Rattle.vault_store.specs.Files.{most_records, frame_bytes, IsFrame, IsSpare, applied}
+use Rattle.vault_store.specs.Phases.{is_idle, is_snapshot}
 use Rattle.vault_store.specs.State.{StoreState, with_effect}
 use Rattle.vault_store.specs.OnDisk.{IsOnDisk}
 use Rattle.vault_store.specs.Seen.{Seen, Keeps, settled_reading}
-use Rattle.vault_store.proofs.Frames.{applied_more, applied_stays, records_more, longer_front}
+use Rattle.vault_store.proofs.Asides.{still_aside}
+use Rattle.vault_store.proofs.Named.{spelled_stays}
+use Rattle.vault_store.proofs.Frames.{applied_more, records_more, longer_front}
 
 pub note_kept : {D : Type 0} (disk : D → Disk) (store : Seen D) (s : StoreState) (effect : Effect) (next : Vault) → HasRecord effect → Keeps disk store s → after s.noted effect ≡ Some next
     → Keeps disk (record store { buffer = store.buffer ++ record_of effect }) (with_effect s effect next)
 note_kept disk store s effect next has keeps e = record {
   phase = keeps.phase;
   broken = keeps.broken;
-  well_formed = keeps.well_formed;
-  durable = keeps.durable;
+  spelled = keeps.spelled;
   sealing = keeps.sealing;
   few = keeps.few;
   sealed_bytes = keeps.sealed_bytes;
@@ -30,6 +31,7 @@ note_kept disk store s effect next has keeps e = record {
   sealed = keeps.sealed;
   buffer = records_more s.buffer effect store.buffer keeps.buffer has;
   noted = applied_more s.sealed s.noted next s.buffer effect keeps.noted e;
+  renewal = keeps.renewal;
   files = keeps.files;
 }
 
@@ -42,29 +44,32 @@ module _ {D : Type 0} (disk : D → Disk) (old : Seen D) (active : D) (same : (d
   honest_before honest = subst IsTrue same honest
 
   -- a step that changes the phase alone
-  pub phase_kept : (s : StoreState) (p q : Phase) (broken : Bool) → is_idle p ≡ false → is_idle q ≡ false → (IsTrue (disk old.active).honest → IsMove (disk old.active) (disk active) old.tail old.sealed p q broken)
+  pub phase_kept : (s : StoreState) (p q : Phase) (broken : Bool) → is_idle p ≡ false → is_idle q ≡ false → is_snapshot p ≡ false → is_snapshot q ≡ false → (IsTrue (disk old.active).honest → IsMove (disk old.active) (disk active) old.tail old.sealed p q broken)
       → Keeps disk old (record s { phase = p; broken = false }) → Keeps disk (record old { active = active; phase = q; broken = broken }) (record s { phase = q; broken = broken })
-  phase_kept s p q broken busy still move keeps = record {
+  phase_kept s p q broken busy still of_p of_q move keeps = record {
     phase = refl;
     broken = refl;
-    well_formed = keeps.well_formed;
-    durable = keeps.durable;
+    spelled = keeps.spelled;
     sealing = keeps.sealing;
-    few = keeps.few;
-    sealed_bytes = keeps.sealed_bytes;
-    under_way = λ is. keeps.under_way busy;
+    few = λ commit. keeps.few of_p;
+    sealed_bytes = size ∙ ap (λ (b : Bool). cond b 0 (length (records_of s.sealing))) (sym of_q);
+    under_way = λ is commit. keeps.under_way busy of_p;
     none = λ idle. absurd (false≢true (sym still ∙ idle));
     sealed = keeps.sealed;
     buffer = keeps.buffer;
     noted = keeps.noted;
+    renewal = λ snapshot. absurd (false≢true (sym of_q ∙ snapshot));
     files = λ one two.
         let files = keeps.files (honest_before one) two in record {
           front = files.front;
           is_front = files.is_front;
-          active = move (honest_before one) files.front (records_of s.sealing) (sym files.is_front.tail_is) (sym keeps.sealed_bytes) files.active;
-          spare = files.spare;
+          active = move (honest_before one) files.front (records_of s.sealing) (sym files.is_front.tail_is) (sym size) files.active;
+          spare = still_aside (IsSpare old.generation) (disk old.spare) old.shut old.rest p q broken of_p of_q files.spare;
         };
   }
+    where
+      size : old.sealed ≡ length (records_of s.sealing)
+      size = keeps.sealed_bytes ∙ ap (λ (b : Bool). cond b 0 (length (records_of s.sealing))) of_p
 
   -- the first step of a commit
   pub sealed_kept : (s : StoreState) (broken : Bool) → s.buffer ≢ [] → length old.buffer ≤ most_records
@@ -75,22 +80,22 @@ module _ {D : Type 0} (disk : D → Disk) (old : Seen D) (active : D) (same : (d
   sealed_kept s broken some few move keeps = record {
     phase = refl;
     broken = refl;
-    well_formed = keeps.well_formed;
-    durable = keeps.durable;
+    spelled = keeps.spelled;
     sealing = keeps.buffer.each;
-    few = omega (arith, few, ap length keeps.buffer.whole);
+    few = λ commit. omega (arith, few, ap length keeps.buffer.whole);
     sealed_bytes = ap length keeps.buffer.whole;
-    under_way = λ is. some;
+    under_way = λ is commit. some;
     none = λ idle. absurd (false≢true idle);
     sealed = subst (λ (w : Vault). applied w s.buffer ≡ Some s.noted) (sym settled_is) keeps.noted;
     buffer = record { each = tt; whole = refl };
     noted = refl;
+    renewal = λ snapshot. absurd (false≢true snapshot);
     files = λ one two.
         let files = keeps.files (honest_before one) two in record {
           front = files.front;
           is_front = files.is_front;
           active = subst (λ (l : List ℕ). IsOnDisk (disk active) Written broken files.front l) keeps.buffer.whole (move (honest_before one) files.front (sym files.is_front.tail_is) files.active);
-          spare = files.spare;
+          spare = still_aside (IsSpare old.generation) (disk old.spare) old.shut old.rest Idle Written broken refl refl files.spare;
         };
   }
     where
@@ -106,27 +111,24 @@ module _ {D : Type 0} (disk : D → Disk) (old : Seen D) (active : D) (same : (d
   settled_kept s tail journal tail_is journal_is move keeps = record {
     phase = refl;
     broken = refl;
-    well_formed = stays.0;
-    durable = stays.1;
+    spelled = spelled_stays s.settled s.sealed s.sealing keeps.spelled keeps.sealing keeps.sealed;
     sealing = tt;
-    few = omega arith;
+    few = λ commit. omega arith;
     sealed_bytes = refl;
-    under_way = λ busy. absurd (false≢true (sym busy));
+    under_way = λ busy commit. absurd (false≢true (sym busy));
     none = λ idle. refl;
     sealed = refl;
     buffer = keeps.buffer;
     noted = keeps.noted;
+    renewal = λ snapshot. absurd (false≢true snapshot);
     files = λ one two.
         let files = keeps.files (honest_before one) two in record {
           front = files.front ++ frame_bytes (records_of s.sealing);
           is_front = longer_front files.front (settled_reading old s) s.sealing s.sealed tail journal files.is_front frame keeps.sealed (omega (arith, tail_is, keeps.sealed_bytes)) (omega (arith, journal_is, keeps.sealed_bytes));
           active = move (honest_before one) files.front (records_of s.sealing) (sym files.is_front.tail_is) files.active;
-          spare = files.spare;
+          spare = still_aside (IsSpare old.generation) (disk old.spare) old.shut old.rest Opening Idle false refl refl files.spare;
         };
   }
     where
-      stays : IsVault s.sealed × IsDurable s.sealed
-      stays = applied_stays s.settled s.sealed s.sealing keeps.well_formed keeps.durable keeps.sealed
-
       frame : IsFrame s.sealing
-      frame = record { some = keeps.under_way refl; each = keeps.sealing; few = keeps.few }
+      frame = record { some = keeps.under_way refl refl; each = keeps.sealing; few = keeps.few refl }

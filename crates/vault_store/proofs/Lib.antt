@@ -1,12 +1,18 @@
 mod Fronts
 mod Disks
+mod Renewals
 mod Frames
+mod Named
+pub mod Asides
 mod Kept
 mod Placed
 pub mod Left
 mod Sounds
 mod Advances
+mod Renewed
 mod Short
+mod Exchanged
+mod Sized
 mod New
 pub mod Creating
 pub mod OneReading
@@ -38,3 +44,4 @@ mod DraftsRead
 mod ClaimsRead
 mod SnapshotRead
 pub mod Sends
+mod Adding

@@ -1,17 +1,19 @@
 -- A new vault's file is read as the new vault.
-use Rattle.std.proofs.Common.{◌≡◌, inl, ℕ, ◌<◌, IsTrue, List, [], length, refl, sym, ◌∙◌, ap, subst, arith, false}
+use Rattle.std.proofs.Common.{◌≡◌, inl, ℕ, IsTrue, List, [], refl, sym, subst, arith, false}
+use Rattle.std.proofs.lemmas.Bool.{false≢true}
 use Rattle.std.proofs.lemmas.List.Elements.{All-nil}
 use Rattle.vault_model.specs.declared.place.Place.{Place}
 use Rattle.vault_model.specs.declared.claims.Claim.{Claim}
 use Rattle.vault_model.specs.Name.{IsName}
 use Rattle.vault_model.specs.Vault.{new_vault}
 use Rattle.vault_model.proofs.Kept.{kept_new}
-use Rattle.vault_device.specs.Disk.{Disk}
+use Rattle.vault_device.specs.Disk.{Disk, IsTorn}
 use Rattle.vault_store.specs.declared.opening.File.TheVariants.{First}
 use Rattle.vault_store.specs.declared.phase.Phase.TheVariants.{Idle}
 use Rattle.vault_store.specs.Snapshot.{HasSnapshot, designer_of}
-use Rattle.vault_store.specs.Files.{Reading, IsFront, EndsBehind}
+use Rattle.vault_store.specs.Files.{Reading, IsFront, EndsBehind, IsSpare}
 use Rattle.vault_store.specs.OnDisk.{IsIdle}
+use Rattle.vault_store.specs.Spares.{IsAside}
 use Rattle.vault_store.specs.State.{at_rest}
 use Rattle.vault_store.specs.Seen.{Seen, Keeps}
 use Rattle.vault_store.specs.Sound.{IsSound}
@@ -43,9 +45,19 @@ new_ends = record { begins = refl; closed = record { stands = omega arith; shut 
 pub new_idle : (old new : Disk) → IsFilled old new new_file → IsIdle new new_front
 new_idle old new filled = record { settled = filled.settled; ends = subst (EndsBehind new_front) (sym filled.shown) new_ends }
 
-module _ {D : Type 0} (disk : D → Disk) (first second first_new second_new : D) (same : (disk first_new).honest ≡ (disk first).honest) (file : IsTrue (disk first).honest → IsFilled (disk first) (disk first_new) new_file) where
+module _ {D : Type 0} (disk : D → Disk) (first second first_new second_new : D) (same : (disk first_new).honest ≡ (disk first).honest) (file : IsTrue (disk first).honest → IsFilled (disk first) (disk first_new) new_file)
+    (same_second : (disk second_new).honest ≡ (disk second).honest) (empty : IsTrue (disk second).honest → IsFilled (disk second) (disk second_new) []) where
   abbrev pub new_seen : Seen D
-  new_seen = record { active = first_new; spare = second_new; which = First; buffer = []; sealed = 0; generation = 1; tail = 34; journal = 0; phase = Idle; broken = false }
+  new_seen = record { active = first_new; spare = second_new; which = First; buffer = []; sealed = 0; generation = 1; tail = 34; journal = 0; phase = Idle; broken = false; shut = false; rest = [] }
+
+  -- of the empty file nothing stands, whatever that may stand beside
+  new_aside : (MayStand : List ℕ → Type 0) → MayStand [] → ((y : List ℕ) → IsTorn 0 1 [] y → MayStand y) → IsTrue (disk second_new).honest → IsAside MayStand (disk second_new) false
+  new_aside MayStand stands torn two = let filled = empty (subst IsTrue same_second two) in record {
+    settled = filled.settled;
+    stands = subst MayStand (sym filled.shown) stands;
+    closed = λ e. absurd (false≢true e);
+    torn = λ e. subst (λ (l : List ℕ). (y : List ℕ) → IsTorn 0 1 l y → MayStand y) (sym filled.shown) torn;
+  }
 
   pub new_sound : IsSound disk new_seen
   new_sound = record {
@@ -53,30 +65,29 @@ module _ {D : Type 0} (disk : D → Disk) (first second first_new second_new : D
     sealed_fits = omega arith;
     bounded = λ some. absurd (omega (arith, some));
     inside = omega arith;
+    short = omega arith;
     active = λ one. record { front = new_front; records = []; stands = refl; size = refl; on_disk = new_idle (disk first) (disk first_new) (file (subst IsTrue same one)) };
+    spare = λ two. new_aside (λ x. Unit {0}) tt (λ y torn. tt) two;
   }
 
-  pub new_kept : (disk second_new).honest ≡ (disk second).honest → (IsTrue (disk second).honest → IsFilled (disk second) (disk second_new) []) → Keeps disk new_seen (at_rest new_vault)
-  new_kept same_second empty = record {
+  pub new_kept : Keeps disk new_seen (at_rest new_vault)
+  new_kept = record {
     phase = refl;
     broken = refl;
-    well_formed = kept_new;
-    durable = refl;
+    spelled = new_snapshot;
     sealing = tt;
-    few = omega arith;
+    few = λ commit. omega arith;
     sealed_bytes = refl;
-    under_way = λ busy. absurd (cc);
+    under_way = λ busy commit. absurd (cc);
     none = λ idle. refl;
     sealed = refl;
     buffer = record { each = tt; whole = refl };
     noted = refl;
+    renewal = λ snapshot. absurd (false≢true snapshot);
     files = λ one two. record {
       front = new_front;
       is_front = new_is_front;
       active = new_idle (disk first) (disk first_new) (file (subst IsTrue same one));
-      spare = λ x image. inl (inl (none two x image));
+      spare = new_aside (IsSpare 1) (inl (inl (omega arith))) (λ y torn. inl (inl (omega (arith, torn.no_longer)))) two;
     };
   }
-    where
-      none : IsTrue (disk second_new).honest → (x : List ℕ) → (disk second_new).IsImage x → length x < 24
-      none two x image = let filled = empty (subst IsTrue same_second two) in omega (arith, ap length (filled.settled.only x image ∙ filled.shown))

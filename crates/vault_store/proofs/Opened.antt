@@ -1,11 +1,10 @@
 -- What opening reads is kept.
-use Rattle.std.proofs.Common.{◌≡◌, inl, inr, ℕ, IsTrue, List, [], ◌∷◌, take, Option, Some, None, refl, sym, ◌∙◌, ap, subst, arith, false}
+use Rattle.std.proofs.Common.{◌≡◌, inl, inr, ℕ, IsTrue, Bool, true, false, List, [], take, refl, sym, ◌∙◌, ap, subst, arith}
+use Rattle.std.specs.Prelude.{◌↔◌}
+use Rattle.std.proofs.lemmas.Bool.{false≢true}
 use Rattle.std.proofs.lemmas.List.{length-take-le}
-use Rattle.std.specs.Option.{option_and_then}
-use Rattle.vault_model.specs.Said.{Effect}
-use Rattle.vault_model.specs.Vault.{Vault, IsVault}
-use Rattle.vault_model.specs.After.{IsDurable}
-use Rattle.vault_device.specs.Disk.{Disk, IsLawful}
+use Rattle.vault_model.specs.Vault.{Vault}
+use Rattle.vault_device.specs.Disk.{Disk, IsLawful, IsTorn}
 use Rattle.vault_journal.specs.Gate.{IsClosed}
 use Rattle.vault_store.specs.declared.opening.OpenError.{OpenError}
 use Rattle.vault_store.specs.declared.opening.OpenError.TheVariants.{NoVault, Damaged, Device, NoMemory}
@@ -15,27 +14,24 @@ use Rattle.vault_store.specs.declared.opening.File.TheVariants.{First, Second}
 use Rattle.vault_store.specs.Files.{applied, after_frames, Reading, Holds, EndsBehind, IsSpare, AreRead, HasCurrentHead}
 use Rattle.vault_store.specs.Faults.{IsBodyFault}
 use Rattle.vault_store.specs.OnDisk.{IsSettled}
+use Rattle.vault_store.specs.Spares.{IsAside}
 use Rattle.vault_store.specs.Opening.{IsNewer, IsNotOpened, IsHandedOn, AreSettled}
 use Rattle.vault_store.specs.Read.{AreReads, AreContents, IsFaultBehindHead, IsWhyNot, IsNewerIn}
 use Rattle.vault_store.specs.State.{at_rest}
 use Rattle.vault_store.specs.Seen.{Seen, of_file, Keeps}
 use Rattle.vault_store.specs.Sound.{IsSound}
+use Rattle.vault_store.proofs.Asides.{torn_spare}
 use Rattle.vault_store.proofs.Bodies.{holds_read}
-use Rattle.vault_store.proofs.Frames.{applied_stays}
+use Rattle.vault_store.proofs.Named.{frames_spelled}
 use Rattle.vault_store.proofs.HandedOn.{handed_behind, settled_reads}
 use Rattle.vault_store.proofs.Placed.{both_honest}
 
--- frames keep a vault well formed and durable
-abbrev StaySo : Vault → List (List Effect) → Type 0
-StaySo v frames = (w : Vault) → IsVault w → IsDurable w → after_frames w frames ≡ Some v → IsVault v × IsDurable v
-
-stay_behind : (w v : Vault) (frame : List Effect) (frames : List (List Effect)) (o : Option Vault) → StaySo v frames → IsVault w → IsDurable w → applied w frame ≡ o → option_and_then (λ (u : Vault). after_frames u frames) o ≡ Some v → IsVault v × IsDurable v
-stay_behind w v frame frames None rest kept durable is last = absurd (cc)
-stay_behind w v frame frames (Some u) rest kept durable is last = let stays = applied_stays w u frame kept durable is in rest u stays.0 stays.1 last
-
-frames_stay : (w v : Vault) (frames : List (List Effect)) → IsVault w → IsDurable w → after_frames w frames ≡ Some v → IsVault v × IsDurable v
-frames_stay w v [] kept durable e = let same : w ≡ v = cc in subst (λ (u : Vault). IsVault u × IsDurable u) same (kept, durable)
-frames_stay w v (frame ∷ frames) kept durable e = stay_behind w v frame frames (applied w frame) (λ u. frames_stay u v frames) kept durable refl e
+-- what is known of the head gates of both files, of the spare's
+pub shut_placed : {D : Type 0} (disk : D → Disk) (which : File) (first second : D) (shut one other : Bool) → shut ≡ of_file which other one
+    → (IsTrue (disk first).honest → (one ≡ true) ↔ IsClosed 0 (disk first).shown) → (IsTrue (disk second).honest → (other ≡ true) ↔ IsClosed 0 (disk second).shown)
+    → IsTrue (disk (of_file which second first)).honest → (shut ≡ true) ↔ IsClosed 0 (disk (of_file which second first)).shown
+shut_placed disk First first second shut one other is of_first of_second honest = subst (λ (b : Bool). (b ≡ true) ↔ IsClosed 0 (disk second).shown) (sym is) (of_second honest)
+shut_placed disk Second first second shut one other is of_first of_second honest = subst (λ (b : Bool). (b ≡ true) ↔ IsClosed 0 (disk first).shown) (sym is) (of_first honest)
 
 -- two files are read so, whichever is the active one
 pub read_placed : (which : File) (first second : List ℕ) (r : Reading) → Holds (of_file which first second) r → IsSpare r.generation (of_file which second first) → AreRead first second r
@@ -104,9 +100,9 @@ module _ {D : Type 0} (disk : D → Disk) (which : File) (first second one two a
   opened_refused Device is honest other = tt
   opened_refused NoMemory is honest other = tt
 
-  module _ (v : Vault) (frames tail journal : ℕ) (contents : AreContents (disk active) v frames tail journal) where
+  module _ (v : Vault) (frames tail journal : ℕ) (contents : AreContents (disk active) v frames tail journal) (shut : Bool) where
     abbrev pub opened_seen : Seen D
-    opened_seen = record { active = active_new; spare = spare; which = which; buffer = []; sealed = 0; generation = g; tail = tail; journal = journal; phase = Idle; broken = false }
+    opened_seen = record { active = active_new; spare = spare; which = which; buffer = []; sealed = 0; generation = g; tail = tail; journal = journal; phase = Idle; broken = false; shut = shut; rest = [] }
 
     abbrev reading : Reading
     reading = record { vault = v; generation = g; tail = tail; journal = journal }
@@ -120,7 +116,8 @@ module _ {D : Type 0} (disk : D → Disk) (which : File) (first second one two a
     pub opened_read : IsTrue (disk first).honest → IsTrue (disk second).honest → AreRead (disk first).shown (disk second).shown reading
     opened_read honest other = let newer = found honest other in read_placed which (disk first).shown (disk second).shown reading (subst (λ (l : List ℕ). Holds l reading) (active_shown honest other) (active_holds honest other)) newer.1
 
-    module _ (settled_first : IsTrue (disk first).honest → IsSettled (disk one)) (settled_second : IsTrue (disk second).honest → IsSettled (disk two)) where
+    module _ (settled_first : IsTrue (disk first).honest → IsSettled (disk one)) (settled_second : IsTrue (disk second).honest → IsSettled (disk two))
+        (head : IsTrue (disk (of_file which second first)).honest → (shut ≡ true) ↔ IsClosed 0 (disk (of_file which second first)).shown) where
       settled_active : IsTrue (disk active_new).honest → IsSettled (disk active_new)
       settled_active honest =
           let here = subst IsTrue reads.called.same_honesty honest in
@@ -140,12 +137,28 @@ module _ {D : Type 0} (disk : D → Disk) (which : File) (first second one two a
       still_shown : IsTrue (disk active_new).honest → (disk active_new).shown ≡ (disk active).shown
       still_shown honest = (reads.read (subst IsTrue reads.called.same_honesty honest)).shown
 
+      spare_shown : IsTrue (disk spare).honest → (disk spare).shown ≡ (disk (of_file which second first)).shown
+      spare_shown other = handed_spare.shown (subst IsTrue handed_spare.called.same_honesty other)
+
+      spare_head : IsTrue (disk spare).honest → (shut ≡ true) ↔ IsClosed 0 (disk spare).shown
+      spare_head other = subst (λ (l : List ℕ). (shut ≡ true) ↔ IsClosed 0 l) (sym (spare_shown other)) (head (subst IsTrue handed_spare.called.same_honesty other))
+
+      opened_aside : (MayStand : List ℕ → Type 0) → IsTrue (disk spare).honest → MayStand (disk spare).shown → ((y : List ℕ) → (IsClosed 0 (disk spare).shown → ⊥) → IsTorn 0 1 (disk spare).shown y → MayStand y) → IsAside MayStand (disk spare) shut
+      opened_aside MayStand other stands torn = record {
+        settled = settled_spare other;
+        stands = stands;
+        closed = λ e. (spare_head other).0 e;
+        torn = λ e y. torn y (λ closed. false≢true (sym e ∙ (spare_head other).1 closed));
+      }
+
       pub opened_sound : IsSound disk opened_seen
       opened_sound = record {
         reached = tt;
         sealed_fits = omega arith;
         bounded = λ some. absurd (omega (arith, some));
         inside = omega (arith, contents.tail_is);
+        short = omega arith;
+        spare = λ other. opened_aside (λ x. Unit {0}) other tt (λ y isnt torn. tt);
         active = λ honest.
             let closed = contents.closed (subst IsTrue reads.called.same_honesty honest) in
             let size = length-take-le tail (disk active).shown (omega (arith, closed.stands)) in record {
@@ -165,25 +178,25 @@ module _ {D : Type 0} (disk : D → Disk) (which : File) (first second one two a
 
       pub opened_kept : Keeps disk opened_seen (at_rest v)
       opened_kept =
-          let stays = frames_stay contents.base v contents.list contents.spelled.well_formed contents.spelled.durable contents.leads in record {
+          record {
             phase = refl;
             broken = refl;
-            well_formed = stays.0;
-            durable = stays.1;
+            spelled = frames_spelled contents.base v contents.list contents.spelled contents.each contents.leads;
             sealing = tt;
-            few = omega arith;
+            few = λ commit. omega arith;
             sealed_bytes = refl;
-            under_way = λ busy. absurd (cc);
+            under_way = λ busy commit. absurd (cc);
             none = λ idle. refl;
             sealed = refl;
             buffer = record { each = tt; whole = refl };
             noted = refl;
+            renewal = λ snapshot. absurd (false≢true snapshot);
             files = λ honest other.
                 let here = both_honest disk which first second (subst IsTrue handed_active.called.same_honesty (subst IsTrue reads.called.same_honesty honest)) (subst IsTrue handed_spare.called.same_honesty other) in
                 let holds = active_holds here.0 here.1 in record {
                   front = holds.front;
                   is_front = holds.is_front;
                   active = record { settled = settled_active honest; ends = subst (EndsBehind holds.front) (sym (still_shown honest)) holds.ends };
-                  spare = λ x image. subst (IsSpare g) (sym ((settled_spare other).only x image ∙ handed_spare.shown (subst IsTrue handed_spare.called.same_honesty other))) (newer_here here.0 here.1).1;
+                  spare = let stands = subst (IsSpare g) (sym (spare_shown other)) (newer_here here.0 here.1).1 in opened_aside (IsSpare g) other stands (λ y isnt torn. torn_spare g (disk spare).shown y stands isnt torn);
                 };
           }

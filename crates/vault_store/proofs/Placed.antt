@@ -41,7 +41,7 @@ pub moments_placed : {D : Type 0} (disk : D → Disk) (which : File) (active spa
 moments_placed disk First active spare active_new spare_new P exchanged moments x y one two may = moments x y one two may
 moments_placed disk Second active spare active_new spare_new P exchanged moments x y one two may = exchanged y x (moments y x two one (may.1, may.0))
 
-pub left_placed : {D : Type 0} (disk : D → Disk) (which : File) (active spare : D) (opens : Bool) (gate : ℕ) (settled sealed : Reading) → ((x y : List ℕ) → (disk active).IsImage x → (disk spare).IsImage y → IsLeftWhile opens gate settled sealed x x y)
-    → (x y : List ℕ) → (disk (of_file which active spare)).IsImage x → (disk (of_file which spare active)).IsImage y → IsLeftWhile opens gate settled sealed (of_file which x y) x y
-left_placed disk First active spare opens gate settled sealed left x y one two = left x y one two
-left_placed disk Second active spare opens gate settled sealed left x y one two = while_exchanged opens gate settled sealed y y x (left y x two one)
+pub left_placed : {D : Type 0} (disk : D → Disk) (which : File) (active spare : D) (opens : Bool) (gate : ℕ) (settled sealed : Reading) (of : List ℕ → List ℕ → List ℕ) → ((x y : List ℕ) → (disk active).IsImage x → (disk spare).IsImage y → IsLeftWhile opens gate settled sealed (of x y) x y)
+    → (x y : List ℕ) → (disk (of_file which active spare)).IsImage x → (disk (of_file which spare active)).IsImage y → IsLeftWhile opens gate settled sealed (of (of_file which x y) (of_file which y x)) x y
+left_placed disk First active spare opens gate settled sealed of left x y one two = left x y one two
+left_placed disk Second active spare opens gate settled sealed of left x y one two = while_exchanged opens gate settled sealed (of y x) y x (left y x two one)

@@ -47,6 +47,10 @@ current_head generation = head_of version generation
 abbrev pub snapshot_bytes : Vault → List ℕ
 snapshot_bytes v = in_four (length (snapshot_of v)) ++ snapshot_of v
 
+-- what a snapshot writes behind the head gate: the rest of the head, the vault, and a closed tail gate
+abbrev pub behind_gate : ℕ → Vault → List ℕ
+behind_gate generation v = mark ++ in_four version ++ in_eight generation ++ snapshot_bytes v ++ 0 ∷ []
+
 -- a frame of some records, its gate open
 abbrev pub frame_bytes : List ℕ → List ℕ
 frame_bytes records = 1 ∷ in_four (length records) ++ records

@@ -1,15 +1,15 @@
 -- What is promised of the files of a store. This project's own.
-use Rattle.std.specs.Prelude.{◌≡◌, ◌≢◌, ◌<◌, ◌^◌, length, ℕ, IsTrue, false, List, slice_index}
+use Rattle.std.specs.Prelude.{◌≡◌, ◌≢◌, ◌<◌, ◌^◌, length, ℕ, IsTrue, true, false, List, slice_index}
 use Rattle.vault_model.specs.Vault.{Vault}
 use Rattle.vault_device.specs.Disk.{Disk}
 use Rattle.vault_journal.specs.Gate.{SameBut}
-use Rattle.vault_store.specs.declared.phase.Phase.TheVariants.{Opening}
 use Rattle.vault_store.specs.declared.opening.OpenError.{OpenError}
 use Rattle.vault_store.specs.Snapshot.{snapshot_of, HasSnapshot}
 use Rattle.vault_store.specs.Files.{Reading, AreRead, StandFor}
 use Rattle.vault_store.specs.Opening.{IsNotOpened, IsFound}
+use Rattle.vault_store.specs.Phases.{is_opening}
 use Rattle.vault_store.specs.State.{StoreState}
-use Rattle.vault_store.specs.Seen.{Seen, first_of, second_of, Keeps, IsLeft}
+use Rattle.vault_store.specs.Seen.{Seen, first_of, second_of, gate_at, gated, Keeps, IsLeft}
 
 -- the devices of both files of a store are honest
 pub record AreHonest {D : Type 0} (disk : D → Disk) (store : Seen D) : Type 0 where
@@ -26,9 +26,13 @@ pub record IsOneGate (disk : Disk) (gate : ℕ) : Type 0 where
   pub opened : slice_index disk.shown gate ≡ 1
   pub was_shut : slice_index disk.settled gate ≢ 1
 
--- while a frame's gate is being opened, and before a device call failed, that gate is such a byte of the active file
+-- while a gate is being opened, and before a device call failed, it is such a byte of its file
 abbrev pub OneGateIsOpened : {D : Type 0} → (D → Disk) → Type 0
-OneGateIsOpened {D} disk = (store : Seen D) (s : StoreState) → Keeps disk store s → AreHonest disk store → s.phase ≡ Opening → s.broken ≡ false → IsOneGate (disk store.active) store.tail
+OneGateIsOpened {D} disk = (store : Seen D) (s : StoreState) → Keeps disk store s → AreHonest disk store → is_opening s.phase ≡ true → s.broken ≡ false → IsOneGate (disk (gated s.phase store.active store.spare)) (gate_at store s.phase)
+
+-- what is noted has a spelling
+abbrev pub NotedIsSpelled : {D : Type 0} → (D → Disk) → Type 0
+NotedIsSpelled {D} disk = (store : Seen D) (s : StoreState) → Keeps disk store s → HasSnapshot s.noted
 
 -- four bytes can count a spelling
 abbrev pub SnapshotsAreShort : Type 0

@@ -6,6 +6,7 @@ pub mod Faults
 pub mod Phases
 pub mod State
 pub mod OnDisk
+pub mod Spares
 pub mod Seen
 pub mod Sound
 pub mod View
@@ -17,3 +18,4 @@ pub mod Parts
 pub mod Read
 pub mod Laws
 pub mod Rows
+pub mod Adds

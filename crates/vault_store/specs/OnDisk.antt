@@ -1,9 +1,9 @@
--- What the disk of the active file holds in each phase of a commit. This project's own.
+-- What the disk of the active file holds in each phase. This project's own.
 use Rattle.std.specs.Prelude.{◌≡◌, ◌≢◌, ℕ, ◌+◌, Bool, true, false, List, ◌++◌, length, take, drop, slice_index}
 use Rattle.vault_device.specs.Disk.{Disk, LeavesOnly}
 use Rattle.vault_journal.specs.Gate.{body_of, SameBut}
 use Rattle.vault_store.specs.declared.phase.Phase.{Phase}
-use Rattle.vault_store.specs.declared.phase.Phase.TheVariants.{Idle, Written, Bodied, Opening}
+use Rattle.vault_store.specs.declared.phase.Phase.TheVariants.{Written, Bodied, Opening}
 use Rattle.vault_store.specs.Files.{frame_bytes, EndsBehind}
 
 -- what a read gives is settled
@@ -43,21 +43,17 @@ pub record IsGated (disk : Disk) (front records : List ℕ) : Type 0 where
   pub opened : slice_index disk.shown (length front) ≡ 1
   pub was_shut : slice_index disk.settled (length front) ≢ 1
 
--- What the disk holds in each phase, while no device call failed. The phases of a snapshot are not reached yet.
+-- What the disk holds in each phase, while no device call failed. A snapshot leaves it as it is.
 abbrev pub IsInPhase : Disk → Phase → List ℕ → List ℕ → Type 0
-IsInPhase disk Idle front records = IsIdle disk front
 IsInPhase disk Written front records = IsWritten disk front records
 IsInPhase disk Bodied front records = IsBodied disk front records
 IsInPhase disk Opening front records = IsGated disk front records
-IsInPhase disk _ front records = ⊥
+IsInPhase disk _ front records = IsIdle disk front
 
 -- what a crash leaves in each phase
 abbrev pub LeavesInPhase : Disk → Phase → List ℕ → List ℕ → Type 0
-LeavesInPhase disk Idle front records = (x : List ℕ) → disk.IsImage x → EndsBehind front x
-LeavesInPhase disk Written front records = (x : List ℕ) → disk.IsImage x → EndsBehind front x
-LeavesInPhase disk Bodied front records = (x : List ℕ) → disk.IsImage x → EndsBehind front x
 LeavesInPhase disk Opening front records = (x : List ℕ) → disk.IsImage x → IsEither front records x
-LeavesInPhase disk _ front records = ⊥
+LeavesInPhase disk _ front records = (x : List ℕ) → disk.IsImage x → EndsBehind front x
 
 -- what the disk holds or, once a device call failed, what a crash leaves
 abbrev pub IsOnDisk : Disk → Phase → Bool → List ℕ → List ℕ → Type 0

@@ -10,6 +10,14 @@ use Rattle.vault_store.specs.Files.{header}
 abbrev pub most_piece : ℕ
 most_piece = 65536
 
+-- how many bytes the next piece has, where so many are left
+abbrev pub piece_size : ℕ → ℕ
+piece_size left = if nat_le left most_piece then left else most_piece
+
+-- the phase behind that piece
+abbrev pub behind_piece : ℕ → Phase
+behind_piece left = if nat_le left most_piece then Filled else Writing (left - most_piece)
+
 -- what waits behind the settled entries: nothing, entries without an effect, or some with one
 pub data Waiting : Type 0 where
   Nothing : Waiting
@@ -62,10 +70,20 @@ row Bodied waiting length = moves Write Opening
 row Opening waiting length = ends Sync TheSealed
 row Start waiting length = moves Write Closing
 row Closing waiting length = moves Sync (Writing (header + length))
-row (Writing left) waiting length = moves Write (if nat_le left most_piece then Filled else Writing (left - most_piece))
+row (Writing left) waiting length = moves Write (behind_piece left)
 row Filled waiting length = moves Sync Ready
 row Ready waiting length = moves Write SnapOpening
 row SnapOpening waiting length = ends Sync TheSealed
+
+-- whether a snapshot is under way
+abbrev pub is_snapshot : Phase → Bool
+is_snapshot Start = true
+is_snapshot Closing = true
+is_snapshot (Writing left) = true
+is_snapshot Filled = true
+is_snapshot Ready = true
+is_snapshot SnapOpening = true
+is_snapshot _ = false
 
 -- while a gate is being opened, a crash leaves it open or closed
 abbrev pub is_opening : Phase → Bool

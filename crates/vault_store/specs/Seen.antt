@@ -1,23 +1,26 @@
 -- What contracts see of a store, and how it keeps vaults. This project's own.
-use Rattle.std.specs.Prelude.{◌≡◌, ◌≢◌, ◌⊎◌, ℕ, ◌+◌, ◌≤◌, ◌^◌, IsTrue, Bool, true, false, ◌&&◌, nat_le, nat_lt, List, [], length, slice_index, Some}
+use Rattle.std.specs.Prelude.{◌≡◌, ◌≢◌, ◌⊎◌, ℕ, ◌+◌, ◌<◌, ◌≤◌, ◌^◌, IsTrue, Bool, true, false, ◌&&◌, nat_le, nat_lt, if◌then◌else◌, List, [], length, slice_index, Some}
 use Rattle.std.specs.List.{AllByRecursion}
-use Rattle.vault_model.specs.Vault.{IsVault}
-use Rattle.vault_model.specs.After.{IsDurable}
+use Rattle.vault_model.specs.Vault.{Vault}
 use Rattle.vault_device.specs.Disk.{Disk}
 use Rattle.vault_journal.specs.Spelling.{records_of, HasRecord}
 use Rattle.vault_journal.specs.Rows.{AreRecordsOf}
 use Rattle.vault_store.specs.declared.opening.File.{File}
 use Rattle.vault_store.specs.declared.opening.File.TheVariants.{First, Second}
 use Rattle.vault_store.specs.declared.phase.Phase.{Phase}
-use Rattle.vault_store.specs.Files.{most_records, frame_extra, applied, Reading, IsFront, IsSpare, AreRead}
-use Rattle.vault_store.specs.Phases.{is_idle, is_opening, may_open}
+use Rattle.vault_store.specs.declared.phase.Phase.TheVariants.{Idle, Start}
+use Rattle.vault_store.specs.Snapshot.{snapshot_of, HasSnapshot}
+use Rattle.vault_store.specs.Files.{header, most_records, frame_extra, applied, Reading, IsFront, IsSpare, AreRead, behind_gate}
+use Rattle.vault_store.specs.Phases.{is_idle, is_snapshot, is_opening, may_open}
 use Rattle.vault_store.specs.State.{StoreState}
 use Rattle.vault_store.specs.OnDisk.{IsOnDisk}
 use Rattle.vault_store.specs.declared.store.TheConstants.{MOST_NOTED}
+use Rattle.vault_store.specs.Spares.{IsSpareOn}
 
 -- the devices of the active file and of its spare, and which file is the active one; the bytes of the records in the open buffer, and
 -- how many bytes the records of the frame under way have; of the active file its generation, where its tail gate stands, and how many
--- bytes its frames have; the phase; whether a device call failed
+-- bytes its frames have; the phase; whether a device call failed; whether the spare file's head gate is known to be closed; and the
+-- bytes that a snapshot writes behind it
 pub record Seen (D : Type 0) : Type 0 where
   pub active : D
   pub spare : D
@@ -29,12 +32,19 @@ pub record Seen (D : Type 0) : Type 0 where
   pub journal : ℕ
   pub phase : Phase
   pub broken : Bool
+  pub shut : Bool
+  pub rest : List ℕ
 
 -- of two, the one of the first file, or the one of the second; so is the active one of the first file's and the second's, and the
 -- first file's of the active one and its spare
 abbrev pub of_file : {A : Type 0} → File → A → A → A
 of_file First one other = one
 of_file Second one other = other
+
+-- the file beside
+abbrev pub other : File → File
+other First = Second
+other Second = First
 
 -- the device of the first file, active or spare
 abbrev pub first_of : {D : Type 0} → Seen D → D
@@ -56,54 +66,101 @@ last_tail = 2 ^ 62
 abbrev pub has_room : {D : Type 0} → Seen D → Bool
 has_room store = nat_le (length store.buffer) most_noted && nat_lt store.tail last_tail
 
--- what opening reads where the frame under way doesn't count
+-- what opening reads while the frame or the snapshot under way doesn't count
 abbrev pub settled_reading : {D : Type 0} → Seen D → StoreState → Reading
 settled_reading store s = record { vault = s.settled; generation = store.generation; tail = store.tail; journal = store.journal }
 
--- what opening reads where the frame under way counts
+-- what it reads once a snapshot counts, or else a frame
+abbrev pub counted_reading : {D : Type 0} → Bool → Seen D → StoreState → Reading
+counted_reading renews store s = record {
+  vault = s.sealed;
+  generation = if renews then store.generation + 1 else store.generation;
+  tail = if renews then header + length (snapshot_of s.sealed) else store.tail + frame_extra + store.sealed;
+  journal = if renews then 0 else store.journal + frame_extra + store.sealed;
+}
+
+-- what it reads once all that is under way counts
 abbrev pub sealed_reading : {D : Type 0} → Seen D → StoreState → Reading
-sealed_reading store s = record { vault = s.sealed; generation = store.generation; tail = store.tail + frame_extra + store.sealed; journal = store.journal + frame_extra + store.sealed }
+sealed_reading store s = counted_reading (is_snapshot s.phase) store s
+
+-- The gate that a phase opens: the active file's tail gate or, of a snapshot, the spare's head gate. Where it stands, and of the
+-- active one and its spare the one that it stands in.
+abbrev pub gate_at : {D : Type 0} → Seen D → Phase → ℕ
+gate_at store phase = if is_snapshot phase then 0 else store.tail
+
+abbrev pub gated : {A : Type 0} → Phase → A → A → A
+gated phase active spare = if is_snapshot phase then spare else active
 
 -- the files of a store, of honest devices
-pub record AreFiles (active_disk spare_disk : Disk) (settled : Reading) (phase : Phase) (broken : Bool) (records : List ℕ) : Type 0 where
+pub record AreFiles (active_disk spare_disk : Disk) (settled : Reading) (phase : Phase) (broken : Bool) (records : List ℕ) (shut : Bool) (rest : List ℕ) : Type 0 where
   -- the bytes up to the tail gate
   pub front : List ℕ
   pub is_front : IsFront front settled
   pub active : IsOnDisk active_disk phase broken front records
-  pub spare : (x : List ℕ) → spare_disk.IsImage x → IsSpare settled.generation x
+  pub spare : IsSpareOn (IsSpare settled.generation) spare_disk phase broken shut rest
+
+-- The snapshot under way: the sealed vault has a spelling, which is written in a file of the next generation.
+pub record IsRenewal (generation : ℕ) (sealed : Vault) (rest : List ℕ) : Type 0 where
+  pub spelled : HasSnapshot sealed
+  pub fits : generation + 1 < 2 ^ 64
+  pub bytes : rest ≡ behind_gate (generation + 1) sealed
+
+-- from how many bytes of frames on a snapshot is wanted
+abbrev pub long_journal : ℕ
+long_journal = 1048576
+
+-- whether one is, now
+abbrev pub wants_snapshot : {D : Type 0} → Seen D → Bool
+wants_snapshot store = is_idle store.phase && nat_le long_journal store.journal
+
+-- whether a snapshot may be begun: nothing is under way, no device call failed, and there is a next generation
+pub record MayStart {D : Type 0} (store : Seen D) : Type 0 where
+  pub idle : store.phase ≡ Idle
+  pub whole : store.broken ≡ false
+  pub fits : store.generation + 1 < 2 ^ 64
+
+-- a snapshot of this vault is begun
+abbrev pub started_seen : {D : Type 0} → Seen D → Vault → Seen D
+started_seen store v = record store { buffer = []; phase = Start; rest = behind_gate (store.generation + 1) v }
+
+-- how many bytes of records the frame under way has; a snapshot writes none
+abbrev pub framed_bytes : StoreState → ℕ
+framed_bytes s = if is_snapshot s.phase then 0 else length (records_of s.sealing)
 
 -- A store keeps a settled vault, a sealed one and the one after all effects.
 pub record Keeps {D : Type 0} (disk : D → Disk) (store : Seen D) (s : StoreState) : Type 0 where
   pub phase : store.phase ≡ s.phase
   pub broken : store.broken ≡ s.broken
-  pub well_formed : IsVault s.settled
-  pub durable : IsDurable s.settled
-  -- the effects of the frame under way
+  pub spelled : HasSnapshot s.settled
+  -- the effects of the frame or the snapshot under way; a frame has some, and room for all
   pub sealing : AllByRecursion HasRecord s.sealing
-  pub few : length (records_of s.sealing) ≤ most_records
-  pub sealed_bytes : store.sealed ≡ length (records_of s.sealing)
-  pub under_way : is_idle s.phase ≡ false → s.sealing ≢ []
+  pub few : is_snapshot s.phase ≡ false → length (records_of s.sealing) ≤ most_records
+  pub sealed_bytes : store.sealed ≡ framed_bytes s
+  pub under_way : is_idle s.phase ≡ false → is_snapshot s.phase ≡ false → s.sealing ≢ []
   pub none : is_idle s.phase ≡ true → s.sealing ≡ []
   pub sealed : applied s.settled s.sealing ≡ Some s.sealed
   -- the effects behind them
   pub buffer : AreRecordsOf s.buffer store.buffer
   pub noted : applied s.sealed s.buffer ≡ Some s.noted
-  pub files : IsTrue (disk store.active).honest → IsTrue (disk store.spare).honest → AreFiles (disk store.active) (disk store.spare) (settled_reading store s) s.phase s.broken (records_of s.sealing)
+  pub renewal : is_snapshot s.phase ≡ true → IsRenewal store.generation s.sealed store.rest
+  pub files : IsTrue (disk store.active).honest → IsTrue (disk store.spare).honest → AreFiles (disk store.active) (disk store.spare) (settled_reading store s) s.phase s.broken (records_of s.sealing) store.shut store.rest
 
--- what two files are read as, by the gate that is being opened in the active one
-pub record IsByGate (gate : ℕ) (settled sealed : Reading) (active first second : List ℕ) : Type 0 where
-  pub opened : slice_index active gate ≡ 1 → AreRead first second sealed
-  pub shut : slice_index active gate ≢ 1 → AreRead first second settled
+-- what two files are read as, by the gate that is being opened in one of them
+pub record IsByGate (gate : ℕ) (settled sealed : Reading) (file first second : List ℕ) : Type 0 where
+  pub opened : slice_index file gate ≡ 1 → AreRead first second sealed
+  pub shut : slice_index file gate ≢ 1 → AreRead first second settled
 
 -- the same, where a gate is being opened; else they are read as what is settled
 abbrev pub IsLeftWhile : Bool → ℕ → Reading → Reading → List ℕ → List ℕ → List ℕ → Type 0
-IsLeftWhile true gate settled sealed active first second = IsByGate gate settled sealed active first second
-IsLeftWhile false gate settled sealed active first second = AreRead first second settled
+IsLeftWhile true gate settled sealed file first second = IsByGate gate settled sealed file first second
+IsLeftWhile false gate settled sealed file first second = AreRead first second settled
 
 -- What two files that a crash leaves are read as: the settled vault or, while a gate is being opened, the sealed one exactly where
 -- that gate is 1.
 abbrev pub IsLeft : {D : Type 0} → Seen D → StoreState → List ℕ → List ℕ → Type 0
-IsLeft store s first second = IsLeftWhile (is_opening s.phase) store.tail (settled_reading store s) (sealed_reading store s) (of_file store.which first second) first second
+IsLeft store s first second =
+    IsLeftWhile (is_opening s.phase) (gate_at store s.phase) (settled_reading store s) (sealed_reading store s)
+    (gated s.phase (of_file store.which first second) (of_file store.which second first)) first second
 
 -- what two files that a stop inside a step leaves are read as: the settled vault, or the sealed one where a gate may be opened
 abbrev pub IsLeftInside : {D : Type 0} → Seen D → StoreState → List ℕ → List ℕ → Type 0

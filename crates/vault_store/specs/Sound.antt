@@ -1,26 +1,42 @@
--- What every store keeps, of its numbers and of the active file's bytes. This project's own.
-use Rattle.std.specs.Prelude.{◌≡◌, ℕ, ◌+◌, ◌<◌, ◌≤◌, IsTrue, Bool, List, length}
+-- What every store keeps, of its numbers and of the bytes of its files. This project's own.
+use Rattle.std.specs.Prelude.{◌≡◌, ℕ, ◌+◌, ◌<◌, ◌≤◌, ◌^◌, IsTrue, Bool, List, [], ◌∷◌, ◌++◌, length}
 use Rattle.vault_device.specs.Disk.{Disk}
 use Rattle.vault_journal.specs.Gate.{frame_room}
 use Rattle.vault_store.specs.declared.phase.Phase.{Phase}
-use Rattle.vault_store.specs.declared.phase.Phase.TheVariants.{Idle, Written, Bodied, Opening}
+use Rattle.vault_store.specs.declared.phase.Phase.TheVariants.{Idle, Written, Bodied, Opening, Start, Closing, Writing, Filled, Ready, SnapOpening}
 use Rattle.vault_store.specs.Files.{frame_extra}
 use Rattle.vault_store.specs.OnDisk.{IsOnDisk}
+use Rattle.vault_store.specs.Spares.{IsSpareOn}
 use Rattle.vault_store.specs.Seen.{Seen, last_tail}
 
--- the phases of a commit; those of a snapshot are not reached yet
-abbrev pub IsReached : Phase → Type 0
-IsReached Idle = Unit {0}
-IsReached Written = Unit {0}
-IsReached Bodied = Unit {0}
-IsReached Opening = Unit {0}
-IsReached _ = ⊥
+-- what a snapshot writes ends with a closed tail gate, and there is a next generation
+pub record IsRest (generation : ℕ) (rest : List ℕ) : Type 0 where
+  pub front : List ℕ
+  pub ends : rest ≡ front ++ 0 ∷ []
+  pub fits : generation + 1 < 2 ^ 64
+
+-- what is kept of the bytes of a snapshot: of these, some are left to write
+abbrev pub IsReached : Phase → ℕ → List ℕ → Type 0
+IsReached Start generation rest = IsRest generation rest
+IsReached Closing generation rest = IsRest generation rest
+IsReached (Writing left) generation rest = IsRest generation rest × (left ≤ length rest)
+IsReached Filled generation rest = IsRest generation rest
+IsReached Ready generation rest = IsRest generation rest
+IsReached SnapOpening generation rest = IsRest generation rest
+IsReached _ generation rest = Unit {0}
+
+-- the bounds of a frame under way
+abbrev pub IsBusy : ℕ → ℕ → Type 0
+IsBusy waiting tail = (tail < last_tail + frame_room) × (0 < waiting → tail < last_tail)
 
 -- Where records wait or a frame is under way, the tail gate stands at most one frame behind where frames may begin. Records are
--- noted behind a frame under way only where its gate stands before that.
+-- noted behind a frame under way only where its gate stands before that. A snapshot moves the gate to the front.
 abbrev pub IsBounded : Phase → ℕ → ℕ → Type 0
 IsBounded Idle waiting tail = 0 < waiting → tail < last_tail + frame_room
-IsBounded _ waiting tail = (tail < last_tail + frame_room) × (0 < waiting → tail < last_tail)
+IsBounded Written waiting tail = IsBusy waiting tail
+IsBounded Bodied waiting tail = IsBusy waiting tail
+IsBounded Opening waiting tail = IsBusy waiting tail
+IsBounded _ waiting tail = Unit {0}
 
 -- the active file is some front up to the tail gate, and the frame under way some records
 pub record IsActive (disk : Disk) (tail sealed : ℕ) (phase : Phase) (broken : Bool) : Type 0 where
@@ -33,8 +49,10 @@ pub record IsActive (disk : Disk) (tail sealed : ℕ) (phase : Phase) (broken : 
 -- what every store keeps
 pub record IsSound {D : Type 0} (disk : D → Disk) (store : Seen D) : Type 0 where
   -- invariants 1 to 5 of src/lib.rt, in this order
-  pub reached : IsReached store.phase
+  pub reached : IsReached store.phase store.generation store.rest
   pub sealed_fits : store.sealed + frame_extra ≤ frame_room
   pub bounded : IsBounded store.phase (length store.buffer) store.tail
   pub inside : store.journal ≤ store.tail
+  pub short : length store.rest < 2 ^ 33
   pub active : IsTrue (disk store.active).honest → IsActive (disk store.active) store.tail store.sealed store.phase store.broken
+  pub spare : IsTrue (disk store.spare).honest → IsSpareOn (λ x. Unit {0}) (disk store.spare) store.phase store.broken store.shut store.rest

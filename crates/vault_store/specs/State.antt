@@ -3,7 +3,7 @@ use Rattle.std.specs.Prelude.{Bool, true, false, if◌then◌else◌, List, [], 
 use Rattle.vault_model.specs.Said.{Effect}
 use Rattle.vault_model.specs.Vault.{Vault}
 use Rattle.vault_store.specs.declared.phase.Phase.{Phase}
-use Rattle.vault_store.specs.declared.phase.Phase.TheVariants.{Idle}
+use Rattle.vault_store.specs.declared.phase.Phase.TheVariants.{Idle, Start}
 use Rattle.vault_store.specs.declared.phase.Advanced.{Advanced}
 use Rattle.vault_store.specs.declared.phase.Advanced.TheVariants.{Broken}
 use Rattle.vault_store.specs.Snapshot.{snapshot_of}
@@ -27,6 +27,10 @@ at_rest w = record { settled = w; sealed = w; noted = w; sealing = []; buffer = 
 -- one more effect, after which the vault is this
 abbrev pub with_effect : StoreState → Effect → Vault → StoreState
 with_effect s effect next = record s { noted = next; buffer = s.buffer ++ effect ∷ [] }
+
+-- a snapshot is begun: all so far is sealed
+abbrev pub started : StoreState → StoreState
+started s = record s { sealed = s.noted; sealing = s.buffer; buffer = []; phase = Start }
 
 -- what waits, of the effects in the buffer
 abbrev pub waiting_in : List Effect → Waiting

@@ -1,14 +1,14 @@
 -- What one step of a store does, whatever it keeps. This project's own.
-use Rattle.std.specs.Prelude.{◌≡◌, ◌≢◌, ◌⊎◌, ℕ, ◌+◌, ◌≤◌, IsTrue, false, not, ◌&&◌, if◌then◌else◌, List, [], Result, Ok, Err, IsErr}
+use Rattle.std.specs.Prelude.{◌≡◌, ◌≢◌, ◌⊎◌, ℕ, ◌+◌, ◌≤◌, IsTrue, Bool, false, not, ◌&&◌, if◌then◌else◌, List, [], length, Result, Ok, Err, IsErr}
 use Rattle.vault_device.specs.Disk.{Disk}
 use Rattle.vault_device.specs.declared.device.Fault.{Fault}
 use Rattle.vault_store.specs.declared.phase.Advanced.{Advanced}
 use Rattle.vault_store.specs.declared.phase.Advanced.TheVariants as answers
 use Rattle.vault_store.specs.Files.{frame_extra}
 use Rattle.vault_store.specs.Calls.{HasCause}
-use Rattle.vault_store.specs.Phases.{NoCall, is_idle}
+use Rattle.vault_store.specs.Phases.{NoCall, is_idle, is_snapshot}
 use Rattle.vault_store.specs.State.{StoreState, row_of, answer_of, advanced, failed}
-use Rattle.vault_store.specs.Seen.{Seen, first_of, second_of, Keeps, IsLeftInside}
+use Rattle.vault_store.specs.Seen.{Seen, other, first_of, second_of, Keeps, IsLeftInside}
 
 -- what at most one call of the two devices leaves of their counts and of their honesty
 pub record IsAtMostOneCall {A E : Type 0} (first second first_new second_new : Disk) (result : Result A E) : Type 0 where
@@ -23,18 +23,24 @@ abbrev pub IsStep : {D : Type 0} → (D → Disk) → Seen D → Seen D → Resu
 IsStep disk old new (Ok answer) s = (answer ≡ answer_of s) × Keeps disk new (advanced s)
 IsStep disk old new (Err fault) s = (s.broken ≡ false) × ((row_of s).call ≢ NoCall) × Keeps disk new (failed (row_of s) s)
 
+-- whether a step makes the spare the active file: the last one of a snapshot does
+abbrev pub renews : {D : Type 0} → Seen D → Result Advanced Fault → Bool
+renews old (Ok answers.Settled) = is_snapshot old.phase
+renews old _ = false
+
 -- how many bytes of frames a step adds: the whole frame under way, where the step settles it
 abbrev pub gained : {D : Type 0} → Seen D → Result Advanced Fault → ℕ
 gained old (Ok answers.Settled) = frame_extra + old.sealed
 gained old _ = 0
 
--- The active file and its numbers after a step: the last one of a commit moves the tail gate behind the frame; the first one empties
--- the buffer, also where its device call fails; no other changes them.
+-- The active file and its numbers after a step: the last one of a commit moves the tail gate behind the frame; the last one of a
+-- snapshot exchanges the files, and the tail gate then stands behind the snapshot; the first one of a commit empties the buffer,
+-- also where its device call fails; no other changes them.
 pub record AreNumbers {D : Type 0} (old new : Seen D) (result : Result Advanced Fault) : Type 0 where
-  pub which : new.which ≡ old.which
-  pub generation : new.generation ≡ old.generation
-  pub tail : new.tail ≡ old.tail + gained old result
-  pub journal : new.journal ≡ old.journal + gained old result
+  pub which : new.which ≡ (if renews old result then other old.which else old.which)
+  pub generation : new.generation ≡ (if renews old result then old.generation + 1 else old.generation)
+  pub tail : new.tail ≡ (if renews old result then length old.rest else old.tail + gained old result)
+  pub journal : new.journal ≡ (if renews old result then 0 else old.journal + gained old result)
   pub buffer : new.buffer ≡ (if is_idle old.phase && not old.broken then [] else old.buffer)
 
 -- what a stop inside a step may leave of two devices

@@ -1,4 +1,6 @@
 -- What contracts see of a store's fields.
+use Rattle.std.specs.Prelude.{[]}
+use Rattle.std.specs.Option.{option_map_or}
 use Rattle.vault_store.specs.declared.store.Store.TheInside.{Inside}
 use Rattle.vault_store.specs.Seen.{Seen}
 
@@ -14,4 +16,6 @@ seen_of store = record {
   journal = store.journal;
   phase = store.phase;
   broken = store.broken;
+  shut = store.spare_shut;
+  rest = option_map_or (λ v. v.items) store.rest [];
 }

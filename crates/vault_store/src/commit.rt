@@ -92,7 +92,7 @@ impl<D: Device, A: Allocator> Store<D, A> {
         }
     }
 
-    /// Does the next step of a commit: at most one device call, and no memory. After a fault it does nothing more.
+    /// Does the next step of a commit or of a snapshot: at most one device call, and no memory. After a fault it does nothing more.
     pub fn advance(&mut self) -> Result<Advanced, Fault>
         ensures step { (s : StoreState) → Keeps D.disk self.old s → IsStep D.disk self.old self.new result s }
         ensures numbers { AreNumbers self.old self.new result }
@@ -112,7 +112,12 @@ impl<D: Device, A: Allocator> Store<D, A> {
             Phase::Written => self.settle_body(),
             Phase::Bodied => self.open_gate(),
             Phase::Opening => self.settle_gate(),
-            _ => unreachable!(),
+            Phase::Start => self.close_head(),
+            Phase::Closing => self.settle_closed(),
+            Phase::Writing(left) => self.write_piece(left),
+            Phase::Filled => self.settle_written(),
+            Phase::Ready => self.open_head(),
+            Phase::SnapOpening => self.settle_head(),
         }
     }
 }

@@ -131,6 +131,8 @@ impl<D: Device, A: Allocator> Store<D, A> {
                 journal: 0,
                 phase: Phase::Idle,
                 broken: false,
+                spare_shut: false,
+                rest: None,
             }),
             Err(why) => Err(Refused { why, first, second }),
         }

@@ -19,8 +19,8 @@ const MOST_RECORDS: u32 = 262_139;
 /// How many bytes a frame has beside its records: its gate and the length of its records.
 pub const FRAME_EXTRA: u64 = 5;
 
-// The byte of a gate. One device call.
-fn read_gate<D: Device>(device: &mut D, at: u64) -> Result<u8, Fault>
+/// The byte of a gate. One device call.
+pub fn read_gate<D: Device>(device: &mut D, at: u64) -> Result<u8, Fault>
     requires { IsTrue (D.disk device.old).honest → at < length (D.disk device.old).shown }
     ensures reads { AreReads (D.disk device.old) (D.disk device.new) }
     ensures gate { IsTrue (D.disk device.old).honest → IfOk result (λ gate. gate ≡ slice_index (D.disk device.old).shown at) }

@@ -1,14 +1,19 @@
 //! Laws of what is kept, on which the program's theorems rest.
-ghost use Rattle.vault_store.specs.Laws.{CrashLeavesWhatIsKept, OneGateIsOpened, OneSpelling, SnapshotsAreShort, OneReading, EitherWay, OneVault, NothingIsWrong, OneFault};
+ghost use Rattle.vault_store.specs.Laws.{CrashLeavesWhatIsKept, OneGateIsOpened, NotedIsSpelled, OneSpelling, SnapshotsAreShort, OneReading, EitherWay, OneVault, NothingIsWrong, OneFault};
 ghost use Rattle.vault_store.specs.Rows.{Rows};
 
 use vault_device::Device;
 
 /// What a crash leaves of the two files of honest devices is read as the settled vault or, while a gate is being opened, as
-/// the sealed one exactly where that gate is 1.
+/// the sealed one exactly where that gate is 1; before a fault no other byte is unsettled then.
 pub fn a_crash_leaves_what_is_kept<D: Device>()
     ensures left { CrashLeavesWhatIsKept D.disk }
     ensures gate { OneGateIsOpened D.disk }
+{}
+
+/// The vault that all noted effects lead to has a spelling.
+pub fn what_is_noted_is_spelled<D: Device>()
+    ensures { NotedIsSpelled D.disk }
 {}
 
 /// A durable vault has one spelling, whose length four bytes can hold, and a spelling is of one vault.

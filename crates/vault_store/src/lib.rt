@@ -30,7 +30,9 @@ pub mod laws;
 mod opening;
 mod phase;
 mod refused;
+mod renewal;
 mod snapshot;
+mod starting;
 mod store;
 #[cfg(test)]
 mod tests;
@@ -41,4 +43,5 @@ pub use front::{Head, read_head};
 pub use opening::{File, OpenError};
 pub use phase::{Advanced, Phase};
 pub use refused::Refused;
+pub use starting::Started;
 pub use store::Store;

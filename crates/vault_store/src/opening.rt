@@ -1,5 +1,6 @@
 //! A vault that was left in two files, read again.
-ghost use Rattle.std.specs.Prelude.{◌≡◌, ◌⊎◌, ℕ, List, [], IfOk, IfErr, OnOk, IsTrue};
+ghost use Rattle.std.specs.Prelude.{◌≡◌, ◌⊎◌, ◌↔◌, ℕ, List, [], IfOk, IfErr, IsErr, OnOk, IsTrue, true};
+ghost use Rattle.vault_journal.specs.Gate.{IsClosed};
 ghost use Rattle.vault_store.specs.declared.opening.OpenError.TheVariants.{Device as DeviceFailed, NoMemory as Wanted};
 ghost use Rattle.vault_store.specs.Calls.{HasCause};
 ghost use Rattle.vault_store.specs.Faults.{IsDamagedHead};
@@ -12,6 +13,7 @@ ghost use Rattle.vault_store.specs.Seen.{of_file, first_of, second_of, Keeps, se
 
 use crate::body::{Contents, ReadError, read_contents};
 use crate::front::{Head, read_head};
+use crate::journal::read_gate;
 use crate::{Phase, Refused, Store};
 use std::alloc::Allocator;
 use thiserror::Error;
@@ -58,11 +60,19 @@ impl From<NoMemory> for OpenError {
     }
 }
 
-// The active file, and its generation.
+// What the head of a file says: an open one's generation, and whether the gate is there and closed.
+#[derive(Clone, Copy)]
+struct Headed {
+    generation: Option<u64>,
+    shut: bool,
+}
+
+// The active file, its generation, and whether the spare's head gate is there and closed.
 #[derive(Clone, Copy)]
 struct Active {
     which: File,
     generation: u64,
+    spare_shut: bool,
 }
 
 // The generation of an open file; of a closed one there is none.
@@ -84,29 +94,58 @@ fn generation_in<D: Device>(which: File, device: &mut D) -> Result<Option<u64>, 
     }
 }
 
-// The open file of the greater generation.
-fn newer(first: Option<u64>, second: Option<u64>) -> Result<Active, OpenError>
-    ensures newer { IfOk result (λ active. (x y : List ℕ) → IsGenerationRead x first → IsGenerationRead y second → IsNewerIn x y active.which active.generation) }
-    ensures refused { IfErr result (λ why. (x y : List ℕ) → IsGenerationRead x first → IsGenerationRead y second → IsNotOpened x y why) }
-    ensures files { IfErr result (λ why. why ≡ DeviceFailed → ⊥) }
+// Whether the head gate of a file is there and closed. Two device calls at most.
+fn is_shut<D: Device>(device: &mut D) -> Result<bool, Fault>
+    ensures reads { AreReads (D.disk device.old) (D.disk device.new) }
+    ensures shut { IsTrue (D.disk device.old).honest → IfOk result (λ shut. (shut ≡ true) ↔ IsClosed 0 (D.disk device.old).shown) }
+    ensures cause { IsErr result → HasCause (D.disk device.old) (D.disk device.new) }
 {
-    match (first, second) {
+    if device.len()? == 0 {
+        return Ok(false);
+    }
+    Ok(read_gate(device, 0)? != 1)
+}
+
+// Reads what the head of a file says. Four device calls at most.
+fn look_at<D: Device>(which: File, device: &mut D) -> Result<Headed, OpenError>
+    ensures reads { AreReads (D.disk device.old) (D.disk device.new) }
+    ensures generation { IsTrue (D.disk device.old).honest → IfOk result (λ headed. IsGenerationRead (D.disk device.old).shown headed.generation) }
+    ensures shut { IsTrue (D.disk device.old).honest → IfOk result (λ headed. (headed.shut ≡ true) ↔ IsClosed 0 (D.disk device.old).shown) }
+    ensures refused { IfErr result (λ why. IsWhyNot (D.disk device.old) (D.disk device.new) which (IsDamagedHead (D.disk device.old).shown) why) }
+{
+    let generation = generation_in(which, device)?;
+    let shut = is_shut(device)?;
+    Ok(Headed { generation, shut })
+}
+
+// The open file of the greater generation.
+fn newer(first: Headed, second: Headed) -> Result<Active, OpenError>
+    ensures newer { IfOk result (λ active. (x y : List ℕ) → IsGenerationRead x first.generation → IsGenerationRead y second.generation → IsNewerIn x y active.which active.generation) }
+    ensures refused { IfErr result (λ why. (x y : List ℕ) → IsGenerationRead x first.generation → IsGenerationRead y second.generation → IsNotOpened x y why) }
+    ensures files { IfErr result (λ why. why ≡ DeviceFailed → ⊥) }
+    ensures shut { IfOk result (λ active. active.spare_shut ≡ of_file active.which second.shut first.shut) }
+{
+    match (first.generation, second.generation) {
         (None, None) => Err(OpenError::NoVault),
         (Some(generation), None) => Ok(Active {
             which: File::First,
             generation,
+            spare_shut: second.shut,
         }),
         (None, Some(generation)) => Ok(Active {
             which: File::Second,
             generation,
+            spare_shut: first.shut,
         }),
         (Some(one), Some(other)) if one > other => Ok(Active {
             which: File::First,
             generation: one,
+            spare_shut: second.shut,
         }),
         (Some(one), Some(other)) if one < other => Ok(Active {
             which: File::Second,
             generation: other,
+            spare_shut: first.shut,
         }),
         (Some(_), Some(_)) => Err(OpenError::Damaged {
             file: File::Second,
@@ -122,14 +161,15 @@ fn find_active<D: Device>(first: &mut D, second: &mut D) -> Result<Active, OpenE
     ensures settled_first { IsTrue (D.disk first.old).honest → OnOk result (IsSettled (D.disk first.new)) }
     ensures settled_second { IsTrue (D.disk second.old).honest → OnOk result (IsSettled (D.disk second.new)) }
     ensures found { IsTrue (D.disk first.old).honest → IsTrue (D.disk second.old).honest → IfOk result (λ active. IsNewerIn (D.disk first.old).shown (D.disk second.old).shown active.which active.generation) }
+    ensures shut { IfOk result (λ active. IsTrue (D.disk (of_file active.which second.old first.old)).honest → (active.spare_shut ≡ true) ↔ IsClosed 0 (D.disk (of_file active.which second.old first.old)).shown) }
     ensures refused { IsTrue (D.disk first.old).honest → IsTrue (D.disk second.old).honest → IfErr result (λ why. IsNotOpened (D.disk first.old).shown (D.disk second.old).shown why) }
     ensures settled { IfErr result (λ why. AreLeftSettled (D.disk first.new) (D.disk second.new) why) }
     ensures cause { IfErr result (λ why. why ≡ DeviceFailed → HasCause (D.disk first.old) (D.disk first.new) ⊎ HasCause (D.disk second.old) (D.disk second.new)) }
 {
     first.sync()?;
     second.sync()?;
-    let one = generation_in(File::First, first)?;
-    let other = generation_in(File::Second, second)?;
+    let one = look_at(File::First, first)?;
+    let other = look_at(File::Second, second)?;
     newer(one, other)
 }
 
@@ -172,9 +212,9 @@ impl<D: Device, A: Allocator + Copy> Store<D, A> {
     /// Opens the vault that two files hold, and answers its book with the store. A refusal hands the devices back. It begins
     /// with a sync of each device and writes nothing.
     ///
-    /// Of each file the head is read, and of the one of the greater generation each byte once, up to its tail gate, with three device
-    /// calls a frame. Beside the book it takes memory for the bytes of the snapshot, for the bytes and the effects of one frame at a
-    /// time, and for the frame that is filled.
+    /// Of each file the head is read, and its first byte once more; of the one of the greater generation each byte is read once, up
+    /// to its tail gate, with three device calls a frame. Beside the book it takes memory for the bytes of the snapshot, for the bytes
+    /// and the effects of one frame at a time, and for the frame that is filled.
     pub fn open(
         alloc: A,
         first: D,
@@ -191,7 +231,11 @@ impl<D: Device, A: Allocator + Copy> Store<D, A> {
     {
         let mut first = first;
         let mut second = second;
-        let Active { which, generation } = match find_active(&mut first, &mut second) {
+        let Active {
+            which,
+            generation,
+            spare_shut,
+        } = match find_active(&mut first, &mut second) {
             Ok(active) => active,
             Err(why) => return Err(Refused { why, first, second }),
         };
@@ -215,6 +259,8 @@ impl<D: Device, A: Allocator + Copy> Store<D, A> {
                     journal,
                     phase: Phase::Idle,
                     broken: false,
+                    spare_shut,
+                    rest: None,
                 };
                 Ok((store, book))
             }

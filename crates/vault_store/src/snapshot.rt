@@ -5,9 +5,12 @@ ghost use Rattle.vault_store.specs.declared.snapshot.SnapshotError.TheVariants a
 ghost use Rattle.vault_store.specs.Snapshot.{snapshot_of, HasSnapshot};
 
 mod claims;
+mod file;
 mod places;
+mod spelling;
 
 use claims::read_claims;
+pub use file::spell_file;
 use places::read_places;
 use std::alloc::{AllocError, AllocFailed, Allocator};
 use vault_checkout::{Book, FromPartsError};

@@ -43,6 +43,9 @@ pub struct Store<D: Device, A: Allocator = Global> {
     pub(crate) phase: Phase,
     /// Whether a device call failed. None is made then.
     pub(crate) broken: bool,
+    // Whether the spare file's head gate is known to be closed, and what a snapshot writes behind it.
+    pub(crate) spare_shut: bool,
+    pub(crate) rest: Option<Vec<u8, A>>,
 }
 
 impl<D: Device, A: Allocator> Model for Store<D, A> {
@@ -89,6 +92,8 @@ impl<D: Device, A: Allocator> Store<D, A> {
             journal: _,
             phase: _,
             broken: _,
+            spare_shut: _,
+            rest: _rest,
         } = self;
         in_turn(which, active, spare)
     }

@@ -1,11 +1,15 @@
+ghost use Rattle.std.specs.Prelude.{◌<◌, length};
+
 mod bodies;
 mod committing;
+mod renewing;
 mod reopening;
 
 use super::*;
 use committing::{
     filled, is_made_again, left, makes, new_store, refused_creation, settled_after, shows,
 };
+use renewing::{asks_once, first_piece, noted_between, renewed, renewed_and_committed};
 use reopening::{committed, damaged, fails_at, opens, refusals, with};
 use std::alloc::Global;
 use std::process::Abort;
@@ -207,11 +211,13 @@ fn opened_damaged(rt: HostRuntime) {
 #[test]
 fn opened_with_a_failed_call(rt: HostRuntime) {
     let alloc = rt.alloc();
-    for call in 1..=10 {
+    for call in 1..=12 {
         assert!(rt; fails_at(&rt, alloc, WITH_E, call, 0));
     }
-    assert!(rt; fails_at(&rt, alloc, WITH_E, 0, 1) && fails_at(&rt, alloc, WITH_E, 0, 2));
-    assert!(rt; !fails_at(&rt, alloc, WITH_E, 11, 3));
+    for call in 1..=3 {
+        assert!(rt; fails_at(&rt, alloc, WITH_E, 0, call));
+    }
+    assert!(rt; !fails_at(&rt, alloc, WITH_E, 13, 0) && !fails_at(&rt, alloc, WITH_E, 0, 4));
 }
 
 #[test]
@@ -224,4 +230,83 @@ fn opened_without_memory(rt: HostRuntime) {
 fn committed_in_the_second_file(rt: HostRuntime) {
     let alloc = rt.alloc();
     assert!(rt; committed(&rt, alloc, WITH_E, SECOND));
+}
+
+// What a snapshot of `/e` alone writes behind the head gate, for generation 2.
+const REST: &[u8; 40] =
+    b"LLVAULT\0\0\0\x01\0\0\0\0\0\0\0\x02\0\0\0\x10\0\0\0\0\0\0\0\x02\0\0\0\0\x01e\0\0\0";
+
+const SEVENS: &[u8; 40] = &[7; 40];
+
+// Whether so many steps of a snapshot over this spare leave these for three picks.
+fn snapshot_leaves(
+    rt: &impl Abort,
+    alloc: Global,
+    steps: u8,
+    old: (&[u8], &[u8]),
+    new: (&[u8], &[u8]),
+    sevens: (&[u8], &[u8]),
+) -> bool {
+    let files: (&[u8], &[u8]) = (WITH_E, b"");
+    renewed(rt, alloc, files, steps, Pick::Old, &[old.0, old.1])
+        && renewed(rt, alloc, files, steps, Pick::New, &[new.0, new.1])
+        && renewed(
+            rt,
+            alloc,
+            files,
+            steps,
+            Pick::Bytes(7),
+            &[sevens.0, sevens.1],
+        )
+}
+
+#[test]
+fn snapshot_stopped_between_calls(rt: HostRuntime) {
+    let none: (&[u8], &[u8]) = (b"", b"");
+    let shut: (&[u8], &[u8]) = (b"\0", b"");
+    let full: (&[u8], &[u8]) = (b"\0", REST);
+    let opened: (&[u8], &[u8]) = (b"\x01", REST);
+    assert!(rt; snapshot_leaves(&rt, rt.alloc(), 0, none, none, none));
+    assert!(rt; snapshot_leaves(&rt, rt.alloc(), 1, none, shut, (b"\x07", b"")));
+    assert!(rt; snapshot_leaves(&rt, rt.alloc(), 2, shut, shut, shut));
+    assert!(rt; snapshot_leaves(&rt, rt.alloc(), 3, shut, full, (b"\0", SEVENS)));
+    assert!(rt; snapshot_leaves(&rt, rt.alloc(), 4, full, full, full));
+    assert!(rt; snapshot_leaves(&rt, rt.alloc(), 5, full, opened, (b"\x07", REST)));
+    assert!(rt; snapshot_leaves(&rt, rt.alloc(), 6, opened, opened, opened));
+}
+
+// An older file is closed; a file that is closed over a newer header isn't written before it is settled.
+#[test]
+fn snapshot_over_another_file(rt: HostRuntime) {
+    let alloc = rt.alloc();
+    let newer = with(SECOND, 19, 3);
+    let shut = with(&newer, 0, 0);
+    let closed = with(NEW, 0, 0);
+    assert!(rt; renewed(&rt, alloc, (SECOND, NEW), 1, Pick::Old, &[NEW]));
+    assert!(rt; renewed(&rt, alloc, (SECOND, NEW), 1, Pick::New, &[&closed]));
+    assert!(rt; renewed(&rt, alloc, (SECOND, &shut), 1, Pick::Bytes(1), &[&shut]));
+    assert!(rt; renewed(&rt, alloc, (SECOND, &shut), 2, Pick::Bytes(1), &[&shut]));
+}
+
+#[test]
+fn snapshot_settled(rt: HostRuntime) {
+    assert!(rt; renewed_and_committed(&rt, rt.alloc(), WITH_E));
+}
+
+// 65,695 bytes of a snapshot with 24 before them, in pieces of 65,536; with one version less there is one piece.
+#[test]
+fn snapshot_in_pieces(rt: HostRuntime) {
+    assert!(rt; first_piece(&rt, rt.alloc(), 64) == (Phase::Writing(65_719), Phase::Writing(183)));
+    assert!(rt; first_piece(&rt, rt.alloc(), 63) == (Phase::Writing(64_693), Phase::Filled));
+}
+
+#[test]
+fn noted_in_a_snapshot(rt: HostRuntime) {
+    assert!(rt; noted_between(&rt, rt.alloc(), false) == (4, 0));
+    assert!(rt; noted_between(&rt, rt.alloc(), true) == (5, 12));
+}
+
+#[test]
+fn snapshot_without_memory(rt: HostRuntime) {
+    assert!(rt; asks_once(&rt, rt.alloc(), WITH_E));
 }

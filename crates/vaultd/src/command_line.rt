@@ -26,8 +26,9 @@ A line is '@K LINE' for a connection K of 1 to 64, and LINE is one of:
   fetch PART VERSION    shows a version of a part, from 1 on
   count PART            says how many versions a part has
   quit                  closes the session
-Empty lines and lines that begin with '#' are skipped. '!commit' commits, '!pump' makes one step of a commit, and
-'!crash old', '!crash new' or '!crash HH' stops the machine: what isn't settled is as it was, as it was written, or this byte.
+Empty lines and lines that begin with '#' are skipped. '!commit' commits, '!snapshot' begins a snapshot, '!pump' makes one
+step of a commit or of a snapshot, and '!crash old', '!crash new' or '!crash HH' stops the machine: what isn't settled is as
+it was, as it was written, or this byte.
 Example:
   printf '@1 hello anna\\n@1 make /engine\\n@1 checkout w:/engine\\n' | vaultd script
 prints

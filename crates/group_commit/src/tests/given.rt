@@ -120,8 +120,8 @@ pub fn spend<A: Allocator + Copy>(vault: &mut Vault<MemDevice, A>, answer: Redee
     }
 }
 
-// Whether the ticket gives this reply. It is spent.
-fn told<A: Allocator + Copy>(
+/// Whether the ticket gives this reply. It is spent.
+pub fn told<A: Allocator + Copy>(
     vault: &mut Vault<MemDevice, A>,
     ticket: Ticket<A>,
     reply: &ReplyIn<A>,
@@ -135,8 +135,8 @@ fn told<A: Allocator + Copy>(
     }
 }
 
-// The ticket, where its entry isn't settled yet.
-fn not_yet<A: Allocator + Copy>(
+/// The ticket, where its entry isn't settled yet.
+pub fn not_yet<A: Allocator + Copy>(
     vault: &mut Vault<MemDevice, A>,
     ticket: Ticket<A>,
 ) -> Option<Ticket<A>> {
@@ -216,8 +216,12 @@ pub fn asked(vault: &mut Vault<MemDevice>) -> bool {
     settled && answered
 }
 
-// The ticket of a session's command that makes the place at this path.
-fn staged_make(vault: &mut Vault<MemDevice>, session: u32, path: &[u8]) -> Option<Ticket<Global>> {
+/// The ticket of a session's command that makes the place at this path.
+pub fn staged_make(
+    vault: &mut Vault<MemDevice>,
+    session: u32,
+    path: &[u8],
+) -> Option<Ticket<Global>> {
     let command = make(path)?;
     staged(vault, session, command)
 }

@@ -7,7 +7,7 @@ use Rattle.group_commit.specs.View.{length_of}
 use Rattle.group_commit.specs.Seen.{Seen, state_of}
 use Rattle.group_commit.specs.Inside.{seen_of, IsKept}
 use Rattle.group_commit.specs.Promises.{MomentsStand}
-use Rattle.group_commit.proofs.Pumps.{IsPump, IsStoreStep, settled_all, settled_all_kept, settled_sealed, settled_sealed_kept, moved, moved_kept, fault, fault_kept, not_broken}
+use Rattle.group_commit.proofs.Pumps.{IsPump, IsStoreStep, rested, settled_all, settled_all_kept, settled_sealed, settled_sealed_kept, moved, moved_kept, fault, fault_kept, not_broken}
 use Rattle.group_commit.proofs.Nexts.{pump_is_next, stops_inside, pump_stops}
 use Rattle.group_commit.proofs.vault.Vault.pump.Goals as goal
 
@@ -110,6 +110,32 @@ returns-in-Err g c =
     let made : IsStoreStep disk seen.store c.advance.new.self (state_of seen.view) (Err c.in-Err.fault) = record { step = e.step (state_of seen.view) k.stands; numbers = e.numbers; calls = e.calls; rests = e.rests; moments = λ x y h i left. e.moments (state_of seen.view) x y k.stands h i left } in
     let d = subst (λ (old : Seen _). IsPump disk old (seen_of (record c.self.inside { store = c.advance.new.self; settled = c.self.inside.settled; sealed = c.sealed_next-sealed.result; broken = true })) (Err c.in-Err.fault)) c.self.view_is (fault disk seen c.self.inside.book k c.advance.new.self c.if-self.false c.sealed_next-sealed.result c.in-Err.fault made is) in
     record { broken = d.broken; answer = d.answer; pumped = d.pumped; failed = d.failed; life = d.life; still = d.still; calls = d.calls; numbers = d.numbers; moments = d.moments; next = pump_is_next d; stops = pump_stops d }
+
+pub returns-then-self-all-clause-answer : goal.returns-then-self-all-clause-answer
+returns-then-self-all-clause-answer g c =
+    let seen = seen_of c.self.inside in
+    let disk = g.D.Device.disk in
+    let k = c.self.invariant in
+    let e = c.in-Ok-Idle.ensures in
+    let made = subst (λ (a : Pumped). IsStoreStep disk seen.store c.advance.new.self (state_of seen.view) (Ok a)) c.in-Ok-Idle.field-0-is
+    (record { step = e.step (state_of seen.view) k.stands; numbers = e.numbers; calls = e.calls; rests = e.rests; moments = λ x y h i left. e.moments (state_of seen.view) x y k.stands h i left }) in
+    let all : c.len-all.result ≡ length_of seen.view = (let l = c.len-all.ensures.len in omega arith) in
+    let d = subst (λ (old : Seen _). IsPump disk old (seen_of (record c.self.inside { store = c.advance.new.self })) (Ok answers.Idle)) c.self.view_is
+    (rested disk seen c.self.inside.book k c.advance.new.self c.if-self.false made (c.if-self-all.true ∙ all)) in
+    d.answer
+
+pub returns-then-self-all-clause-pumped : goal.returns-then-self-all-clause-pumped
+returns-then-self-all-clause-pumped g c =
+    let seen = seen_of c.self.inside in
+    let disk = g.D.Device.disk in
+    let k = c.self.invariant in
+    let e = c.in-Ok-Idle.ensures in
+    let made = subst (λ (a : Pumped). IsStoreStep disk seen.store c.advance.new.self (state_of seen.view) (Ok a)) c.in-Ok-Idle.field-0-is
+    (record { step = e.step (state_of seen.view) k.stands; numbers = e.numbers; calls = e.calls; rests = e.rests; moments = λ x y h i left. e.moments (state_of seen.view) x y k.stands h i left }) in
+    let all : c.len-all.result ≡ length_of seen.view = (let l = c.len-all.ensures.len in omega arith) in
+    let d = subst (λ (old : Seen _). IsPump disk old (seen_of (record c.self.inside { store = c.advance.new.self })) (Ok answers.Idle)) c.self.view_is
+    (rested disk seen c.self.inside.book k c.advance.new.self c.if-self.false made (c.if-self-all.true ∙ all)) in
+    d.pumped
 
 pub returns-then-self-all-clause-stops : goal.returns-then-self-all-clause-stops
 returns-then-self-all-clause-stops g c = λ whole.

@@ -1,0 +1,52 @@
+-- What the start of a snapshot leaves.
+use Rattle.std.proofs.Common.{◌≡◌, inl, inr, ℕ, refl, sym, ap, ◌∙◌, subst}
+use Rattle.vault_model.specs.Vault.{Vault, IsVault, durable}
+use Rattle.vault_device.specs.Disk.{Disk}
+use Rattle.vault_store.specs.Snapshot.{HasSnapshot}
+use Rattle.vault_store.specs.Laws.{NotedIsSpelled}
+use Rattle.vault_store.specs.State.{started}
+use Rattle.vault_store.specs.Seen.{Seen as StoreSeen, Keeps, MayStart as MayStartStore, started_seen}
+use Rattle.group_commit.specs.World.{StartSnapshot}
+use Rattle.group_commit.specs.View.{View, length_of, view_acted}
+use Rattle.group_commit.specs.Seen.{Seen, snapshot_length, state_of}
+use Rattle.group_commit.specs.Calls.{MayStart}
+use Rattle.group_commit.specs.Inside.{IsKept}
+use Rattle.group_commit.specs.Pasts.{IsNext}
+use Rattle.group_commit.proofs.States.{state_started, book_well_formed}
+use Rattle.group_commit.proofs.SoundViews.{started_sound}
+
+module _ {D : Type 0} (disk : D → Disk) (seen : Seen D) (book : Vault) (k : IsKept disk seen book) where
+  pub book_is_vault : IsVault book
+  book_is_vault = subst IsVault (sym k.book_is) (book_well_formed seen.view k.sound)
+
+  pub book_is_spelled : NotedIsSpelled disk → HasSnapshot (durable book)
+  book_is_spelled law = subst (λ (v : Vault). HasSnapshot (durable v)) (sym k.book_is) (law seen.store (state_of seen.view) k.stands)
+
+  -- the store may begin one where the vault may
+  pub may_start : MayStartStore seen.store → MayStart seen
+  may_start may = record { allowed = (sym k.stands.broken ∙ may.whole, sym k.stands.phase ∙ may.idle); fits = may.fits }
+
+  pub store_may_start : MayStart seen → MayStartStore seen.store
+  store_may_start may = record { idle = k.stands.phase ∙ may.allowed.1; whole = k.stands.broken ∙ may.allowed.0; fits = may.fits }
+
+  abbrev pub after_start : StoreSeen D → ℕ → Seen D
+  after_start store sealed = record { view = record seen.view { sealed = sealed; phase = store.phase }; life = seen.life; store = store }
+
+  pub started_view : (store : StoreSeen D) (sealed : ℕ) → store ≡ started_seen seen.store (durable book) → sealed ≡ length_of seen.view
+      → (after_start store sealed).view ≡ view_acted snapshot_length seen.view StartSnapshot
+  started_view store sealed is n =
+      let p = ap (λ (s : StoreSeen D). s.phase) is in
+      λ i. record seen.view { sealed = n i; phase = p i }
+
+  pub started_kept : (store : StoreSeen D) (sealed : ℕ) → store ≡ started_seen seen.store (durable book) → sealed ≡ length_of seen.view → MayStartStore seen.store
+      → Keeps disk store (started (state_of seen.view)) → IsKept disk (after_start store sealed) book
+  started_kept store sealed is n may keeps =
+      subst (λ (v : View). IsKept disk (record { view = v; life = seen.life; store = store }) book) (sym (started_view store sealed is n))
+      (record {
+        book_is = k.book_is;
+        sound = started_sound seen.view k.sound;
+        stands = subst (Keeps disk store) (sym (state_started seen.view (sym k.stands.phase ∙ may.idle))) keeps;
+      })
+
+  pub started_next : (store : StoreSeen D) (sealed : ℕ) → store ≡ started_seen seen.store (durable book) → sealed ≡ length_of seen.view → MayStartStore seen.store → IsNext disk seen (after_start store sealed)
+  started_next store sealed is n may = inl (inr (StartSnapshot, record { allowed = (may_start may).allowed; made = started_view store sealed is n; life = refl }))

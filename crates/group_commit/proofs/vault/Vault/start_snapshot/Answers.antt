@@ -1,0 +1,34 @@
+use Rattle.std.proofs.Common.{◌≡◌, ap, sym, subst, arith}
+use Rattle.std.specs.Prelude.{Ok}
+use Rattle.vault_model.specs.Vault.{durable}
+use Rattle.group_commit.specs.View.{length_of}
+use Rattle.group_commit.specs.Seen.{Seen, state_of}
+use Rattle.group_commit.specs.Inside.{seen_of}
+use Rattle.group_commit.specs.Pasts.{IsNext}
+use Rattle.group_commit.proofs.Starts.{book_is_vault, book_is_spelled, started_kept, started_next}
+use Rattle.group_commit.proofs.vault.Vault.start_snapshot.Goals as goal
+
+pub start_snapshot-requires-clause-vault : goal.start_snapshot-requires-clause-vault
+start_snapshot-requires-clause-vault g c = book_is_vault g.D.Device.disk (seen_of c.self.inside) c.self.inside.book c.self.invariant
+
+pub start_snapshot-requires-clause-spelled : goal.start_snapshot-requires-clause-spelled
+start_snapshot-requires-clause-spelled g c = book_is_spelled g.D.Device.disk (seen_of c.self.inside) c.self.inside.book c.self.invariant c.what_is_noted_is_spelled.ensures
+
+pub invariant_of-self : goal.invariant_of-self
+invariant_of-self g c =
+    let seen = seen_of c.self.inside in
+    let k = c.self.invariant in
+    let e = c.in-Ok-Yes.ensures in
+    let yes = ap Ok c.in-Ok-Yes.field-0-is in
+    let all : c.len.result ≡ length_of seen.view = (let l = c.len.ensures.len in omega arith) in
+    started_kept g.D.Device.disk seen c.self.inside.book k c.start_snapshot.new.self c.len.result (e.yes yes) all (e.may yes)
+    (e.kept (state_of seen.view) yes k.stands (sym (ap durable k.book_is)))
+
+pub returns-in-Ok-Yes-clause-next : goal.returns-in-Ok-Yes-clause-next
+returns-in-Ok-Yes-clause-next g c =
+    let seen = seen_of c.self.inside in
+    let e = c.in-Ok-Yes.ensures in
+    let yes = ap Ok c.in-Ok-Yes.field-0-is in
+    let all : c.len.result ≡ length_of seen.view = (let l = c.len.ensures.len in omega arith) in
+    subst (λ (old : Seen _). IsNext g.D.Device.disk old (seen_of (record c.self.inside { store = c.start_snapshot.new.self; sealed = c.len.result }))) c.self.view_is
+    (started_next g.D.Device.disk seen c.self.inside.book c.self.invariant c.start_snapshot.new.self c.len.result (e.yes yes) all (e.may yes))

@@ -1,0 +1,12 @@
+use Rattle.std.proofs.Common.{◌<◌, List, length, ap, sym, subst, arith}
+use Rattle.vault_model.specs.Limits.{most_places}
+use Rattle.vault_model.specs.declared.place.Place.{Place}
+use Rattle.vault_store.proofs.Adding.{places_next}
+use Rattle.vault_store.proofs.snapshot.spelling.put_each_place.Goals as goal
+
+pub overflow_cast-number : goal.overflow_cast-number
+overflow_cast-number g c = let few = subst (λ (t : List Place). length t < most_places) (sym c.tree.ensures) c.requires.few in omega (arith, few, c.loop-number-test.true)
+
+pub loop-number-preserved : goal.loop-number-preserved
+loop-number-preserved g c =
+    places_next c.args.book.now c.loop-number.number _ _ _ (omega (arith, c.loop-number.auto.number)) (omega (arith, ap length c.tree.ensures, c.len-number-end.ensures, c.loop-number-test.true)) c.loop-number.invariant c.in_ok-put_place.ensures

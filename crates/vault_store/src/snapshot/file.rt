@@ -1,0 +1,102 @@
+//! The bytes of a snapshot's file.
+ghost use Rattle.std.specs.Prelude.{◌≡◌, ◌≤◌, ◌-◌, ◌++◌, [], ◌∷◌, IfOk, length};
+ghost use Rattle.vault_model.specs.Vault.{IsVault, durable};
+ghost use Rattle.vault_device.specs.Disk.{overwritten};
+ghost use Rattle.vault_journal.specs.Spelling.{in_four, in_eight};
+ghost use Rattle.vault_store.specs.Snapshot.{snapshot_of, HasSnapshot};
+ghost use Rattle.vault_store.specs.Files.{mark, version, behind_gate};
+ghost use Rattle.vault_store.specs.Adds.{Adds};
+
+use super::spelling::{claim_at, put, put_u32, spell_snapshot};
+use std::alloc::Allocator;
+use vault_checkout::Book;
+use vault_model::{Claim, ClaimId, DraftIn, NoMemory};
+
+// Where the snapshot's length and the snapshot stand behind the head gate.
+const LENGTH_AT: usize = 19;
+
+const SNAPSHOT_AT: usize = 23;
+
+// The most bytes that a place has beside its versions, a check-out beside its drafts, and a draft beside its content.
+const MOST_OF_PLACE: usize = 39;
+
+const MOST_OF_CLAIM: usize = 79;
+
+const MOST_OF_DRAFT: usize = 6;
+
+// What a file has behind its head gate beside its places and check-outs.
+const MOST_BESIDE: usize = 34;
+
+// The most bytes that drafts are spelled in.
+fn room_of_drafts<B: Allocator>(drafts: &[DraftIn<B>]) -> usize {
+    let mut room = 0usize;
+    for draft in drafts {
+        room = room.saturating_add(draft.content.as_slice().len().saturating_add(MOST_OF_DRAFT));
+    }
+    room
+}
+
+// The most bytes that a claim and its drafts are spelled in.
+fn room_of_claim<B: Allocator + Copy>(book: &Book<B>, claim: &Claim) -> usize {
+    match claim.id {
+        ClaimId::Long(number) => {
+            room_of_drafts(book.drafts(number)).saturating_add(MOST_OF_CLAIM)
+        }
+        ClaimId::Short(_) => 0,
+    }
+}
+
+// The most bytes that claims and their drafts are spelled in.
+fn room_of_claims<B: Allocator + Copy>(book: &Book<B>) -> usize {
+    let mut room = 0usize;
+    for position in 0..book.line().len() {
+        room = room.saturating_add(room_of_claim(book, claim_at(book, position)));
+    }
+    room
+}
+
+// The most bytes that stand behind the head gate.
+fn room_of<B: Allocator + Copy>(book: &Book<B>) -> usize {
+    let places = book.tree().len().saturating_mul(MOST_OF_PLACE);
+    places
+        .saturating_add(book.shelf().weight())
+        .saturating_add(room_of_claims(book))
+        .saturating_add(MOST_BESIDE)
+}
+
+// Adds what stands before the snapshot, with a length of 0.
+fn put_front<A: Allocator>(out: &mut Vec<u8, A>, generation: u64) -> Result<(), NoMemory>
+    ensures { Adds out.old.items out.new.items (mark ++ in_four version ++ in_eight generation ++ in_four 0) result }
+{
+    put(out, b"LLVAULT")?;
+    put_u32(out, 1)?;
+    put(out, &generation.to_be_bytes())?;
+    put_u32(out, 0)
+}
+
+// Writes the length of what stands behind it.
+fn put_length<A: Allocator>(bytes: &mut Vec<u8, A>, count: u32)
+    requires { 23 ≤ length bytes.old.items }
+    ensures { bytes.new.items ≡ overwritten bytes.old.items 19 (in_four count) }
+{
+    let _ = vault_journal::put_u32(bytes.as_mut_slice(), LENGTH_AT, count);
+}
+
+/// What a snapshot writes behind the head gate of a file of this generation.
+pub fn spell_file<A: Allocator, B: Allocator + Copy>(
+    alloc: A,
+    generation: u64,
+    book: &Book<B>,
+) -> Result<Vec<u8, A>, NoMemory>
+    requires vault { IsVault book.now }
+    requires spelled { HasSnapshot (durable book.now) }
+    ensures { IfOk result (λ bytes. bytes.items ≡ behind_gate generation (durable book.now)) }
+{
+    let mut bytes = Vec::with_capacity(alloc, room_of(book))?;
+    put_front(&mut bytes, generation)?;
+    spell_snapshot(&mut bytes, book)?;
+    let count = bytes.len() - SNAPSHOT_AT;
+    put_length(&mut bytes, count as u32);
+    put(&mut bytes, &[0])?;
+    Ok(bytes)
+}

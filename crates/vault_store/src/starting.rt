@@ -1,0 +1,60 @@
+//! The first call of a snapshot.
+ghost use Rattle.std.specs.Prelude.{◌≡◌, Ok, OnErr};
+ghost use Rattle.vault_model.specs.Vault.{IsVault, durable};
+ghost use Rattle.vault_store.specs.declared.starting.Started.TheVariants as answers;
+ghost use Rattle.vault_store.specs.Snapshot.{HasSnapshot};
+ghost use Rattle.vault_store.specs.State.{StoreState, started};
+ghost use Rattle.vault_store.specs.Seen.{Keeps, MayStart, started_seen, wants_snapshot};
+
+use crate::snapshot::spell_file;
+use crate::{Phase, Store};
+use std::alloc::Allocator;
+use vault_checkout::Book;
+use vault_device::Device;
+use vault_model::NoMemory;
+
+// From how many bytes of frames on a snapshot is wanted.
+const LONG_JOURNAL: u64 = 1_048_576;
+
+/// Whether a snapshot was begun.
+#[derive(Clone, Copy, Debug, PartialEq, Eq)]
+pub enum Started {
+    Yes,
+    /// Something is under way, a device call failed, or there is no next generation.
+    NotNow,
+}
+
+impl<D: Device, A: Allocator> Store<D, A> {
+    /// Whether so many bytes of frames stand in the active file that a snapshot is wanted, and nothing is under way.
+    pub fn wants_snapshot(&self) -> bool
+        ensures { result ≡ wants_snapshot self.now }
+    {
+        self.phase == Phase::Idle && self.journal >= LONG_JOURNAL
+    }
+
+    /// Begins a snapshot of what a restart would leave of this book, which has made all that was noted. No device call. It takes
+    /// memory for all bytes of the snapshot's file at once, about as many as the book's contents and names have.
+    pub fn start_snapshot<B: Allocator + Copy>(
+        &mut self,
+        alloc: A,
+        book: &Book<B>,
+    ) -> Result<Started, NoMemory>
+        requires vault { IsVault book.now }
+        requires spelled { HasSnapshot (durable book.now) }
+        ensures may { result ≡ Ok answers.Yes → MayStart self.old }
+        ensures yes { result ≡ Ok answers.Yes → self.new ≡ started_seen self.old (durable book.now) }
+        ensures kept { (s : StoreState) → result ≡ Ok answers.Yes → Keeps D.disk self.old s → s.noted ≡ durable book.now → Keeps D.disk self.new (started s) }
+        ensures may_not { result ≡ Ok answers.NotNow → MayStart self.old → ⊥ }
+        ensures not_now { result ≡ Ok answers.NotNow → self.new ≡ self.old }
+        ensures refused { OnErr result (self.new ≡ self.old) }
+    {
+        if self.broken || self.phase != Phase::Idle || self.generation == u64::MAX {
+            return Ok(Started::NotNow);
+        }
+        let rest = spell_file(alloc, self.generation + 1, book)?;
+        self.rest = Some(rest);
+        self.frame.clear();
+        self.phase = Phase::Start;
+        Ok(Started::Yes)
+    }
+}
