@@ -11,9 +11,11 @@ count_of drafts place = count_by (λ (draft : Draft). draft.place == place) draf
 -- what the shelf weighs with the drafts, where their contents are short and the weight isn't too much
 abbrev pub weight_with : ℕ → List Draft → Option ℕ
 weight_with weight drafts =
-    if list_all (λ (draft : Draft). nat_le (length draft.content) longest_content) drafts && nat_le (weight + drafts_weight drafts) most_weight then Some (weight + drafts_weight drafts)
+    if list_all (λ (draft : Draft). nat_le (length draft.content) longest_content) drafts
+    && nat_le (weight + drafts_weight drafts) most_weight then Some (weight + drafts_weight drafts)
     else None
 
 -- whether each draft's place has room for all drafts of that place
 abbrev pub have_room : List (List (List ℕ)) → List Draft → Bool
-have_room shelf drafts = list_all (λ (draft : Draft). nat_le (length (versions_of shelf draft.place) + count_of drafts draft.place) most_versions) drafts
+have_room shelf drafts =
+    list_all (λ (draft : Draft). nat_le (length (versions_of shelf draft.place) + count_of drafts draft.place) most_versions) drafts

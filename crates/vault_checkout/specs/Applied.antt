@@ -16,4 +16,5 @@ Applies old (Err NoMemory) new next = IsSome next × (new ≡ old)
 
 -- the long claim of this number, if it is held
 abbrev pub held_at : Vault → ℕ → Option Claim
-held_at w number = option_and_then (λ (claim : Claim). if is_held w.tree w.line claim then Some claim else None) (claim_of w.line (Long number))
+held_at w number =
+    option_and_then (λ (claim : Claim). if is_held w.tree w.line claim then Some claim else None) (claim_of w.line (Long number))

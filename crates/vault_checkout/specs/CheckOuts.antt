@@ -15,7 +15,8 @@ IsRising (x ∷ drafts) = AllByRecursion (λ (y : Draft). nat_lt x.place y.place
 
 -- the drafts of a check-out with this one, which stands in for one of the same place
 abbrev pub with_own : List Draft → Draft → List Draft
-with_own drafts new = filter (λ (x : Draft). nat_lt x.place new.place) drafts ++ new ∷ filter (λ (x : Draft). nat_lt new.place x.place) drafts
+with_own drafts new =
+    filter (λ (x : Draft). nat_lt x.place new.place) drafts ++ new ∷ filter (λ (x : Draft). nat_lt new.place x.place) drafts
 
 -- the drafts of other places
 abbrev pub beside : List Draft → ℕ → List Draft

@@ -34,7 +34,13 @@ pub record Parts : Type 0 where
 
 -- the parts of a vault
 abbrev pub parts_of : Vault → Parts
-parts_of v = record { tree = v.tree; shelf = v.shelf; last_long = v.last_long; claims = v.line; drafts = map (λ (c : Claim). drafts_under v.drafts c.id) v.line }
+parts_of v = record {
+  tree = v.tree;
+  shelf = v.shelf;
+  last_long = v.last_long;
+  claims = v.line;
+  drafts = map (λ (c : Claim). drafts_under v.drafts c.id) v.line;
+}
 
 -- a well-formed durable vault of these parts
 pub record IsVaultOf (parts : Parts) (v : Vault) : Type 0 where
@@ -78,7 +84,8 @@ abbrev pub EachMayHave : List Place → List Claim → List Claim → List (List
 EachMayHave tree before [] [] = Unit {0}
 EachMayHave tree before [] (own ∷ drafts) = ⊥
 EachMayHave tree before (claim ∷ claims) [] = ⊥
-EachMayHave tree before (claim ∷ claims) (own ∷ drafts) = MayHave tree before claim.items own × EachMayHave tree (before ++ claim ∷ []) claims drafts
+EachMayHave tree before (claim ∷ claims) (own ∷ drafts) =
+    MayHave tree before claim.items own × EachMayHave tree (before ++ claim ∷ []) claims drafts
 
 -- what a vault of these claims and drafts keeps, beside that the claims are a line
 pub record AreFit (tree : List Place) (shelf : List (List (List ℕ))) (claims : List Claim) (drafts : List (List Draft)) : Type 0 where

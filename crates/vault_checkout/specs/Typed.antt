@@ -51,7 +51,8 @@ saving draft (Held c) = Held (record { number = c.number; state = with_own c.sta
 
 abbrev pub with_saved : {A : Type 0} → List (AnyCheckOut A) → ℕ → Draft → List (AnyCheckOut A)
 with_saved [] number draft = []
-with_saved (c ∷ check_outs) number draft = if number_of c == number then saving draft c ∷ check_outs else c ∷ with_saved check_outs number draft
+with_saved (c ∷ check_outs) number draft =
+    if number_of c == number then saving draft c ∷ check_outs else c ∷ with_saved check_outs number draft
 
 -- whether the check-out of this number is there and typed as held
 abbrev pub is_open : {A : Type 0} → List (AnyCheckOut A) → ℕ → Bool

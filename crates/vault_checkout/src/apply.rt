@@ -79,7 +79,8 @@ pub(crate) fn may_change<A: Allocator>(tree: &Tree<A>, items: &Items, place: Pla
 /// Whether a check-out may be asked for: it has the next number, its places are there, and there is
 /// room.
 fn may_ask<A: Allocator>(tree: &Tree<A>, line: &Line<A>, number: u32, items: &Items) -> bool
-    ensures { result ≡ may_ask (record new_vault { tree = tree.now; line = line.now.claims; last_long = line.now.last_long }) number items.now }
+    ensures { result ≡ may_ask
+        (record new_vault { tree = tree.now; line = line.now.claims; last_long = line.now.last_long }) number items.now }
 {
     number > 0
         && number - 1 == line.last_long()

@@ -27,8 +27,7 @@ use vault_model::{
     ReplyIn, Session, Standing,
 };
 
-/// A vault: its tree, the shelf of versions, the line of claims, the check-outs with their drafts, and
-/// the sessions.
+/// A vault: its tree, the shelf of versions, the line of claims, the check-outs with their drafts, and the sessions.
 #[derive(Drop)]
 pub struct Book<A: Allocator = Global> {
     /// The places.
@@ -158,8 +157,7 @@ impl<A: Allocator + Copy> Book<A> {
         &self.shelf
     }
 
-    /// The drafts of the check-out of this number, by rising place; none where it has none, or is
-    /// not there.
+    /// The drafts of the check-out of this number, by rising place; none where it has none, or is not there.
     pub fn drafts(&self, number: u32) -> &[DraftIn<A>]
         ensures { result.now ≡ drafts_of self.now.drafts number }
     {
@@ -469,9 +467,8 @@ impl<A: Allocator + Copy> Book<A> {
 
     /// Does a session's command, or refuses it, and counts it. Session 0 is the door.
     ///
-    /// The work never grows with the number of places. With c claims standing, items up to i a
-    /// claim, and d the depth of the tree, a check-out and a question for a standing take c i² d
-    /// steps at most, making a place c² i² d; the others take c steps.
+    /// The work never grows with the number of places. A check-out and a hold look at the queues of the places in their own lock
+    /// set alone, an extension at those of all queued claims; a claim is found by its number in one walk over the line.
     #[tactic(auto, unfolding(vault_model::specs::Step::step))]
     pub fn act<B: Allocator>(
         &mut self,

@@ -103,7 +103,8 @@ impl<A: Allocator + Copy> Book<A> {
         requires few { length items ≤ most_items }
         requires there { AreThere self.old.tree items }
         ensures answer { IfOk result (λ extension. extension ≡ extension_by (in_way_of self.old.tree self.old.line id items)) }
-        ensures moved { OnOk result (self.new ≡ record self.old { line = extended_by (in_way_of self.old.tree self.old.line id items) self.old.line id items }) }
+        ensures moved { OnOk result
+            (self.new ≡ record self.old { line = extended_by (in_way_of self.old.tree self.old.line id items) self.old.line id items }) }
         ensures memory { OnErr result (in_way_of self.old.tree self.old.line id items ≡ None) }
         ensures unchanged { OnErr result (self.new ≡ self.old) }
     {
@@ -137,7 +138,8 @@ impl<A: Allocator + Copy> Book<A> {
         requires drafts { All (IsDraft self.now.tree self.now.line) (marked (number_of check_out.now) (own_drafts check_out.now)) }
         requires found { is_some (claim_of self.now.line (Long number)) ≡ true }
         requires there { AreThere self.now.tree items.now }
-        ensures { result ≡ drafts_held self.now.tree (put_first self.now.line (Long number) items.now) (marked (number_of check_out.now) (own_drafts check_out.now)) }
+        ensures { result ≡ drafts_held self.now.tree (put_first self.now.line (Long number) items.now)
+            (marked (number_of check_out.now) (own_drafts check_out.now)) }
     {
         self.see_whole();
         if check_out.drafts().is_empty() {

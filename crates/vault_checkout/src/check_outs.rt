@@ -199,7 +199,8 @@ pub(crate) fn put_last<A: Allocator + Copy>(
     standing: Standing,
 )
     requires { vec_len check_outs.old < vec_capacity check_outs.old }
-    ensures { check_outs.new.items ≡ check_outs.old.items ++ granted_if (is_held_standing (Some standing)) (typed.Waiting (record { number = number; state = tt })) ∷ [] }
+    ensures { check_outs.new.items ≡ check_outs.old.items
+        ++ granted_if (is_held_standing (Some standing)) (typed.Waiting (record { number = number; state = tt })) ∷ [] }
 {
     let check_out = AnyCheckOut::asked(*check_outs.allocator(), number, standing);
     check_outs.push(check_out).unwrap();

@@ -94,9 +94,13 @@ impl<A: Allocator + Copy> Book<A> {
         claims: Vec<Claim, A>,
         drafts: Vec<Drafts<A>, A>,
     ) -> Result<Book<A>, FromPartsError>
-        ensures made { IfOk result (IsVaultOf (record { tree = tree; shelf = shelf; last_long = last_long; claims = claims.items; drafts = drafts.items })) }
-        ensures only { (v : Vault) → IsVaultOf (record { tree = tree; shelf = shelf; last_long = last_long; claims = claims.items; drafts = drafts.items }) v → IfOk result (λ book. book ≡ v) }
-        ensures refused { IfErr result (IsRefusalOf (record { tree = tree; shelf = shelf; last_long = last_long; claims = claims.items; drafts = drafts.items })) }
+        ensures made { IfOk result
+            (IsVaultOf (record { tree = tree; shelf = shelf; last_long = last_long; claims = claims.items; drafts = drafts.items })) }
+        ensures only { (v : Vault)
+            → IsVaultOf (record { tree = tree; shelf = shelf; last_long = last_long; claims = claims.items; drafts = drafts.items }) v
+            → IfOk result (λ book. book ≡ v) }
+        ensures refused { IfErr result
+            (IsRefusalOf (record { tree = tree; shelf = shelf; last_long = last_long; claims = claims.items; drafts = drafts.items })) }
     {
         if !are_fit(&tree, &shelf, &claims, &drafts) {
             return Err(FromPartsError::NotWellFormed);

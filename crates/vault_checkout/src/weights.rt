@@ -69,7 +69,8 @@ pub(crate) fn may_save<A: Allocator>(
     requires ascending { IsAscending check_outs.now }
     requires held { is_open check_outs.now number ≡ true }
     requires light { weight shelf.now + saved_weight (saved check_outs.now) ≤ most_weight }
-    ensures { result ≡ may_save (record new_vault { shelf = shelf.now; drafts = saved check_outs.now }) (new_draft number place content.now) }
+    ensures { result ≡ may_save (record new_vault { shelf = shelf.now; drafts = saved check_outs.now })
+        (new_draft number place content.now) }
 {
     if content.len() > LONGEST_CONTENT {
         return false;

@@ -25,18 +25,21 @@ torn_whole at bytes old = record {
   no_shorter = omega (arith, long, length-take at old, length-drop (at + length bytes) old);
   no_longer = omega (arith, long, length-take at old, length-drop (at + length bytes) old);
   before = λ i within below.
-      get_or_append_left (take at old ++ bytes) (drop (at + length bytes) old) 0 i (omega (arith, length-append (take at old) bytes, length-take at old))
+      get_or_append_left (take at old ++ bytes) (drop (at + length bytes) old) 0 i
+      (omega (arith, length-append (take at old) bytes, length-take at old))
       ∙ get_or_append_left (take at old) bytes 0 i (omega (arith, length-take at old))
       ∙ get_or-take at old i 0 below;
   behind = λ i within above.
       let back : at + length bytes + (i - (at + length bytes)) ≡ i = omega arith in
-      get_or-append_right (take at old ++ bytes) (drop (at + length bytes) old) (at + length bytes) i 0 (omega (arith, length-append (take at old) bytes, length-take at old)) above
+      get_or-append_right (take at old ++ bytes) (drop (at + length bytes) old) (at + length bytes) i 0
+          (omega (arith, length-append (take at old) bytes, length-take at old)) above
       ∙ get_or-drop (at + length bytes) old (i - (at + length bytes)) 0
       ∙ ap (λ (k : ℕ). get_or old k 0) back;
 }
   where
     long : length (overwritten old at bytes) ≡ length (take at old) + length bytes + length (drop (at + length bytes) old)
-    long = length-append (take at old ++ bytes) (drop (at + length bytes) old) ∙ ap (λ (k : ℕ). k + length (drop (at + length bytes) old)) (length-append (take at old) bytes)
+    long = length-append (take at old ++ bytes) (drop (at + length bytes) old)
+        ∙ ap (λ (k : ℕ). k + length (drop (at + length bytes) old)) (length-append (take at old) bytes)
 
 pub image_shown : (events : List Event) → IsImageOf events (content_of events).shown
 image_shown [] = refl

@@ -8,7 +8,8 @@ use Rattle.vault_device.specs.Memory.{Event, content_of, picked}
 abbrev pub FilledOrSettled : Type 0
 FilledOrSettled = (events : List Event) (b i : ℕ)
     → (slice_index ((content_of events).filled b) i ≡ b)
-    ⊎ ((slice_index ((content_of events).filled b) i ≡ slice_index (content_of events).settled i) × (slice_index (content_of events).shown i ≡ slice_index (content_of events).settled i))
+    ⊎ ((slice_index ((content_of events).filled b) i ≡ slice_index (content_of events).settled i)
+    × (slice_index (content_of events).shown i ≡ slice_index (content_of events).settled i))
 
 -- a crash with this pick makes a 1 of a byte that was written as 1 and isn't settled
 abbrev pub gives_one : Pick → Bool

@@ -24,7 +24,8 @@ pub trait Device {
         requires { IsTrue (disk self.old).honest → at + length buffer.old ≤ length (disk self.old).shown }
         ensures one_call { IsOneCall (disk self.old) (disk self.new) result }
         ensures kept { IsTrue (disk self.old).honest → IsRead (disk self.old) (disk self.new) }
-        ensures bytes { IsTrue (disk self.old).honest → OnOk result (buffer.new ≡ slice_range (disk self.old).shown at (at + length buffer.old)) };
+        ensures bytes { IsTrue (disk self.old).honest
+            → OnOk result (buffer.new ≡ slice_range (disk self.old).shown at (at + length buffer.old)) };
 
     /// Writes over what stands there, and past the end. Until a sync a crash may leave any bytes in that range.
     fn write_at(&mut self, at: u64, bytes: &[u8]) -> Result<(), Fault>

@@ -29,7 +29,8 @@ fn read_all<F: RawFile>(file: &mut F, at: u64, buffer: &mut [u8]) -> Result<(), 
     requires { IsTrue (F.bytes file.old).honest → at + length buffer.old ≤ length (F.bytes file.old).shown }
     ensures honesty { (F.bytes file.new).honest ≡ (F.bytes file.old).honest }
     ensures kept { IsTrue (F.bytes file.old).honest → IsRead (F.bytes file.old) (F.bytes file.new) }
-    ensures bytes { IsTrue (F.bytes file.old).honest → OnOk result (buffer.new ≡ slice_range (F.bytes file.old).shown at (at + length buffer.old)) }
+    ensures bytes { IsTrue (F.bytes file.old).honest
+        → OnOk result (buffer.new ≡ slice_range (F.bytes file.old).shown at (at + length buffer.old)) }
 {
     let mut done = 0;
     'parts: for _ in 0..u64::MAX {

@@ -27,7 +27,8 @@ pub trait RawFile {
         ensures honesty { (bytes self.new).honest ≡ (bytes self.old).honest }
         ensures bound { IfOk result (λ moved. unwrap_or moved 0 ≤ length buffer.old) }
         ensures kept { IsTrue (bytes self.old).honest → IsRead (bytes self.old) (bytes self.new) }
-        ensures bytes { IsTrue (bytes self.old).honest → IfOk result (λ moved. take (unwrap_or moved 0) buffer.new ≡ slice_range (bytes self.old).shown at (at + unwrap_or moved 0)) };
+        ensures bytes { IsTrue (bytes self.old).honest
+            → IfOk result (λ moved. take (unwrap_or moved 0) buffer.new ≡ slice_range (bytes self.old).shown at (at + unwrap_or moved 0)) };
 
     /// Writes some bytes of the front, and says how many; `None` where a signal came first.
     fn write_some(&mut self, at: u64, text: &[u8]) -> Result<Option<usize>, Fault>

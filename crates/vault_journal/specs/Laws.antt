@@ -38,7 +38,8 @@ RecordsAreShort = (effect : Effect) → HasRecord effect → length (record_of e
 
 -- where two records stand at the front of the same bytes, they are of one effect, and the same stands behind them
 abbrev pub OneRecordAtTheFront : Type 0
-OneRecordAtTheFront = (e f : Effect) (behind_e behind_f : List ℕ) → HasRecord e → HasRecord f → record_of e ++ behind_e ≡ record_of f ++ behind_f → (e ≡ f) × (behind_e ≡ behind_f)
+OneRecordAtTheFront = (e f : Effect) (behind_e behind_f : List ℕ) → HasRecord e → HasRecord f
+    → record_of e ++ behind_e ≡ record_of f ++ behind_f → (e ≡ f) × (behind_e ≡ behind_f)
 
 -- bytes are the records of at most one list of effects
 abbrev pub OneRow : Type 0

@@ -17,11 +17,14 @@ pub fn write_body<D: Device, A: Allocator>(
     requires end { gate + 1 + frame_room < 2 ^ 63 }
     requires closed { IsTrue (D.disk device.old).honest → StaysClosed gate (D.disk device.old) }
     ensures one_call { IsOneCall (D.disk device.old) (D.disk device.new) result }
-    ensures write { IsTrue (D.disk device.old).honest → IsWrite (gate + 1) (body_of frame.now) result (D.disk device.old) (D.disk device.new) }
+    ensures write { IsTrue (D.disk device.old).honest
+        → IsWrite (gate + 1) (body_of frame.now) result (D.disk device.old) (D.disk device.new) }
 
     // At each moment and at the end a crash leaves the gate closed, and before it what a crash left there before.
-    ensures moments { IsTrue (D.disk device.old).honest → LeavesSince (D.disk device.old) (D.disk device.new) (IsBehind gate (D.disk device.old)) }
-    ensures images { IsTrue (D.disk device.old).honest → (x : List ℕ) → (D.disk device.new).IsImage x → IsBehind gate (D.disk device.old) x }
+    ensures moments { IsTrue (D.disk device.old).honest
+        → LeavesSince (D.disk device.old) (D.disk device.new) (IsBehind gate (D.disk device.old)) }
+    ensures images { IsTrue (D.disk device.old).honest → (x : List ℕ) → (D.disk device.new).IsImage x
+        → IsBehind gate (D.disk device.old) x }
 {
     device.write_at(gate + 1, frame.body())
 }

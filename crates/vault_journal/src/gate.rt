@@ -12,12 +12,16 @@ pub fn open_gate<D: Device>(device: &mut D, gate: u64) -> Result<(), Fault>
     requires settled { IsTrue (D.disk device.old).honest → LeavesOnly (D.disk device.old) (D.disk device.old).shown }
     ensures one_call { IsOneCall (D.disk device.old) (D.disk device.new) result }
     ensures write { IsTrue (D.disk device.old).honest → IsWrite gate (1 ∷ []) result (D.disk device.old) (D.disk device.new) }
-    ensures opened { IsTrue (D.disk device.old).honest → OnOk result ((D.disk device.new).shown ≡ slice_set (D.disk device.old).shown gate 1) }
+    ensures opened { IsTrue (D.disk device.old).honest
+        → OnOk result ((D.disk device.new).shown ≡ slice_set (D.disk device.old).shown gate 1) }
 
     // At each moment and at the end a crash leaves the settled bytes, but for the gate, which is open or closed.
-    ensures moments { IsTrue (D.disk device.old).honest → LeavesSince (D.disk device.old) (D.disk device.new) (IsOpening gate (D.disk device.old).shown) }
-    ensures images { IsTrue (D.disk device.old).honest → (x : List ℕ) → (D.disk device.new).IsImage x → IsOpening gate (D.disk device.old).shown x }
-    ensures read { IsTrue (D.disk device.old).honest → (x : List ℕ) → (D.disk device.new).IsImage x → SameBut gate (D.disk device.new).shown x }
+    ensures moments { IsTrue (D.disk device.old).honest
+        → LeavesSince (D.disk device.old) (D.disk device.new) (IsOpening gate (D.disk device.old).shown) }
+    ensures images { IsTrue (D.disk device.old).honest → (x : List ℕ) → (D.disk device.new).IsImage x
+        → IsOpening gate (D.disk device.old).shown x }
+    ensures read { IsTrue (D.disk device.old).honest → (x : List ℕ) → (D.disk device.new).IsImage x
+        → SameBut gate (D.disk device.new).shown x }
 {
     device.write_at(gate, &[1])
 }

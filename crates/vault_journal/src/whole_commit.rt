@@ -15,8 +15,11 @@ pub fn commit<D: Device, A: Allocator>(
 ) -> Result<(), Fault>
     requires end { gate + 1 + frame_room < 2 ^ 63 }
     requires closed { IsTrue (D.disk device.old).honest → StaysClosed gate (D.disk device.old) }
-    ensures moments { IsTrue (D.disk device.old).honest → LeavesSince (D.disk device.old) (D.disk device.new) (IsCommitting gate (body_of frame.now) (D.disk device.old)) }
-    ensures done { IsTrue (D.disk device.old).honest → OnOk result (LeavesOnly (D.disk device.new) (slice_set (overwritten (D.disk device.old).shown (gate + 1) (body_of frame.now)) gate 1)) }
+    ensures moments { IsTrue (D.disk device.old).honest
+        → LeavesSince (D.disk device.old) (D.disk device.new) (IsCommitting gate (body_of frame.now) (D.disk device.old)) }
+    ensures done { IsTrue (D.disk device.old).honest
+        → OnOk result (LeavesOnly (D.disk device.new)
+        (slice_set (overwritten (D.disk device.old).shown (gate + 1) (body_of frame.now)) gate 1)) }
     ensures cause { IsErr result → ((D.disk device.old).faults < (D.disk device.new).faults) ⊎ ((D.disk device.new).faults ≡ last_count) }
 {
     write_body(device, gate, frame)?;

@@ -28,13 +28,15 @@ are_there tree items = list_all (λ (item : Item). nat_le item.place (length tre
 
 -- a place may be made: its parent is there and no part, has no child of the name, and there is room
 abbrev pub may_make : Vault → ℕ → List ℕ → Bool
-may_make w parent name = nat_le parent (length w.tree) && not (is_part w.tree parent) && not (is_some (child w.tree parent name)) && not (is_full w.tree parent)
+may_make w parent name =
+    nat_le parent (length w.tree) && not (is_part w.tree parent) && not (is_some (child w.tree parent name)) && not (is_full w.tree parent)
 
 -- a check-out may be asked for: it has the next number, 1 to the most items at places that are there, there is room, and its number is one
 -- that may be given
 abbrev pub may_ask : Vault → ℕ → List Item → Bool
 may_ask w number items =
-    (number == w.last_long + 1) && not (length items == 0) && nat_le (length items) most_items && are_there w.tree items && nat_lt (length w.line) most_claims
+    (number == w.last_long + 1) && not (length items == 0) && nat_le (length items) most_items && are_there w.tree items
+    && nat_lt (length w.line) most_claims
     && nat_le number last_number
 
 -- a claim may be extended: it is held, has no more than the most items with these, and their places are there
@@ -43,7 +45,8 @@ may_extend w claim items = is_held w.tree w.line claim && nat_le (length claim.i
 
 -- every draft's check-out is held
 abbrev pub drafts_held : List Place → List Claim → List SavedDraft → Bool
-drafts_held tree line drafts = list_all (λ (x : SavedDraft). option_map_or (λ c. is_held tree line c) (claim_of line (Long x.claim)) false) drafts
+drafts_held tree line drafts =
+    list_all (λ (x : SavedDraft). option_map_or (λ c. is_held tree line c) (claim_of line (Long x.claim)) false) drafts
 
 unfoldable pub after_made : Vault → ℕ → List ℕ → Option Vault
 after_made w parent name = only_if (may_make w parent name) (with_place w parent name)
@@ -57,7 +60,9 @@ after_asked w number designer items =
 unfoldable pub after_extended : Vault → ℕ → List Item → Option Vault
 after_extended w number items =
     option_and_then
-    (λ (claim : Claim). only_if (may_extend w claim items && drafts_held w.tree (put_first w.line (Long number) (claim.items ++ items)) w.drafts) (with_items w (Long number) (claim.items ++ items)))
+    (λ (claim : Claim). only_if
+        (may_extend w claim items && drafts_held w.tree (put_first w.line (Long number) (claim.items ++ items)) w.drafts)
+        (with_items w (Long number) (claim.items ++ items)))
     (claim_of w.line (Long number))
 
 -- a draft may be saved: the claim is held, the place is a part of its change set, and the limits hold
@@ -66,7 +71,8 @@ after_saved w number place content =
     option_and_then
     (λ (claim : Claim).
     only_if
-    (is_held w.tree w.line claim && nat_le place (length w.tree) && is_part w.tree place && change_set w.tree claim.items place && may_save w (new_draft number place content))
+    (is_held w.tree w.line claim && nat_le place (length w.tree) && is_part w.tree place && change_set w.tree claim.items place
+        && may_save w (new_draft number place content))
     (with_content w number place content))
     (claim_of w.line (Long number))
 

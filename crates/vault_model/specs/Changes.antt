@@ -12,11 +12,15 @@ use Rattle.vault_model.specs.Vault.{Vault}
 
 -- a session joined
 abbrev pub with_session : Vault → List ℕ → Vault
-with_session v name = record v { sessions = v.sessions ++ record { number = v.last_session + 1; name = name; count = 0 } ∷ []; last_session = v.last_session + 1 }
+with_session v name = record v {
+  sessions = v.sessions ++ record { number = v.last_session + 1; name = name; count = 0 } ∷ [];
+  last_session = v.last_session + 1;
+}
 
 -- a session left, and its holds went with it
 abbrev pub gone : Vault → ℕ → Vault
-gone v session = record v { line = without_session session v.line; sessions = filter (λ (s : Session). not (s.number == session)) v.sessions }
+gone v session =
+    record v { line = without_session session v.line; sessions = filter (λ (s : Session). not (s.number == session)) v.sessions }
 
 -- a place was made
 abbrev pub with_place : Vault → ℕ → List ℕ → Vault
@@ -40,7 +44,11 @@ with_content v number place content = record v { drafts = with_draft v.drafts (n
 
 -- a check-out's drafts became versions, and it went
 abbrev pub with_versions : Vault → ℕ → Vault
-with_versions v number = record v { shelf = shelved_all v.shelf (drafts_of v.drafts number); line = without v.line (Long number); drafts = without_drafts v.drafts number }
+with_versions v number = record v {
+  shelf = shelved_all v.shelf (drafts_of v.drafts number);
+  line = without v.line (Long number);
+  drafts = without_drafts v.drafts number;
+}
 
 -- a check-out went, and its drafts with it
 abbrev pub without_check_out : Vault → ℕ → Vault

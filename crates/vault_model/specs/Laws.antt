@@ -34,7 +34,8 @@ UnderIsByParents = (tree : List Place) (p q : ℕ) → IsTree tree
 abbrev pub OverlapIsAMeeting : Type 0
 OverlapIsAMeeting = (tree : List Place) (c d : List Item)
     → (overlap tree c d ≡ true)
-    ↔ ((p : ℕ) × (p ≤ length tree) × (((change_set tree c p ≡ true) × (look_set tree d p ≡ true)) ⊎ ((change_set tree d p ≡ true) × (look_set tree c p ≡ true))))
+    ↔ ((p : ℕ) × (p ≤ length tree)
+    × (((change_set tree c p ≡ true) × (look_set tree d p ≡ true)) ⊎ ((change_set tree d p ≡ true) × (look_set tree c p ≡ true))))
 
 -- overlap goes both ways
 abbrev pub OverlapIsSymmetric : Type 0
@@ -42,7 +43,8 @@ OverlapIsSymmetric = (tree : List Place) (c d : List Item) → overlap tree c d 
 
 -- the new vault is well formed, and a well-formed vault stays so under each step and at a restart
 abbrev pub WellFormedStays : Type 0
-WellFormedStays = IsVault new_vault × ((v : Vault) (n : ℕ) (command : Command) → IsVault v → IsVault (step v n command).vault) × ((v : Vault) → IsVault v → IsVault (durable v))
+WellFormedStays = IsVault new_vault × ((v : Vault) (n : ℕ) (command : Command) → IsVault v → IsVault (step v n command).vault)
+    × ((v : Vault) → IsVault v → IsVault (durable v))
 
 -- a step raises each command count by at most one
 abbrev pub CountsRise : Type 0
@@ -51,21 +53,25 @@ CountsRise = (bound : ℕ) (v : Vault) (n : ℕ) (command : Command) → CountsB
 -- a claim that is held, and still stands after a step, is held there
 abbrev pub HeldStays : Type 0
 HeldStays = (v : Vault) (n : ℕ) (command : Command) (id : ClaimId) → IsVault v → standing_of v.tree v.line id ≡ Some Held
-    → is_some (claim_of (step v n command).vault.line id) ≡ true → standing_of (step v n command).vault.tree (step v n command).vault.line id ≡ Some Held
+    → is_some (claim_of (step v n command).vault.line id) ≡ true
+    → standing_of (step v n command).vault.tree (step v n command).vault.line id ≡ Some Held
 
 -- a long claim that is held is held in the durable vault
 abbrev pub HeldIsDurable : Type 0
-HeldIsDurable = (v : Vault) (n : ℕ) → IsVault v → standing_of v.tree v.line (Long n) ≡ Some Held → standing_of (durable v).tree (durable v).line (Long n) ≡ Some Held
+HeldIsDurable = (v : Vault) (n : ℕ) → IsVault v → standing_of v.tree v.line (Long n) ≡ Some Held
+    → standing_of (durable v).tree (durable v).line (Long n) ≡ Some Held
 
 -- two held claims don't overlap
 abbrev pub HeldAreApart : Type 0
-HeldAreApart = (tree : List Place) (line : List Claim) (a b : ClaimId) (c d : Claim) → same_id a b ≡ false → claim_of line a ≡ Some c → claim_of line b ≡ Some d
+HeldAreApart = (tree : List Place) (line : List Claim) (a b : ClaimId) (c d : Claim) → same_id a b ≡ false → claim_of line a ≡ Some c
+    → claim_of line b ≡ Some d
     → standing_of tree line a ≡ Some Held → standing_of tree line b ≡ Some Held → overlap tree c.items d.items ≡ false
 
 -- where a step has an effect, it is applicable to the durable vault before, and gives the durable vault after; where it has
 -- none, the durable vault stays
 abbrev pub EffectIsTheDurableChange : Type 0
-EffectIsTheDurableChange = (v : Vault) (n : ℕ) (command : Command) → IsVault v → IsDurableChange v (step v n command).effect (step v n command).vault
+EffectIsTheDurableChange =
+    (v : Vault) (n : ℕ) (command : Command) → IsVault v → IsDurableChange v (step v n command).effect (step v n command).vault
 
 -- a well-formed durable vault stays well formed and durable under each effect that is applicable
 abbrev pub DurableStays : Type 0
@@ -81,8 +87,10 @@ CheckInKeepsTheWeight = (v : Vault) (n number : ℕ) → weight_of (step v n (co
 
 -- a check-out that may be used is refused by a limit exactly where a part of which it has a draft has the most versions already
 abbrev pub CheckInIsRefusedForFullParts : Type 0
-CheckInIsRefusedForFullParts = (v : Vault) (session : Session) (number : ℕ) (claim : Claim) → IsVault v → usable v session (Long number) ≡ Ok claim
-    → (check_in v session number ≡ Err Limit) ↔ ((draft : Draft) × Contains (drafts_of v.drafts number) draft × (length (versions_of v.shelf draft.place) ≡ most_versions))
+CheckInIsRefusedForFullParts =
+    (v : Vault) (session : Session) (number : ℕ) (claim : Claim) → IsVault v → usable v session (Long number) ≡ Ok claim
+    → (check_in v session number ≡ Err Limit)
+    ↔ ((draft : Draft) × Contains (drafts_of v.drafts number) draft × (length (versions_of v.shelf draft.place) ≡ most_versions))
 
 -- behind a save, a second one of the same place answers and leaves what it would without the first
 abbrev pub SecondSaveReplaces : Type 0

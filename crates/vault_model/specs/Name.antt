@@ -29,5 +29,6 @@ pub record IsPadded (bytes : List ℕ) (len : ℕ) : Type 0 where
   pub within : len ≤ length bytes
   pub room : bytes ≡ padded (take len bytes)
 
-pub inverse_of_padded : (bytes : List ℕ) (len : ℕ) → IsPadded bytes len → (padded (take len bytes) ≡ bytes) × (length (take len bytes) ≡ len)
+pub inverse_of_padded : (bytes : List ℕ) (len : ℕ) → IsPadded bytes len
+    → (padded (take len bytes) ≡ bytes) × (length (take len bytes) ≡ len)
 inverse_of_padded bytes len h = (sym h.room, length-take-le len bytes h.within)

@@ -55,5 +55,6 @@ pub record IsFilled (room : List (List ℕ)) (len : ℕ) : Type 0 where
   pub whole : length room ≡ most_names
   pub spare : room ≡ filled (take len room)
 
-pub inverse_of_filled : (room : List (List ℕ)) (len : ℕ) → IsFilled room len → (filled (take len room) ≡ room) × (length (take len room) ≡ len)
+pub inverse_of_filled : (room : List (List ℕ)) (len : ℕ) → IsFilled room len
+    → (filled (take len room) ≡ room) × (length (take len room) ≡ len)
 inverse_of_filled room len h = (sym h.spare, length-take-le len room h.within)

@@ -108,7 +108,9 @@ make v session path claim = do
 -- the items' places
 abbrev pub placed : List Place → List PathItem → Option (List Item)
 placed tree [] = Some []
-placed tree (item ∷ items) = option_and_then (λ place. option_map (λ others. record { intent = item.intent; place = place } ∷ others) (placed tree items)) (find_place tree item.path)
+placed tree (item ∷ items) =
+    option_and_then (λ place. option_map (λ others. record { intent = item.intent; place = place } ∷ others) (placed tree items))
+    (find_place tree item.path)
 
 -- the reply to one who asks for a claim, or how it stands
 abbrev pub asked : ClaimId → Standing → Reply
@@ -295,7 +297,8 @@ in_session v session commands.Leave = Ok (leave v session)
 
 -- what a command does, before it is counted; a number without a standing session is no session
 unfoldable pub decide : Vault → ℕ → Command → Result Outcome Refusal
-decide v number command = if number == 0 then at_door v command else (ok_or (session_of v.sessions number) NoSession >>= λ session. in_session v session command)
+decide v number command =
+    if number == 0 then at_door v command else (ok_or (session_of v.sessions number) NoSession >>= λ session. in_session v session command)
 
 -- what a session is told, with its command counted: a refusal changes nothing else
 abbrev pub told : ℕ → Vault → Result Outcome Refusal → Outcome

@@ -80,7 +80,8 @@ children_of tree parent = filter (λ p. option_map_or (λ q. q == parent) (paren
 abbrev pub path_within : ℕ → List Place → ℕ → List (List ℕ)
 path_within zero tree p = []
 path_within (suc n) tree zero = []
-path_within (suc n) tree (suc p) = option_map_or (λ (place : Place). path_within n tree place.parent ++ place.name ∷ []) (slice_get tree p) []
+path_within (suc n) tree (suc p) =
+    option_map_or (λ (place : Place). path_within n tree place.parent ++ place.name ∷ []) (slice_get tree p) []
 
 -- the path of a place
 abbrev pub path_of : List Place → ℕ → List (List ℕ)
@@ -109,5 +110,6 @@ pub record IsTree (tree : List Place) : Type 0 where
   -- a parent is no part
   pub no_parts_above : (p parent : ℕ) → parent_of tree p ≡ Some parent → is_part tree parent ≡ false
   -- siblings differ in name
-  pub siblings : (i j : ℕ) (a b : Place) → slice_get tree i ≡ Some a → slice_get tree j ≡ Some b → a.parent ≡ b.parent → a.name ≡ b.name → i ≡ j
+  pub siblings : (i j : ℕ) (a b : Place) → slice_get tree i ≡ Some a → slice_get tree j ≡ Some b → a.parent ≡ b.parent → a.name ≡ b.name
+      → i ≡ j
   pub narrow : (p : ℕ) → children_count tree p ≤ most_children

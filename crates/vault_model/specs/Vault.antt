@@ -31,7 +31,8 @@ pub record Vault : Type 0 where
 
 -- a new vault: the library alone, no claim, no session, and no number given
 abbrev pub new_vault : Vault
-new_vault = record { tree = []; shelf = []; line = []; drafts = []; sessions = []; last_session = 0; last_long = 0; last_short = 0; door_count = 0 }
+new_vault =
+    record { tree = []; shelf = []; line = []; drafts = []; sessions = []; last_session = 0; last_long = 0; last_short = 0; door_count = 0 }
 
 -- the standing session of this number
 abbrev pub session_of : List Session → ℕ → Option Session
