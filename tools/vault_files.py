@@ -10,6 +10,7 @@ from pathlib import Path
 from typing import Dict, List, Optional, Tuple
 
 PIECE = 65536
+HEAD = 24
 CLAIM = re.compile(r"(?P<name>[ch]\d+) (?P<owner>\S+) (?:held|queued behind (?P<behind>[ch]\d+)) (?P<items>.+)")
 
 
@@ -38,6 +39,11 @@ class Report:
         """The line of the vault's counts, where the files open."""
         lines = self.text.splitlines()
         return lines[2] if len(lines) > 2 and lines[2].startswith("places ") else None
+
+    def active(self) -> Optional[str]:
+        """The file that the vault is read from, `a` or `b`."""
+        found = re.search(r"^file ([ab]): open, ", self.text, re.MULTILINE)
+        return found.group(1) if found else None
 
     def damaged(self) -> Optional[Tuple[str, int]]:
         """The first file that is damaged, `a` or `b`, and where."""
@@ -91,6 +97,12 @@ def copy_file(source: str, copy: Path) -> None:
             new.write(piece)
         new.flush()
         os.fsync(new.fileno())
+
+
+def has_head_of(source: str, copy: Path) -> bool:
+    """Whether a file has the head that its copy has: no snapshot was written into it since that was read."""
+    with open(source, "rb") as now, open(copy, "rb") as then:
+        return now.read(HEAD) == then.read(HEAD)
 
 
 def sync_folder(folder: Path) -> None:

@@ -65,9 +65,7 @@ fn reports_on_vaults(rt: HostRuntime) {
     assert!(rt; tells(&rt, alloc, QUEUED, NEW, QUEUED_TEXT));
 }
 
-// Two closed files; two alike; a frame that is cut off; a wrong head beside a right one, first or second; a wrong body beside an
-// older file.
-// Makes a snapshot of the vault in two devices, and behind it a project in a frame.
+// Both devices behind a snapshot of their vault, and a project in a frame behind it.
 fn renewed(
     rt: &impl Abort,
     alloc: Global,
@@ -96,6 +94,7 @@ fn is_settled_by(store: &mut Store<MemDevice>, steps: u8) -> bool {
     store.advance() == Ok(Advanced::Settled)
 }
 
+// A snapshot of 16 bytes has its tail gate at 40, and a frame of 12 bytes behind it moves that to 52.
 #[test]
 fn reports_behind_a_snapshot(rt: HostRuntime) {
     let alloc = rt.alloc();
@@ -107,12 +106,14 @@ fn reports_behind_a_snapshot(rt: HostRuntime) {
     assert!(rt; print(&report, &mut printed).is_ok());
     let text =
         b"file a: older, generation 1\nfile b: open, generation 2, frames 1, tail 52\nplaces 3, versions 0, claims 0, drafts 0\n";
-    assert!(rt; printed.as_slice() == text);
+    assert!(rt; printed.as_slice() == text.as_slice());
     drop(report);
     drop(a);
     drop(b);
 }
 
+// Two closed files; two alike; a frame that is cut off; a wrong head beside a right one, first or second; a wrong body beside an
+// older file.
 #[test]
 fn reports_on_no_vault(rt: HostRuntime) {
     let alloc = rt.alloc();

@@ -37,6 +37,7 @@ pub struct Desk<D: Device, S: Tally, T: Tally, A: Allocator = Global> {
     pub(crate) opening: Share<S, T>,
     /// Whether the flusher is to end once all is settled.
     pub(crate) closed: bool,
+    /// When the flusher sleeps, and for how many it waits. Contracts don't see it.
     pub(crate) pace: Pace,
 }
 
@@ -147,6 +148,18 @@ impl<D: Device, S: Tally, T: Tally, A: Allocator + Copy> Desk<D, S, T, A> {
         self.vault.wants_snapshot()
     }
 
+    // Begins a snapshot, and keeps that it is no commit.
+    pub(crate) fn start_on(&mut self) -> Result<Started, NoMemory>
+        ensures started { result ≡ Ok Started.Yes → self.new.vault.view ≡ view_acted snapshot_length self.old.vault.view StartSnapshot }
+        ensures refused { OnErr result (self.new ≡ self.old) }
+        ensures open { self.new.closed ≡ self.old.closed }
+        ensures next { IsNext D.disk self.old.vault self.new.vault }
+    {
+        let started = self.start_snapshot();
+        self.pace.started(started);
+        started
+    }
+
     // How many entries aren't settled.
     pub(crate) fn waiting(&self) -> u64 {
         self.vault.len().saturating_sub(self.vault.durable())
@@ -179,7 +192,7 @@ impl<D: Device, S: Tally, T: Tally, A: Allocator + Copy> Desk<D, S, T, A> {
         self.pace.gathers(waiting)
     }
 
-    // Does the next step of a commit, and keeps how many entries waited.
+    // Does the next step of a commit or of a snapshot, and keeps how many entries waited.
     pub(crate) fn pump_on(&mut self) -> Result<Pumped, Fault>
         ensures pumped { IsPumped self.old.vault result self.new.vault }
         ensures open { self.new.closed ≡ self.old.closed }

@@ -22,7 +22,8 @@ pub enum Flushed {
 /// Pumps while something is unsettled and waits else, until the desk is closed or the vault is broken. The lock is held for one
 /// pump at a time, which makes at most one device call, and workers are woken only where a pump settled entries or failed. Before
 /// a commit it waits for those whom the last one told, for a small part of the time that this one took. Where many frames stand in
-/// the active file, it begins a snapshot, and pumps that to its end.
+/// the active file, it begins a snapshot under one more holding, and pumps that to its end. Where the memory for it is refused, it
+/// goes on without, and begins it once more entries are settled.
 pub fn run_flusher<D: Device, S: Tally, T: Tally, A: Allocator + Copy, G: Gate, H: Wait + Clock>(
     rt: &H,
     shared: &Shared<D, S, T, A>,
@@ -31,16 +32,15 @@ pub fn run_flusher<D: Device, S: Tally, T: Tally, A: Allocator + Copy, G: Gate, 
     let flusher = Flusher { rt, shared, gate };
     let mut last = Commit::none();
     for _ in rt.forever() {
-        let is_snapshot = flusher.begin_snapshot();
-        if !is_snapshot {
-            flusher.wait_for_group(&last);
+        if flusher.begin_snapshot() {
+            flusher.settle();
         }
+        flusher.wait_for_group(&last);
         if let Some(flushed) = flusher.wait_for_work() {
             return flushed;
         }
-        match flusher.settle() {
-            Some(commit) if !is_snapshot => last = commit,
-            _ => {}
+        if let Some(commit) = flusher.settle() {
+            last = commit;
         }
     }
     unreachable!()
@@ -63,11 +63,10 @@ impl<D: Device, S: Tally, T: Tally, A: Allocator + Copy, G: Gate, H: Wait + Cloc
     G,
     H,
 > {
-    // Begins a snapshot where one is wanted, and says whether it did. Where it is refused memory, the flusher goes on, and this is
-    // tried again once more entries are settled.
+    // Begins a snapshot where one is wanted. Whether it did.
     fn begin_snapshot(&self) -> bool {
         let mut desk = self.shared.desk.lock(self.rt);
-        desk.wants_snapshot() && desk.start_snapshot() == Ok(Started::Yes)
+        desk.wants_snapshot() && desk.start_on() == Ok(Started::Yes)
     }
 
     // Waits until as many entries wait as did when the last commit ended, and goes on without those that don't come: it ends at the
@@ -99,8 +98,7 @@ impl<D: Device, S: Tally, T: Tally, A: Allocator + Copy, G: Gate, H: Wait + Cloc
         desk.flushed()
     }
 
-    // Pumps until entries are settled, or a device call failed, and wakes the workers. The commit that it made, where it called the
-    // device.
+    // Pumps until entries are settled, or a device call failed, and wakes the workers. What it made, where it called the device.
     fn settle(&self) -> Option<Commit> {
         let shared = self.shared;
         let began = Instant::now(self.rt).ok();

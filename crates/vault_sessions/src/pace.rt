@@ -1,9 +1,9 @@
 //! When the flusher sleeps, for how many it waits, and for how long.
 
-use group_commit::Pumped;
+use group_commit::{Pumped, Started};
 use std::time::{Clock, Duration, Instant};
 use vault_device::Fault;
-use vault_model::{Command, CommandIn};
+use vault_model::{Command, CommandIn, NoMemory};
 
 // How often the flusher looks for those it has told, each time for an eighth of what the last commit took.
 pub(crate) const LOOKS: u32 = 8;
@@ -36,8 +36,16 @@ pub(crate) struct Pace {
     group: u64,
     // Whether an entry that waits, and isn't sealed, may have changed the vault.
     has_change: bool,
-    // Whether a commit is under way.
-    is_committing: bool,
+    // What the next pump goes on with.
+    under_way: UnderWay,
+}
+
+// What was begun at the devices, and isn't settled.
+#[derive(Debug, Clone, Copy, PartialEq, Eq)]
+enum UnderWay {
+    Nothing,
+    Commit,
+    Snapshot,
 }
 
 impl Pace {
@@ -47,7 +55,7 @@ impl Pace {
             wake_from: None,
             group: 0,
             has_change: false,
-            is_committing: false,
+            under_way: UnderWay::Nothing,
         }
     }
 
@@ -77,18 +85,28 @@ impl Pace {
         self.sleeps(is_early, self.group)
     }
 
+    /// A snapshot was begun, which seals what waits, or it wasn't. It is no commit: it takes longer, and nobody is waited for behind
+    /// it.
+    pub fn started(&mut self, started: Result<Started, NoMemory>) {
+        if started == Ok(Started::Yes) {
+            self.has_change = false;
+            self.under_way = UnderWay::Snapshot;
+        }
+    }
+
     /// A pump was made, before which so many entries waited.
     pub fn pumped(&mut self, waiting: u64, pumped: Result<Pumped, Fault>) {
-        match pumped {
-            Ok(Pumped::Moved) if self.is_committing => {}
-            Ok(Pumped::Moved) => {
+        match (self.under_way, pumped) {
+            (UnderWay::Nothing, Ok(Pumped::Moved)) => {
                 self.has_change = false;
-                self.is_committing = true;
+                self.under_way = UnderWay::Commit;
             }
-            Ok(Pumped::Settled) if self.is_committing => {
+            (_, Ok(Pumped::Moved)) => {}
+            (UnderWay::Commit, Ok(Pumped::Settled)) => {
                 self.group = waiting;
-                self.is_committing = false;
+                self.under_way = UnderWay::Nothing;
             }
+            (UnderWay::Snapshot, Ok(Pumped::Settled)) => self.under_way = UnderWay::Nothing,
             _ => self.has_change = false,
         }
     }
@@ -99,6 +117,7 @@ impl Pace {
 pub(crate) struct Commit {
     // None: the clock couldn't be read, or there was no commit yet. Then nobody is waited for.
     ended: Option<Instant>,
+    // How long is waited from one look to the next.
     part: Duration,
 }
 

@@ -6,6 +6,7 @@ mod flushing;
 mod limits;
 mod memory;
 mod pacing;
+mod renewing;
 mod serving;
 mod talk;
 mod tcp;

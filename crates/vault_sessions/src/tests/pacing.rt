@@ -1,9 +1,9 @@
 //! For how many the flusher waits.
 
 use crate::pace::{Pace, may_change};
-use group_commit::Pumped;
+use group_commit::{Pumped, Started};
 use std::alloc::Global;
-use vault_model::{ClaimId, Command, CommandIn};
+use vault_model::{ClaimId, Command, CommandIn, NoMemory};
 
 // A commit for which so many waited.
 fn commit(pace: &mut Pace, waiting: u64) {
@@ -45,6 +45,34 @@ fn questions_are_not_held_back(rt: HostRuntime) {
     assert!(rt; !pace.staged(1, true));
     assert!(rt; !pace.staged(2, false));
     assert!(rt; pace.staged(3, false));
+}
+
+// Behind a snapshot it waits for as many as before, and for a change that was staged meanwhile no less.
+#[test]
+fn snapshot_is_no_commit(rt: HostRuntime) {
+    let mut pace = Pace::new();
+    commit(&mut pace, 3);
+    pace.started(Ok(Started::Yes));
+    assert!(rt; !pace.staged(1, true));
+    commit(&mut pace, 9);
+    assert!(rt; pace.gathers(1));
+    assert!(rt; pace.gathers(2));
+    assert!(rt; !pace.gathers(3));
+    commit(&mut pace, 4);
+    assert!(rt; pace.gathers(0));
+    assert!(rt; !pace.gathers(4));
+}
+
+// One that isn't begun changes nothing.
+#[test]
+fn snapshot_that_is_not_begun(rt: HostRuntime) {
+    let mut pace = Pace::new();
+    commit(&mut pace, 3);
+    assert!(rt; !pace.staged(1, true));
+    let before = pace;
+    pace.started(Err(NoMemory));
+    pace.started(Ok(Started::NotNow));
+    assert!(rt; pace == before);
 }
 
 // A flusher that sleeps since nothing is to be done is woken once, by whatever is staged.

@@ -1,0 +1,212 @@
+#!/usr/bin/env python3
+"""What a snapshot of a full vault costs a server: how long it takes, how long commands wait meanwhile, the memory, and the opening behind it.
+
+The files are written by this program, by docs/FORMAT.md: a snapshot with 4,096 places, 256 check-outs of 8 items and 16 MiB of contents, and
+frames of almost 1 MiB behind it. A few saves over TCP then make the server begin a snapshot, into the empty second file. Each connection
+saves 1,024 bytes again and again, each save told before the next is sent. A run has one snapshot, so each row is of several runs.
+
+usage, at the top of the repository:  python3 bench/snapshot.py [--program PROGRAM] [--folder FOLDER] [--connections 1,16,64] [--runs N]
+                                      [--port P] [--start] [--tiny]
+--folder says on which disk the vault lies. --start also tells how long the start of a snapshot takes, by strace, in runs of their own.
+"""
+import os
+import re
+import socket
+import statistics
+import subprocess
+import threading
+import time
+
+from measure import arguments, head, megabytes, prepared, run_once, sized, table
+from opening import file_of, made, name, number, saved
+from server import status_of
+
+WORKERS = 64
+PLACES, CLAIMS, ITEMS = 4096, 256, 8
+WEIGHT = 16_777_216
+CONTENT = 1024
+SAVE = 1035
+# A frame has at most 253 records of a save. The last one leaves room for 14 saves below 1 MiB.
+FRAMES = (253, 253, 253, 240)
+
+
+def places():
+    """The parent and the name of each place from 1 on: a project, 63 assemblies, and parts."""
+    yield 0, "e"
+    for assembly in range(63):
+        yield 1, f"b{assembly}"
+    for part in range(PLACES - 65):
+        yield 2 + part // 64, f"x{part}"
+
+
+def path_of(part):
+    """The path of a part, counted from 0."""
+    return f"/e/b{part // 64}/x{part}"
+
+
+def snapshot_of(weight):
+    """The spelling of a vault with about this weight of versions, of which drafts for 64 connections are left out."""
+    parts = PLACES - 65
+    versions, more = divmod((weight - WORKERS * (CONTENT + 8)) // (CONTENT + 8), parts)
+    out = [number(CLAIMS, 4), number(PLACES, 4)]
+    for place, (parent, word) in enumerate(places(), 1):
+        out.append(number(parent, 4) + name(word))
+        if place > 64:
+            count = versions + (place - 65 < more)
+            out.append(number(count, 2) + (number(CONTENT, 2) + b"v" * CONTENT) * count)
+    out.append(number(CLAIMS, 2))
+    for claim in range(1, CLAIMS + 1):
+        items = b"".join(b"\x01" + number(65 + (claim - 1) * ITEMS + item, 4) for item in range(ITEMS))
+        out.append(number(claim, 4) + name(f"d{(claim - 1) % WORKERS + 1}") + number(ITEMS, 1) + items + b"\x00")
+    return b"".join(out)
+
+
+def full_file(weight):
+    """A file of generation 1: this snapshot, frames of almost 1 MiB, and a tail gate."""
+    snapshot = snapshot_of(weight)
+    out = [b"\x01LLVAULT" + number(1, 4) + number(1, 8) + number(len(snapshot), 4) + snapshot]
+    record = 0
+    for count in FRAMES:
+        out.append(b"\x01" + number(count * SAVE, 4))
+        for _ in range(count):
+            claim = record % WORKERS + 1
+            out.append(saved(claim, 65 + (claim - 1) * ITEMS, b"d" * CONTENT))
+            record += 1
+    return b"".join(out) + b"\x00"
+
+
+class Client(threading.Thread):
+    """One connection, which saves until it is told to stop. Each wait is kept with its beginning."""
+
+    def __init__(self, port, number_of, stop):
+        super().__init__()
+        self.stop, self.waits = stop, []
+        self.line = f"save c{number_of} {path_of((number_of - 1) * ITEMS)} {'64' * CONTENT}\n".encode()
+        self.socket = socket.create_connection(("127.0.0.1", port))
+        self.socket.setsockopt(socket.IPPROTO_TCP, socket.TCP_NODELAY, 1)
+        self.file = self.socket.makefile("rb")
+        self.say(f"hello d{number_of}\n".encode())
+
+    def say(self, line):
+        self.socket.sendall(line)
+        told = self.file.readline()
+        if not told.startswith(b"OK"):
+            raise SystemExit(f"a connection was told: {told.decode()}")
+
+    def run(self):
+        # One start of the server takes 4,096 commands.
+        for _ in range(3500 // WORKERS):
+            if self.stop.is_set():
+                return
+            begin = time.monotonic()
+            self.say(self.line)
+            self.waits.append((begin, time.monotonic()))
+
+
+def written(path, limit=60):
+    """When a snapshot was begun in an empty file, and when its head gate was written: looks about each tenth of a millisecond."""
+    began, until = None, time.monotonic() + limit
+    with open(path, "rb", buffering=0) as file:
+        while time.monotonic() < until:
+            head_of = os.pread(file.fileno(), 1, 0)
+            if began is None and head_of:
+                began = time.monotonic()
+            if head_of == b"\x01":
+                return began, time.monotonic()
+            time.sleep(0.0001)
+    raise SystemExit("no snapshot was written")
+
+
+def one_run(program, files, content, options, connections, before=()):
+    """How long a snapshot took, the waits of the commands that were under way in it, and the server's greatest memory."""
+    with open(files[0], "wb") as file:
+        file.write(content)
+    open(files[1], "wb").close()
+    words = [*before, program, "serve", *files, f"127.0.0.1:{options.port}", "--workers", str(WORKERS)]
+    with subprocess.Popen(words, stdout=subprocess.PIPE) as server:
+        if server.stdout.readline().strip() != b"listening":
+            raise SystemExit("the server didn't start")
+        stop = threading.Event()
+        clients = [Client(options.port, number_of, stop) for number_of in range(1, connections + 1)]
+        for client in clients:
+            client.start()
+        began, ended = written(files[1])
+        time.sleep(0.05)
+        stop.set()
+        for client in clients:
+            client.join()
+            client.socket.close()
+        memory = status_of(server.pid)[0] if not before else None
+        server.terminate()
+        server.wait()
+    waits = [end - begin for client in clients for begin, end in client.waits if begin < ended and end > began]
+    return ended - began, waits, memory
+
+
+def start_by_strace(program, files, content, options, folder):
+    """How long it is from the sync that settles a commit to the first write of the snapshot behind it."""
+    told = os.path.join(folder, "strace.out")
+    traced = ["strace", "-f", "-ttt", "-T", "-y", "-e", "trace=fsync,fdatasync,write,pwrite64", "-o", told]
+    one_run(program, files, content, options, 1, traced)
+    active, spare = map(os.path.realpath, files)
+    settled, waiting = 0.0, None
+    with open(told, encoding="utf-8", errors="replace") as file:
+        for line in file:
+            begun = re.match(r"(\d+)\s+(\d+\.\d+) (\w+)\(\d+<([^>]*)>", line)
+            ended = re.match(r"(\d+)\s+(\d+\.\d+) <\.\.\. f\w*sync resumed>", line)
+            if begun and "write" in begun.group(3) and begun.group(4) == spare:
+                return float(begun.group(2)) - settled
+            if begun and "sync" in begun.group(3) and begun.group(4) == active:
+                took = re.search(r"<(\d+\.\d+)>$", line)
+                waiting = None if took else begun.group(1)
+                settled = float(begun.group(2)) + float(took.group(1)) if took else settled
+            elif ended and ended.group(1) == waiting:
+                settled = float(ended.group(2))
+    raise SystemExit("strace saw no snapshot")
+
+
+def middle(values):
+    return f"{min(values) * 1000:.1f} and {statistics.median(values) * 1000:.1f} ms"
+
+
+def main():
+    parser = arguments("What a snapshot of a full vault costs a server.")
+    parser.add_argument("--connections", default="1,16,64", help="numbers of connections, with commas between")
+    parser.add_argument("--runs", type=int, default=10, help="runs of each row, 10 where it isn't given")
+    parser.add_argument("--port", type=int, default=7171)
+    parser.add_argument("--start", action="store_true", help="how long the start of a snapshot takes, too, by strace")
+    options = parser.parse_args()
+    program, folder = prepared(options)
+    files = [os.path.join(folder, f"vault.{which}") for which in "ab"]
+    weight = sized(WEIGHT, options)
+    content = full_file(weight)
+    runs = max(1, sized(options.runs, options))
+    head(program, f"A snapshot of {len(snapshot_of(weight)):,} bytes, {runs} runs each")
+
+    def rows():
+        for connections in map(int, options.connections.split(",")):
+            done = [one_run(program, files, content, options, connections) for _ in range(runs)]
+            waits = sorted(wait for _, each, _ in done for wait in each)
+            memory = max(each for _, _, each in done)
+            yield (str(connections), middle([took for took, _, _ in done]), f"{len(waits):,}",
+                   f"{waits[-1] * 1000:.1f} and {waits[int(len(waits) * 0.99)] * 1000:.1f} ms", megabytes(memory),
+                   f"{memory * 1024 / WEIGHT:.2f}")
+
+    table(("Connections", "Whole snapshot, least and median", "Commands that waited for it", "Longest wait and 99th percentile",
+           "Resident memory, at most", "Of the greatest weight"), rows())
+    if options.start:
+        starts = [start_by_strace(program, files, content, options, folder) for _ in range(runs)]
+        table(("The start of a snapshot, under the lock", "Least and median"), [("by strace, one connection", middle(starts))])
+    one_run(program, files, content, options, 1)
+    opened = [run_once(program, ["inspect", *files]) for _ in range(runs)]
+    for path, bytes_of_file in zip(files, (file_of([])[0], b"")):
+        with open(path, "wb") as file:
+            file.write(bytes_of_file)
+    empty = [run_once(program, ["inspect", *files]) for _ in range(runs)]
+    table(("Reading it behind the snapshot, as the opening does", "Least and median", "Resident memory"),
+          [("16 MiB of contents", middle([wall for wall, _, _ in opened]), megabytes(opened[-1][1])),
+           ("a new vault", middle([wall for wall, _, _ in empty]), megabytes(empty[-1][1]))])
+
+
+if __name__ == "__main__":
+    main()
