@@ -17,8 +17,9 @@ use Rattle.vault_model.specs.Step.{extension, may_save, step}
 use Rattle.vault_model.proofs.Overlaps.{and_both}
 use Rattle.vault_model.proofs.Stays.{own_id, claim_there}
 use Rattle.vault_model.specs.Drafts.{new_draft}
+use Rattle.vault_model.proofs.WellFormed.{not_last}
 use Rattle.vault_model.proofs.Transitions.{CanExtend, Transition, made, asked, extended, saved, checked_in, abandoned, by_transition}
-use Rattle.vault_journal.specs.Spelling.{ItemFits, HasRecord}
+use Rattle.vault_journal.specs.Spelling.{IsClaimNumber, ItemFits, HasRecord}
 use Rattle.group_commit.specs.Written.{IsOfItsType}
 
 -- what an effect has its type adds to
@@ -37,28 +38,30 @@ module _ (v : Vault) (kept : IsVault v) where
   items_fit [] there = tt
   items_fit (item ∷ items) there = (fits_there item.place (All-head (λ (i : Item). i.place ≤ length v.tree) item items there), items_fit items (All-tail (λ (i : Item). i.place ≤ length v.tree) item items there))
 
-  given_by : (number : ℕ) (claim : Claim) → claim.id ≡ Long number → IsGiven v.last_long v.last_short claim.id → 0 < number
-  given_by number claim e given = (subst (λ id. IsGiven v.last_long v.last_short id) e given).0
+  given_by : (number : ℕ) (claim : Claim) → claim.id ≡ Long number → IsGiven v.last_long v.last_short claim.id → IsClaimNumber number
+  given_by number claim e given =
+      let is = subst (λ id. IsGiven v.last_long v.last_short id) e given in
+      record { positive = is.0; fits = omega (arith, is.1, kept.numbers.long) }
 
   -- the number of a claim that stands
-  positive : (number : ℕ) (claim : Claim) → claim_of v.line (Long number) ≡ Some claim → 0 < number
-  positive number claim found = given_by number claim (own_id v.line (Long number) claim found) (claim_there (IsClaim v.tree v.sessions v.last_long v.last_short) v.line (Long number) kept.claims claim found).given
+  numbered : (number : ℕ) (claim : Claim) → claim_of v.line (Long number) ≡ Some claim → IsClaimNumber number
+  numbered number claim found = given_by number claim (own_id v.line (Long number) claim found) (claim_there (IsClaim v.tree v.sessions v.last_long v.last_short) v.line (Long number) kept.claims claim found).given
 
   extended_has : (id : ClaimId) (claim : Claim) (items : List Item) → CanExtend v id claim items → HasOne (extension id items)
   extended_has (Short k) claim items can = tt
   extended_has (Long k) claim items can =
       let most = can.few in
       let few : length items ≤ most_items = omega arith in
-      λ typed. (record { positive = positive k claim can.used.found; fits = typed }, record { some = can.some; few = few; fit = items_fit items can.there })
+      λ typed. (numbered k claim can.used.found, record { some = can.some; few = few; fit = items_fit items can.there })
 
   -- the effect of each change has a record
   transition_has : (effect : Option Effect) (w : Vault) → Transition v effect w → HasOne effect
   transition_has effect w (made parent name can) = λ typed. (fits_there parent can.there, typed)
-  transition_has effect w (asked designer items can) = λ typed. (record { positive = omega arith; fits = typed.0 }, typed.1, record { some = can.some; few = can.few; fit = items_fit items can.there })
+  transition_has effect w (asked designer items can) = λ typed. (record { positive = omega arith; fits = omega (arith, not_last v.last_long kept.numbers.long can.unspent) }, typed, record { some = can.some; few = can.few; fit = items_fit items can.there })
   transition_has effect w (extended id claim items can) = extended_has id claim items can
-  transition_has effect w (saved claim number place content can) = λ typed. (record { positive = positive number claim can.used.found; fits = typed }, fits_there place can.there, short_enough v number place content can.limits)
-  transition_has effect w (checked_in number claim used fits) = λ typed. record { positive = positive number claim used.found; fits = typed }
-  transition_has effect w (abandoned number claim found) = λ typed. record { positive = positive number claim found; fits = typed }
+  transition_has effect w (saved claim number place content can) = λ typed. (numbered number claim can.used.found, fits_there place can.there, short_enough v number place content can.limits)
+  transition_has effect w (checked_in number claim used fits) = λ typed. numbered number claim used.found
+  transition_has effect w (abandoned number claim found) = λ typed. numbered number claim found
   transition_has effect w change = tt
 
 pub step_has_record : (v : Vault) (n : ℕ) (command : Command) → IsVault v → HasOne (step v n command).effect

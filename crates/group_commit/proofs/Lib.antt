@@ -29,3 +29,4 @@ pub mod Nexts
 pub mod Positions
 pub mod Sends
 pub mod Openings
+pub mod Begun

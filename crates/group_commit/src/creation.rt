@@ -1,8 +1,10 @@
 //! A vault in two new files, at the beginning of its first life.
-ghost use Rattle.std.specs.Prelude.{◌≡◌, [], IfOk, IfErr, IsTrue};
+ghost use Rattle.std.specs.Prelude.{◌≡◌, ◌⊎◌, [], IfOk, IfErr, IsTrue};
 ghost use Rattle.vault_model.specs.Vault.{new_vault};
-ghost use Rattle.vault_store.specs.Calls.{IsCalled};
-ghost use Rattle.vault_store.specs.Create.{new_file, IsFilled, StopsInCreation};
+ghost use Rattle.vault_store.specs.declared.creation.CreateError.TheVariants.{Exists, Device as DeviceFailed, NoMemory as Wanted};
+ghost use Rattle.vault_store.specs.Calls.{IsCalled, HasCause, AreQuiet};
+ghost use Rattle.vault_store.specs.Opening.{IsHandedOn};
+ghost use Rattle.vault_store.specs.Create.{new_file, IsFilled, StopsInCreation, AreSettledUnmade};
 ghost use Rattle.vault_store.specs.State.{at_rest};
 ghost use Rattle.vault_store.specs.Seen.{first_of, second_of, Keeps};
 ghost use Rattle.group_commit.specs.View.{opened_view};
@@ -15,13 +17,32 @@ use std::snapshot::Snapshot;
 use vault_checkout::Book;
 use vault_device::Device;
 use vault_model::NoMemory;
-use vault_store::Store;
+use vault_store::{Store, settle_both};
 
 // The book of a new vault, and the room for its history.
 fn new_parts<A: Allocator + Copy>(alloc: A) -> Result<(Book<A>, Window<A>), NoMemory>
     ensures { IfOk result (λ parts. (parts.0 ≡ new_vault) × (parts.1 ≡ [])) }
 {
     Ok((Book::new(alloc)?, Window::new(alloc)?))
+}
+
+// A creation that was refused memory, with both devices settled.
+fn refused_memory<D: Device>(first: D, second: D) -> Refused<D, CreateError>
+    ensures first { IsHandedOn (D.disk first) (D.disk result.first) }
+    ensures second { IsHandedOn (D.disk second) (D.disk result.second) }
+    ensures settled { AreSettledUnmade (D.disk result.first) (D.disk result.second) result.why }
+    ensures why { result.why ≡ Exists → ⊥ }
+    ensures cause { result.why ≡ DeviceFailed → HasCause (D.disk first) (D.disk result.first) ⊎ HasCause (D.disk second) (D.disk result.second) }
+    ensures memory { result.why ≡ Wanted → AreQuiet (D.disk first) (D.disk second) (D.disk result.first) (D.disk result.second) }
+{
+    let mut first = first;
+    let mut second = second;
+    if settle_both(&mut first, &mut second).is_err() {
+        let why = CreateError::Device;
+        return Refused { why, first, second };
+    }
+    let why = CreateError::NoMemory;
+    Refused { why, first, second }
 }
 
 impl<D: Device, A: Allocator + Copy> Vault<D, A> {
@@ -48,7 +69,8 @@ impl<D: Device, A: Allocator + Copy> Vault<D, A> {
 
     /// Makes a vault with the library alone, in the first of two empty files. The life is a number that the caller hasn't
     /// handed in before in this process. A refusal hands the devices back. A creation that failed or was stopped leaves files
-    /// of which none is open, or the new vault's. The room for the whole history is taken here.
+    /// of which none is open, or the new vault's. The room for the whole history is taken here, first of all; where it is
+    /// refused, both devices are synced all the same.
     pub fn create(
         alloc: A,
         first: D,
@@ -64,11 +86,12 @@ impl<D: Device, A: Allocator + Copy> Vault<D, A> {
         ensures stops { IfOk result (λ vault. StopsInCreation (D.disk first) (D.disk second) (D.disk (first_of vault.store)) (D.disk (second_of vault.store))) }
         ensures refused_stops { IfErr result (λ refused. StopsInCreation (D.disk first) (D.disk second) (D.disk refused.first) (D.disk refused.second)) }
         ensures refused { IfErr result (λ refused. IsNotCreated (D.disk first) (D.disk second) (D.disk refused.first) (D.disk refused.second) refused.why) }
+        ensures left_settled { IfErr result (λ refused. AreSettledUnmade (D.disk refused.first) (D.disk refused.second) refused.why) }
+        ensures memory { IfErr result (λ refused. refused.why ≡ Wanted → AreQuiet (D.disk first) (D.disk second) (D.disk refused.first) (D.disk refused.second)) }
         ensures handed_back { IfErr result (λ refused. IsCalled (D.disk first) (D.disk refused.first) × IsCalled (D.disk second) (D.disk refused.second)) }
     {
         let Ok((book, kept)) = new_parts(alloc) else {
-            let why = CreateError::NoMemory;
-            return Err(Refused { why, first, second });
+            return Err(refused_memory(first, second));
         };
         match Store::create(alloc, first, second) {
             Ok(store) => Ok(Vault::over(store, book, kept, life)),

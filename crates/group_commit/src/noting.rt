@@ -13,23 +13,15 @@ use vault_device::Device;
 use vault_model::{Effect, EffectIn};
 use vault_store::Store;
 
-// The number of an effect's claim, or 0. A call also shows what the effect has by its type.
-fn claim_number<A: Allocator>(effect: &EffectIn<A>) -> u32
+// Does nothing: a call shows what the effect has by its type.
+fn see_name<A: Allocator>(effect: &EffectIn<A>)
     ensures { IsOfItsType effect.now }
 {
     match effect {
-        Effect::Made(_, name) => {
+        Effect::Made(_, name) | Effect::Asked(_, name, _) => {
             let _ = name.as_bytes();
-            0
         }
-        Effect::Asked(number, owner, _) => {
-            let _ = owner.as_bytes();
-            *number
-        }
-        Effect::Extended(number, _) => *number,
-        Effect::Saved(number, _, _) => *number,
-        Effect::CheckedIn(number) => *number,
-        Effect::Abandoned(number) => *number,
+        _ => {}
     }
 }
 
@@ -46,6 +38,6 @@ pub(crate) fn note_any<D: Device, A: Allocator, B: Allocator>(
     let Some(effect) = effect else {
         return;
     };
-    let _ = claim_number(&effect);
+    see_name(&effect);
     store.note(&effect);
 }

@@ -1,6 +1,6 @@
 //! Reading two files for a report.
 ghost use Rattle.std.specs.Prelude.{◌≡◌, ◌⊎◌, IsTrue, IfOk, IfErr};
-ghost use Rattle.vault_store.specs.Calls.{HasCause};
+ghost use Rattle.vault_store.specs.Calls.{HasCause, IsQuiet, AreQuiet};
 ghost use Rattle.vault_store.specs.Files.{HasCurrentHead};
 ghost use Rattle.vault_store.specs.Read.{AreReads};
 ghost use Rattle.vault_inspector.specs.Found.{IsActiveRead, active_among, beside, found, generation_in, head_state};
@@ -130,6 +130,7 @@ fn read_active<D: Device, A: Allocator + Copy>(
     ensures reads { AreReads (D.disk device.old) (D.disk device.new) }
     ensures read { IsTrue (D.disk device.old).honest → HasCurrentHead generation (D.disk device.old).shown → IfOk result (λ read. IsActiveRead generation (D.disk device.old).shown read.state read.book) }
     ensures cause { IfErr result (λ why. why ≡ DeviceFailed → HasCause (D.disk device.old) (D.disk device.new)) }
+    ensures memory { IfErr result (λ why. why ≡ Wanted → IsQuiet (D.disk device.old) (D.disk device.new)) }
 {
     match read_body(alloc, device)? {
         Body::Whole(book, frames, tail) => Ok(Read {
@@ -161,6 +162,7 @@ pub fn inspect<D: Device, A: Allocator + Copy>(
     ensures second { IsTrue (D.disk first.old).honest → IsTrue (D.disk second.old).honest → IfOk result (λ report. IsSecondState (D.disk first.old).shown (D.disk second.old).shown report.second) }
     ensures vault { IsTrue (D.disk first.old).honest → IsTrue (D.disk second.old).honest → IfOk result (λ report. IsVaultFound (D.disk first.old).shown (D.disk second.old).shown report.book) }
     ensures cause { IfErr result (λ why. why ≡ DeviceFailed → HasCause (D.disk first.old) (D.disk first.new) ⊎ HasCause (D.disk second.old) (D.disk second.new)) }
+    ensures memory { IfErr result (λ why. why ≡ Wanted → AreQuiet (D.disk first.old) (D.disk second.old) (D.disk first.new) (D.disk second.new)) }
 {
     let a = read_head(first)?;
     let b = read_head(second)?;

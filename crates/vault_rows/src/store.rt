@@ -12,7 +12,7 @@ use vault_model::EffectIn;
 use vault_store::{Advanced, Store};
 
 /// How many calls of the first device a creation makes.
-const CREATION: u64 = 7;
+const CREATION: u64 = 8;
 
 /// A store of a new vault, the nth device call behind whose creation is to fail.
 fn new_store(rt: &impl Abort, alloc: Global, failing: u64) -> Store<MemDevice> {

@@ -5,7 +5,7 @@ use Rattle.vault_device.specs.Disk.{Disk}
 use Rattle.vault_device.proofs.Moments.{read_then}
 use Rattle.vault_store.specs.declared.body.ReadError.{ReadError}
 use Rattle.vault_store.specs.declared.body.ReadError.TheVariants.{Damaged, Device, NoMemory}
-use Rattle.vault_store.specs.Calls.{HasCause}
+use Rattle.vault_store.specs.Calls.{HasCause, IsQuiet}
 use Rattle.vault_store.specs.Read.{AreReads, IsWhy}
 
 -- what is honest before is honest behind
@@ -24,10 +24,14 @@ and_reads old mid new first second = record {
 pub cause_behind : (old mid new : Disk) → AreReads old mid → HasCause mid new → HasCause old new
 cause_behind old mid new first cause = elim cause [ inl more ↦ inl (omega (arith, more, first.called.no_fewer_faults)) | inr last ↦ inr last ]
 
-pub why_behind : (old mid new : Disk) (IsWrong WasWrong : ℕ → Type 0) → AreReads old mid → ((at : ℕ) → IsTrue old.honest → IsWrong at → WasWrong at) → (why : ReadError) → IsWhy mid new IsWrong why → IsWhy old new WasWrong why
-why_behind old mid new IsWrong WasWrong first wrong (Damaged at) is = λ honest. wrong at honest (is (honest_behind old mid first honest))
-why_behind old mid new IsWrong WasWrong first wrong Device is = cause_behind old mid new first is
-why_behind old mid new IsWrong WasWrong first wrong NoMemory is = tt
+-- no fault was counted by calls one behind the other, of each of which none was
+pub quiet_then : (old mid new : Disk) → IsQuiet old mid → IsQuiet mid new → IsQuiet old new
+quiet_then old mid new first second = record { same_faults = second.same_faults ∙ first.same_faults }
+
+pub why_behind : (old mid new : Disk) (IsWrong WasWrong : ℕ → Type 0) → AreReads old mid → IsQuiet old mid → ((at : ℕ) → IsTrue old.honest → IsWrong at → WasWrong at) → (why : ReadError) → IsWhy mid new IsWrong why → IsWhy old new WasWrong why
+why_behind old mid new IsWrong WasWrong first quiet wrong (Damaged at) is = λ honest. wrong at honest (is (honest_behind old mid first honest))
+why_behind old mid new IsWrong WasWrong first quiet wrong Device is = cause_behind old mid new first is
+why_behind old mid new IsWrong WasWrong first quiet wrong NoMemory is = quiet_then old mid new quiet is
 
 -- what a `?` hands on
 pub passed_on : {T : Type 0} (result : Result T ReadError) (why : ReadError) (P : ReadError → Type 0) → IsErrAnd result (λ (e : ReadError). e ≡ why) → P why → IfErr result P

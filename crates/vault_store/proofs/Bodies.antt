@@ -9,6 +9,7 @@ use Rattle.vault_journal.specs.Spelling.{in_four}
 use Rattle.vault_journal.specs.Gate.{IsClosed}
 use Rattle.vault_store.specs.declared.body.ReadError.{ReadError}
 use Rattle.vault_store.specs.Snapshot.{snapshot_of}
+use Rattle.vault_store.specs.Calls.{IsQuiet}
 use Rattle.vault_store.specs.Files.{header, head_length, snapshot_bytes, frames_bytes, Holds, current_head, HasCurrentHead}
 use Rattle.vault_store.specs.Faults.{IsSnapshotFault}
 use Rattle.vault_store.specs.Parts.{IsWhole}
@@ -38,11 +39,11 @@ module _ (old one two : Disk) (first : AreReads old one) (second : AreReads one 
   base_is : IsTrue old.honest → take end old.shown ≡ take head_length old.shown ++ snapshot_bytes base
   base_is honest = subst (λ (file : List ℕ). take end file ≡ take head_length file ++ snapshot_bytes base) (first.read honest).shown (read.bytes (honest_behind old one first honest))
 
-  pub frames_wrong : {T : Type 0} (three : Disk) (result : Result T ReadError) (why : ReadError) → IsWhy two three (IsFrameWrong end base two.shown) why → IsErrAnd result (λ (e : ReadError). e ≡ why)
+  pub frames_wrong : {T : Type 0} (three : Disk) (result : Result T ReadError) (why : ReadError) → IsQuiet old two → IsWhy two three (IsFrameWrong end base two.shown) why → IsErrAnd result (λ (e : ReadError). e ≡ why)
       → IfErr result (λ (e : ReadError). IsWhy old three (IsFaultBehindHead old.shown) e)
-  frames_wrong three result why refused is =
+  frames_wrong three result why quiet refused is =
       passed_on result why (λ (e : ReadError). IsWhy old three (IsFaultBehindHead old.shown) e) is
-      (why_behind old two three (IsFrameWrong end base two.shown) (IsFaultBehindHead old.shown) (and_reads old one two first second) wrong why refused)
+      (why_behind old two three (IsFrameWrong end base two.shown) (IsFaultBehindHead old.shown) (and_reads old one two first second) quiet wrong why refused)
     where
       wrong : (at : ℕ) → IsTrue old.honest → IsFrameWrong end base two.shown at → IsFaultBehindHead old.shown at
       wrong at honest is_wrong generation head =
@@ -83,11 +84,11 @@ module _ (old one two : Disk) (first : AreReads old one) (second : AreReads one 
       honest_two : IsTrue old.honest → IsTrue two.honest
       honest_two honest = honest_behind one two second (honest_behind old one first honest)
 
-pub snapshot_wrong : {T : Type 0} (old one three : Disk) (first : AreReads old one) (result : Result T ReadError) (why : ReadError) → IsWhy one three (IsSnapshotFault one.shown) why → IsErrAnd result (λ (e : ReadError). e ≡ why)
+pub snapshot_wrong : {T : Type 0} (old one three : Disk) (first : AreReads old one) (result : Result T ReadError) (why : ReadError) → IsQuiet old one → IsWhy one three (IsSnapshotFault one.shown) why → IsErrAnd result (λ (e : ReadError). e ≡ why)
     → IfErr result (λ (e : ReadError). IsWhy old three (IsFaultBehindHead old.shown) e)
-snapshot_wrong old one three first result why refused is =
+snapshot_wrong old one three first result why quiet refused is =
     passed_on result why (λ (e : ReadError). IsWhy old three (IsFaultBehindHead old.shown) e) is
-    (why_behind old one three (IsSnapshotFault one.shown) (IsFaultBehindHead old.shown) first (λ at honest fault generation head. inl (subst (λ (file : List ℕ). IsSnapshotFault file at) (first.read honest).shown fault)) why refused)
+    (why_behind old one three (IsSnapshotFault one.shown) (IsFaultBehindHead old.shown) first quiet (λ at honest fault generation head. inl (subst (λ (file : List ℕ). IsSnapshotFault file at) (first.read honest).shown fault)) why refused)
 
 -- what stands behind a right head is a whole file
 module _ (disk : Disk) (v : Vault) (frames tail journal generation : ℕ) (contents : AreContents disk v frames tail journal) (honest : IsTrue disk.honest) (head : HasCurrentHead generation disk.shown) where

@@ -1,5 +1,5 @@
 -- Effects with records keep a vault that has a spelling one that has.
-use Rattle.std.proofs.Common.{◌≡◌, ℕ, ◌≤◌, not, Bool, true, false, List, [], ◌∷◌, ◌++◌, Option, Some, None, refl, subst, arith, All}
+use Rattle.std.proofs.Common.{◌≡◌, ℕ, not, Bool, true, false, List, [], ◌∷◌, ◌++◌, Option, Some, None, refl, subst, All}
 use Rattle.std.specs.List.{AllByRecursion}
 use Rattle.std.specs.Option.{option_and_then}
 use Rattle.std.proofs.lemmas.List.Elements.{All-cons, All-filter, All-push}
@@ -10,7 +10,6 @@ use Rattle.vault_model.specs.declared.claims.Owner.TheVariants as owners
 use Rattle.vault_model.specs.declared.ids.ClaimId.{ClaimId}
 use Rattle.vault_model.specs.declared.ids.ClaimId.TheVariants.{Long}
 use Rattle.vault_model.specs.declared.effects.Effect.TheVariants as effects
-use Rattle.vault_model.specs.Limits.{last_number}
 use Rattle.vault_model.specs.Name.{IsName}
 use Rattle.vault_model.specs.Said.{Effect}
 use Rattle.vault_model.specs.Claims.{same_id, claim_of, without, put_first}
@@ -22,9 +21,8 @@ use Rattle.vault_journal.specs.Spelling.{HasRecord}
 use Rattle.vault_store.specs.Snapshot.{HasSnapshot, designer_of}
 use Rattle.vault_store.specs.Files.{applied, after_frames, IsFrame}
 
--- the last number has four bytes, and names are names
+-- names are names
 record IsNamed (v : Vault) : Type 0 where
-  fits : v.last_long ≤ last_number
   places : All (λ (place : Place). IsName place.name) v.tree
   owners : All (λ (claim : Claim). IsName (designer_of claim.owner)) v.line
 
@@ -41,13 +39,12 @@ module _ (w next : Vault) (named : IsNamed w) where
   named_made : (parent : ℕ) (name : List ℕ) → IsName name → after_made w parent name ≡ Some next → IsNamed next
   unfolding after_made
   named_made parent name is e =
-      subst IsNamed (only_if_is _ _ next e) (record { fits = named.fits; places = All-push (λ (place : Place). IsName place.name) w.tree (record { parent = parent; name = name }) named.places is; owners = named.owners })
+      subst IsNamed (only_if_is _ _ next e) (record { places = All-push (λ (place : Place). IsName place.name) w.tree (record { parent = parent; name = name }) named.places is; owners = named.owners })
 
-  named_asked : (number : ℕ) (designer : List ℕ) (items : List Item) → number ≤ last_number → IsName designer → after_asked w number designer items ≡ Some next → IsNamed next
+  named_asked : (number : ℕ) (designer : List ℕ) (items : List Item) → IsName designer → after_asked w number designer items ≡ Some next → IsNamed next
   unfolding after_asked
-  named_asked number designer items fits is e =
+  named_asked number designer items is e =
       subst IsNamed (only_if_is _ _ next e) (record {
-        fits = fits;
         places = named.places;
         owners = All-push (λ (claim : Claim). IsName (designer_of claim.owner)) w.line (record { id = Long number; owner = owners.Designer designer; items = items }) named.owners is;
       })
@@ -63,26 +60,26 @@ module _ (w next : Vault) (named : IsNamed w) where
   unfolding after_extended
   named_extended number items e =
       by_claim (IsNamed next) next (claim_of w.line (Long number)) _
-      (λ claim found h. subst IsNamed (only_if_is _ _ next h) (record { fits = named.fits; places = named.places; owners = named_first (Long number) (claim.items ++ items) claim found })) e
+      (λ claim found h. subst IsNamed (only_if_is _ _ next h) (record { places = named.places; owners = named_first (Long number) (claim.items ++ items) claim found })) e
 
   named_saved : (number place : ℕ) (content : List ℕ) → after_saved w number place content ≡ Some next → IsNamed next
   unfolding after_saved
   named_saved number place content e =
-      by_claim (IsNamed next) next (claim_of w.line (Long number)) _ (λ claim found h. subst IsNamed (only_if_is _ _ next h) (record { fits = named.fits; places = named.places; owners = named.owners })) e
+      by_claim (IsNamed next) next (claim_of w.line (Long number)) _ (λ claim found h. subst IsNamed (only_if_is _ _ next h) (record { places = named.places; owners = named.owners })) e
 
   named_checked_in : (number : ℕ) → after_checked_in w number ≡ Some next → IsNamed next
   unfolding after_checked_in
   named_checked_in number e =
-      by_claim (IsNamed next) next (claim_of w.line (Long number)) _ (λ claim found h. subst IsNamed (only_if_is _ _ next h) (record { fits = named.fits; places = named.places; owners = named_without (Long number) })) e
+      by_claim (IsNamed next) next (claim_of w.line (Long number)) _ (λ claim found h. subst IsNamed (only_if_is _ _ next h) (record { places = named.places; owners = named_without (Long number) })) e
 
   named_abandoned : (number : ℕ) → after_abandoned w number ≡ Some next → IsNamed next
   unfolding after_abandoned
-  named_abandoned number e = subst IsNamed (only_if_is _ _ next e) (record { fits = named.fits; places = named.places; owners = named_without (Long number) })
+  named_abandoned number e = subst IsNamed (only_if_is _ _ next e) (record { places = named.places; owners = named_without (Long number) })
 
 named_after : (w next : Vault) (effect : Effect) → IsNamed w → HasRecord effect → after w effect ≡ Some next → IsNamed next
 unfolding after
 named_after w next (effects.Made parent name) named has e = named_made w next named parent name has.1 e
-named_after w next (effects.Asked number designer items) named has e = named_asked w next named number designer items (omega (arith, has.0.fits)) has.1 e
+named_after w next (effects.Asked number designer items) named has e = named_asked w next named number designer items has.1 e
 named_after w next (effects.Extended number items) named has e = named_extended w next named number items e
 named_after w next (effects.Saved number place content) named has e = named_saved w next named number place content e
 named_after w next (effects.CheckedIn number) named has e = named_checked_in w next named number e
@@ -91,8 +88,8 @@ named_after w next (effects.Abandoned number) named has e = named_abandoned w ne
 spelled_after : (w next : Vault) (effect : Effect) → HasSnapshot w → HasRecord effect → after w effect ≡ Some next → HasSnapshot next
 spelled_after w next effect has record_is e =
     let stays = durable_stays w next effect has.well_formed e in
-    let named = named_after w next effect (record { fits = has.fits; places = has.places; owners = has.owners }) record_is e in
-    record { well_formed = stays.0; durable = stays.1 has.durable; fits = named.fits; places = named.places; owners = named.owners }
+    let named = named_after w next effect (record { places = has.places; owners = has.owners }) record_is e in
+    record { well_formed = stays.0; durable = stays.1 has.durable; places = named.places; owners = named.owners }
 
 -- a step to a vault that has a spelling, and what follows from there
 spelled_step : (v : Vault) (o : Option Vault) (more : Vault → Option Vault) → ((next : Vault) → o ≡ Some next → HasSnapshot next) → ((next : Vault) → HasSnapshot next → more next ≡ Some v → HasSnapshot v) → option_and_then more o ≡ Some v → HasSnapshot v

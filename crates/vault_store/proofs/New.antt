@@ -20,7 +20,7 @@ use Rattle.vault_store.specs.Sound.{IsSound}
 use Rattle.vault_store.specs.Create.{new_front, new_file, IsFilled}
 
 pub new_snapshot : HasSnapshot new_vault
-new_snapshot = record { well_formed = kept_new; durable = refl; fits = omega arith; places = All-nil (λ (place : Place). IsName place.name); owners = All-nil (λ (claim : Claim). IsName (designer_of claim.owner)) }
+new_snapshot = record { well_formed = kept_new; durable = refl; places = All-nil (λ (place : Place). IsName place.name); owners = All-nil (λ (claim : Claim). IsName (designer_of claim.owner)) }
 
 abbrev pub new_reading : Reading
 new_reading = record { vault = new_vault; generation = 1; tail = 34; journal = 0 }

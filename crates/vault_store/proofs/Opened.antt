@@ -11,7 +11,8 @@ use Rattle.vault_store.specs.declared.opening.OpenError.TheVariants.{NoVault, Da
 use Rattle.vault_store.specs.declared.phase.Phase.TheVariants.{Idle}
 use Rattle.vault_store.specs.declared.opening.File.{File}
 use Rattle.vault_store.specs.declared.opening.File.TheVariants.{First, Second}
-use Rattle.vault_store.specs.Files.{applied, after_frames, Reading, Holds, EndsBehind, IsSpare, AreRead, HasCurrentHead}
+use Rattle.vault_store.specs.Calls.{IsQuiet, AreQuiet}
+use Rattle.vault_store.specs.Files.{Reading, Holds, EndsBehind, IsSpare, AreRead, HasCurrentHead}
 use Rattle.vault_store.specs.Faults.{IsBodyFault}
 use Rattle.vault_store.specs.OnDisk.{IsSettled}
 use Rattle.vault_store.specs.Spares.{IsAside}
@@ -21,6 +22,7 @@ use Rattle.vault_store.specs.State.{at_rest}
 use Rattle.vault_store.specs.Seen.{Seen, of_file, Keeps}
 use Rattle.vault_store.specs.Sound.{IsSound}
 use Rattle.vault_store.proofs.Asides.{torn_spare}
+use Rattle.vault_store.proofs.Behind.{quiet_then}
 use Rattle.vault_store.proofs.Bodies.{holds_read}
 use Rattle.vault_store.proofs.Named.{frames_spelled}
 use Rattle.vault_store.proofs.HandedOn.{handed_behind, settled_reads}
@@ -200,3 +202,21 @@ module _ {D : Type 0} (disk : D → Disk) (which : File) (first second one two a
                   spare = let stands = subst (IsSpare g) (sym (spare_shown other)) (newer_here here.0 here.1).1 in opened_aside (IsSpare g) other stands (λ y isnt torn. torn_spare g (disk spare).shown y stands isnt torn);
                 };
           }
+
+-- where no fault was counted until the active file was read on, and none then, none was counted of either device
+pub opened_quiet : {D : Type 0} (disk : D → Disk) (which : File) (first second one two active spare active_new : D) → AreQuiet (disk first) (disk second) (disk one) (disk two)
+    → active ≡ of_file which one two → spare ≡ of_file which two one → IsQuiet (disk active) (disk active_new) → AreQuiet (disk first) (disk second) (disk (of_file which active_new spare)) (disk (of_file which spare active_new))
+opened_quiet disk which first second one two active spare active_new quiet active_is spare_is still =
+    unplaced (λ (a b : _). IsQuiet (disk a) (disk b)) which first second active_new spare
+    (quiet_then (disk (of_file which first second)) (disk active) (disk active_new)
+    (subst (λ (d : _). IsQuiet (disk (of_file which first second)) (disk d)) (sym active_is) (placed (λ (a b : _). IsQuiet (disk a) (disk b)) which first second one two quiet.0 quiet.1)) still)
+    (subst (λ (d : _). IsQuiet (disk (of_file which second first)) (disk d)) (sym spare_is) (placed (λ (a b : _). IsQuiet (disk a) (disk b)) which second first two one quiet.1 quiet.0))
+
+-- so it is where memory was wanted in reading on
+pub opened_wanted : {D : Type 0} (disk : D → Disk) (which : File) (first second one two active spare active_new first_new second_new : D) → AreQuiet (disk first) (disk second) (disk one) (disk two)
+    → active ≡ of_file which one two → spare ≡ of_file which two one → (why : OpenError) (IsWrong : ℕ → Type 0) → IsWhyNot (disk active) (disk active_new) which IsWrong why
+    → first_new ≡ of_file which active_new spare → second_new ≡ of_file which spare active_new → why ≡ NoMemory → AreQuiet (disk first) (disk second) (disk first_new) (disk second_new)
+opened_wanted disk which first second one two active spare active_new first_new second_new quiet active_is spare_is why IsWrong is first_is second_is wanted =
+    subst (λ (d : _). AreQuiet (disk first) (disk second) (disk d) (disk second_new)) (sym first_is)
+    (subst (λ (d : _). AreQuiet (disk first) (disk second) (disk (of_file which active_new spare)) (disk d)) (sym second_is)
+    (opened_quiet disk which first second one two active spare active_new quiet active_is spare_is (subst (λ (w : OpenError). IsWhyNot (disk active) (disk active_new) which IsWrong w) wanted is)))

@@ -1,23 +1,21 @@
 -- The spelling of a vault is short enough for its length to have four bytes.
-use Rattle.std.proofs.Common.{◌≡◌, ℕ, suc, ◌+◌, ◌*◌, ◌<◌, ◌≤◌, ◌^◌, ◌==◌, Bool, true, false, cond, List, [], ◌∷◌, ◌++◌, length, drop, filter, refl, ap, arith, length-append, All, inl, inr}
+use Rattle.std.proofs.Common.{◌≡◌, ℕ, suc, ◌+◌, ◌*◌, ◌<◌, ◌≤◌, ◌^◌, ◌==◌, Bool, true, false, cond, List, [], ◌∷◌, ◌++◌, length, drop, filter, ap, arith, length-append, All, inl, inr}
 use Rattle.std.specs.List.{flat_map}
 use Rattle.std.proofs.lemmas.Bool.{cases_lt}
-use Rattle.std.proofs.lemmas.Bool.Decides.{nat_tests}
 use Rattle.std.proofs.lemmas.List.{drop_more, drop_all, get_or_past}
 use Rattle.std.proofs.lemmas.List.Sums.{sum_by-cons}
 use Rattle.std.proofs.lemmas.List.Concat.{flat_map-cons}
 use Rattle.std.proofs.lemmas.List.Elements.{All-head, All-tail, All-map, All-filter, All-weaker}
 use Rattle.vault_model.specs.declared.place.Place.{Place}
 use Rattle.vault_model.specs.declared.claims.Claim.{Claim}
-use Rattle.vault_model.specs.declared.claims.Item.{Item}
-use Rattle.vault_model.specs.Name.{IsName, is_name}
+use Rattle.vault_model.specs.Name.{IsName}
 use Rattle.vault_model.specs.Tree.{is_part}
 use Rattle.vault_model.specs.Shelf.{Draft, versions_of, versions_weight, weight, content_weight}
 use Rattle.vault_model.specs.Drafts.{SavedDraft, drafts_of}
 use Rattle.vault_model.specs.Vault.{Vault, IsVault, IsClaim, IsDraft}
 use Rattle.vault_journal.proofs.Sizes.{flat_map-item_bytes}
 use Rattle.vault_journal.proofs.OneSpelling.{name_is_short}
-use Rattle.vault_journal.specs.Spelling.{in_two, in_four, name_bytes, item_bytes, items_bytes, content_bytes}
+use Rattle.vault_journal.specs.Spelling.{in_two, in_four, name_bytes, items_bytes, content_bytes}
 use Rattle.vault_store.specs.Laws.{SnapshotsAreShort}
 use Rattle.vault_store.specs.Snapshot.{snapshot_of, versions_bytes, places_bytes, draft_bytes, drafts_bytes, claim_bytes, number_of, designer_of}
 

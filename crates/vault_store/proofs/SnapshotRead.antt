@@ -96,12 +96,12 @@ module _ (bytes : List ℕ) where
 
   pub no_last : u32_at bytes ≡ None → IsNoSnapshot
   no_last none v has same =
-      none_read in_four (λ n. n < 2 ^ 32) u32_at fields_are_spelled.in_four bytes v.last_long (places_of v.tree v.shelf ++ (claims_bytes (told_of v) ++ [])) none (omega (arith, has.fits)) (same ∙ snapshot_whole v)
+      none_read in_four (λ n. n < 2 ^ 32) u32_at fields_are_spelled.in_four bytes v.last_long (places_of v.tree v.shelf ++ (claims_bytes (told_of v) ++ [])) none (omega (arith, has.well_formed.numbers.long)) (same ∙ snapshot_whole v)
 
   module _ (last_long : ℕ) (after : List ℕ) (got : u32_at bytes ≡ Some (last_long, after)) where
     at_places : (v : Vault) → HasSnapshot v → bytes ≡ snapshot_of v → (last_long ≡ v.last_long) × (after ≡ places_of v.tree v.shelf ++ (claims_bytes (told_of v) ++ []))
     at_places v has same =
-        one_read in_four (λ n. n < 2 ^ 32) u32_at fields_are_spelled.in_four bytes last_long v.last_long after (places_of v.tree v.shelf ++ (claims_bytes (told_of v) ++ [])) got (omega (arith, has.fits)) (same ∙ snapshot_whole v)
+        one_read in_four (λ n. n < 2 ^ 32) u32_at fields_are_spelled.in_four bytes last_long v.last_long after (places_of v.tree v.shelf ++ (claims_bytes (told_of v) ++ [])) got (omega (arith, has.well_formed.numbers.long)) (same ∙ snapshot_whole v)
 
     pub no_places : BeginsWithNoPlaces after → IsNoSnapshot
     no_places none v has same = none v.tree v.shelf (claims_bytes (told_of v) ++ []) (has_places v has) (at_places v has same).1
@@ -164,7 +164,6 @@ module _ (bytes : List ℕ) where
           has_snapshot are = record {
             well_formed = is.well_formed;
             durable = is.durable;
-            fits = (let fits = (fields_are_spelled.in_four.spelled bytes last_long after are got).1 in omega (arith, fits, numbers));
             places = subst (λ (t : List Place). All (λ (place : Place). IsName place.name) t) (sym trees) places.are.named;
             owners = subst (λ (l : List Claim). All (λ (c : Claim). IsName (designer_of c.owner)) l) (sym lines)
                 (All-map (λ (c : Claim). IsName (designer_of c.owner)) (λ (x : Drafted). x.0) read.told (All-weaker HasOwn (λ (x : Drafted). IsName (designer_of x.0.owner)) (λ x own. own.claim.name) read.told read.each));

@@ -1,5 +1,5 @@
 -- A snapshot is the spelling of one vault.
-use Rattle.std.proofs.Common.{◌≡◌, ℕ, zero, suc, ◌+◌, ◌<◌, ◌≤◌, ◌^◌, ◌==◌, true, List, [], ◌∷◌, ◌++◌, length, get_or, map, filter, Some, refl, sym, ◌∙◌, ap, subst, arith, append_assoc, All, inl, inr}
+use Rattle.std.proofs.Common.{◌≡◌, ℕ, zero, suc, ◌+◌, ◌<◌, ◌≤◌, ◌^◌, ◌==◌, true, List, [], ◌∷◌, ◌++◌, length, get_or, map, filter, Some, refl, sym, ◌∙◌, ap, subst, arith, All, inl, inr}
 use Rattle.std.specs.List.{flat_map, AllByRecursion}
 use Rattle.std.specs.Option.{option_map}
 use Rattle.std.proofs.lemmas.Bool.{cases_Bool, cases_lt}
@@ -74,7 +74,7 @@ module _ (v : Vault) (has : HasSnapshot v) where
   few_places = omega (arith, has.well_formed.tree.few)
 
   long_id : (id : ClaimId) → IsGiven v.last_long v.last_short id → (id ≡ Long (number_of id)) × (number_of id < 2 ^ 32)
-  long_id (Long n) given = (refl, omega (arith, given.1, has.fits))
+  long_id (Long n) given = (refl, omega (arith, given.1, has.well_formed.numbers.long))
   long_id (Short n) given = absurd (omega (arith, given.0, given.1, no_short))
 
   designer_owns : (id : ClaimId) (owner : Owner) → id ≡ Long (number_of id) → Owns v.sessions owner id → owner ≡ owners.Designer (designer_of owner)
@@ -121,7 +121,7 @@ no_library tree part = cc
 module _ (v w : Vault) (has_v : HasSnapshot v) (has_w : HasSnapshot w) (same : snapshot_of v ≡ snapshot_of w) where
   first : (v.last_long ≡ w.last_long) × (in_four (length v.tree + 1) ++ (places_bytes v 1 v.tree ++ behind_places v) ≡ in_four (length w.tree + 1) ++ (places_bytes w 1 w.tree ++ behind_places w))
   first =
-      one_number v.last_long w.last_long (in_four (length v.tree + 1) ++ (places_bytes v 1 v.tree ++ behind_places v)) (in_four (length w.tree + 1) ++ (places_bytes w 1 w.tree ++ behind_places w)) (omega (arith, has_v.fits)) (omega (arith, has_w.fits))
+      one_number v.last_long w.last_long (in_four (length v.tree + 1) ++ (places_bytes v 1 v.tree ++ behind_places v)) (in_four (length w.tree + 1) ++ (places_bytes w 1 w.tree ++ behind_places w)) (omega (arith, has_v.well_formed.numbers.long)) (omega (arith, has_w.well_formed.numbers.long))
       (sym (snapshot_split v) ∙ same ∙ snapshot_split w)
 
   second : (length v.tree + 1 ≡ length w.tree + 1) × (places_bytes v 1 v.tree ++ behind_places v ≡ places_bytes w 1 w.tree ++ behind_places w)

@@ -1,6 +1,6 @@
 -- The places of a snapshot are of one tree, and their versions of one shelf.
 use Rattle.std.proofs.Common.{◌≡◌, ℕ, zero, suc, ◌+◌, ◌-◌, ◌<◌, ◌≤◌, ◌^◌, Bool, true, false, cond, List, [], ◌∷◌, ◌++◌, length, Option, refl, sym, ◌∙◌, ap, subst, arith, append_assoc, length-append, All, inl, inr}
-use Rattle.std.specs.Prelude.{slice_get, nat_le}
+use Rattle.std.specs.Prelude.{nat_le}
 use Rattle.std.specs.Option.{option_map, option_map_or}
 use Rattle.std.proofs.lemmas.Bool.{cases_lt}
 use Rattle.std.proofs.lemmas.List.{ext_get_or, get_or_past}

@@ -8,6 +8,7 @@ use Rattle.vault_device.specs.Disk.{Disk}
 use Rattle.vault_journal.specs.Spelling.{in_four, records_of}
 use Rattle.vault_checkout.specs.declared.apply.ApplyError.TheVariants.{NotApplicable}
 use Rattle.vault_store.specs.declared.body.ReadError.{ReadError}
+use Rattle.vault_store.specs.Calls.{IsQuiet}
 use Rattle.vault_store.specs.Files.{frame_extra, frame_bytes, frame_of}
 use Rattle.vault_store.specs.Read.{AreReads, IsWhy, IsLengthRead, BeginsWithNoFrame, BeginsWithNone, AreMade, AreNotMade, IsFrameRead, IsNoFrame}
 use Rattle.vault_store.proofs.OneReading.{one_number, same_front}
@@ -17,11 +18,11 @@ use Rattle.vault_store.proofs.Behind.{honest_behind, why_behind, passed_on}
 -- behind an open gate
 module _ (old gated : Disk) (first : AreReads old gated) (at : ℕ) (opened : IsTrue old.honest → get_or old.shown at 0 ≡ 1) where
   -- no frame has the length that stands there
-  pub no_length : {T : Type 0} (new : Disk) (v : Vault) (result : Result T ReadError) (why : ReadError) → IsWhy gated new (λ (offset : ℕ). (offset ≡ at) × BeginsWithNoFrame (drop at gated.shown)) why → IsErrAnd result (λ (e : ReadError). e ≡ why)
+  pub no_length : {T : Type 0} (new : Disk) (v : Vault) (result : Result T ReadError) (why : ReadError) → IsQuiet old gated → IsWhy gated new (λ (offset : ℕ). (offset ≡ at) × BeginsWithNoFrame (drop at gated.shown)) why → IsErrAnd result (λ (e : ReadError). e ≡ why)
       → IfErr result (λ (e : ReadError). IsWhy old new (IsNoFrame v old.shown at) e)
-  no_length new v result why refused is =
+  no_length new v result why quiet refused is =
       passed_on result why (λ (e : ReadError). IsWhy old new (IsNoFrame v old.shown at) e) is
-      (why_behind old gated new (λ (offset : ℕ). (offset ≡ at) × BeginsWithNoFrame (drop at gated.shown)) (IsNoFrame v old.shown at) first (λ offset honest wrong. record {
+      (why_behind old gated new (λ (offset : ℕ). (offset ≡ at) × BeginsWithNoFrame (drop at gated.shown)) (IsNoFrame v old.shown at) first quiet (λ offset honest wrong. record {
         here = wrong.0;
         opened = opened honest;
         none = λ effects next behind frame leads some there. wrong.1 effects behind frame some (ap (λ (file : List ℕ). drop at file) (first.read honest).shown ∙ there);

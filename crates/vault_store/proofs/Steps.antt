@@ -9,10 +9,11 @@ use Rattle.vault_model.specs.Vault.{Vault}
 use Rattle.vault_device.specs.Disk.{Disk}
 use Rattle.vault_journal.specs.Spelling.{records_of}
 use Rattle.vault_store.specs.declared.body.ReadError.{ReadError}
+use Rattle.vault_store.specs.Calls.{IsQuiet}
 use Rattle.vault_store.specs.Files.{frame_extra, frame_of, frames_bytes, IsFrame}
 use Rattle.vault_store.specs.Read.{AreReads, IsWhy, IsFrameRead, IsNoFrame, AreFramesRead, AreAllRead, IsFrameWrong}
 use Rattle.vault_store.proofs.Frames.{each_more, frames_more, length-frame}
-use Rattle.vault_store.proofs.Behind.{honest_behind, and_reads, why_behind, passed_on}
+use Rattle.vault_store.proofs.Behind.{honest_behind, and_reads, quiet_then, why_behind, passed_on}
 
 pub no_reads : (disk : Disk) → AreReads disk disk
 no_reads disk = record {
@@ -28,12 +29,14 @@ frames_more_bytes (frame ∷ frames) = omega (arith, frames_more_bytes frames, a
 -- what the loop over frames keeps
 pub record AreSteps (old mid : Disk) (len from : ℕ) (v w : Vault) (count at : ℕ) : Type 0 where
   pub reads : AreReads old mid
+  pub quiet : IsQuiet old mid
   pub frames : AreFramesRead old len from v w count at
   pub few : count + from ≤ at
 
 pub steps_start : (old : Disk) (len from : ℕ) (v : Vault) → from < len → AreSteps old old len from v v 0 from
 steps_start old len from v within = record {
   reads = no_reads old;
+  quiet = record { same_faults = refl };
   frames = record { frames = []; each = tt; leads = refl; count_is = refl; size = omega arith; within = within; bytes = λ honest. sym (append-nil (take from old.shown)) };
   few = omega arith;
 }
@@ -45,9 +48,10 @@ module _ (old mid : Disk) (len from : ℕ) (v w : Vault) (count at : ℕ) (steps
   pub length_behind : (IsTrue old.honest → len ≡ length old.shown) → IsTrue mid.honest → len ≡ length mid.shown
   length_behind size honest = let was = subst IsTrue steps.reads.called.same_honesty honest in size was ∙ ap length (sym (same was))
 
-  pub one_step : (new : Disk) (next more : ℕ) (u : Vault) → more ≡ count + 1 → AreReads mid new → IsFrameRead mid len at next w u → AreSteps old new len from v u more next
-  one_step new next more u more_is reads step = record {
+  pub one_step : (new : Disk) (next more : ℕ) (u : Vault) → more ≡ count + 1 → AreReads mid new → IsQuiet mid new → IsFrameRead mid len at next w u → AreSteps old new len from v u more next
+  one_step new next more u more_is reads quiet step = record {
     reads = and_reads old mid new steps.reads reads;
+    quiet = quiet_then old mid new steps.quiet quiet;
     frames = record {
       frames = steps.frames.frames ++ step.effects ∷ [];
       each = each_more IsFrame steps.frames.frames step.effects steps.frames.each step.is_frame;
@@ -88,7 +92,7 @@ module _ (old mid : Disk) (len from : ℕ) (v w : Vault) (count at : ℕ) (steps
       → IfErr result (λ (e : ReadError). IsWhy old new (IsFrameWrong from v old.shown) e)
   wrong_step new result why size refused is =
       passed_on result why (λ (e : ReadError). IsWhy old new (IsFrameWrong from v old.shown) e) is
-      (why_behind old mid new (IsNoFrame w mid.shown at) (IsFrameWrong from v old.shown) steps.reads wrong why refused)
+      (why_behind old mid new (IsNoFrame w mid.shown at) (IsFrameWrong from v old.shown) steps.reads steps.quiet wrong why refused)
     where
       wrong : (offset : ℕ) → IsTrue old.honest → IsNoFrame w mid.shown at offset → IsFrameWrong from v old.shown offset
       wrong offset honest absent = subst (IsFrameWrong from v old.shown) (sym absent.here) (record {

@@ -1,5 +1,5 @@
 -- What any number of device calls leave of a disk's counts. This project's own.
-use Rattle.std.specs.Prelude.{◌≡◌, ◌⊎◌, ◌<◌, ◌≤◌, Result, IsErr}
+use Rattle.std.specs.Prelude.{◌≡◌, ◌⊎◌, ◌<◌, ◌≤◌, Result, IsErr, OnOk}
 use Rattle.vault_device.specs.Disk.{Disk, last_count}
 
 -- a fault was counted, or no more can be
@@ -11,7 +11,16 @@ pub record IsCalled (old new : Disk) : Type 0 where
   pub same_honesty : new.honest ≡ old.honest
   pub no_fewer_faults : old.faults ≤ new.faults
 
--- calls that fail only where a fault was counted or no more can be
+-- no fault was counted
+pub record IsQuiet (old new : Disk) : Type 0 where
+  pub same_faults : new.faults ≡ old.faults
+
+-- no fault was counted of either of two devices
+abbrev pub AreQuiet : Disk → Disk → Disk → Disk → Type 0
+AreQuiet first second first_new second_new = IsQuiet first first_new × IsQuiet second second_new
+
+-- calls that fail only where a fault was counted or no more can be, and count one only where they fail
 pub record AreCalls {A E : Type 0} (old new : Disk) (result : Result A E) : Type 0 where
   pub called : IsCalled old new
   pub cause : IsErr result → HasCause old new
+  pub quiet : OnOk result (IsQuiet old new)

@@ -7,6 +7,7 @@ use Rattle.vault_store.specs.declared.creation.CreateError.TheVariants.{Exists, 
 use Rattle.vault_store.specs.Files.{snapshot_bytes, current_head, IsClosedFile, StandFor}
 use Rattle.vault_store.specs.Calls.{HasCause}
 use Rattle.vault_store.specs.OnDisk.{IsSettled}
+use Rattle.vault_store.specs.Opening.{AreSettled}
 use Rattle.vault_store.specs.Step.{MayBeLeft}
 
 -- the bytes of a new vault's file up to its tail gate
@@ -29,6 +30,11 @@ IsNotMade first second first_new second_new Exists =
 IsNotMade first second first_new second_new Device = HasCause first first_new ⊎ HasCause second second_new
 IsNotMade first second first_new second_new NoMemory =
     IsTrue first.honest → IsTrue second.honest → (first.shown ≡ []) × (second.shown ≡ []) × ShowTheSame first second first_new second_new
+
+-- what two devices show is settled where no vault was made, but for a device's fault
+abbrev pub AreSettledUnmade : Disk → Disk → CreateError → Type 0
+AreSettledUnmade first second Device = Unit {0}
+AreSettledUnmade first second _ = AreSettled first second
 
 -- an empty file has these bytes now, and they are settled
 pub record IsFilled (old new : Disk) (bytes : List ℕ) : Type 0 where

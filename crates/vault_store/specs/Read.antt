@@ -19,18 +19,19 @@ use Rattle.vault_store.specs.Files.{header, head_length, most_records, frame_ext
 use Rattle.vault_store.specs.Faults.{IsBodyFault}
 use Rattle.vault_store.specs.Opening.{IsNewer}
 use Rattle.vault_store.specs.Seen.{of_file}
-use Rattle.vault_store.specs.Calls.{HasCause, IsCalled}
+use Rattle.vault_store.specs.Calls.{HasCause, IsCalled, IsQuiet}
 
 -- calls that changed nothing
 pub record AreReads (old new : Disk) : Type 0 where
   pub called : IsCalled old new
   pub read : IsTrue old.honest → IsRead old new
 
--- Why a part of a file was not read: a call failed, memory was wanted, or of an honest device there is this fault at the offset.
+-- Why a part of a file was not read: a call failed; memory was wanted and no call failed; or of an honest device there is this fault at
+-- the offset.
 abbrev pub IsWhy : Disk → Disk → (ℕ → Type 0) → ReadError → Type 0
 IsWhy old new IsWrong (errors.Damaged at) = IsTrue old.honest → IsWrong at
 IsWhy old new IsWrong errors.Device = HasCause old new
-IsWhy old new IsWrong errors.NoMemory = Unit {0}
+IsWhy old new IsWrong errors.NoMemory = IsQuiet old new
 
 -- the snapshot of a vault, which ends in front of this offset, with a byte behind it
 pub record IsBaseRead (disk : Disk) (len : ℕ) (base : Vault) (end : ℕ) : Type 0 where
@@ -139,7 +140,7 @@ abbrev pub IsWhyNot : Disk → Disk → File → (ℕ → Type 0) → OpenError 
 IsWhyNot old new which IsWrong NoVault = ⊥
 IsWhyNot old new which IsWrong (Damaged file at) = (file ≡ which) × (IsTrue old.honest → IsWrong at)
 IsWhyNot old new which IsWrong Device = HasCause old new
-IsWhyNot old new which IsWrong NoMemory = Unit {0}
+IsWhyNot old new which IsWrong NoMemory = IsQuiet old new
 
 -- this one of two files is the active one
 abbrev pub IsNewerIn : List ℕ → List ℕ → File → ℕ → Type 0

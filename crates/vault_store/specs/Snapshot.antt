@@ -1,5 +1,5 @@
 -- The one spelling of a durable vault. This project's own.
-use Rattle.std.specs.Prelude.{ℕ, suc, ◌+◌, ◌≤◌, if◌then◌else◌, List, [], ◌∷◌, ◌++◌, length, All}
+use Rattle.std.specs.Prelude.{ℕ, suc, ◌+◌, if◌then◌else◌, List, [], ◌∷◌, ◌++◌, length, All}
 use Rattle.std.specs.List.{flat_map}
 use Rattle.vault_model.specs.declared.place.Place.{Place}
 use Rattle.vault_model.specs.declared.claims.Claim.{Claim}
@@ -7,7 +7,6 @@ use Rattle.vault_model.specs.declared.claims.Owner.{Owner}
 use Rattle.vault_model.specs.declared.claims.Owner.TheVariants as owners
 use Rattle.vault_model.specs.declared.ids.ClaimId.{ClaimId}
 use Rattle.vault_model.specs.declared.ids.ClaimId.TheVariants.{Long, Short}
-use Rattle.vault_model.specs.Limits.{last_number}
 use Rattle.vault_model.specs.Name.{IsName}
 use Rattle.vault_model.specs.Tree.{is_part}
 use Rattle.vault_model.specs.Shelf.{Draft, versions_of}
@@ -56,10 +55,9 @@ claim_bytes v claim = in_four (number_of claim.id) ++ name_bytes (designer_of cl
 abbrev pub snapshot_of : Vault → List ℕ
 snapshot_of v = in_four v.last_long ++ in_four (length v.tree + 1) ++ places_bytes v 1 v.tree ++ in_two (length v.line) ++ flat_map (claim_bytes v) v.line
 
--- what is spelled: a well-formed durable vault, whose numbers have four bytes and whose names are names
+-- what is spelled: a well-formed durable vault, whose names are names
 pub record HasSnapshot (v : Vault) : Type 0 where
   pub well_formed : IsVault v
   pub durable : IsDurable v
-  pub fits : v.last_long ≤ last_number
   pub places : All (λ (place : Place). IsName place.name) v.tree
   pub owners : All (λ (claim : Claim). IsName (designer_of claim.owner)) v.line

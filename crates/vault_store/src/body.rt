@@ -1,8 +1,8 @@
 //! What stands behind the head of a file, read: its snapshot and its frames.
-ghost use Rattle.std.specs.Prelude.{◌≡◌, ◌≤◌, ℕ, IfOk, IfErr, IsTrue, length};
-ghost use Rattle.vault_store.specs.declared.body.BodyError.TheVariants.{Device as DeviceFailed};
+ghost use Rattle.std.specs.Prelude.{◌≡◌, ◌≤◌, ℕ, IfOk, IfErr, IsTrue, length, OnOk};
+ghost use Rattle.vault_store.specs.declared.body.BodyError.TheVariants.{Device as DeviceFailed, NoMemory as Wanted};
 ghost use Rattle.vault_store.specs.declared.body.ReadError.TheVariants as errors;
-ghost use Rattle.vault_store.specs.Calls.{HasCause};
+ghost use Rattle.vault_store.specs.Calls.{HasCause, IsQuiet};
 ghost use Rattle.vault_store.specs.Faults.{IsSnapshotFault};
 ghost use Rattle.vault_store.specs.Files.{header, HasCurrentHead};
 ghost use Rattle.vault_store.specs.Parts.{IsBody};
@@ -75,6 +75,7 @@ fn read_base<D: Device, A: Allocator + Copy>(
     ensures reads { AreReads (D.disk device.old) (D.disk device.new) }
     ensures base { IfOk result (λ base. IsBaseRead (D.disk device.old) len base.book base.end) }
     ensures refused { IfErr result (λ why. IsWhy (D.disk device.old) (D.disk device.new) (IsSnapshotFault (D.disk device.old).shown) why) }
+    ensures quiet { OnOk result (IsQuiet (D.disk device.old) (D.disk device.new)) }
 {
     let mut bytes = [0; 4];
     device.read_at(20, &mut bytes)?;
@@ -114,6 +115,7 @@ pub fn read_contents<D: Device, A: Allocator + Copy>(
     ensures reads { AreReads (D.disk device.old) (D.disk device.new) }
     ensures contents { IfOk result (λ contents. AreContents (D.disk device.old) contents.book contents.frames contents.tail contents.journal) }
     ensures refused { IfErr result (λ why. IsWhy (D.disk device.old) (D.disk device.new) (IsFaultBehindHead (D.disk device.old).shown) why) }
+    ensures quiet { OnOk result (IsQuiet (D.disk device.old) (D.disk device.new)) }
 {
     let len = device.len()?;
     if len < HEADER {
@@ -140,6 +142,7 @@ pub fn read_body<D: Device, A: Allocator + Copy>(
     ensures reads { AreReads (D.disk device.old) (D.disk device.new) }
     ensures body { IsTrue (D.disk device.old).honest → IfOk result (λ body. (generation : ℕ) → HasCurrentHead generation (D.disk device.old).shown → IsBody generation (D.disk device.old).shown body) }
     ensures cause { IfErr result (λ why. why ≡ DeviceFailed → HasCause (D.disk device.old) (D.disk device.new)) }
+    ensures memory { IfErr result (λ why. why ≡ Wanted → IsQuiet (D.disk device.old) (D.disk device.new)) }
 {
     match read_contents(alloc, device) {
         Ok(contents) => {

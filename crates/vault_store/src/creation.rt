@@ -1,11 +1,11 @@
 //! A new vault in two empty files.
-ghost use Rattle.std.specs.Prelude.{◌≡◌, [], IfOk, OnOk, OnErr, IfErr, IsTrue};
+ghost use Rattle.std.specs.Prelude.{◌≡◌, ◌↔◌, [], IfOk, OnOk, OnErr, IfErr, IsTrue};
 ghost use Rattle.vault_model.specs.Vault.{new_vault};
 ghost use Rattle.vault_store.specs.declared.creation.CreateError.TheVariants.{Device as DeviceFailed, NoMemory as Wanted};
 ghost use Rattle.vault_device.specs.Disk.{LeavesOnly, LeavesSince};
-ghost use Rattle.vault_store.specs.Calls.{AreCalls, IsCalled};
+ghost use Rattle.vault_store.specs.Calls.{AreCalls, IsCalled, AreQuiet};
 ghost use Rattle.vault_store.specs.OnDisk.{IsSettled};
-ghost use Rattle.vault_store.specs.Create.{new_file, IsNotMade, IsFilled, IsClosedOrNew, StopsInCreation};
+ghost use Rattle.vault_store.specs.Create.{new_file, IsNotMade, IsFilled, IsClosedOrNew, StopsInCreation, AreSettledUnmade};
 ghost use Rattle.vault_store.specs.State.{at_rest};
 ghost use Rattle.vault_store.specs.Seen.{first_of, second_of, Keeps};
 
@@ -66,6 +66,18 @@ const NEW_FILE_BEHIND_GATE: [u8; 34] = [
 // How many of them stand before the tail gate, and with the head gate where that stands.
 const NEW_TAIL: u64 = 34;
 
+// Settles a file, and tells whether it is empty. Two device calls.
+fn is_settled_empty<D: Device>(device: &mut D) -> Result<bool, Fault>
+    ensures calls { AreCalls (D.disk device.old) (D.disk device.new) result }
+    ensures shown { IsTrue (D.disk device.old).honest → (D.disk device.new).shown ≡ (D.disk device.old).shown }
+    ensures moments { IsTrue (D.disk device.old).honest → LeavesSince (D.disk device.old) (D.disk device.new) (D.disk device.old).IsImage }
+    ensures settled { IsTrue (D.disk device.old).honest → OnOk result (IsSettled (D.disk device.new)) }
+    ensures empty { IsTrue (D.disk device.old).honest → IfOk result (λ empty. IsTrue empty ↔ ((D.disk device.old).shown ≡ [])) }
+{
+    settle(device)?;
+    is_empty(device)
+}
+
 // Writes a new vault with its head gate closed, and then opens that. Six device calls.
 fn write_new<D: Device>(device: &mut D) -> Result<(), Fault>
     requires { IsTrue (D.disk device.old).honest → (D.disk device.old).shown ≡ [] }
@@ -79,7 +91,7 @@ fn write_new<D: Device>(device: &mut D) -> Result<(), Fault>
     write_settled(device, 0, &[1])
 }
 
-// Writes a new vault into two empty files, and gives a frame to fill.
+// Settles two files, writes a new vault into them where they are empty, and gives a frame to fill.
 fn make<D: Device, A: Allocator>(
     alloc: A,
     first: &mut D,
@@ -88,24 +100,28 @@ fn make<D: Device, A: Allocator>(
     ensures first { IsCalled (D.disk first.old) (D.disk first.new) }
     ensures second { IsCalled (D.disk second.old) (D.disk second.new) }
     ensures refused { IfErr result (λ why. IsNotMade (D.disk first.old) (D.disk second.old) (D.disk first.new) (D.disk second.new) why) }
+    ensures settled { IfErr result (λ why. AreSettledUnmade (D.disk first.new) (D.disk second.new) why) }
+    ensures memory { IfErr result (λ why. why ≡ Wanted → AreQuiet (D.disk first.old) (D.disk second.old) (D.disk first.new) (D.disk second.new)) }
     ensures made { IsTrue (D.disk first.old).honest → LeavesOnly (D.disk first.old) [] → LeavesSince (D.disk first.old) (D.disk first.new) IsClosedOrNew }
     ensures left { IsTrue (D.disk second.old).honest → LeavesSince (D.disk second.old) (D.disk second.new) (D.disk second.old).IsImage }
     ensures frame { IfOk result (λ frame. frame ≡ []) }
     ensures file { IsTrue (D.disk first.old).honest → OnOk result (IsFilled (D.disk first.old) (D.disk first.new) new_file) }
     ensures empty { IsTrue (D.disk second.old).honest → OnOk result (IsFilled (D.disk second.old) (D.disk second.new) []) }
 {
-    if !is_empty(first)? || !is_empty(second)? {
+    let none = is_settled_empty(first)?;
+    let none_behind = is_settled_empty(second)?;
+    if !none || !none_behind {
         return Err(CreateError::Exists);
     }
     let frame = Frame::new(alloc)?;
-    settle(second)?;
     write_new(first)?;
     Ok(frame)
 }
 
 impl<D: Device, A: Allocator> Store<D, A> {
-    /// Makes a vault with the library alone, in the first of two empty files. A refusal hands the devices back. A
-    /// creation that failed or was stopped leaves files of which none is open, or the new vault's. Nine device calls.
+    /// Makes a vault with the library alone, in the first of two empty files. It begins with a sync of each device. A refusal
+    /// hands the devices back. A creation that failed or was stopped leaves files of which none is open, or the new vault's.
+    /// Ten device calls.
     pub fn create(alloc: A, first: D, second: D) -> Result<Store<D, A>, Refused<D, CreateError>>
         ensures kept { IfOk result (λ store. Keeps D.disk store (at_rest new_vault)) }
         ensures numbers { IfOk result (λ store. (store.generation ≡ 1) × (store.tail ≡ 34) × (store.journal ≡ 0)) }
@@ -115,6 +131,8 @@ impl<D: Device, A: Allocator> Store<D, A> {
         ensures stops { IfOk result (λ store. StopsInCreation (D.disk first) (D.disk second) (D.disk (first_of store)) (D.disk (second_of store))) }
         ensures refused_stops { IfErr result (λ refused. StopsInCreation (D.disk first) (D.disk second) (D.disk refused.first) (D.disk refused.second)) }
         ensures refused { IfErr result (λ refused. IsNotMade (D.disk first) (D.disk second) (D.disk refused.first) (D.disk refused.second) refused.why) }
+        ensures left_settled { IfErr result (λ refused. AreSettledUnmade (D.disk refused.first) (D.disk refused.second) refused.why) }
+        ensures memory { IfErr result (λ refused. refused.why ≡ Wanted → AreQuiet (D.disk first) (D.disk second) (D.disk refused.first) (D.disk refused.second)) }
         ensures handed_back { IfErr result (λ refused. IsCalled (D.disk first) (D.disk refused.first) × IsCalled (D.disk second) (D.disk refused.second)) }
     {
         let mut first = first;

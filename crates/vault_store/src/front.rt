@@ -1,6 +1,6 @@
 //! The head of a file, read.
-ghost use Rattle.std.specs.Prelude.{IfOk, IsErr, IsTrue};
-ghost use Rattle.vault_store.specs.Calls.{HasCause};
+ghost use Rattle.std.specs.Prelude.{IfOk, IsErr, IsTrue, OnOk};
+ghost use Rattle.vault_store.specs.Calls.{HasCause, IsQuiet};
 ghost use Rattle.vault_store.specs.Parts.{IsHead};
 ghost use Rattle.vault_store.specs.Read.{AreReads};
 
@@ -63,6 +63,7 @@ pub fn read_head<D: Device>(device: &mut D) -> Result<Head, Fault>
     ensures reads { AreReads (D.disk device.old) (D.disk device.new) }
     ensures head { IsTrue (D.disk device.old).honest → IfOk result (λ head. IsHead (D.disk device.old).shown head) }
     ensures cause { IsErr result → HasCause (D.disk device.old) (D.disk device.new) }
+    ensures quiet { OnOk result (IsQuiet (D.disk device.old) (D.disk device.new)) }
 {
     if device.len()? < HEADER {
         return Ok(Head::Closed);

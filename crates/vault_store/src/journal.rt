@@ -2,7 +2,7 @@
 ghost use Rattle.std.specs.Prelude.{◌≡◌, ◌+◌, ◌<◌, ◌≤◌, ◌↔◌, Some, None, Err, IfOk, IfErr, IsErr, OnOk, IsTrue, length, drop, slice_index, slice_range};
 ghost use Rattle.vault_checkout.specs.declared.apply.ApplyError.TheVariants.{NotApplicable};
 ghost use Rattle.vault_journal.specs.Spelling.{in_four};
-ghost use Rattle.vault_store.specs.Calls.{HasCause};
+ghost use Rattle.vault_store.specs.Calls.{HasCause, IsQuiet};
 ghost use Rattle.vault_store.specs.Files.{applied, frame_extra, most_records};
 ghost use Rattle.vault_store.specs.Read.{AreReads, IsWhy, IsLengthRead, BeginsWithNoFrame, AreMade, AreNotMade, IsStepRead, IsNoFrame, AreAllRead, IsFrameWrong};
 
@@ -25,6 +25,7 @@ pub fn read_gate<D: Device>(device: &mut D, at: u64) -> Result<u8, Fault>
     ensures reads { AreReads (D.disk device.old) (D.disk device.new) }
     ensures gate { IsTrue (D.disk device.old).honest → IfOk result (λ gate. gate ≡ slice_index (D.disk device.old).shown at) }
     ensures cause { IsErr result → HasCause (D.disk device.old) (D.disk device.new) }
+    ensures quiet { OnOk result (IsQuiet (D.disk device.old) (D.disk device.new)) }
 {
     let mut gate = [0; 1];
     device.read_at(at, &mut gate)?;
@@ -52,6 +53,7 @@ fn read_length<D: Device>(device: &mut D, len: u64, at: u64) -> Result<u32, Read
     ensures reads { AreReads (D.disk device.old) (D.disk device.new) }
     ensures length { IfOk result (λ n. IsLengthRead (D.disk device.old) len at n) }
     ensures refused { IfErr result (λ why. IsWhy (D.disk device.old) (D.disk device.new) (λ offset. (offset ≡ at) × BeginsWithNoFrame (drop at (D.disk device.old).shown)) why) }
+    ensures quiet { OnOk result (IsQuiet (D.disk device.old) (D.disk device.new)) }
 {
     let room = len - at;
     if room <= FRAME_EXTRA {
@@ -109,6 +111,7 @@ pub fn read_bytes<D: Device, A: Allocator>(
     ensures size { IfOk result (λ bytes. length bytes.items ≡ count) }
     ensures bytes { IsTrue (D.disk device.old).honest → IfOk result (λ bytes. bytes.items ≡ slice_range (D.disk device.old).shown at (at + count)) }
     ensures refused { IfErr result (λ why. IsWhy (D.disk device.old) (D.disk device.new) (λ offset. ⊥) why) }
+    ensures quiet { OnOk result (IsQuiet (D.disk device.old) (D.disk device.new)) }
 {
     let mut bytes = vec![in alloc; 0; count as usize].map_err(|_| ReadError::NoMemory)?;
     device.read_at(at, &mut bytes)?;
@@ -135,6 +138,7 @@ fn read_frame<D: Device, A: Allocator + Copy>(
     ensures reads { AreReads (D.disk device.old) (D.disk device.new) }
     ensures step { IfOk result (λ next. IsStepRead (D.disk device.old) len at book.old book.new next) }
     ensures refused { IfErr result (λ why. IsWhy (D.disk device.old) (D.disk device.new) (IsNoFrame book.old (D.disk device.old).shown at) why) }
+    ensures quiet { OnOk result (IsQuiet (D.disk device.old) (D.disk device.new)) }
 {
     if read_gate(device, at)? != 1 {
         return Ok(None);
@@ -168,6 +172,7 @@ pub fn read_frames<D: Device, A: Allocator + Copy>(
     ensures reads { AreReads (D.disk device.old) (D.disk device.new) }
     ensures all { IfOk result (λ frames. AreAllRead (D.disk device.old) len from book.old book.new frames.count frames.tail) }
     ensures refused { IfErr result (λ why. IsWhy (D.disk device.old) (D.disk device.new) (IsFrameWrong from book.old (D.disk device.old).shown) why) }
+    ensures quiet { OnOk result (IsQuiet (D.disk device.old) (D.disk device.new)) }
 {
     let mut count = 0;
     let mut tail = from;

@@ -38,6 +38,7 @@ mod store;
 mod tests;
 
 pub use body::{Body, BodyError, read_body};
+pub use calls::settle_both;
 pub use creation::CreateError;
 pub use front::{Head, read_head};
 pub use opening::{File, OpenError};

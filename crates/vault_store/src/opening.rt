@@ -2,7 +2,7 @@
 ghost use Rattle.std.specs.Prelude.{◌≡◌, ◌⊎◌, ◌↔◌, ℕ, List, [], IfOk, IfErr, IsErr, OnOk, IsTrue, true};
 ghost use Rattle.vault_journal.specs.Gate.{IsClosed};
 ghost use Rattle.vault_store.specs.declared.opening.OpenError.TheVariants.{Device as DeviceFailed, NoMemory as Wanted};
-ghost use Rattle.vault_store.specs.Calls.{HasCause};
+ghost use Rattle.vault_store.specs.Calls.{HasCause, IsQuiet, AreQuiet};
 ghost use Rattle.vault_store.specs.Faults.{IsDamagedHead};
 ghost use Rattle.vault_store.specs.Files.{AreRead};
 ghost use Rattle.vault_store.specs.OnDisk.{IsSettled};
@@ -80,6 +80,8 @@ fn generation_in<D: Device>(which: File, device: &mut D) -> Result<Option<u64>, 
     ensures reads { AreReads (D.disk device.old) (D.disk device.new) }
     ensures generation { IsTrue (D.disk device.old).honest → IfOk result (λ generation. IsGenerationRead (D.disk device.old).shown generation) }
     ensures refused { IfErr result (λ why. IsWhyNot (D.disk device.old) (D.disk device.new) which (IsDamagedHead (D.disk device.old).shown) why) }
+    ensures memory { IfErr result (λ why. why ≡ Wanted → ⊥) }
+    ensures quiet { OnOk result (IsQuiet (D.disk device.old) (D.disk device.new)) }
 {
     match read_head(device)? {
         Head::Closed => Ok(None),
@@ -99,6 +101,7 @@ fn is_shut<D: Device>(device: &mut D) -> Result<bool, Fault>
     ensures reads { AreReads (D.disk device.old) (D.disk device.new) }
     ensures shut { IsTrue (D.disk device.old).honest → IfOk result (λ shut. (shut ≡ true) ↔ IsClosed 0 (D.disk device.old).shown) }
     ensures cause { IsErr result → HasCause (D.disk device.old) (D.disk device.new) }
+    ensures quiet { OnOk result (IsQuiet (D.disk device.old) (D.disk device.new)) }
 {
     if device.len()? == 0 {
         return Ok(false);
@@ -112,6 +115,8 @@ fn look_at<D: Device>(which: File, device: &mut D) -> Result<Headed, OpenError>
     ensures generation { IsTrue (D.disk device.old).honest → IfOk result (λ headed. IsGenerationRead (D.disk device.old).shown headed.generation) }
     ensures shut { IsTrue (D.disk device.old).honest → IfOk result (λ headed. (headed.shut ≡ true) ↔ IsClosed 0 (D.disk device.old).shown) }
     ensures refused { IfErr result (λ why. IsWhyNot (D.disk device.old) (D.disk device.new) which (IsDamagedHead (D.disk device.old).shown) why) }
+    ensures memory { IfErr result (λ why. why ≡ Wanted → ⊥) }
+    ensures quiet { OnOk result (IsQuiet (D.disk device.old) (D.disk device.new)) }
 {
     let generation = generation_in(which, device)?;
     let shut = is_shut(device)?;
@@ -123,6 +128,7 @@ fn newer(first: Headed, second: Headed) -> Result<Active, OpenError>
     ensures newer { IfOk result (λ active. (x y : List ℕ) → IsGenerationRead x first.generation → IsGenerationRead y second.generation → IsNewerIn x y active.which active.generation) }
     ensures refused { IfErr result (λ why. (x y : List ℕ) → IsGenerationRead x first.generation → IsGenerationRead y second.generation → IsNotOpened x y why) }
     ensures files { IfErr result (λ why. why ≡ DeviceFailed → ⊥) }
+    ensures memory { IfErr result (λ why. why ≡ Wanted → ⊥) }
     ensures shut { IfOk result (λ active. active.spare_shut ≡ of_file active.which second.shut first.shut) }
 {
     match (first.generation, second.generation) {
@@ -165,6 +171,8 @@ fn find_active<D: Device>(first: &mut D, second: &mut D) -> Result<Active, OpenE
     ensures refused { IsTrue (D.disk first.old).honest → IsTrue (D.disk second.old).honest → IfErr result (λ why. IsNotOpened (D.disk first.old).shown (D.disk second.old).shown why) }
     ensures settled { IfErr result (λ why. AreLeftSettled (D.disk first.new) (D.disk second.new) why) }
     ensures cause { IfErr result (λ why. why ≡ DeviceFailed → HasCause (D.disk first.old) (D.disk first.new) ⊎ HasCause (D.disk second.old) (D.disk second.new)) }
+    ensures memory { IfErr result (λ why. why ≡ Wanted → ⊥) }
+    ensures quiet { OnOk result (AreQuiet (D.disk first.old) (D.disk second.old) (D.disk first.new) (D.disk second.new)) }
 {
     first.sync()?;
     second.sync()?;
@@ -183,6 +191,7 @@ fn read_active<D: Device, A: Allocator + Copy>(
     ensures contents { IfOk result (λ read. AreContents (D.disk active.old) read.0.book read.0.frames read.0.tail read.0.journal) }
     ensures frame { IfOk result (λ read. read.1 ≡ []) }
     ensures refused { IfErr result (λ why. IsWhyNot (D.disk active.old) (D.disk active.new) which (IsFaultBehindHead (D.disk active.old).shown) why) }
+    ensures quiet { OnOk result (IsQuiet (D.disk active.old) (D.disk active.new)) }
 {
     match read_contents(alloc, active) {
         Ok(contents) => {
@@ -227,6 +236,8 @@ impl<D: Device, A: Allocator + Copy> Store<D, A> {
         ensures settled { IfOk result (λ opened. AreSettled (D.disk (first_of opened.0)) (D.disk (second_of opened.0))) }
         ensures left_settled { IfErr result (λ refused. AreLeftSettled (D.disk refused.first) (D.disk refused.second) refused.why) }
         ensures cause { IfErr result (λ refused. refused.why ≡ DeviceFailed → HasCause (D.disk first) (D.disk refused.first) ⊎ HasCause (D.disk second) (D.disk refused.second)) }
+        ensures memory { IfErr result (λ refused. refused.why ≡ Wanted → AreQuiet (D.disk first) (D.disk second) (D.disk refused.first) (D.disk refused.second)) }
+        ensures quiet { IfOk result (λ opened. AreQuiet (D.disk first) (D.disk second) (D.disk (first_of opened.0)) (D.disk (second_of opened.0))) }
         ensures handed_back { IfErr result (λ refused. IsHandedOn (D.disk first) (D.disk refused.first) × IsHandedOn (D.disk second) (D.disk refused.second)) }
     {
         let mut first = first;

@@ -76,7 +76,7 @@ fn four_steps(rt: HostRuntime) {
     assert!(rt; store.advance() == Ok(Advanced::Settled) && store.phase() == Phase::Idle);
     assert!(rt; store.advance() == Ok(Advanced::Idle) && store.journal_len() == 12);
     let (first, second) = store.into_devices();
-    assert!(rt; first.calls() == 11 && second.calls() == 2);
+    assert!(rt; first.calls() == 12 && second.calls() == 2);
     drop(first);
     drop(second);
 }
@@ -114,7 +114,7 @@ fn broken(rt: HostRuntime) {
     assert!(rt; store.advance().is_err() && store.phase() == Phase::Written);
     assert!(rt; store.advance() == Ok(Advanced::Broken));
     let (first, second) = store.into_devices();
-    assert_eq!(rt; first.calls(), 8);
+    assert_eq!(rt; first.calls(), 9);
     drop(first);
     drop(second);
 }

@@ -8,7 +8,7 @@ use vault_model::{
 };
 
 /// How many device calls a creation makes of the first device and of the second.
-pub const CREATION: (u64, u64) = (7, 2);
+pub const CREATION: (u64, u64) = (8, 2);
 
 /// A new vault, the nth device call behind whose creation is to fail.
 pub fn new_vault(alloc: Global, failing: u64, life: u64) -> Option<Vault<MemDevice>> {

@@ -103,9 +103,10 @@ fn leaves(rt: &impl Abort, alloc: Global, call: u64, pick: Pick, new: bool) -> b
 fn created_with_a_failed_call(rt: HostRuntime) {
     let alloc = rt.alloc();
     assert!(rt; fails(&rt, alloc, 1, 0, None));
+    assert!(rt; fails(&rt, alloc, 2, 0, None));
     assert!(rt; fails(&rt, alloc, 0, 1, None));
     assert!(rt; fails(&rt, alloc, 0, 2, None));
-    for call in 2..=CREATION {
+    for call in 3..=CREATION {
         assert!(rt;
             fails(&rt, alloc, call, 0, Some(CreateError::Exists)),
             "{call}"

@@ -29,7 +29,7 @@ pub struct Talk {
 }
 
 /// How many device calls make a new vault.
-pub const CREATION: u64 = 7;
+pub const CREATION: u64 = 8;
 
 /// A new vault, the nth device call behind whose creation is to fail.
 pub fn new_vault<A: Allocator + Copy>(

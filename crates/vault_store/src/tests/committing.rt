@@ -7,7 +7,7 @@ use vault_device::{Device, MemDevice, Pick};
 use vault_model::{Effect, EffectIn, Listing, Name, PlaceId};
 
 /// How many calls of the first device a creation makes.
-pub const CREATION: u64 = 7;
+pub const CREATION: u64 = 8;
 
 /// A store of a new vault, the nth device call behind whose creation is to fail.
 pub fn new_store(rt: &impl Abort, alloc: Global, failing: u64) -> Store<MemDevice> {
@@ -108,7 +108,7 @@ pub fn filled(rt: &impl Abort, alloc: Global) -> Store<MemDevice> {
 pub fn is_made_again(rt: &impl Abort, alloc: Global) -> bool {
     let (first, second) = new_store(rt, alloc, 0).into_devices();
     let (why, first, second) = refused_creation(rt, alloc, first, second);
-    let is_made = why != CreateError::Exists || first.calls() != CREATION + 1;
+    let is_made = why != CreateError::Exists || first.calls() != CREATION + 2;
     drop(first);
     drop(second);
     is_made

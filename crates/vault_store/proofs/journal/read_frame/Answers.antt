@@ -5,7 +5,7 @@ use Rattle.vault_store.proofs.journal.read_frame.Goals as goal
 pub returns-in_err-length-clause-refused : goal.returns-in_err-length-clause-refused
 returns-in_err-length-clause-refused g c =
     no_length (g.D.Device.disk c.args.device.now) (g.D.Device.disk c.read_gate.new.device) c.read_gate.ensures.reads c.args.at (λ honest. sym (c.in_ok-read_gate.ensures.gate honest) ∙ c.if-branch-ne1.false)
-    (g.D.Device.disk c.read_length.new.device) c.args.book.now c.from_residual-in_err-length.result c.in_err-length.field-0.0 c.in_err-length.ensures.refused c.from_residual-in_err-length.ensures.1
+    (g.D.Device.disk c.read_length.new.device) c.args.book.now c.from_residual-in_err-length.result c.in_err-length.field-0.0 c.in_ok-read_gate.ensures.quiet c.in_err-length.ensures.refused c.from_residual-in_err-length.ensures.1
 
 pub returns-in-Ok-clause-step : goal.returns-in-Ok-clause-step
 returns-in-Ok-clause-step g c =
