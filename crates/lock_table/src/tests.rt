@@ -1,4 +1,4 @@
-ghost use Rattle.std.specs.Prelude.{◌↔◌, IsTrue};
+ghost use Rattle.std.specs.Prelude.{◌≡◌, ◌↔◌, IsTrue, [], ◌∷◌};
 ghost use Rattle.vault_model.specs.Vault.{AreThere};
 
 use super::*;
@@ -8,7 +8,7 @@ use lock_modes::Mode;
 use std::alloc::{Allocator, Global};
 use std::process::Abort;
 use test_memory::Refusing;
-use vault_model::{ClaimId, Intent, Item, Name, NoMemory, PlaceId, Standing};
+use vault_model::{ClaimId, Intent, Item, Items, Name, NoMemory, PlaceId, Standing};
 
 fn look(place: u32) -> Item {
     Item {
@@ -22,6 +22,16 @@ fn change(place: u32) -> Item {
         intent: Intent::Change,
         place: PlaceId(place),
     }
+}
+
+fn one(item: Item) -> Items
+    ensures { result ≡ item ∷ [] }
+{
+    Items::new().with(item)
+}
+
+fn two(item: Item, other: Item) -> Items {
+    one(item).with(other)
 }
 
 fn are_there(tree: &Tree, items: &[Item]) -> bool
@@ -59,6 +69,12 @@ fn small_tree(rt: &impl Abort, alloc: Global) -> Tree {
     tree
 }
 
+fn has_modes(locks: &LockSet, table: &[(u32, Option<Mode>)]) -> bool {
+    table
+        .iter()
+        .all(|row| locks.mode_at(PlaceId(row.0)) == row.1)
+}
+
 #[test]
 fn look_at_assembly_and_change_of_part(rt: HostRuntime) {
     let tree = small_tree(&rt, rt.alloc());
@@ -70,26 +86,33 @@ fn look_at_assembly_and_change_of_part(rt: HostRuntime) {
         (3, Some(X)),
         (4, None),
     ];
-    for (place, mode) in table {
-        assert_eq!(rt; locks.mode_at(PlaceId(place)), mode, "at {place}");
-    }
+    assert!(rt; has_modes(&locks, &table));
     assert_eq!(rt; locks.as_slice().len(), 4);
+    drop(locks);
+    drop(tree);
+}
+
+const NAMES: [&str; 8] = ["a", "b", "c", "d", "e", "f", "g", "h"];
+
+// A part in an assembly of a project of its own, all of one name.
+fn make_part(rt: &impl Abort, tree: &mut Tree, name: &str) -> u32 {
+    let project = make(rt, tree, 0, name);
+    let assembly = make(rt, tree, project, name);
+    make(rt, tree, assembly, name)
 }
 
 #[test]
 fn eight_parts_fill_the_room(rt: HostRuntime) {
     let mut tree = Tree::new(rt.alloc()).expect(&rt, "memory");
     let mut items = [look(0); 8];
-    let names = ["a", "b", "c", "d", "e", "f", "g", "h"];
-    for (item, name) in items.iter_mut().zip(names) {
-        let project = make(&rt, &mut tree, 0, name);
-        let assembly = make(&rt, &mut tree, project, name);
-        *item = look(make(&rt, &mut tree, assembly, name));
+    for index in 0..8usize {
+        items[index] = look(make_part(&rt, &mut tree, NAMES[index]));
     }
     let locks = locks_of(&rt, &tree, &items);
     assert_eq!(rt; locks.as_slice().len(), 25);
-    assert_eq!(rt; locks.mode_at(PlaceId(0)), Some(IS));
-    assert_eq!(rt; locks.mode_at(PlaceId(24)), Some(S));
+    assert!(rt; has_modes(&locks, &[(0, Some(IS)), (24, Some(S))]));
+    drop(locks);
+    drop(tree);
 }
 
 fn covers(rt: &impl Abort, tree: &Tree, item: Item, place: u32) -> bool {
@@ -111,6 +134,15 @@ fn overlap(rt: &impl Abort, tree: &Tree, one: Item, other: Item) -> bool {
     false
 }
 
+fn conflict(rt: &impl Abort, tree: &Tree, one: Item, other: Item) -> bool {
+    let locks = locks_of(rt, tree, &[one]);
+    let others = locks_of(rt, tree, &[other]);
+    let found = locks.conflicts(&others);
+    drop(others);
+    drop(locks);
+    found
+}
+
 #[test]
 fn modes_agree_with_overlap(rt: HostRuntime) {
     let tree = small_tree(&rt, rt.alloc());
@@ -128,12 +160,11 @@ fn modes_agree_with_overlap(rt: HostRuntime) {
     ];
     for one in &items {
         for other in &items {
-            let locks = locks_of(&rt, &tree, &[*one]);
-            let others = locks_of(&rt, &tree, &[*other]);
-            let expected = overlap(&rt, &tree, *one, *other);
-            assert_eq!(rt; locks.conflicts(&others), expected, "{one:?} and {other:?}");
+            let told = conflict(&rt, &tree, *one, *other);
+            assert!(rt; told == overlap(&rt, &tree, *one, *other));
         }
     }
+    drop(tree);
 }
 
 const C1: ClaimId = ClaimId::Long(1);
@@ -142,216 +173,389 @@ const C2: ClaimId = ClaimId::Long(2);
 
 const C3: ClaimId = ClaimId::Long(3);
 
+const HELD: Standing = Standing::Held;
+
+const fn behind(id: ClaimId) -> Standing {
+    Standing::Queued(id)
+}
+
 fn ask<A: Allocator + Copy>(
     rt: &impl Abort,
+    tree: &Tree,
     table: &mut Table<A>,
     id: ClaimId,
-    locks: LockSet,
+    items: &[Item],
 ) -> Result<Standing, NoMemory> {
     assert!(rt; table.standing(id).is_none());
     assert!(rt; !table.is_full());
-    table.ask(id, locks)
+    table.ask(id, locks_of(rt, tree, items))
 }
 
 fn extend<A: Allocator + Copy>(
     rt: &impl Abort,
+    tree: &Tree,
     table: &mut Table<A>,
     id: ClaimId,
-    locks: LockSet,
+    items: &[Item],
 ) -> Result<Extension, NoMemory> {
     assert!(rt; matches!(table.standing(id), Some(Standing::Held)));
-    table.extend(id, locks)
+    table.extend(id, locks_of(rt, tree, items))
 }
 
 fn put_first<A: Allocator + Copy>(
     rt: &impl Abort,
+    tree: &Tree,
     table: &mut Table<A>,
     id: ClaimId,
-    locks: LockSet,
+    items: &[Item],
 ) -> Result<(), NoMemory> {
     assert!(rt; table.standing(id).is_some());
-    table.put_first(id, locks)
+    table.put_first(id, locks_of(rt, tree, items))
 }
 
-// The claims of these items, c1, c2, .., asked one after another, with the standing that each is given.
-fn line_of(rt: &impl Abort, alloc: Global, tree: &Tree, claims: &[(&[Item], Standing)]) -> Table {
-    let mut table = Table::new(alloc).expect(rt, "memory");
-    let mut number = 0u32;
-    for (items, standing) in claims {
-        number = number.wrapping_add(1);
-        let id = ClaimId::Long(number);
-        let told = ask(rt, &mut table, id, locks_of(rt, tree, items)).expect(rt, "memory");
-        assert_eq!(rt; told, *standing, "of c{number}");
-        assert_eq!(rt; table.standing(id), Some(told));
-    }
-    table
+// Whether a claim stands so.
+fn stands<A: Allocator>(table: &Table<A>, id: ClaimId, standing: Option<Standing>) -> bool {
+    let blocker = match standing {
+        Some(Standing::Queued(first)) => Some(first),
+        Some(Standing::Held) => None,
+        None => None,
+    };
+    table.standing(id) == standing && table.blocker(id) == blocker
 }
 
-#[test]
-fn newcomers_wait_for_all_before_them(rt: HostRuntime) {
-    let tree = small_tree(&rt, rt.alloc());
-    let held = Standing::Held;
-    let queued = Standing::Queued;
-    line_of(
-        &rt,
-        rt.alloc(),
-        &tree,
-        &[(&[change(1)], held), (&[look(1)], queued(C1))],
-    );
-    line_of(
-        &rt,
-        rt.alloc(),
-        &tree,
-        &[(&[change(3)], held), (&[change(4)], held)],
-    );
-    line_of(
-        &rt,
-        rt.alloc(),
-        &tree,
-        &[
-            (&[look(2), change(3)], held),
-            (&[look(4)], held),
-            (&[look(3)], queued(C1)),
-        ],
-    );
-    let mut table = line_of(
-        &rt,
-        rt.alloc(),
-        &tree,
-        &[
-            (&[look(1)], held),
-            (&[change(2)], queued(C1)),
-            (&[look(2)], queued(C2)),
-        ],
-    );
-    table.release(C1);
-    assert_eq!(rt; table.standing(C1), None);
-    assert_eq!(rt; table.standing(C2), Some(held));
-    assert_eq!(rt; table.blocker(C2), None);
-    assert_eq!(rt; table.standing(C3), Some(queued(C2)));
-    assert_eq!(rt; table.blocker(C3), Some(C2));
-}
-
-#[test]
-fn extensions_are_weighed_against_held_claims(rt: HostRuntime) {
-    let tree = small_tree(&rt, rt.alloc());
-    let held = Standing::Held;
-    let queued = Standing::Queued;
-    let mut table = line_of(
-        &rt,
-        rt.alloc(),
-        &tree,
-        &[(&[look(3)], held), (&[look(3)], held)],
-    );
-    let wanted = locks_of(&rt, &tree, &[look(3), change(3)]);
-    let answer = extend(&rt, &mut table, C1, wanted).expect(&rt, "memory");
-    assert_eq!(rt; answer, Extension::InTheWay(C2));
-    assert_eq!(rt; table.standing(C1), Some(held));
-    assert_eq!(rt; table.standing(C2), Some(held));
-    let mut table = line_of(
-        &rt,
-        rt.alloc(),
-        &tree,
-        &[
-            (&[look(3)], held),
-            (&[look(4)], held),
-            (&[change(2)], queued(C1)),
-        ],
-    );
-    let wanted = locks_of(&rt, &tree, &[look(4), change(4)]);
-    let answer = extend(&rt, &mut table, C2, wanted).expect(&rt, "memory");
-    assert_eq!(rt; answer, Extension::Done);
-    assert_eq!(rt; table.standing(C3), Some(queued(C2)));
-    let mut table = line_of(
-        &rt,
-        rt.alloc(),
-        &tree,
-        &[
-            (&[change(2)], held),
-            (&[look(1)], queued(C1)),
-            (&[look(0)], queued(C1)),
-        ],
-    );
-    let wanted = locks_of(&rt, &tree, &[change(2), look(1)]);
-    let answer = extend(&rt, &mut table, C1, wanted).expect(&rt, "memory");
-    assert_eq!(rt; answer, Extension::Done);
-}
-
-#[test]
-fn a_claim_put_first_is_not_weighed(rt: HostRuntime) {
-    let memory = Refusing::new(rt.alloc());
-    let tree = small_tree(&rt, rt.alloc());
-    let held = Standing::Held;
-    let mut table = Table::new(&memory).expect(&rt, "memory");
-    let told = ask(&rt, &mut table, C1, locks_of(&rt, &tree, &[look(3)]));
-    assert_eq!(rt; told, Ok(held));
-    let told = ask(&rt, &mut table, C2, locks_of(&rt, &tree, &[look(3)]));
-    assert_eq!(rt; told, Ok(held));
-    for number in 1..10u64 {
-        memory.refuse(number);
-        let told = put_first(&rt, &mut table, C2, locks_of(&rt, &tree, &[change(3)]));
-        let is_waiting = memory.is_waiting();
-        memory.refuse(0);
-        if told.is_ok() {
-            assert!(rt; is_waiting);
-            break;
-        }
-        assert!(rt; !is_waiting);
-        assert_eq!(rt; table.standing(C1), Some(held));
-        assert_eq!(rt; table.standing(C2), Some(held));
-    }
-    assert_eq!(rt; table.standing(C2), Some(held));
-    assert_eq!(rt; table.standing(C1), Some(Standing::Queued(C2)));
-}
-
-fn over(rt: &impl Abort, tree: &Tree, table: &Table, place: u32) -> Option<ClaimId> {
+fn over<A: Allocator>(
+    rt: &impl Abort,
+    tree: &Tree,
+    table: &Table<A>,
+    place: u32,
+) -> Option<ClaimId> {
     assert!(rt; (place as usize) < tree.len());
     table.held_over(tree, PlaceId(place))
 }
 
+/// A call of a table, with what it has to answer.
+#[derive(Clone, Copy)]
+enum Row {
+    Ask(ClaimId, Items, Standing),
+    Extend(ClaimId, Items, Extension),
+    PutFirst(ClaimId, Items),
+    Release(ClaimId),
+    Stands(ClaimId, Option<Standing>),
+    /// The modes of the group of all claims at a place, and of that of the held ones.
+    Groups(u32, Option<Mode>, Option<Mode>),
+    Covered(u32, Option<ClaimId>),
+}
+
+fn has_groups<A: Allocator>(
+    table: &Table<A>,
+    place: u32,
+    all: Option<Mode>,
+    held: Option<Mode>,
+) -> bool {
+    table.group_at(PlaceId(place)).mode() == all && table.held_at(PlaceId(place)).mode() == held
+}
+
+// Whether the table answers as a row says.
+fn act<A: Allocator + Copy>(
+    rt: &impl Abort,
+    tree: &Tree,
+    table: &mut Table<A>,
+    row: &Row,
+) -> Result<bool, NoMemory> {
+    match *row {
+        Row::Ask(id, items, standing) => {
+            let told = ask(rt, tree, table, id, items.as_slice())?;
+            Ok(told == standing && stands(table, id, Some(told)))
+        }
+        Row::Extend(id, items, extension) => {
+            let told = extend(rt, tree, table, id, items.as_slice())?;
+            Ok(told == extension)
+        }
+        Row::PutFirst(id, items) => {
+            put_first(rt, tree, table, id, items.as_slice())?;
+            Ok(true)
+        }
+        Row::Release(id) => {
+            table.release(id);
+            Ok(stands(table, id, None))
+        }
+        Row::Stands(id, standing) => Ok(stands(table, id, standing)),
+        Row::Groups(place, all, held) => Ok(has_groups(table, place, all, held)),
+        Row::Covered(place, id) => Ok(over(rt, tree, table, place) == id),
+    }
+}
+
+// How many of these rows it answers so, one after another, up to the first that it doesn't.
+fn act_all<A: Allocator + Copy>(
+    rt: &impl Abort,
+    tree: &Tree,
+    table: &mut Table<A>,
+    rows: &[Row],
+) -> usize {
+    for (index, row) in rows.iter().enumerate() {
+        if act(rt, tree, table, row) != Ok(true) {
+            return index;
+        }
+    }
+    rows.len()
+}
+
+// The same over a new table.
+fn take_all(rt: &impl Abort, alloc: Global, rows: &[Row]) {
+    let tree = small_tree(rt, alloc);
+    let mut table = Table::new(alloc).expect(rt, "memory");
+    assert_eq!(rt; act_all(rt, &tree, &mut table, rows), rows.len());
+    drop(table);
+    drop(tree);
+}
+
+#[test]
+fn newcomers_wait_for_all_before_them(rt: HostRuntime) {
+    let rows = [
+        Row::Ask(C1, one(change(1)), HELD),
+        Row::Ask(C2, one(look(1)), behind(C1)),
+    ];
+    take_all(&rt, rt.alloc(), &rows);
+    let rows = [
+        Row::Ask(C1, one(change(3)), HELD),
+        Row::Ask(C2, one(change(4)), HELD),
+    ];
+    take_all(&rt, rt.alloc(), &rows);
+    let rows = [
+        Row::Ask(C1, two(look(2), change(3)), HELD),
+        Row::Ask(C2, one(look(4)), HELD),
+        Row::Ask(C3, one(look(3)), behind(C1)),
+    ];
+    take_all(&rt, rt.alloc(), &rows);
+    let rows = [
+        Row::Ask(C1, one(look(1)), HELD),
+        Row::Ask(C2, one(change(2)), behind(C1)),
+        Row::Ask(C3, one(look(2)), behind(C2)),
+        Row::Release(C1),
+        Row::Stands(C2, Some(HELD)),
+        Row::Stands(C3, Some(behind(C2))),
+    ];
+    take_all(&rt, rt.alloc(), &rows);
+}
+
+#[test]
+fn extensions_are_weighed_against_held_claims(rt: HostRuntime) {
+    let rows = [
+        Row::Ask(C1, one(look(3)), HELD),
+        Row::Ask(C2, one(look(3)), HELD),
+        Row::Extend(C1, two(look(3), change(3)), Extension::InTheWay(C2)),
+        Row::Stands(C1, Some(HELD)),
+        Row::Stands(C2, Some(HELD)),
+    ];
+    take_all(&rt, rt.alloc(), &rows);
+    let rows = [
+        Row::Ask(C1, one(look(3)), HELD),
+        Row::Ask(C2, one(look(4)), HELD),
+        Row::Ask(C3, one(change(2)), behind(C1)),
+        Row::Extend(C2, two(look(4), change(4)), Extension::Done),
+        Row::Stands(C3, Some(behind(C2))),
+    ];
+    take_all(&rt, rt.alloc(), &rows);
+    let rows = [
+        Row::Ask(C1, one(change(2)), HELD),
+        Row::Ask(C2, one(look(1)), behind(C1)),
+        Row::Ask(C3, one(look(0)), behind(C1)),
+        Row::Extend(C1, two(change(2), look(1)), Extension::Done),
+        Row::Stands(C2, Some(behind(C1))),
+        Row::Stands(C3, Some(behind(C1))),
+    ];
+    take_all(&rt, rt.alloc(), &rows);
+}
+
+#[test]
+fn a_claim_put_first_is_not_weighed(rt: HostRuntime) {
+    let rows = [
+        Row::Ask(C1, one(look(3)), HELD),
+        Row::Ask(C2, one(look(3)), HELD),
+        Row::PutFirst(C2, one(change(3))),
+        Row::Stands(C2, Some(HELD)),
+        Row::Stands(C1, Some(behind(C2))),
+    ];
+    take_all(&rt, rt.alloc(), &rows);
+}
+
 #[test]
 fn held_claims_cover_what_lies_under_them(rt: HostRuntime) {
-    let tree = small_tree(&rt, rt.alloc());
-    let table = line_of(&rt, rt.alloc(), &tree, &[(&[look(1)], Standing::Held)]);
-    assert_eq!(rt; over(&rt, &tree, &table, 2), Some(C1));
-    assert_eq!(rt; over(&rt, &tree, &table, 0), None);
+    let rows = [
+        Row::Ask(C1, one(look(1)), HELD),
+        Row::Covered(2, Some(C1)),
+        Row::Covered(0, None),
+    ];
+    take_all(&rt, rt.alloc(), &rows);
+}
+
+#[test]
+fn groups_of_a_line(rt: HostRuntime) {
+    let rows = [
+        Row::Ask(C1, one(look(1)), HELD),
+        Row::Ask(C2, one(change(2)), behind(C1)),
+        Row::Ask(C3, one(look(2)), behind(C2)),
+        Row::Groups(0, Some(IX), Some(IS)),
+        Row::Groups(1, Some(SIX), Some(S)),
+        Row::Groups(2, Some(X), None),
+        Row::Groups(3, None, None),
+        Row::Groups(9, None, None),
+        Row::Release(C1),
+        Row::Groups(1, Some(IX), Some(IX)),
+        Row::Groups(2, Some(X), Some(X)),
+    ];
+    take_all(&rt, rt.alloc(), &rows);
+}
+
+#[test]
+fn a_claim_sent_back_is_counted_as_held_no_more(rt: HostRuntime) {
+    let rows = [
+        Row::Ask(C1, one(look(2)), HELD),
+        Row::Ask(C2, one(look(2)), HELD),
+        Row::Ask(C3, one(change(2)), behind(C1)),
+        Row::PutFirst(C2, one(change(2))),
+        Row::Stands(C1, Some(behind(C2))),
+        Row::Stands(C3, Some(behind(C2))),
+        Row::Groups(2, Some(X), Some(X)),
+        Row::Groups(1, Some(IX), Some(IX)),
+        Row::Release(C2),
+        Row::Groups(2, Some(X), Some(S)),
+        Row::Stands(C3, Some(behind(C1))),
+        Row::Release(C1),
+        Row::Groups(2, Some(X), Some(X)),
+        Row::Release(C3),
+        Row::Groups(2, None, None),
+    ];
+    take_all(&rt, rt.alloc(), &rows);
+}
+
+// Whether a row is refused its memory, where this request is refused. If so, some rows still hold, and
+// the next try succeeds. None where the table answers otherwise.
+fn is_refused<A: Allocator + Copy>(
+    rt: &impl Abort,
+    memory: &Refusing<Global>,
+    number: u64,
+    tree: &Tree,
+    table: &mut Table<A>,
+    row: &Row,
+    still: &[Row],
+) -> Option<bool> {
+    memory.refuse(number);
+    let told = act(rt, tree, table, row);
+    let is_waiting = memory.is_waiting();
+    memory.refuse(0);
+    if is_waiting && told == Ok(true) {
+        return Some(false);
+    }
+    let is_kept = !is_waiting && told.is_err() && act_all(rt, tree, table, still) == still.len();
+    (is_kept && act(rt, tree, table, row) == Ok(true)).then_some(true)
+}
+
+// The same behind these rows, over a new table.
+fn is_refused_behind(
+    rt: &impl Abort,
+    memory: &Refusing<Global>,
+    number: u64,
+    tree: &Tree,
+    rows: &[Row],
+    row: &Row,
+    still: &[Row],
+) -> Option<bool> {
+    let mut table = Table::new(memory).expect(rt, "memory");
+    let count = act_all(rt, tree, &mut table, rows);
+    let told = is_refused(rt, memory, number, tree, &mut table, row, still);
+    drop(table);
+    if count == rows.len() { told } else { None }
+}
+
+// How many requests for memory a row makes behind these rows, each refused in turn.
+fn refused_in_turn(
+    rt: &impl Abort,
+    memory: &Refusing<Global>,
+    tree: &Tree,
+    rows: &[Row],
+    row: &Row,
+    still: &[Row],
+) -> Option<u64> {
+    let mut refused = 0u64;
+    for number in 1..24u64 {
+        if is_refused_behind(rt, memory, number, tree, rows, row, still)? {
+            refused = number;
+        }
+    }
+    Some(refused)
 }
 
 #[test]
 fn each_request_of_memory_is_refused(rt: HostRuntime) {
     let memory = Refusing::new(rt.alloc());
     let tree = small_tree(&rt, rt.alloc());
+    let asked = Row::Ask(C1, one(look(1)), HELD);
+    let none = Row::Stands(C1, None);
+    let told = refused_in_turn(&rt, &memory, &tree, &[], &asked, &[none]);
+    assert_eq!(rt; told, Some(6), "for the entry and the queues of two places");
+    let extended = Row::Extend(C1, one(look(2)), Extension::Done);
+    let held = Row::Stands(C1, Some(HELD));
+    let told = refused_in_turn(&rt, &memory, &tree, &[asked], &extended, &[held]);
+    assert_eq!(rt; told, Some(2));
+    let first = Row::Ask(C1, one(look(3)), HELD);
+    let second = Row::Ask(C2, one(look(3)), HELD);
+    let put = Row::PutFirst(C2, one(change(3)));
+    let both = [Row::Stands(C1, Some(HELD)), Row::Stands(C2, Some(HELD))];
+    let told = refused_in_turn(&rt, &memory, &tree, &[first, second], &put, &both);
+    assert_eq!(rt; told, Some(1));
+    drop(tree);
+}
+
+#[test]
+fn a_growing_table_is_refused_its_memory(rt: HostRuntime) {
+    let memory = Refusing::new(rt.alloc());
+    let tree = small_tree(&rt, rt.alloc());
     let mut table = Table::new(&memory).expect(&rt, "memory");
-    let mut refused = (0, 0);
+    let mut growths = 0u32;
     for number in 1..40u32 {
-        let id = ClaimId::Long(number);
-        memory.refuse(1);
-        if ask(&rt, &mut table, id, locks_of(&rt, &tree, &[look(1)])).is_err() {
-            assert!(rt; !memory.is_waiting());
-            assert_eq!(rt; table.standing(id), None);
-            refused.0 = number;
-            memory.refuse(0);
-            let told = ask(&rt, &mut table, id, locks_of(&rt, &tree, &[look(1)]));
-            assert_eq!(rt; told.expect(&rt, "memory"), Standing::Held);
-        }
-        memory.refuse(1);
-        let last_room = number > 20;
-        if last_room && extend(&rt, &mut table, C1, locks_of(&rt, &tree, &[look(2)])).is_err() {
-            assert!(rt; !memory.is_waiting());
-            assert_eq!(rt; table.standing(C1), Some(Standing::Held));
-            refused.1 = number;
+        // Each claim asks once for its locks, and again where something has to grow.
+        let row = Row::Ask(ClaimId::Long(number), one(look(1)), HELD);
+        let still = Row::Stands(ClaimId::Long(number), None);
+        let told = is_refused(&rt, &memory, 2, &tree, &mut table, &row, &[still]);
+        assert!(rt; told.is_some());
+        if told == Some(true) {
+            growths = growths.saturating_add(1);
         }
     }
-    memory.refuse(0);
-    assert!(rt; refused.0 > 1);
-    assert!(rt; refused.1 > 20);
-    let answer = extend(&rt, &mut table, C1, locks_of(&rt, &tree, &[look(2)]));
-    assert_eq!(rt; answer.expect(&rt, "memory"), Extension::Done);
+    assert!(rt; 2 < growths && growths < 16);
+    let row = Row::Extend(C1, one(look(2)), Extension::Done);
+    let still = Row::Stands(C1, Some(HELD));
+    let told = is_refused(&rt, &memory, 2, &tree, &mut table, &row, &[still]);
+    assert_eq!(rt; told, Some(true));
+    drop(table);
+    drop(tree);
 }
 
 // Whether a copy of a table is refused.
 fn is_copy_refused<A: Allocator + Copy>(table: &Table<A>) -> bool {
-    table.copy().is_err()
+    match table.copy() {
+        Ok(copy) => {
+            drop(copy);
+            false
+        }
+        Err(NoMemory) => true,
+    }
+}
+
+// Whether a copy stands as these rows say, and goes its own way then.
+fn is_copied<A: Allocator + Copy>(
+    rt: &impl Abort,
+    tree: &Tree,
+    table: &Table<A>,
+    rows: &[Row],
+) -> bool {
+    let mut copy = table.copy().expect(rt, "memory");
+    let count = act_all(rt, tree, &mut copy, rows);
+    copy.release(C1);
+    let is_apart = stands(&copy, C2, Some(HELD)) && stands(table, C2, Some(behind(C1)));
+    drop(copy);
+    is_apart && count == rows.len()
 }
 
 #[test]
@@ -359,34 +563,32 @@ fn a_copy_is_refused_its_memory(rt: HostRuntime) {
     let memory = Refusing::new(rt.alloc());
     let tree = small_tree(&rt, rt.alloc());
     let mut table = Table::new(&memory).expect(&rt, "memory");
-    for (id, item) in [(C1, look(1)), (C2, change(2)), (C3, look(2))] {
-        let locks = locks_of(&rt, &tree, &[item]);
-        assert!(rt; ask(&rt, &mut table, id, locks).is_ok());
-    }
+    let asked = [
+        Row::Ask(C1, one(look(1)), HELD),
+        Row::Ask(C2, one(change(2)), behind(C1)),
+        Row::Ask(C3, one(look(2)), behind(C2)),
+    ];
+    let standings = [
+        Row::Stands(C1, Some(HELD)),
+        Row::Stands(C2, Some(behind(C1))),
+        Row::Stands(C3, Some(behind(C2))),
+    ];
+    assert_eq!(rt; act_all(&rt, &tree, &mut table, &asked), 3);
     let mut refused = 0u64;
     for number in 1..40u64 {
         memory.refuse(number);
         if is_copy_refused(&table) {
             assert!(rt; !memory.is_waiting());
-            assert_eq!(rt; number, refused.saturating_add(1), "each in turn");
-            assert_eq!(rt; table.standing(C3), Some(Standing::Queued(C2)));
+            assert!(rt; number == refused.saturating_add(1));
             refused = number;
         }
     }
-    assert!(rt;
-        2 < refused && refused < 39,
-        "{refused} requests, for the entries and the queues"
-    );
     memory.refuse(0);
-    let mut copy = table.copy().expect(&rt, "memory");
-    for table in [&table, &copy] {
-        assert_eq!(rt; table.standing(C1), Some(Standing::Held));
-        assert_eq!(rt; table.standing(C2), Some(Standing::Queued(C1)));
-        assert_eq!(rt; table.standing(C3), Some(Standing::Queued(C2)));
-    }
-    copy.release(C1);
-    assert_eq!(rt; copy.standing(C2), Some(Standing::Held));
-    assert_eq!(rt; table.standing(C2), Some(Standing::Queued(C1)));
+    assert!(rt; 2 < refused && refused < 39);
+    assert!(rt; is_copied(&rt, &tree, &table, &standings));
+    assert_eq!(rt; act_all(&rt, &tree, &mut table, &standings), 3);
+    drop(table);
+    drop(tree);
 }
 
 fn item_of(seed: u32) -> Item {
@@ -410,81 +612,29 @@ fn standing_behind(rt: &impl Abort, tree: &Tree, others: &[Item], item: &Item) -
     Standing::Held
 }
 
+// Forty random claims, each asked behind the others. The last number that looks random goes back.
+fn random_line(rt: &impl Abort, alloc: Global, tree: &Tree, first: u32) -> u32 {
+    let mut seed = first;
+    let mut table = Table::new(alloc).expect(rt, "memory");
+    let mut line = [look(0); 40];
+    for index in 0..40usize {
+        seed = seed.wrapping_mul(1_664_525).wrapping_add(1_013_904_223);
+        line[index] = item_of(seed);
+        let expected = standing_behind(rt, tree, &line[..index], &line[index]);
+        let id = ClaimId::Long(index as u32);
+        let told = ask(rt, tree, &mut table, id, &[line[index]]);
+        assert!(rt; told == Ok(expected));
+    }
+    drop(table);
+    seed
+}
+
 #[test]
 fn random_lines_agree_by_modes_and_by_places(rt: HostRuntime) {
     let tree = small_tree(&rt, rt.alloc());
     let mut seed = 1u32;
     for _ in 0..10u8 {
-        let mut table = Table::new(rt.alloc()).expect(&rt, "memory");
-        let mut line = [look(0); 40];
-        for index in 0..40usize {
-            seed = seed.wrapping_mul(1_664_525).wrapping_add(1_013_904_223);
-            line[index] = item_of(seed);
-            let locks = locks_of(&rt, &tree, &[line[index]]);
-            let expected = standing_behind(&rt, &tree, &line[..index], &line[index]);
-            let told = ask(&rt, &mut table, ClaimId::Long(index as u32), locks);
-            assert_eq!(rt; told.expect(&rt, "memory"), expected, "of c{index}");
-        }
+        seed = random_line(&rt, rt.alloc(), &tree, seed);
     }
-}
-
-#[test]
-fn groups_of_a_line(rt: HostRuntime) {
-    let tree = small_tree(&rt, rt.alloc());
-    let queued = Standing::Queued;
-    let mut table = line_of(
-        &rt,
-        rt.alloc(),
-        &tree,
-        &[
-            (&[look(1)], Standing::Held),
-            (&[change(2)], queued(C1)),
-            (&[look(2)], queued(C2)),
-        ],
-    );
-    let rows = [
-        (0, Some(IX), Some(IS)),
-        (1, Some(SIX), Some(S)),
-        (2, Some(X), None),
-        (3, None, None),
-        (9, None, None),
-    ];
-    for (place, all, held) in rows {
-        assert_eq!(rt; table.group_at(PlaceId(place)).mode(), all);
-        assert_eq!(rt; table.held_at(PlaceId(place)).mode(), held);
-    }
-    table.release(C1);
-    assert_eq!(rt; table.group_at(PlaceId(1)).mode(), Some(IX));
-    assert_eq!(rt; table.held_at(PlaceId(1)).mode(), Some(IX));
-    assert_eq!(rt; table.held_at(PlaceId(2)).mode(), Some(X));
-}
-
-#[test]
-fn a_claim_sent_back_is_counted_as_held_no_more(rt: HostRuntime) {
-    let tree = small_tree(&rt, rt.alloc());
-    let held = Standing::Held;
-    let mut table = line_of(
-        &rt,
-        rt.alloc(),
-        &tree,
-        &[
-            (&[look(2)], held),
-            (&[look(2)], held),
-            (&[change(2)], Standing::Queued(C1)),
-        ],
-    );
-    let told = put_first(&rt, &mut table, C2, locks_of(&rt, &tree, &[change(2)]));
-    assert_eq!(rt; told, Ok(()));
-    assert_eq!(rt; table.blocker(C1), Some(C2));
-    assert_eq!(rt; table.blocker(C3), Some(C2));
-    assert_eq!(rt; table.held_at(PlaceId(2)).mode(), Some(X));
-    assert_eq!(rt; table.held_at(PlaceId(1)).mode(), Some(IX));
-    table.release(C2);
-    assert_eq!(rt; table.held_at(PlaceId(2)).mode(), Some(S));
-    assert_eq!(rt; table.group_at(PlaceId(2)).mode(), Some(X));
-    assert_eq!(rt; table.blocker(C3), Some(C1));
-    table.release(C1);
-    assert_eq!(rt; table.held_at(PlaceId(2)).mode(), Some(X));
-    table.release(C3);
-    assert_eq!(rt; table.group_at(PlaceId(2)).mode(), None);
+    drop(tree);
 }

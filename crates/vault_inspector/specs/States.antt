@@ -36,12 +36,14 @@ abbrev pub IsFirstState : List ℕ → List ℕ → FileState → Type 0
 IsFirstState first second Closed = IsClosedFile first
 IsFirstState first second (Open generation frames tail) = IsFirstActive first second generation × IsWholeFile generation first frames tail
 IsFirstState first second (Older generation) = IsOlder generation first second
-IsFirstState first second (Damaged offset) = IsDamagedHead first offset ⊎ ((generation : ℕ) × IsFirstActive first second generation × IsBodyFault first offset)
+IsFirstState first second (Damaged offset) =
+    IsDamagedHead first offset ⊎ ((generation : ℕ) × IsFirstActive first second generation × IsBodyFault first offset)
 
 -- what the second file is found to be
 abbrev pub IsSecondState : List ℕ → List ℕ → FileState → Type 0
 IsSecondState first second Closed = IsClosedFile second
-IsSecondState first second (Open generation frames tail) = IsSecondActive first second generation × IsWholeFile generation second frames tail
+IsSecondState first second (Open generation frames tail) =
+    IsSecondActive first second generation × IsWholeFile generation second frames tail
 IsSecondState first second (Older generation) = IsOlder generation second first
 IsSecondState first second (Damaged offset) =
     IsDamagedHead second offset

@@ -30,7 +30,8 @@ numbered words n = words ++ decimal n
 
 -- of the active file its generation, how many frames it has, and where its tail gate stands
 abbrev pub open_text : ℕ → ℕ → ℕ → List ℕ
-open_text generation frames tail = numbered (codes "open, generation ") generation ++ numbered (codes ", frames ") frames ++ numbered (codes ", tail ") tail
+open_text generation frames tail =
+    numbered (codes "open, generation ") generation ++ numbered (codes ", frames ") frames ++ numbered (codes ", tail ") tail
 
 -- the state of a file
 abbrev pub state_text : FileState → List ℕ

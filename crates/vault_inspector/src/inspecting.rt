@@ -128,7 +128,8 @@ fn read_active<D: Device, A: Allocator + Copy>(
     generation: u64,
 ) -> Result<Read<A>, InspectError>
     ensures reads { AreReads (D.disk device.old) (D.disk device.new) }
-    ensures read { IsTrue (D.disk device.old).honest → HasCurrentHead generation (D.disk device.old).shown → IfOk result (λ read. IsActiveRead generation (D.disk device.old).shown read.state read.book) }
+    ensures read { IsTrue (D.disk device.old).honest → HasCurrentHead generation (D.disk device.old).shown
+        → IfOk result (λ read. IsActiveRead generation (D.disk device.old).shown read.state read.book) }
     ensures cause { IfErr result (λ why. why ≡ DeviceFailed → HasCause (D.disk device.old) (D.disk device.new)) }
     ensures memory { IfErr result (λ why. why ≡ Wanted → IsQuiet (D.disk device.old) (D.disk device.new)) }
 {
@@ -158,11 +159,16 @@ pub fn inspect<D: Device, A: Allocator + Copy>(
 ) -> Result<Report<A>, InspectError>
     ensures first_unchanged { AreReads (D.disk first.old) (D.disk first.new) }
     ensures second_unchanged { AreReads (D.disk second.old) (D.disk second.new) }
-    ensures first { IsTrue (D.disk first.old).honest → IsTrue (D.disk second.old).honest → IfOk result (λ report. IsFirstState (D.disk first.old).shown (D.disk second.old).shown report.first) }
-    ensures second { IsTrue (D.disk first.old).honest → IsTrue (D.disk second.old).honest → IfOk result (λ report. IsSecondState (D.disk first.old).shown (D.disk second.old).shown report.second) }
-    ensures vault { IsTrue (D.disk first.old).honest → IsTrue (D.disk second.old).honest → IfOk result (λ report. IsVaultFound (D.disk first.old).shown (D.disk second.old).shown report.book) }
-    ensures cause { IfErr result (λ why. why ≡ DeviceFailed → HasCause (D.disk first.old) (D.disk first.new) ⊎ HasCause (D.disk second.old) (D.disk second.new)) }
-    ensures memory { IfErr result (λ why. why ≡ Wanted → AreQuiet (D.disk first.old) (D.disk second.old) (D.disk first.new) (D.disk second.new)) }
+    ensures first { IsTrue (D.disk first.old).honest → IsTrue (D.disk second.old).honest
+        → IfOk result (λ report. IsFirstState (D.disk first.old).shown (D.disk second.old).shown report.first) }
+    ensures second { IsTrue (D.disk first.old).honest → IsTrue (D.disk second.old).honest
+        → IfOk result (λ report. IsSecondState (D.disk first.old).shown (D.disk second.old).shown report.second) }
+    ensures vault { IsTrue (D.disk first.old).honest → IsTrue (D.disk second.old).honest
+        → IfOk result (λ report. IsVaultFound (D.disk first.old).shown (D.disk second.old).shown report.book) }
+    ensures cause { IfErr result
+        (λ why. why ≡ DeviceFailed → HasCause (D.disk first.old) (D.disk first.new) ⊎ HasCause (D.disk second.old) (D.disk second.new)) }
+    ensures memory { IfErr result
+        (λ why. why ≡ Wanted → AreQuiet (D.disk first.old) (D.disk second.old) (D.disk first.new) (D.disk second.new)) }
 {
     let a = read_head(first)?;
     let b = read_head(second)?;

@@ -125,8 +125,10 @@ pub fn print<W: Write, A: Allocator + Copy>(
     report: &Report<A>,
     writer: &mut W,
 ) -> Result<(), PrintError>
-    ensures ok { OnOk result (Appends (W.contents writer.old) (W.contents writer.new) (report_text report.now.first report.now.second report.now.book)) }
-    ensures err { OnErr result (GetsPart (W.contents writer.old) (W.contents writer.new) (report_text report.now.first report.now.second report.now.book)) }
+    ensures ok { OnOk result
+        (Appends (W.contents writer.old) (W.contents writer.new) (report_text report.now.first report.now.second report.now.book)) }
+    ensures err { OnErr result
+        (GetsPart (W.contents writer.old) (W.contents writer.new) (report_text report.now.first report.now.second report.now.book)) }
 {
     print_file(writer, b"file a: ", report.first)?;
     print_file(writer, b"file b: ", report.second)?;

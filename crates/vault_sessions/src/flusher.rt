@@ -65,7 +65,8 @@ impl<D: Device, S: Tally, T: Tally, A: Allocator + Copy, G: Gate, H: Wait + Cloc
 > {
     // Begins a snapshot where one is wanted. Whether it did.
     fn begin_snapshot(&self) -> bool {
-        let mut desk = self.shared.desk.lock(self.rt);
+        let shared = self.shared;
+        let mut desk = shared.desk.lock(self.rt);
         desk.wants_snapshot() && desk.start_on() == Ok(Started::Yes)
     }
 

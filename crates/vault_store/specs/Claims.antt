@@ -60,7 +60,8 @@ pub record AreDraftsRead (drafts : List Draft) (bytes rest : List ℕ) : Type 0 
 
 -- no drafts of a check-out stand there
 abbrev pub BeginsWithNoDrafts : List ℕ → Type 0
-BeginsWithNoDrafts bytes = (drafts : List Draft) (rest : List ℕ) → length drafts ≤ most_drafts → All HasDraft drafts → bytes ≢ drafts_bytes drafts ++ rest
+BeginsWithNoDrafts bytes =
+    (drafts : List Draft) (rest : List ℕ) → length drafts ≤ most_drafts → All HasDraft drafts → bytes ≢ drafts_bytes drafts ++ rest
 
 -- one claim was read with its drafts, and both were put behind the others
 pub record IsClaimRead (claims claims_new : List Claim) (drafts drafts_new : List (List Draft)) (bytes rest : List ℕ) : Type 0 where
@@ -89,4 +90,5 @@ pub record AreClaimsRead (claims : List Claim) (drafts : List (List Draft)) (byt
 
 -- no claims of a line stand there
 abbrev pub BeginsWithNoClaims : List ℕ → Type 0
-BeginsWithNoClaims bytes = (told : List Drafted) (rest : List ℕ) → length told ≤ most_claims → All HasOwn told → bytes ≢ claims_bytes told ++ rest
+BeginsWithNoClaims bytes =
+    (told : List Drafted) (rest : List ℕ) → length told ≤ most_claims → All HasOwn told → bytes ≢ claims_bytes told ++ rest

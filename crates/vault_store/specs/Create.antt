@@ -50,5 +50,6 @@ IsClosedOrNew file = IsClosedFile file ⊎ (file ≡ new_file)
 -- open, or they stand for the new vault.
 abbrev pub StopsInCreation : Disk → Disk → Disk → Disk → Type 0
 StopsInCreation first second first_new second_new =
-    IsTrue first.honest → IsTrue second.honest → LeavesOnly first [] → LeavesOnly second [] → (x y : List ℕ) → MayBeLeft first second first_new second_new x y
+    IsTrue first.honest → IsTrue second.honest → LeavesOnly first [] → LeavesOnly second [] → (x y : List ℕ)
+    → MayBeLeft first second first_new second_new x y
     → (IsClosedFile x × IsClosedFile y) ⊎ StandFor x y new_vault

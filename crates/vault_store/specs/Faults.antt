@@ -67,7 +67,8 @@ pub record IsFrameFault (file : List ℕ) (at : ℕ) : Type 0 where
   pub leads : after_frames base frames ≡ Some vault
   pub within : at < length file
   pub gate : slice_index file at ≡ 1
-  pub none : (effects : List Effect) (next : Vault) (behind : List ℕ) → IsFrame effects → applied vault effects ≡ Some next → behind ≢ [] → drop at file ≢ frame_of effects ++ behind
+  pub none : (effects : List Effect) (next : Vault) (behind : List ℕ) → IsFrame effects → applied vault effects ≡ Some next → behind ≢ []
+      → drop at file ≢ frame_of effects ++ behind
 
 -- what is wrong behind a right head: the snapshot, or behind a right one a frame
 abbrev pub IsBodyFault : List ℕ → ℕ → Type 0

@@ -132,7 +132,8 @@ IsSpare generation file = IsClosedFile file ⊎ ((older : ℕ) × (older < gener
 
 -- Two files are read as this: one of them is, and the other is its spare.
 abbrev pub AreRead : List ℕ → List ℕ → Reading → Type 0
-AreRead first second reading = (Holds first reading × IsSpare reading.generation second) ⊎ (Holds second reading × IsSpare reading.generation first)
+AreRead first second reading =
+    (Holds first reading × IsSpare reading.generation second) ⊎ (Holds second reading × IsSpare reading.generation first)
 
 -- Two files stand for a vault.
 abbrev pub StandFor : List ℕ → List ℕ → Vault → Type 0

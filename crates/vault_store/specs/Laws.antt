@@ -18,7 +18,8 @@ pub record AreHonest {D : Type 0} (disk : D → Disk) (store : Seen D) : Type 0 
 
 -- what a crash may leave of a store's files is read as what it keeps
 abbrev pub CrashLeavesWhatIsKept : {D : Type 0} → (D → Disk) → Type 0
-CrashLeavesWhatIsKept {D} disk = (store : Seen D) (s : StoreState) (x y : List ℕ) → Keeps disk store s → AreHonest disk store → (disk (first_of store)).IsImage x → (disk (second_of store)).IsImage y → IsLeft store s x y
+CrashLeavesWhatIsKept {D} disk = (store : Seen D) (s : StoreState) (x y : List ℕ) → Keeps disk store s → AreHonest disk store
+    → (disk (first_of store)).IsImage x → (disk (second_of store)).IsImage y → IsLeft store s x y
 
 -- one byte of a file may differ from what a read gives; a read gives 1 there, and what was settled isn't 1
 pub record IsOneGate (disk : Disk) (gate : ℕ) : Type 0 where
@@ -28,7 +29,8 @@ pub record IsOneGate (disk : Disk) (gate : ℕ) : Type 0 where
 
 -- while a gate is being opened, and before a device call failed, it is such a byte of its file
 abbrev pub OneGateIsOpened : {D : Type 0} → (D → Disk) → Type 0
-OneGateIsOpened {D} disk = (store : Seen D) (s : StoreState) → Keeps disk store s → AreHonest disk store → is_opening s.phase ≡ true → s.broken ≡ false → IsOneGate (disk (gated s.phase store.active store.spare)) (gate_at store s.phase)
+OneGateIsOpened {D} disk = (store : Seen D) (s : StoreState) → Keeps disk store s → AreHonest disk store → is_opening s.phase ≡ true
+    → s.broken ≡ false → IsOneGate (disk (gated s.phase store.active store.spare)) (gate_at store s.phase)
 
 -- what is noted has a spelling
 abbrev pub NotedIsSpelled : {D : Type 0} → (D → Disk) → Type 0
@@ -56,8 +58,10 @@ OneVault = (first second : List ℕ) (v w : Vault) → StandFor first second v �
 
 -- where two files stand for a vault, nothing is wrong with them
 abbrev pub NothingIsWrong : Type 0
-NothingIsWrong = (first second : List ℕ) (why : OpenError) → IsFound why → IsNotOpened first second why → (v : Vault) → StandFor first second v → ⊥
+NothingIsWrong =
+    (first second : List ℕ) (why : OpenError) → IsFound why → IsNotOpened first second why → (v : Vault) → StandFor first second v → ⊥
 
 -- at most one thing is wrong with two files first
 abbrev pub OneFault : Type 0
-OneFault = (first second : List ℕ) (why other : OpenError) → IsFound why → IsFound other → IsNotOpened first second why → IsNotOpened first second other → why ≡ other
+OneFault = (first second : List ℕ) (why other : OpenError) → IsFound why → IsFound other → IsNotOpened first second why
+    → IsNotOpened first second other → why ≡ other

@@ -34,7 +34,8 @@ pub record ArePlacesAt (bytes : List ℕ) (tree : List Place) (shelf : List (Lis
 
 -- no spelling of places stands there
 abbrev pub BeginsWithNoPlaces : List ℕ → Type 0
-BeginsWithNoPlaces bytes = (tree : List Place) (shelf : List (List (List ℕ))) (rest : List ℕ) → ArePlaces tree shelf → bytes ≢ places_of tree shelf ++ rest
+BeginsWithNoPlaces bytes =
+    (tree : List Place) (shelf : List (List (List ℕ))) (rest : List ℕ) → ArePlaces tree shelf → bytes ≢ places_of tree shelf ++ rest
 
 -- the versions of each place are the first of those in the whole shelf
 abbrev pub IsFrontOf : List (List (List ℕ)) → List (List (List ℕ)) → Type 0
@@ -54,7 +55,8 @@ pub record IsVersionRead (part : ℕ) (old new : List (List (List ℕ))) (bytes 
 
 -- no content stands there that a well-formed shelf may have as the part's next version
 abbrev pub BeginsWithNoVersion : ℕ → List (List (List ℕ)) → List ℕ → Type 0
-BeginsWithNoVersion part shelf bytes = (content : List ℕ) (whole : List (List (List ℕ))) (rest : List ℕ) → IsShelf whole → IsFrontOf (shelved shelf part content) whole → bytes ≢ content_bytes content ++ rest
+BeginsWithNoVersion part shelf bytes = (content : List ℕ) (whole : List (List (List ℕ))) (rest : List ℕ) → IsShelf whole
+    → IsFrontOf (shelved shelf part content) whole → bytes ≢ content_bytes content ++ rest
 
 -- all versions of a part were read
 pub record AreVersionsRead (part : ℕ) (old new : List (List (List ℕ))) (bytes rest : List ℕ) : Type 0 where
@@ -66,7 +68,8 @@ pub record AreVersionsRead (part : ℕ) (old new : List (List (List ℕ))) (byte
 
 -- no versions stand there that a well-formed shelf may have as the part's next ones
 abbrev pub BeginsWithNoVersions : ℕ → List (List (List ℕ)) → List ℕ → Type 0
-BeginsWithNoVersions part shelf bytes = (contents : List (List ℕ)) (whole : List (List (List ℕ))) (rest : List ℕ) → IsShelf whole → IsFrontOf (shelf_with shelf part contents) whole → bytes ≢ versions_bytes contents ++ rest
+BeginsWithNoVersions part shelf bytes = (contents : List (List ℕ)) (whole : List (List (List ℕ))) (rest : List ℕ) → IsShelf whole
+    → IsFrontOf (shelf_with shelf part contents) whole → bytes ≢ versions_bytes contents ++ rest
 
 -- what it says of a snapshot that a place was not made
 abbrev pub told_of : AddError → SnapshotError
@@ -85,10 +88,12 @@ pub record IsPlaceAdded (old new : List Place) (bytes rest : List ℕ) : Type 0 
 
 -- no parent and name stand there of a place that may be the tree's next
 abbrev pub BeginsWithNoName : List Place → List ℕ → Type 0
-BeginsWithNoName tree bytes = (place : Place) (rest : List ℕ) → IsTree (tree ++ place ∷ []) → IsName place.name → bytes ≢ (in_four place.parent ++ name_bytes place.name) ++ rest
+BeginsWithNoName tree bytes = (place : Place) (rest : List ℕ) → IsTree (tree ++ place ∷ []) → IsName place.name
+    → bytes ≢ (in_four place.parent ++ name_bytes place.name) ++ rest
 
 -- one place was read, with its versions where it is a part; the versions of the places before it stay
-pub record IsPlaceRead (tree : List Place) (shelf : List (List (List ℕ))) (tree_new : List Place) (shelf_new : List (List (List ℕ))) (bytes rest : List ℕ) : Type 0 where
+pub record IsPlaceRead (tree : List Place) (shelf : List (List (List ℕ))) (tree_new : List Place) (shelf_new : List (List (List ℕ)))
+    (bytes rest : List ℕ) : Type 0 where
   pub place : Place
   pub named : IsName place.name
   pub grown : tree_new ≡ tree ++ place ∷ []
@@ -100,5 +105,6 @@ pub record IsPlaceRead (tree : List Place) (shelf : List (List (List ℕ))) (tre
 -- no place stands there that may be the next one, in a tree and a shelf that may have more places
 abbrev pub BeginsWithNoPlace : List Place → List (List (List ℕ)) → List ℕ → Type 0
 BeginsWithNoPlace tree shelf bytes =
-    (place : Place) (more : List Place) (whole : List (List (List ℕ))) (rest : List ℕ) → ArePlaces (tree ++ place ∷ more) whole → ((p : ℕ) → p ≤ length tree → versions_of whole p ≡ versions_of shelf p)
+    (place : Place) (more : List Place) (whole : List (List (List ℕ))) (rest : List ℕ) → ArePlaces (tree ++ place ∷ more) whole
+    → ((p : ℕ) → p ≤ length tree → versions_of whole p ≡ versions_of shelf p)
     → bytes ≢ place_bytes (vault_with (tree ++ place ∷ more) whole) (suc (length tree)) place ++ rest

@@ -53,7 +53,8 @@ BeginsWithNoFrame bytes = (effects : List Effect) (behind : List ℕ) → IsFram
 
 -- the same of frames whose effects may be made on this vault
 abbrev pub BeginsWithNone : Vault → List ℕ → Type 0
-BeginsWithNone vault bytes = (effects : List Effect) (next : Vault) (behind : List ℕ) → IsFrame effects → applied vault effects ≡ Some next → behind ≢ [] → bytes ≢ frame_of effects ++ behind
+BeginsWithNone vault bytes = (effects : List Effect) (next : Vault) (behind : List ℕ) → IsFrame effects → applied vault effects ≡ Some next
+    → behind ≢ [] → bytes ≢ frame_of effects ++ behind
 
 -- the effects whose records these bytes are were made
 pub record AreMade (bytes : List ℕ) (old new : Vault) : Type 0 where
@@ -63,7 +64,8 @@ pub record AreMade (bytes : List ℕ) (old new : Vault) : Type 0 where
 
 -- why they were not: the bytes are no records of effects that may be made, or memory was wanted
 abbrev pub AreNotMade : List ℕ → Vault → ApplyError → Type 0
-AreNotMade bytes old unmade.NotApplicable = (effects : List Effect) (next : Vault) → AreRecordsOf effects bytes → applied old effects ≢ Some next
+AreNotMade bytes old unmade.NotApplicable =
+    (effects : List Effect) (next : Vault) → AreRecordsOf effects bytes → applied old effects ≢ Some next
 AreNotMade bytes old unmade.NoMemory = Unit {0}
 
 -- a frame stands at an offset and ends before the other; its effects lead from the one vault to the other

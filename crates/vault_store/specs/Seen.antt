@@ -92,7 +92,8 @@ abbrev pub gated : {A : Type 0} → Phase → A → A → A
 gated phase active spare = if is_snapshot phase then spare else active
 
 -- the files of a store, of honest devices
-pub record AreFiles (active_disk spare_disk : Disk) (settled : Reading) (phase : Phase) (broken : Bool) (records : List ℕ) (shut : Bool) (rest : List ℕ) : Type 0 where
+pub record AreFiles (active_disk spare_disk : Disk) (settled : Reading) (phase : Phase) (broken : Bool) (records : List ℕ) (shut : Bool)
+    (rest : List ℕ) : Type 0 where
   -- the bytes up to the tail gate
   pub front : List ℕ
   pub is_front : IsFront front settled
@@ -143,7 +144,9 @@ pub record Keeps {D : Type 0} (disk : D → Disk) (store : Seen D) (s : StoreSta
   pub buffer : AreRecordsOf s.buffer store.buffer
   pub noted : applied s.sealed s.buffer ≡ Some s.noted
   pub renewal : is_snapshot s.phase ≡ true → IsRenewal store.generation s.sealed store.rest
-  pub files : IsTrue (disk store.active).honest → IsTrue (disk store.spare).honest → AreFiles (disk store.active) (disk store.spare) (settled_reading store s) s.phase s.broken (records_of s.sealing) store.shut store.rest
+  pub files : IsTrue (disk store.active).honest → IsTrue (disk store.spare).honest
+      → AreFiles (disk store.active) (disk store.spare) (settled_reading store s) s.phase s.broken
+      (records_of s.sealing) store.shut store.rest
 
 -- what two files are read as, by the gate that is being opened in one of them
 pub record IsByGate (gate : ℕ) (settled sealed : Reading) (file first second : List ℕ) : Type 0 where
@@ -164,4 +167,5 @@ IsLeft store s first second =
 
 -- what two files that a stop inside a step leaves are read as: the settled vault, or the sealed one where a gate may be opened
 abbrev pub IsLeftInside : {D : Type 0} → Seen D → StoreState → List ℕ → List ℕ → Type 0
-IsLeftInside store s first second = AreRead first second (settled_reading store s) ⊎ (IsTrue (may_open s.phase) × AreRead first second (sealed_reading store s))
+IsLeftInside store s first second =
+    AreRead first second (settled_reading store s) ⊎ (IsTrue (may_open s.phase) × AreRead first second (sealed_reading store s))

@@ -21,7 +21,8 @@ versions_bytes versions = in_two (length versions) ++ flat_map content_bytes ver
 
 -- the place of this number: its parent, its name and, of a part, its versions
 abbrev pub place_bytes : Vault → ℕ → Place → List ℕ
-place_bytes v number place = in_four place.parent ++ name_bytes place.name ++ (if is_part v.tree number then versions_bytes (versions_of v.shelf number) else [])
+place_bytes v number place =
+    in_four place.parent ++ name_bytes place.name ++ (if is_part v.tree number then versions_bytes (versions_of v.shelf number) else [])
 
 -- places, the first of which has this number
 abbrev pub places_bytes : Vault → ℕ → List Place → List ℕ
@@ -48,12 +49,14 @@ designer_of (owners.Session number) = []
 
 -- a check-out: its number, its owner, its items and its drafts
 abbrev pub claim_bytes : Vault → Claim → List ℕ
-claim_bytes v claim = in_four (number_of claim.id) ++ name_bytes (designer_of claim.owner) ++ items_bytes claim.items ++ drafts_bytes (drafts_of v.drafts (number_of claim.id))
+claim_bytes v claim = in_four (number_of claim.id) ++ name_bytes (designer_of claim.owner) ++ items_bytes claim.items
+    ++ drafts_bytes (drafts_of v.drafts (number_of claim.id))
 
 -- The spelling of a vault: the last number given to a check-out, how many places there are, with the library, each place from 1
 -- on, how many check-outs there are, and each in the order of the line.
 abbrev pub snapshot_of : Vault → List ℕ
-snapshot_of v = in_four v.last_long ++ in_four (length v.tree + 1) ++ places_bytes v 1 v.tree ++ in_two (length v.line) ++ flat_map (claim_bytes v) v.line
+snapshot_of v = in_four v.last_long ++ in_four (length v.tree + 1) ++ places_bytes v 1 v.tree ++ in_two (length v.line)
+    ++ flat_map (claim_bytes v) v.line
 
 -- what is spelled: a well-formed durable vault, whose names are names
 pub record HasSnapshot (v : Vault) : Type 0 where

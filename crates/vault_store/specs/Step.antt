@@ -53,5 +53,6 @@ pub record IsAdvance {D : Type 0} (disk : D → Disk) (old new : Seen D) (result
   pub numbers : AreNumbers old new result
   pub rests : (result ≡ Ok answers.Idle) ⊎ (result ≡ Ok answers.Broken) → new ≡ old
   pub calls : IsAtMostOneCall (disk (first_of old)) (disk (second_of old)) (disk (first_of new)) (disk (second_of new)) result
-  pub moments : (s : StoreState) (x y : List ℕ) → Keeps disk old s → IsTrue (disk (first_of old)).honest → IsTrue (disk (second_of old)).honest
+  pub moments : (s : StoreState) (x y : List ℕ) → Keeps disk old s → IsTrue (disk (first_of old)).honest
+      → IsTrue (disk (second_of old)).honest
       → MayBeLeft (disk (first_of old)) (disk (second_of old)) (disk (first_of new)) (disk (second_of new)) x y → IsLeftInside old s x y

@@ -113,8 +113,10 @@ pub fn read_contents<D: Device, A: Allocator + Copy>(
     device: &mut D,
 ) -> Result<Contents<A>, ReadError>
     ensures reads { AreReads (D.disk device.old) (D.disk device.new) }
-    ensures contents { IfOk result (λ contents. AreContents (D.disk device.old) contents.book contents.frames contents.tail contents.journal) }
-    ensures refused { IfErr result (λ why. IsWhy (D.disk device.old) (D.disk device.new) (IsFaultBehindHead (D.disk device.old).shown) why) }
+    ensures contents { IfOk result
+        (λ contents. AreContents (D.disk device.old) contents.book contents.frames contents.tail contents.journal) }
+    ensures refused { IfErr result
+        (λ why. IsWhy (D.disk device.old) (D.disk device.new) (IsFaultBehindHead (D.disk device.old).shown) why) }
     ensures quiet { OnOk result (IsQuiet (D.disk device.old) (D.disk device.new)) }
 {
     let len = device.len()?;
@@ -140,7 +142,9 @@ pub fn read_body<D: Device, A: Allocator + Copy>(
     device: &mut D,
 ) -> Result<Body<A>, BodyError>
     ensures reads { AreReads (D.disk device.old) (D.disk device.new) }
-    ensures body { IsTrue (D.disk device.old).honest → IfOk result (λ body. (generation : ℕ) → HasCurrentHead generation (D.disk device.old).shown → IsBody generation (D.disk device.old).shown body) }
+    ensures body { IsTrue (D.disk device.old).honest
+        → IfOk result (λ body. (generation : ℕ) → HasCurrentHead generation (D.disk device.old).shown
+        → IsBody generation (D.disk device.old).shown body) }
     ensures cause { IfErr result (λ why. why ≡ DeviceFailed → HasCause (D.disk device.old) (D.disk device.new)) }
     ensures memory { IfErr result (λ why. why ≡ Wanted → IsQuiet (D.disk device.old) (D.disk device.new)) }
 {

@@ -34,8 +34,10 @@ pub fn write_settled<D: Device>(device: &mut D, at: u64, bytes: &[u8]) -> Result
     requires begin { IsTrue (D.disk device.old).honest → at ≤ length (D.disk device.old).shown }
     requires end { IsTrue (D.disk device.old).honest → at + length bytes.now < 2 ^ 63 }
     ensures calls { AreCalls (D.disk device.old) (D.disk device.new) result }
-    ensures shown { IsTrue (D.disk device.old).honest → OnOk result ((D.disk device.new).shown ≡ overwritten (D.disk device.old).shown at bytes.now) }
-    ensures moments { IsTrue (D.disk device.old).honest → LeavesSince (D.disk device.old) (D.disk device.new) (IsTornImage (D.disk device.old) at (length bytes.now)) }
+    ensures shown { IsTrue (D.disk device.old).honest
+        → OnOk result ((D.disk device.new).shown ≡ overwritten (D.disk device.old).shown at bytes.now) }
+    ensures moments { IsTrue (D.disk device.old).honest
+        → LeavesSince (D.disk device.old) (D.disk device.new) (IsTornImage (D.disk device.old) at (length bytes.now)) }
     ensures settled { IsTrue (D.disk device.old).honest → OnOk result (IsSettled (D.disk device.new)) }
 {
     device.write_at(at, bytes)?;

@@ -96,13 +96,16 @@ impl<D: Device, A: Allocator> Store<D, A> {
     pub fn advance(&mut self) -> Result<Advanced, Fault>
         ensures step { (s : StoreState) → Keeps D.disk self.old s → IsStep D.disk self.old self.new result s }
         ensures numbers { AreNumbers self.old self.new result }
-        ensures calls { IsAtMostOneCall (D.disk (first_of self.old)) (D.disk (second_of self.old)) (D.disk (first_of self.new)) (D.disk (second_of self.new)) result }
+        ensures calls { IsAtMostOneCall (D.disk (first_of self.old)) (D.disk (second_of self.old)) (D.disk (first_of self.new))
+            (D.disk (second_of self.new)) result }
         ensures rests { (result ≡ Ok answers.Idle) ⊎ (result ≡ Ok answers.Broken) → self.new ≡ self.old }
         ensures broken { self.old.broken ≡ true → result ≡ Ok answers.Broken }
 
         // What a stop at any moment inside leaves is read as what is settled or, where a gate may be opened, as what is sealed.
-        ensures moments { (s : StoreState) (x y : List ℕ) → Keeps D.disk self.old s → IsTrue (D.disk (first_of self.old)).honest → IsTrue (D.disk (second_of self.old)).honest
-            → MayBeLeft (D.disk (first_of self.old)) (D.disk (second_of self.old)) (D.disk (first_of self.new)) (D.disk (second_of self.new)) x y → IsLeftInside self.old s x y }
+        ensures moments { (s : StoreState) (x y : List ℕ) → Keeps D.disk self.old s → IsTrue (D.disk (first_of self.old)).honest
+            → IsTrue (D.disk (second_of self.old)).honest
+            → MayBeLeft (D.disk (first_of self.old)) (D.disk (second_of self.old)) (D.disk (first_of self.new))
+            (D.disk (second_of self.new)) x y → IsLeftInside self.old s x y }
     {
         if self.broken {
             return Ok(Advanced::Broken);

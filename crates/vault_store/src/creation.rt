@@ -82,7 +82,8 @@ fn is_settled_empty<D: Device>(device: &mut D) -> Result<bool, Fault>
 fn write_new<D: Device>(device: &mut D) -> Result<(), Fault>
     requires { IsTrue (D.disk device.old).honest → (D.disk device.old).shown ≡ [] }
     ensures calls { AreCalls (D.disk device.old) (D.disk device.new) result }
-    ensures moments { IsTrue (D.disk device.old).honest → LeavesOnly (D.disk device.old) [] → LeavesSince (D.disk device.old) (D.disk device.new) IsClosedOrNew }
+    ensures moments { IsTrue (D.disk device.old).honest → LeavesOnly (D.disk device.old) []
+        → LeavesSince (D.disk device.old) (D.disk device.new) IsClosedOrNew }
     ensures shown { IsTrue (D.disk device.old).honest → OnOk result ((D.disk device.new).shown ≡ new_file) }
     ensures settled { IsTrue (D.disk device.old).honest → OnOk result (IsSettled (D.disk device.new)) }
 {
@@ -101,8 +102,10 @@ fn make<D: Device, A: Allocator>(
     ensures second { IsCalled (D.disk second.old) (D.disk second.new) }
     ensures refused { IfErr result (λ why. IsNotMade (D.disk first.old) (D.disk second.old) (D.disk first.new) (D.disk second.new) why) }
     ensures settled { IfErr result (λ why. AreSettledUnmade (D.disk first.new) (D.disk second.new) why) }
-    ensures memory { IfErr result (λ why. why ≡ Wanted → AreQuiet (D.disk first.old) (D.disk second.old) (D.disk first.new) (D.disk second.new)) }
-    ensures made { IsTrue (D.disk first.old).honest → LeavesOnly (D.disk first.old) [] → LeavesSince (D.disk first.old) (D.disk first.new) IsClosedOrNew }
+    ensures memory { IfErr result
+        (λ why. why ≡ Wanted → AreQuiet (D.disk first.old) (D.disk second.old) (D.disk first.new) (D.disk second.new)) }
+    ensures made { IsTrue (D.disk first.old).honest → LeavesOnly (D.disk first.old) []
+        → LeavesSince (D.disk first.old) (D.disk first.new) IsClosedOrNew }
     ensures left { IsTrue (D.disk second.old).honest → LeavesSince (D.disk second.old) (D.disk second.new) (D.disk second.old).IsImage }
     ensures frame { IfOk result (λ frame. frame ≡ []) }
     ensures file { IsTrue (D.disk first.old).honest → OnOk result (IsFilled (D.disk first.old) (D.disk first.new) new_file) }
@@ -127,13 +130,19 @@ impl<D: Device, A: Allocator> Store<D, A> {
         ensures numbers { IfOk result (λ store. (store.generation ≡ 1) × (store.tail ≡ 34) × (store.journal ≡ 0)) }
         ensures file { IsTrue (D.disk first).honest → IfOk result (λ store. IsFilled (D.disk first) (D.disk (first_of store)) new_file) }
         ensures empty { IsTrue (D.disk second).honest → IfOk result (λ store. IsFilled (D.disk second) (D.disk (second_of store)) []) }
-        ensures called { IfOk result (λ store. IsCalled (D.disk first) (D.disk (first_of store)) × IsCalled (D.disk second) (D.disk (second_of store))) }
-        ensures stops { IfOk result (λ store. StopsInCreation (D.disk first) (D.disk second) (D.disk (first_of store)) (D.disk (second_of store))) }
-        ensures refused_stops { IfErr result (λ refused. StopsInCreation (D.disk first) (D.disk second) (D.disk refused.first) (D.disk refused.second)) }
-        ensures refused { IfErr result (λ refused. IsNotMade (D.disk first) (D.disk second) (D.disk refused.first) (D.disk refused.second) refused.why) }
+        ensures called { IfOk result
+            (λ store. IsCalled (D.disk first) (D.disk (first_of store)) × IsCalled (D.disk second) (D.disk (second_of store))) }
+        ensures stops { IfOk result
+            (λ store. StopsInCreation (D.disk first) (D.disk second) (D.disk (first_of store)) (D.disk (second_of store))) }
+        ensures refused_stops { IfErr result
+            (λ refused. StopsInCreation (D.disk first) (D.disk second) (D.disk refused.first) (D.disk refused.second)) }
+        ensures refused { IfErr result
+            (λ refused. IsNotMade (D.disk first) (D.disk second) (D.disk refused.first) (D.disk refused.second) refused.why) }
         ensures left_settled { IfErr result (λ refused. AreSettledUnmade (D.disk refused.first) (D.disk refused.second) refused.why) }
-        ensures memory { IfErr result (λ refused. refused.why ≡ Wanted → AreQuiet (D.disk first) (D.disk second) (D.disk refused.first) (D.disk refused.second)) }
-        ensures handed_back { IfErr result (λ refused. IsCalled (D.disk first) (D.disk refused.first) × IsCalled (D.disk second) (D.disk refused.second)) }
+        ensures memory { IfErr result
+            (λ refused. refused.why ≡ Wanted → AreQuiet (D.disk first) (D.disk second) (D.disk refused.first) (D.disk refused.second)) }
+        ensures handed_back { IfErr result
+            (λ refused. IsCalled (D.disk first) (D.disk refused.first) × IsCalled (D.disk second) (D.disk refused.second)) }
     {
         let mut first = first;
         let mut second = second;

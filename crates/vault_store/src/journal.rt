@@ -52,7 +52,9 @@ fn read_length<D: Device>(device: &mut D, len: u64, at: u64) -> Result<u32, Read
     requires len { IsTrue (D.disk device.old).honest → len ≡ length (D.disk device.old).shown }
     ensures reads { AreReads (D.disk device.old) (D.disk device.new) }
     ensures length { IfOk result (λ n. IsLengthRead (D.disk device.old) len at n) }
-    ensures refused { IfErr result (λ why. IsWhy (D.disk device.old) (D.disk device.new) (λ offset. (offset ≡ at) × BeginsWithNoFrame (drop at (D.disk device.old).shown)) why) }
+    ensures refused { IfErr result
+        (λ why. IsWhy (D.disk device.old) (D.disk device.new)
+        (λ offset. (offset ≡ at) × BeginsWithNoFrame (drop at (D.disk device.old).shown)) why) }
     ensures quiet { OnOk result (IsQuiet (D.disk device.old) (D.disk device.new)) }
 {
     let room = len - at;
@@ -109,7 +111,8 @@ pub fn read_bytes<D: Device, A: Allocator>(
     requires { IsTrue (D.disk device.old).honest → at + count ≤ length (D.disk device.old).shown }
     ensures reads { AreReads (D.disk device.old) (D.disk device.new) }
     ensures size { IfOk result (λ bytes. length bytes.items ≡ count) }
-    ensures bytes { IsTrue (D.disk device.old).honest → IfOk result (λ bytes. bytes.items ≡ slice_range (D.disk device.old).shown at (at + count)) }
+    ensures bytes { IsTrue (D.disk device.old).honest
+        → IfOk result (λ bytes. bytes.items ≡ slice_range (D.disk device.old).shown at (at + count)) }
     ensures refused { IfErr result (λ why. IsWhy (D.disk device.old) (D.disk device.new) (λ offset. ⊥) why) }
     ensures quiet { OnOk result (IsQuiet (D.disk device.old) (D.disk device.new)) }
 {
@@ -137,7 +140,8 @@ fn read_frame<D: Device, A: Allocator + Copy>(
     requires len { IsTrue (D.disk device.old).honest → len ≡ length (D.disk device.old).shown }
     ensures reads { AreReads (D.disk device.old) (D.disk device.new) }
     ensures step { IfOk result (λ next. IsStepRead (D.disk device.old) len at book.old book.new next) }
-    ensures refused { IfErr result (λ why. IsWhy (D.disk device.old) (D.disk device.new) (IsNoFrame book.old (D.disk device.old).shown at) why) }
+    ensures refused { IfErr result
+        (λ why. IsWhy (D.disk device.old) (D.disk device.new) (IsNoFrame book.old (D.disk device.old).shown at) why) }
     ensures quiet { OnOk result (IsQuiet (D.disk device.old) (D.disk device.new)) }
 {
     if read_gate(device, at)? != 1 {
@@ -171,7 +175,8 @@ pub fn read_frames<D: Device, A: Allocator + Copy>(
     requires len { IsTrue (D.disk device.old).honest → len ≡ length (D.disk device.old).shown }
     ensures reads { AreReads (D.disk device.old) (D.disk device.new) }
     ensures all { IfOk result (λ frames. AreAllRead (D.disk device.old) len from book.old book.new frames.count frames.tail) }
-    ensures refused { IfErr result (λ why. IsWhy (D.disk device.old) (D.disk device.new) (IsFrameWrong from book.old (D.disk device.old).shown) why) }
+    ensures refused { IfErr result
+        (λ why. IsWhy (D.disk device.old) (D.disk device.new) (IsFrameWrong from book.old (D.disk device.old).shown) why) }
     ensures quiet { OnOk result (IsQuiet (D.disk device.old) (D.disk device.new)) }
 {
     let mut count = 0;

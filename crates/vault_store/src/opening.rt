@@ -78,8 +78,10 @@ struct Active {
 // The generation of an open file; of a closed one there is none.
 fn generation_in<D: Device>(which: File, device: &mut D) -> Result<Option<u64>, OpenError>
     ensures reads { AreReads (D.disk device.old) (D.disk device.new) }
-    ensures generation { IsTrue (D.disk device.old).honest → IfOk result (λ generation. IsGenerationRead (D.disk device.old).shown generation) }
-    ensures refused { IfErr result (λ why. IsWhyNot (D.disk device.old) (D.disk device.new) which (IsDamagedHead (D.disk device.old).shown) why) }
+    ensures generation { IsTrue (D.disk device.old).honest
+        → IfOk result (λ generation. IsGenerationRead (D.disk device.old).shown generation) }
+    ensures refused { IfErr result
+        (λ why. IsWhyNot (D.disk device.old) (D.disk device.new) which (IsDamagedHead (D.disk device.old).shown) why) }
     ensures memory { IfErr result (λ why. why ≡ Wanted → ⊥) }
     ensures quiet { OnOk result (IsQuiet (D.disk device.old) (D.disk device.new)) }
 {
@@ -112,9 +114,11 @@ fn is_shut<D: Device>(device: &mut D) -> Result<bool, Fault>
 // Reads what the head of a file says. Four device calls at most.
 fn look_at<D: Device>(which: File, device: &mut D) -> Result<Headed, OpenError>
     ensures reads { AreReads (D.disk device.old) (D.disk device.new) }
-    ensures generation { IsTrue (D.disk device.old).honest → IfOk result (λ headed. IsGenerationRead (D.disk device.old).shown headed.generation) }
+    ensures generation { IsTrue (D.disk device.old).honest
+        → IfOk result (λ headed. IsGenerationRead (D.disk device.old).shown headed.generation) }
     ensures shut { IsTrue (D.disk device.old).honest → IfOk result (λ headed. (headed.shut ≡ true) ↔ IsClosed 0 (D.disk device.old).shown) }
-    ensures refused { IfErr result (λ why. IsWhyNot (D.disk device.old) (D.disk device.new) which (IsDamagedHead (D.disk device.old).shown) why) }
+    ensures refused { IfErr result
+        (λ why. IsWhyNot (D.disk device.old) (D.disk device.new) which (IsDamagedHead (D.disk device.old).shown) why) }
     ensures memory { IfErr result (λ why. why ≡ Wanted → ⊥) }
     ensures quiet { OnOk result (IsQuiet (D.disk device.old) (D.disk device.new)) }
 {
@@ -125,8 +129,10 @@ fn look_at<D: Device>(which: File, device: &mut D) -> Result<Headed, OpenError>
 
 // The open file of the greater generation.
 fn newer(first: Headed, second: Headed) -> Result<Active, OpenError>
-    ensures newer { IfOk result (λ active. (x y : List ℕ) → IsGenerationRead x first.generation → IsGenerationRead y second.generation → IsNewerIn x y active.which active.generation) }
-    ensures refused { IfErr result (λ why. (x y : List ℕ) → IsGenerationRead x first.generation → IsGenerationRead y second.generation → IsNotOpened x y why) }
+    ensures newer { IfOk result (λ active. (x y : List ℕ) → IsGenerationRead x first.generation → IsGenerationRead y second.generation
+        → IsNewerIn x y active.which active.generation) }
+    ensures refused { IfErr result
+        (λ why. (x y : List ℕ) → IsGenerationRead x first.generation → IsGenerationRead y second.generation → IsNotOpened x y why) }
     ensures files { IfErr result (λ why. why ≡ DeviceFailed → ⊥) }
     ensures memory { IfErr result (λ why. why ≡ Wanted → ⊥) }
     ensures shut { IfOk result (λ active. active.spare_shut ≡ of_file active.which second.shut first.shut) }
@@ -166,11 +172,15 @@ fn find_active<D: Device>(first: &mut D, second: &mut D) -> Result<Active, OpenE
     ensures second { IsHandedOn (D.disk second.old) (D.disk second.new) }
     ensures settled_first { IsTrue (D.disk first.old).honest → OnOk result (IsSettled (D.disk first.new)) }
     ensures settled_second { IsTrue (D.disk second.old).honest → OnOk result (IsSettled (D.disk second.new)) }
-    ensures found { IsTrue (D.disk first.old).honest → IsTrue (D.disk second.old).honest → IfOk result (λ active. IsNewerIn (D.disk first.old).shown (D.disk second.old).shown active.which active.generation) }
-    ensures shut { IfOk result (λ active. IsTrue (D.disk (of_file active.which second.old first.old)).honest → (active.spare_shut ≡ true) ↔ IsClosed 0 (D.disk (of_file active.which second.old first.old)).shown) }
-    ensures refused { IsTrue (D.disk first.old).honest → IsTrue (D.disk second.old).honest → IfErr result (λ why. IsNotOpened (D.disk first.old).shown (D.disk second.old).shown why) }
+    ensures found { IsTrue (D.disk first.old).honest → IsTrue (D.disk second.old).honest
+        → IfOk result (λ active. IsNewerIn (D.disk first.old).shown (D.disk second.old).shown active.which active.generation) }
+    ensures shut { IfOk result (λ active. IsTrue (D.disk (of_file active.which second.old first.old)).honest → (active.spare_shut ≡ true)
+        ↔ IsClosed 0 (D.disk (of_file active.which second.old first.old)).shown) }
+    ensures refused { IsTrue (D.disk first.old).honest → IsTrue (D.disk second.old).honest
+        → IfErr result (λ why. IsNotOpened (D.disk first.old).shown (D.disk second.old).shown why) }
     ensures settled { IfErr result (λ why. AreLeftSettled (D.disk first.new) (D.disk second.new) why) }
-    ensures cause { IfErr result (λ why. why ≡ DeviceFailed → HasCause (D.disk first.old) (D.disk first.new) ⊎ HasCause (D.disk second.old) (D.disk second.new)) }
+    ensures cause { IfErr result
+        (λ why. why ≡ DeviceFailed → HasCause (D.disk first.old) (D.disk first.new) ⊎ HasCause (D.disk second.old) (D.disk second.new)) }
     ensures memory { IfErr result (λ why. why ≡ Wanted → ⊥) }
     ensures quiet { OnOk result (AreQuiet (D.disk first.old) (D.disk second.old) (D.disk first.new) (D.disk second.new)) }
 {
@@ -190,7 +200,8 @@ fn read_active<D: Device, A: Allocator + Copy>(
     ensures reads { AreReads (D.disk active.old) (D.disk active.new) }
     ensures contents { IfOk result (λ read. AreContents (D.disk active.old) read.0.book read.0.frames read.0.tail read.0.journal) }
     ensures frame { IfOk result (λ read. read.1 ≡ []) }
-    ensures refused { IfErr result (λ why. IsWhyNot (D.disk active.old) (D.disk active.new) which (IsFaultBehindHead (D.disk active.old).shown) why) }
+    ensures refused { IfErr result
+        (λ why. IsWhyNot (D.disk active.old) (D.disk active.new) which (IsFaultBehindHead (D.disk active.old).shown) why) }
     ensures quiet { OnOk result (IsQuiet (D.disk active.old) (D.disk active.new)) }
 {
     match read_contents(alloc, active) {
@@ -230,15 +241,22 @@ impl<D: Device, A: Allocator + Copy> Store<D, A> {
         second: D,
     ) -> Result<(Store<D, A>, Book<A>), Refused<D, OpenError>>
         ensures kept { IfOk result (λ opened. Keeps D.disk opened.0 (at_rest opened.1)) }
-        ensures read { IsTrue (D.disk first).honest → IsTrue (D.disk second).honest → IfOk result (λ opened. AreRead (D.disk first).shown (D.disk second).shown (settled_reading opened.0 (at_rest opened.1))) }
-        ensures handed_on { IfOk result (λ opened. IsHandedOn (D.disk first) (D.disk (first_of opened.0)) × IsHandedOn (D.disk second) (D.disk (second_of opened.0))) }
-        ensures refused { IsTrue (D.disk first).honest → IsTrue (D.disk second).honest → IfErr result (λ refused. IsNotOpened (D.disk first).shown (D.disk second).shown refused.why) }
+        ensures read { IsTrue (D.disk first).honest → IsTrue (D.disk second).honest
+            → IfOk result (λ opened. AreRead (D.disk first).shown (D.disk second).shown (settled_reading opened.0 (at_rest opened.1))) }
+        ensures handed_on { IfOk result
+            (λ opened. IsHandedOn (D.disk first) (D.disk (first_of opened.0)) × IsHandedOn (D.disk second) (D.disk (second_of opened.0))) }
+        ensures refused { IsTrue (D.disk first).honest → IsTrue (D.disk second).honest
+            → IfErr result (λ refused. IsNotOpened (D.disk first).shown (D.disk second).shown refused.why) }
         ensures settled { IfOk result (λ opened. AreSettled (D.disk (first_of opened.0)) (D.disk (second_of opened.0))) }
         ensures left_settled { IfErr result (λ refused. AreLeftSettled (D.disk refused.first) (D.disk refused.second) refused.why) }
-        ensures cause { IfErr result (λ refused. refused.why ≡ DeviceFailed → HasCause (D.disk first) (D.disk refused.first) ⊎ HasCause (D.disk second) (D.disk refused.second)) }
-        ensures memory { IfErr result (λ refused. refused.why ≡ Wanted → AreQuiet (D.disk first) (D.disk second) (D.disk refused.first) (D.disk refused.second)) }
-        ensures quiet { IfOk result (λ opened. AreQuiet (D.disk first) (D.disk second) (D.disk (first_of opened.0)) (D.disk (second_of opened.0))) }
-        ensures handed_back { IfErr result (λ refused. IsHandedOn (D.disk first) (D.disk refused.first) × IsHandedOn (D.disk second) (D.disk refused.second)) }
+        ensures cause { IfErr result (λ refused. refused.why ≡ DeviceFailed → HasCause (D.disk first) (D.disk refused.first)
+            ⊎ HasCause (D.disk second) (D.disk refused.second)) }
+        ensures memory { IfErr result
+            (λ refused. refused.why ≡ Wanted → AreQuiet (D.disk first) (D.disk second) (D.disk refused.first) (D.disk refused.second)) }
+        ensures quiet { IfOk result
+            (λ opened. AreQuiet (D.disk first) (D.disk second) (D.disk (first_of opened.0)) (D.disk (second_of opened.0))) }
+        ensures handed_back { IfErr result
+            (λ refused. IsHandedOn (D.disk first) (D.disk refused.first) × IsHandedOn (D.disk second) (D.disk refused.second)) }
     {
         let mut first = first;
         let mut second = second;

@@ -68,7 +68,9 @@ fn write_next<D: Device>(device: &mut D, bytes: &[u8], left: u64) -> Result<(), 
     requires short { length bytes.now < 2 ^ 33 }
     requires stands { IsTrue (D.disk device.old).honest → length bytes.now - left < length (D.disk device.old).shown }
     ensures one_call { IsOneCall (D.disk device.old) (D.disk device.new) result }
-    ensures write { IsTrue (D.disk device.old).honest → IsWrite (length bytes.now - left + 1) (take (piece_size left) (drop (length bytes.now - left) bytes.now)) result (D.disk device.old) (D.disk device.new) }
+    ensures write { IsTrue (D.disk device.old).honest
+        → IsWrite (length bytes.now - left + 1) (take (piece_size left) (drop (length bytes.now - left) bytes.now)) result
+        (D.disk device.old) (D.disk device.new) }
 {
     let begin = bytes.len() - left as usize;
     let end = begin + piece_size(left) as usize;

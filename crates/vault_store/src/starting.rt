@@ -43,7 +43,8 @@ impl<D: Device, A: Allocator> Store<D, A> {
         requires spelled { HasSnapshot (durable book.now) }
         ensures may { result ≡ Ok answers.Yes → MayStart self.old }
         ensures yes { result ≡ Ok answers.Yes → self.new ≡ started_seen self.old (durable book.now) }
-        ensures kept { (s : StoreState) → result ≡ Ok answers.Yes → Keeps D.disk self.old s → s.noted ≡ durable book.now → Keeps D.disk self.new (started s) }
+        ensures kept { (s : StoreState) → result ≡ Ok answers.Yes → Keeps D.disk self.old s → s.noted ≡ durable book.now
+            → Keeps D.disk self.new (started s) }
         ensures may_not { result ≡ Ok answers.NotNow → MayStart self.old → ⊥ }
         ensures not_now { result ≡ Ok answers.NotNow → self.new ≡ self.old }
         ensures refused { OnErr result (self.new ≡ self.old) }

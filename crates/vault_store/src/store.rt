@@ -110,7 +110,8 @@ impl<D: Device, A: Allocator> Store<D, A> {
         requires room { IsTrue (has_room self.old) }
         requires has { HasRecord effect.now }
         ensures noted { self.new ≡ record self.old { buffer = self.old.buffer ++ record_of effect.now } }
-        ensures kept { (s : StoreState) (next : Vault) → Keeps D.disk self.old s → after s.noted effect.now ≡ Some next → Keeps D.disk self.new (with_effect s effect.now next) }
+        ensures kept { (s : StoreState) (next : Vault) → Keeps D.disk self.old s → after s.noted effect.now ≡ Some next
+            → Keeps D.disk self.new (with_effect s effect.now next) }
     {
         self.frame.push_effect(effect);
     }

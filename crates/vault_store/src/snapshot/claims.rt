@@ -75,7 +75,8 @@ fn read_claim<'a, A: Allocator + Copy>(
     drafts: &mut Vec<Drafts<A>, A>,
     bytes: &'a [u8],
 ) -> Result<&'a [u8], SnapshotError>
-    ensures read { IfOk result (λ rest. IsClaimRead claims.old.items claims.new.items drafts.old.items drafts.new.items bytes.now rest.now) }
+    ensures read { IfOk result
+        (λ rest. IsClaimRead claims.old.items claims.new.items drafts.old.items drafts.new.items bytes.now rest.now) }
     ensures refused { result ≡ Err NotWellFormed → BeginsWithNoClaim bytes.now }
 {
     let Some((number, rest)) = u32_at(bytes) else {

@@ -181,7 +181,8 @@ fn put_place<A: Allocator, B: Allocator + Copy>(
 ) -> Result<(), NoMemory>
     requires some { 0 < number }
     requires there { number ≤ length book.now.tree }
-    ensures { (place : Place) → slice_get book.now.tree (number - 1) ≡ Some place → Adds out.old.items out.new.items (place_bytes book.now number place) result }
+    ensures { (place : Place) → slice_get book.now.tree (number - 1) ≡ Some place
+        → Adds out.old.items out.new.items (place_bytes book.now number place) result }
 {
     let (parent, name) = place_at(book.tree(), number);
     put_u32(out, parent.number())?;

@@ -1,4 +1,4 @@
-use Rattle.std.proofs.Common.{◌≡◌, inr, tt, sym, ap, ◌∙◌, subst}
+use Rattle.std.proofs.Common.{◌≡◌, inr, sym, ap, ◌∙◌, subst}
 use Rattle.vault_model.specs.Vault.{Vault}
 use Rattle.vault_store.specs.Calls.{AreQuiet}
 use Rattle.vault_store.specs.Files.{Reading, AreRead}
