@@ -1,5 +1,5 @@
 -- A vault at the beginning of a life.
-use Rattle.std.proofs.Common.{◌≡◌, ℕ, false, List, [], refl, sym, subst}
+use Rattle.std.proofs.Common.{◌≡◌, ℕ, false, List, [], refl, sym, subst, arith}
 use Rattle.vault_model.specs.Vault.{Vault}
 use Rattle.vault_model.specs.After.{IsDurable}
 use Rattle.vault_device.specs.Disk.{Disk}
@@ -29,4 +29,4 @@ begun_view disk base book kept store life same none stands =
 pub begun_kept : {D : Type 0} (disk : D → Disk) (base book : Vault) (kept : List Kept) (store : StoreSeen D) (life : ℕ) → base ≡ book → kept ≡ [] → Keeps disk store (at_rest book) → IsKept disk (begun base kept store life) book
 begun_kept disk base book kept store life same none stands =
     subst (λ (v : View). IsKept disk (record { view = v; life = life; store = store }) book) (sym (begun_view disk base book kept store life same none stands))
-    (record { book_is = refl; sound = opened_sound book stands.spelled.well_formed stands.spelled.durable; stands = subst (Keeps disk store) (sym (state_opened book stands.spelled.durable)) stands })
+    (record { book_is = refl; sound = opened_sound book stands.spelled.well_formed stands.spelled.durable; fits = omega arith; stands = subst (Keeps disk store) (sym (state_opened book stands.spelled.durable)) stands })

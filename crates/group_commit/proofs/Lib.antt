@@ -19,6 +19,7 @@ pub mod Closed
 pub mod Tickets
 pub mod Staged
 pub mod Starts
+pub mod Retires
 pub mod Pumps
 pub mod Begins
 pub mod Images

@@ -90,7 +90,7 @@ set_is_marked m [] p k h e = absurd (omega arith)
 set_is_marked m (x ∷ xs) zero k h e = λ i. (record { entry = (e i).entry; mark = m }) ∷ xs
 set_is_marked m (x ∷ xs) (suc p) k h e = ap (λ l. x ∷ l) (set_is_marked m xs p k (omega arith) e)
 
-at_most_one : (b : Bool) → ◌≤◌ (cond b 1 0) 1
+pub at_most_one : (b : Bool) → ◌≤◌ (cond b 1 0) 1
 at_most_one true = omega arith
 at_most_one false = omega arith
 

@@ -179,7 +179,7 @@ module _ {D : Type 0} (disk : D → Disk) (seen : Seen D) (book : Vault) (k : Is
       → IsKept disk (after_step settled sealed seen.view.broken) book
   pumped_kept settled sealed whole keeps d e =
       subst (λ (v : View). IsKept disk (record { view = v; life = seen.life; store = store }) book) (sym (pumped_view settled sealed whole keeps d e))
-      (record { book_is = k.book_is; sound = pumped_sound seen.view k.sound; stands = subst (Keeps disk store) (sym (state_pumped seen.view k.sound whole)) keeps })
+      (record { book_is = k.book_is; sound = pumped_sound seen.view k.sound; fits = k.fits; stands = subst (Keeps disk store) (sym (state_pumped seen.view k.sound whole)) keeps })
 
   pub failed_view : (sealed : ℕ) → Keeps disk store (failed (row_of (state_of seen.view)) (state_of seen.view)) → sealed ≡ (view_acted snapshot_length seen.view Fault).sealed
       → (after_step seen.view.settled sealed true).view ≡ view_acted snapshot_length seen.view Fault
@@ -191,7 +191,7 @@ module _ {D : Type 0} (disk : D → Disk) (seen : Seen D) (book : Vault) (k : Is
       → IsKept disk (after_step seen.view.settled sealed true) book
   failed_kept sealed keeps e =
       subst (λ (v : View). IsKept disk (record { view = v; life = seen.life; store = store }) book) (sym (failed_view sealed keeps e))
-      (record { book_is = k.book_is; sound = failed_sound seen.view k.sound; stands = subst (Keeps disk store) (sym (state_failed seen.view)) keeps })
+      (record { book_is = k.book_is; sound = failed_sound seen.view k.sound; fits = k.fits; stands = subst (Keeps disk store) (sym (state_failed seen.view)) keeps })
 
 after_same : {A : Type 0} (call : DeviceCall) (x : A) → after_fault call x x ≡ x
 after_same NoCall x = refl

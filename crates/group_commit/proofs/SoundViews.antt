@@ -126,11 +126,10 @@ forgotten_sound v place was s =
     marked_sound Forgotten v.told v place (λ e. cc) (λ e. absurd (cc)) (mark_below v.kept place Open was) (omega arith) (omega arith) s
 
 -- the number told fits, with one more
-pub told_fits : (v : View) (place : ℕ) → mark_at v.kept place ≡ Some Open → IsSoundView v → v.told < v.retired + most_kept
+pub told_fits : (v : View) (place : ℕ) → mark_at v.kept place ≡ Some Open → IsSoundView v → v.told < length_of v
 told_fits v place was s =
     let most : v.told ≤ v.retired + told_in v.kept = s.told_most in
     let fewer : told_in v.kept < length v.kept = told_below_length v.kept place was in
-    let few : length v.kept ≤ most_kept = s.few in
     omega arith
 
 -- no session has given more commands than the life has entries

@@ -1,5 +1,5 @@
 -- What staging a command leaves.
-use Rattle.std.proofs.Common.{◌≡◌, ℕ, ◌-◌, ◌^◌, ◌<◌, List, [], ◌∷◌, ◌++◌, length, Option, None, Some, sym, ap, ◌∙◌, subst}
+use Rattle.std.proofs.Common.{◌≡◌, ◌≢◌, ℕ, ◌+◌, ◌-◌, ◌^◌, ◌<◌, List, [], ◌∷◌, ◌++◌, length, Option, None, Some, sym, ap, ◌∙◌, subst, arith, length-append}
 use Rattle.std.specs.Prelude.{IfSome}
 use Rattle.vault_model.specs.Said.{Command, Reply, Effect}
 use Rattle.vault_model.specs.Vault.{Vault, CountsBelow, durable}
@@ -22,6 +22,14 @@ use Rattle.group_commit.proofs.SoundViews.{staged_sound, counts_fit}
 abbrev pub Notes : {D : Type 0} → (D → Disk) → StoreSeen D → StoreSeen D → Effect → Type 0
 Notes disk old new effect = (s : StoreState) (next : Vault) → Keeps disk old s → after s.noted effect ≡ Some next → Keeps disk new (with_effect s effect next)
 
+-- a length that isn't the greatest
+pub another_fits : (length position : ℕ) → position ≡ length → length < 2 ^ 64 → position ≢ 2 ^ 64 - 1 → length < 2 ^ 64 - 1
+another_fits length position is fits most = omega (arith, is, fits, most)
+
+-- one position more
+staged_fits : (retired : ℕ) (kept : List Kept) (entry : Kept) → retired + length kept < 2 ^ 64 - 1 → retired + length (kept ++ entry ∷ []) < 2 ^ 64
+staged_fits retired kept entry last = let more : length (kept ++ entry ∷ []) ≡ length kept + 1 = length-append kept (entry ∷ []) in omega arith
+
 module _ {D : Type 0} (disk : D → Disk) (seen : Seen D) (book : Vault) (session : ℕ) (command : Command) (k : IsKept disk seen book) where
   pub counts_are_few : length_of seen.view < 2 ^ 64 - 1 → CountsBelow (2 ^ 64 - 1) book
   counts_are_few h = subst (CountsBelow (2 ^ 64 - 1)) (sym k.book_is) (counts_fit seen.view (2 ^ 64 - 1) h k.sound)
@@ -39,11 +47,11 @@ module _ {D : Type 0} (disk : D → Disk) (seen : Seen D) (book : Vault) (sessio
   same_phase None store e = ap (λ (s : StoreSeen D). s.phase) e
   same_phase (Some effect) store e = ap (λ (s : StoreSeen D). s.phase) e
 
-  pub stage_kept : (effect : Option Effect) (store : StoreSeen D) (before next : Vault) (reply : Reply) (entry : Kept) (kept : List Kept) → seen.store.phase ≡ seen.view.phase → length seen.view.kept < most_kept
+  pub stage_kept : (effect : Option Effect) (store : StoreSeen D) (before next : Vault) (reply : Reply) (entry : Kept) (kept : List Kept) → seen.store.phase ≡ seen.view.phase → length seen.view.kept < most_kept → length_of seen.view < 2 ^ 64 - 1
       → effect ≡ (step book session command).effect → store ≡ noted effect seen.store → IfSome effect (Notes disk seen.store store) → before ≡ book → reply ≡ (step book session command).reply
       → entry ≡ opened (record { session = session; number = number_of before session; command = command; reply = reply }) → kept ≡ seen.view.kept ++ entry ∷ [] → next ≡ (step book session command).vault
       → IsKept disk (record { view = record seen.view { kept = kept; phase = store.phase }; life = seen.life; store = store }) next
-  stage_kept effect store before next reply entry kept phase room e same notes b r is more n =
+  stage_kept effect store before next reply entry kept phase room last e same notes b r is more n =
       let here : before ≡ book_of seen.view = b ∙ k.book_is in
       let told : reply ≡ (step (book_of seen.view) session command).reply = r ∙ ap (λ x. (step x session command).reply) k.book_is in
       let given : entry ≡ opened (entry_of (book_of seen.view) session command) = is ∙ (λ i. opened (record { session = session; number = number_of (here i) session; command = command; reply = told i })) in
@@ -53,5 +61,6 @@ module _ {D : Type 0} (disk : D → Disk) (seen : Seen D) (book : Vault) (sessio
       (record {
         book_is = n ∙ ap (λ x. (step x session command).vault) k.book_is ∙ sym (book_staged seen.view session command);
         sound = staged_sound seen.view session command room k.sound;
+        fits = staged_fits seen.view.retired seen.view.kept (opened (entry_of (book_of seen.view) session command)) last;
         stands = stands effect store (e ∙ ap (λ x. (step x session command).effect) k.book_is) same notes;
       })

@@ -45,6 +45,7 @@ module _ {D : Type 0} (disk : D → Disk) (seen : Seen D) (book : Vault) (k : Is
       (record {
         book_is = k.book_is;
         sound = started_sound seen.view k.sound;
+        fits = k.fits;
         stands = subst (Keeps disk store) (sym (state_started seen.view (sym k.stands.phase ∙ may.idle))) keeps;
       })
 

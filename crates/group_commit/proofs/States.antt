@@ -51,7 +51,7 @@ pub book_well_formed : (v : View) → IsSoundView v → IsVault (book_of v)
 book_well_formed v s = replay_well_formed v.base (members v.kept) s.well_formed
 
 -- up to where the entries are in frames
-framed_bounds : (v : View) → InOrder (length_of v) v.retired v.settled v.sealed v.phase → (v.settled ≤ framed v) × (framed v ≤ length_of v)
+pub framed_bounds : (v : View) → InOrder (length_of v) v.retired v.settled v.sealed v.phase → (v.settled ≤ framed v) × (framed v ≤ length_of v)
 framed_bounds v o = at (is_idle v.phase) o.sealing
   where
     at : (b : Bool) → (b ≡ false → v.settled ≤ v.sealed) → (v.settled ≤ cond b v.settled v.sealed) × (cond b v.settled v.sealed ≤ length_of v)

@@ -1,20 +1,21 @@
 -- What redeeming and forgetting a ticket leave.
-use Rattle.std.proofs.Common.{◌≡◌, ℕ, ◌+◌, ◌-◌, ◌≤◌, ◌<◌, List, length, Some, sym, ap, ◌∙◌, subst, arith}
+use Rattle.std.proofs.Common.{◌≡◌, ℕ, ◌+◌, ◌-◌, ◌≤◌, ◌<◌, ◌^◌, List, length, Some, sym, ap, ◌∙◌, subst, arith}
 use Rattle.std.specs.Prelude.{slice_get}
 use Rattle.vault_model.specs.Said.{Reply}
 use Rattle.vault_model.specs.Vault.{Vault}
 use Rattle.vault_device.specs.Disk.{Disk}
 use Rattle.vault_store.specs.Seen.{Keeps}
+use Rattle.group_commit.specs.declared.mark.Mark.{Mark}
 use Rattle.group_commit.specs.declared.mark.Mark.TheVariants.{Open, Told as IsTold, Forgotten}
 use Rattle.group_commit.specs.Entries.{Kept, mark_at, with_mark}
 use Rattle.group_commit.specs.History.{replay}
 use Rattle.group_commit.specs.World.{Tell}
-use Rattle.group_commit.specs.View.{ViewAllows, view_acted}
+use Rattle.group_commit.specs.View.{length_of, ViewAllows, view_acted}
 use Rattle.group_commit.specs.Ticket.{Claim, Told, told_for}
-use Rattle.group_commit.specs.Seen.{Seen, snapshot_length, most_kept}
+use Rattle.group_commit.specs.Seen.{Seen, snapshot_length}
 use Rattle.group_commit.specs.Inside.{IsKept}
 use Rattle.group_commit.specs.Calls.{NamesOpen, IsReceiptOf}
-use Rattle.group_commit.proofs.Marks.{members-with_mark, entry_there}
+use Rattle.group_commit.proofs.Marks.{members-with_mark, length-with_mark, entry_there}
 use Rattle.group_commit.proofs.Closed.{state_closed}
 use Rattle.group_commit.proofs.SoundViews.{told_sound, forgotten_sound, told_fits}
 
@@ -28,6 +29,10 @@ is_open now claim place at = ap (mark_at now.view.kept) at.1 ∙ at.0.1.1
 stands_at : {D : Type 0} (now : Seen D) (claim : Claim) (place : ℕ) → IsOpenAt now claim place → now.view.retired + place ≡ claim.position
 stands_at now claim place at = let is : place ≡ claim.position - now.view.retired = at.1 in let low : now.view.retired ≤ claim.position = at.0.1.0 in omega arith
 
+-- an entry that is closed is still kept
+same_length_fits : {D : Type 0} (mark : Mark) (now : Seen D) (place : ℕ) → length_of now.view < 2 ^ 64 → now.view.retired + length (with_mark mark now.view.kept place) < 2 ^ 64
+same_length_fits mark now place fits = subst (λ (n : ℕ). now.view.retired + n < 2 ^ 64) (sym (length-with_mark mark now.view.kept place)) fits
+
 -- forgotten
 abbrev forgotten : {D : Type 0} → Seen D → List Kept → Seen D
 forgotten seen kept = record seen { view = record seen.view { kept = kept } }
@@ -36,6 +41,7 @@ forget_here : {D : Type 0} (disk : D → Disk) (now : Seen D) (book : Vault) (cl
 forget_here disk now book claim place at k = record {
   book_is = k.book_is ∙ ap (replay now.view.base) (sym (members-with_mark Forgotten now.view.kept place));
   sound = forgotten_sound now.view place (is_open now claim place at) k.sound;
+  fits = same_length_fits Forgotten now place k.fits;
   stands = subst (Keeps disk now.store) (sym (state_closed now.view (with_mark Forgotten now.view.kept place) now.view.told (members-with_mark Forgotten now.view.kept place))) k.stands;
 }
 
@@ -52,6 +58,7 @@ tell_here : {D : Type 0} (disk : D → Disk) (now : Seen D) (book : Vault) (clai
 tell_here disk now book claim place at below k = record {
   book_is = k.book_is ∙ ap (replay now.view.base) (sym (members-with_mark IsTold now.view.kept place));
   sound = told_sound now.view place (let is = stands_at now claim place at in omega arith) (is_open now claim place at) k.sound;
+  fits = same_length_fits IsTold now place k.fits;
   stands = subst (Keeps disk now.store) (sym (state_closed now.view (with_mark IsTold now.view.kept place) (now.view.told + 1) (members-with_mark IsTold now.view.kept place))) k.stands;
 }
 
@@ -60,8 +67,11 @@ pub tell_kept : {D : Type 0} (disk : D → Disk) (seen now : Seen D) (book : Vau
 tell_kept disk seen now book claim place kept same at below closed k =
     subst (λ l. IsKept disk (told seen l) book) (sym closed) (tell_here disk seen book claim place (subst (λ s. IsOpenAt s claim place) (sym same) at) below k)
 
-pub one_more_fits : {D : Type 0} (disk : D → Disk) (seen now : Seen D) (book : Vault) (claim : Claim) (place : ℕ) → seen ≡ now → IsOpenAt now claim place → IsKept disk seen book → seen.view.told < seen.view.retired + most_kept
-one_more_fits disk seen now book claim place same at k = told_fits seen.view place (is_open seen claim place (subst (λ s. IsOpenAt s claim place) (sym same) at)) k.sound
+pub one_more_fits : {D : Type 0} (disk : D → Disk) (seen now : Seen D) (book : Vault) (claim : Claim) (place : ℕ) → seen ≡ now → IsOpenAt now claim place → IsKept disk seen book → seen.view.told + 1 < 2 ^ 64
+one_more_fits disk seen now book claim place same at k =
+    let below : seen.view.told < length_of seen.view = told_fits seen.view place (is_open seen claim place (subst (λ s. IsOpenAt s claim place) (sym same) at)) k.sound in
+    let fits : length_of seen.view < 2 ^ 64 = k.fits in
+    omega arith
 
 -- what a told ticket gives
 abbrev pub IsTelling : {D : Type 0} → Seen D → Seen D → Claim → Told → Type 0

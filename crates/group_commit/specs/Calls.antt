@@ -15,8 +15,10 @@ use Rattle.group_commit.specs.declared.answers.Redeemed.{Redeemed}
 use Rattle.group_commit.specs.declared.answers.Redeemed.TheVariants as redeemed
 use Rattle.group_commit.specs.declared.answers.Forgotten.{Forgotten}
 use Rattle.group_commit.specs.declared.answers.Forgotten.TheVariants as forgotten
+use Rattle.group_commit.specs.declared.answers.Retired.{Retired}
+use Rattle.group_commit.specs.declared.answers.Retired.TheVariants as retired
 use Rattle.group_commit.specs.Entries.{Kept}
-use Rattle.group_commit.specs.World.{StartSnapshot, Tell, Forget}
+use Rattle.group_commit.specs.World.{StartSnapshot, Tell, Forget, Retire}
 use Rattle.group_commit.specs.View.{View, length_of, view_at, ViewAllows, view_acted}
 use Rattle.group_commit.specs.Ticket.{Claim, Told, told_for}
 use Rattle.group_commit.specs.Seen.{Seen, snapshot_length, most_kept, effects_between}
@@ -100,3 +102,9 @@ IsRedeemed old new claim (redeemed.NoMemory back) = (back ≡ claim) × (new ≡
 abbrev pub IsForgotten : {D : Type 0} → Seen D → Seen D → Claim → Forgotten → Type 0
 IsForgotten old new claim forgotten.Here = NamesOpen old claim × (new ≡ record old { view = view_acted snapshot_length old.view (Forget claim.position) })
 IsForgotten old new claim forgotten.Stranger = (new ≡ old) × (NamesOpen old claim → ⊥)
+
+-- What retiring did: the oldest kept entry, which is settled and whose ticket isn't out, went into the base; or it is no such entry, and
+-- nothing changed.
+abbrev pub IsRetired : {D : Type 0} → Seen D → Seen D → Retired → Type 0
+IsRetired old new retired.One = ViewAllows snapshot_length old.view Retire × (new ≡ record old { view = view_acted snapshot_length old.view Retire })
+IsRetired old new retired.Nothing = (new ≡ old) × (ViewAllows snapshot_length old.view Retire → ⊥)

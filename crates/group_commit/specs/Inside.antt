@@ -1,21 +1,22 @@
 -- A vault by its fields, and what every vault keeps.
-use Rattle.std.specs.Prelude.{◌≡◌}
+use Rattle.std.specs.Prelude.{◌≡◌, ◌<◌, ◌^◌}
 use Rattle.vault_model.specs.Vault.{Vault}
 use Rattle.vault_device.specs.Disk.{Disk}
 use Rattle.vault_store.specs.Seen.{Keeps}
 use Rattle.group_commit.specs.declared.vault.Vault.TheInside.{Inside}
-use Rattle.group_commit.specs.View.{book_of}
+use Rattle.group_commit.specs.History.{replay, members}
+use Rattle.group_commit.specs.View.{length_of, book_of}
 use Rattle.group_commit.specs.Seen.{Seen, IsSoundView, state_of}
 
--- what contracts see of the fields; nothing is retired yet
+-- what contracts see of the fields
 abbrev pub seen_of : {D A : Type 0} → Inside D A → Seen D
 seen_of v = record {
   view = record {
-    base = v.base.value;
+    base = replay v.base.value (members v.bygone.items);
     kept = v.kept;
     settled = v.settled;
     sealed = v.sealed;
-    retired = 0;
+    retired = v.retired;
     told = v.told;
     phase = v.store.phase;
     broken = v.broken;
@@ -30,5 +31,7 @@ pub record IsKept {D : Type 0} (disk : D → Disk) (seen : Seen D) (book : Vault
   pub book_is : book ≡ book_of seen.view
   -- invariants 2 to 5
   pub sound : IsSoundView seen.view
+  -- no position passes the greatest
+  pub fits : length_of seen.view < 2 ^ 64
   -- invariant 6
   pub stands : Keeps disk seen.store (state_of seen.view)

@@ -1,4 +1,4 @@
-//! What redeeming and forgetting a ticket answer.
+//! What redeeming and forgetting a ticket answer, and retiring an entry.
 
 use crate::{Receipt, Ticket};
 use std::alloc::{Allocator, Global};
@@ -24,4 +24,13 @@ pub enum Forgotten {
     Here,
     /// The ticket named no open entry of this life.
     Stranger,
+}
+
+/// What retiring did.
+#[derive(Clone, Copy, Debug, PartialEq, Eq)]
+pub enum Retired {
+    /// The oldest kept entry is kept no more.
+    One,
+    /// The oldest kept entry isn't settled or its ticket is out, or none is kept.
+    Nothing,
 }

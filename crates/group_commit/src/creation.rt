@@ -10,6 +10,7 @@ ghost use Rattle.vault_store.specs.Seen.{first_of, second_of, Keeps};
 ghost use Rattle.group_commit.specs.View.{opened_view};
 ghost use Rattle.group_commit.specs.Opened.{Begins, IsNotCreated};
 
+use crate::bygone::Bygone;
 use crate::window::Window;
 use crate::{CreateError, Refused, Vault};
 use std::alloc::Allocator;
@@ -57,8 +58,10 @@ impl<D: Device, A: Allocator + Copy> Vault<D, A> {
         Vault {
             store,
             base: Snapshot::of(&book),
+            bygone: Bygone::new(),
             book,
             kept,
+            retired: 0,
             settled: 0,
             sealed: 0,
             told: 0,

@@ -1,7 +1,8 @@
 //! One history of all sessions' commands, committed in groups: its definitions, the laws of every run, and the vault that
 //! keeps it.
 //!
-//! Promises: each call of `Vault` is one act that the view allows (`create`, `open`, `stage`, `pump`, `redeem`, `forget`). A
+//! Promises: each call of `Vault` is one act that the view allows (`create`, `open`, `stage`, `pump`, `redeem`, `forget`,
+//! `start_snapshot`, `retire`). A
 //! reply is told only once its entry is settled. Over any past of calls, stops and openings, which is one run call by call, what
 //! a crash leaves, between two calls or at any moment of a pump or of an opening, is the durable vault after one prefix of one
 //! history, with all that was told (`promises::recovery_gives_one_prefix`); a receipt is found again in it. `laws` say the same
@@ -24,6 +25,7 @@
 #![tactic(auto)]
 
 mod answers;
+mod bygone;
 mod creation;
 mod entry;
 pub mod laws;
@@ -33,6 +35,7 @@ mod opening;
 pub mod promises;
 mod pumping;
 mod redeeming;
+mod retiring;
 mod staging;
 mod starting;
 #[cfg(test)]
@@ -41,7 +44,7 @@ mod ticket;
 mod vault;
 mod window;
 
-pub use answers::{Forgotten, Redeemed};
+pub use answers::{Forgotten, Redeemed, Retired};
 pub use mark::Mark;
 pub use ticket::{Receipt, Ticket};
 pub use vault::Vault;

@@ -27,7 +27,7 @@ impl<D: Device, A: Allocator + Copy> Vault<D, A> {
         ensures { result ≡ (if is_idle self.now.store.phase then length_of self.now.view else self.now.view.sealed) }
     {
         if is_idle(self.store.phase()) {
-            self.kept.len() as u64
+            self.len()
         } else {
             self.sealed
         }
@@ -51,7 +51,7 @@ impl<D: Device, A: Allocator + Copy> Vault<D, A> {
         if self.broken {
             return Ok(Pumped::Broken);
         }
-        let all = self.kept.len() as u64;
+        let all = self.len();
         let sealed = self.sealed_next();
         match self.store.advance() {
             Ok(Pumped::Idle) => {

@@ -16,10 +16,10 @@ impl<D: Device, A: Allocator + Copy> Vault<D, A> {
         ensures some { IfSome result (λ place. NamesOpen self.now ticket.now × (place ≡ ticket.now.position - self.now.view.retired) × (place < length self.now.view.kept)) }
         ensures none { IfNone result (NamesOpen self.now ticket.now → ⊥) }
     {
-        if ticket.life() != self.life || ticket.position() >= self.kept.len() as u64 {
+        if ticket.life() != self.life || ticket.position() < self.retired {
             return None;
         }
-        let place = ticket.position() as usize;
+        let place = (ticket.position() - self.retired) as usize;
         match self.kept.mark_at(place) {
             Some(Mark::Open) => Some(place),
             _ => None,

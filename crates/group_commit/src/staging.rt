@@ -40,10 +40,10 @@ impl<D: Device, A: Allocator + Copy> Vault<D, A> {
         if self.broken {
             return Err((Outside::Broken, command));
         }
-        if self.kept.len() >= MOST_KEPT || !self.store.room() {
+        let position = self.len();
+        if self.kept.len() >= MOST_KEPT || !self.store.room() || position == u64::MAX {
             return Err((Outside::Busy, command));
         }
-        let position = self.kept.len() as u64;
         let before = Snapshot::of(&self.book);
         let (reply, effect) = match self.book.act(session, &command) {
             Ok(acted) => acted,

@@ -38,9 +38,10 @@ impl<D: Device, A: Allocator + Copy> Vault<D, A> {
     {
         what_is_noted_is_spelled::<D>();
         let alloc = self.kept.allocator();
+        let all = self.len();
         match self.store.start_snapshot(alloc, &self.book) {
             Ok(Started::Yes) => {
-                self.sealed = self.kept.len() as u64;
+                self.sealed = all;
                 Ok(Started::Yes)
             }
             Ok(Started::NotNow) => Ok(Started::NotNow),

@@ -2,6 +2,7 @@ mod given;
 mod memory;
 mod past;
 mod renewing;
+mod retiring;
 
 use super::*;
 use given::{
@@ -12,6 +13,7 @@ use given::{
 use memory::refused_in_turn;
 use past::{inside_a_pump, inside_an_opening, three_lives, two_lives};
 use renewing::{is_renewed, is_renewed_around, saves_a_frame};
+use retiring::{makes_room, retires};
 use std::alloc::Global;
 use std::process::Abort;
 use test_memory::Refusing;
@@ -34,6 +36,7 @@ fn one_frame_four_calls(rt: HostRuntime) {
     assert!(rt; joins(&mut vault, b"anna", 1));
     assert!(rt; joins(&mut vault, b"ben", 2));
     assert!(rt; made_by_two(&mut vault, b"/e", b"/f"));
+    assert!(rt; retires(&mut vault, 4) && vault.kept() == 0 && vault.len() == 4);
     let (mut first, second) = vault.into_devices();
     assert!(rt; first.calls() == CREATION.0 + 4 && second.calls() == CREATION.1);
     assert!(rt; first.len() == Ok(54));
@@ -120,6 +123,18 @@ fn full_history(rt: HostRuntime) {
     assert!(rt; takes_none(&mut vault, rt.alloc()));
     assert!(rt; vault.pump() == Ok(Pumped::Settled) && vault.durable() == 4096);
     assert!(rt; takes_none(&mut vault, rt.alloc()));
+    let _ = calls(vault);
+}
+
+// The last two of 4,098 entries are settled only by another pump.
+#[test]
+fn room_again(rt: HostRuntime) {
+    let mut vault = new_vault(rt.alloc(), 0, 1).expect(&rt, "a new vault");
+    assert!(rt; makes_room(&mut vault, rt.alloc()));
+    assert!(rt; retires(&mut vault, 4094) && vault.kept() == 2);
+    assert!(rt; vault.pump() == Ok(Pumped::Settled) && retires(&mut vault, 2));
+    assert!(rt; vault.len() == 4098 && vault.durable() == 4098);
+    assert!(rt; vault.kept() == 0 && vault.told() == 1);
     let _ = calls(vault);
 }
 

@@ -3,6 +3,8 @@ ghost use Rattle.std.specs.Prelude.{◌≡◌, length};
 ghost use Rattle.vault_store.specs.Seen.{first_of, second_of};
 
 use crate::Phase;
+use crate::bygone::Bygone;
+use crate::entry::Entry;
 use crate::window::Window;
 use std::alloc::{Allocator, Global};
 use std::marker::Model;
@@ -18,10 +20,14 @@ pub struct Vault<D: Device, A: Allocator = Global> {
     pub(crate) store: Store<D, A>,
     /// The book with which this life began. It takes no bytes.
     pub(crate) base: Snapshot<Book<A>>,
+    /// The entries that were retired. They take no bytes.
+    pub(crate) bygone: Bygone<Entry<A>>,
     /// The vault after all entries.
     pub(crate) book: Book<A>,
-    /// The entries of this life, each with what became of its ticket.
+    /// The entries of this life that aren't retired, each with what became of its ticket.
     pub(crate) kept: Window<A>,
+    /// How many entries were retired.
+    pub(crate) retired: u64,
     /// How many entries are durable.
     pub(crate) settled: u64,
     /// How many are in frames while a commit is under way, also in that commit's.
@@ -53,7 +59,7 @@ impl<D: Device, A: Allocator + Copy> Vault<D, A> {
     pub fn len(&self) -> u64
         ensures { result ≡ length_of self.now.view }
     {
-        self.kept.len() as u64
+        self.retired + self.kept.len() as u64
     }
 
     /// How many of them are settled.
@@ -99,8 +105,10 @@ impl<D: Device, A: Allocator + Copy> Vault<D, A> {
         let Vault {
             store,
             base: _base,
+            bygone: _bygone,
             book: _book,
             kept: _kept,
+            retired: _,
             settled: _,
             sealed: _,
             told: _,

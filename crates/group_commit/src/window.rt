@@ -1,5 +1,6 @@
 //! The kept entries.
-ghost use Rattle.std.specs.Prelude.{◌≡◌, ◌<◌, ◌≤◌, ◌++◌, [], ◌∷◌, length, slice_get, IfOk, Some};
+ghost use Rattle.std.specs.Prelude.{◌≡◌, ◌↔◌, ◌<◌, ◌≤◌, ◌++◌, [], ◌∷◌, length, slice_get, IfOk, IsTrue, Some};
+ghost use Rattle.group_commit.specs.declared.mark.Mark.TheVariants.{Open};
 ghost use Rattle.group_commit.specs.Entries.{Kept, mark_at, with_mark};
 ghost use Rattle.group_commit.specs.Seen.{most_kept};
 
@@ -61,6 +62,21 @@ impl<A: Allocator + Copy> Window<A> {
         ensures { self.new ≡ self.old ++ entry ∷ [] }
     {
         self.entries.push_back_reserved(entry);
+    }
+
+    /// Takes the first one out.
+    pub fn pop(&mut self) -> Entry<A>
+        requires { 0 < length self.old }
+        ensures { self.old ≡ result ∷ self.new }
+    {
+        self.entries.pop_front().unwrap()
+    }
+
+    /// Whether the ticket of the first one is out.
+    pub fn first_is_open(&self) -> bool
+        ensures { IsTrue result ↔ (mark_at self.now 0 ≡ Some Open) }
+    {
+        matches!(self.mark_at(0), Some(Mark::Open))
     }
 
     /// What became of the ticket of the entry at a place.

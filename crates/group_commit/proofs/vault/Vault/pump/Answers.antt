@@ -1,4 +1,4 @@
-use Rattle.std.proofs.Common.{◌≡◌, ◌≢◌, ◌∙◌, cond, sym, subst, arith, true}
+use Rattle.std.proofs.Common.{◌≡◌, ◌≢◌, ◌∙◌, cond, ap, sym, subst, true}
 use Rattle.std.specs.Prelude.{Ok, Err}
 use Rattle.vault_store.specs.declared.phase.Advanced.{Advanced as Pumped}
 use Rattle.vault_store.specs.declared.phase.Advanced.TheVariants as answers
@@ -29,7 +29,7 @@ invariant_of-self-in-Ok-Idle g c =
     let e = c.in-Ok-Idle.ensures in
     let made = subst (λ (a : Pumped). IsStoreStep disk seen.store c.advance.new.self (state_of seen.view) (Ok a)) c.in-Ok-Idle.field-0-is
     (record { step = e.step (state_of seen.view) k.stands; numbers = e.numbers; calls = e.calls; rests = e.rests; moments = λ x y h i left. e.moments (state_of seen.view) x y k.stands h i left }) in
-    let all : c.len-all.result ≡ length_of seen.view = (let l = c.len-all.ensures.len in omega arith) in
+    let all : c.len-all.result ≡ length_of seen.view = c.len-all.ensures ∙ ap (λ (s : Seen _). length_of s.view) (sym c.self.view_is) in
     let some : c.self.inside.settled ≢ length_of seen.view = λ h. c.if-self-all.false (h ∙ sym all) in
     subst (λ n. IsKept disk (seen_of (record c.self.inside { store = c.advance.new.self; settled = n; sealed = c.self.inside.sealed; broken = c.self.inside.broken })) c.self.inside.book) (sym all) (settled_all_kept disk seen c.self.inside.book k c.advance.new.self c.if-self.false made some)
 
@@ -41,7 +41,7 @@ returns-else-self-all g c =
     let e = c.in-Ok-Idle.ensures in
     let made = subst (λ (a : Pumped). IsStoreStep disk seen.store c.advance.new.self (state_of seen.view) (Ok a)) c.in-Ok-Idle.field-0-is
     (record { step = e.step (state_of seen.view) k.stands; numbers = e.numbers; calls = e.calls; rests = e.rests; moments = λ x y h i left. e.moments (state_of seen.view) x y k.stands h i left }) in
-    let all : c.len-all.result ≡ length_of seen.view = (let l = c.len-all.ensures.len in omega arith) in
+    let all : c.len-all.result ≡ length_of seen.view = c.len-all.ensures ∙ ap (λ (s : Seen _). length_of s.view) (sym c.self.view_is) in
     let some : c.self.inside.settled ≢ length_of seen.view = λ h. c.if-self-all.false (h ∙ sym all) in
     let d = subst (λ (old : Seen _). IsPump disk old (seen_of (record c.self.inside { store = c.advance.new.self; settled = c.len-all.result; sealed = c.self.inside.sealed; broken = c.self.inside.broken })) (Ok answers.Settled)) c.self.view_is (subst (λ n. IsPump disk seen (seen_of (record c.self.inside { store = c.advance.new.self; settled = n; sealed = c.self.inside.sealed; broken = c.self.inside.broken })) (Ok answers.Settled)) (sym all) (settled_all disk seen c.self.inside.book k c.advance.new.self c.if-self.false made some)) in
     record { broken = d.broken; answer = d.answer; pumped = d.pumped; failed = d.failed; life = d.life; still = d.still; calls = d.calls; numbers = d.numbers; moments = d.moments; next = pump_is_next d; stops = pump_stops d }
@@ -119,7 +119,7 @@ returns-then-self-all-clause-answer g c =
     let e = c.in-Ok-Idle.ensures in
     let made = subst (λ (a : Pumped). IsStoreStep disk seen.store c.advance.new.self (state_of seen.view) (Ok a)) c.in-Ok-Idle.field-0-is
     (record { step = e.step (state_of seen.view) k.stands; numbers = e.numbers; calls = e.calls; rests = e.rests; moments = λ x y h i left. e.moments (state_of seen.view) x y k.stands h i left }) in
-    let all : c.len-all.result ≡ length_of seen.view = (let l = c.len-all.ensures.len in omega arith) in
+    let all : c.len-all.result ≡ length_of seen.view = c.len-all.ensures ∙ ap (λ (s : Seen _). length_of s.view) (sym c.self.view_is) in
     let d = subst (λ (old : Seen _). IsPump disk old (seen_of (record c.self.inside { store = c.advance.new.self })) (Ok answers.Idle)) c.self.view_is
     (rested disk seen c.self.inside.book k c.advance.new.self c.if-self.false made (c.if-self-all.true ∙ all)) in
     d.answer
@@ -132,7 +132,7 @@ returns-then-self-all-clause-pumped g c =
     let e = c.in-Ok-Idle.ensures in
     let made = subst (λ (a : Pumped). IsStoreStep disk seen.store c.advance.new.self (state_of seen.view) (Ok a)) c.in-Ok-Idle.field-0-is
     (record { step = e.step (state_of seen.view) k.stands; numbers = e.numbers; calls = e.calls; rests = e.rests; moments = λ x y h i left. e.moments (state_of seen.view) x y k.stands h i left }) in
-    let all : c.len-all.result ≡ length_of seen.view = (let l = c.len-all.ensures.len in omega arith) in
+    let all : c.len-all.result ≡ length_of seen.view = c.len-all.ensures ∙ ap (λ (s : Seen _). length_of s.view) (sym c.self.view_is) in
     let d = subst (λ (old : Seen _). IsPump disk old (seen_of (record c.self.inside { store = c.advance.new.self })) (Ok answers.Idle)) c.self.view_is
     (rested disk seen c.self.inside.book k c.advance.new.self c.if-self.false made (c.if-self-all.true ∙ all)) in
     d.pumped
