@@ -1,5 +1,5 @@
 //! Lines copied, and lines made from claims.
-use crate::tests::{change, check_out, hold, look, new_line, small_tree};
+use crate::tests::{change, check_out, hold, look, new_line, one, small_tree};
 use crate::{FromClaimsError, Line};
 use design_tree::Tree;
 use std::alloc::{Allocator, Global};
@@ -28,43 +28,54 @@ fn is_same<A: Allocator, B: Allocator>(one: &Line<A>, other: &Line<B>) -> bool {
 }
 
 // Two check-outs, a short claim and one more check-out, of which the second and third are queued.
-fn small_line<A: Allocator + Copy>(rt: &impl Abort, tree: &Tree<A>, alloc: A) -> Line<A> {
+fn small_line<A: Allocator + Copy>(rt: &impl Abort, alloc: A) -> Line<A> {
+    let tree = small_tree(rt, alloc);
     let mut line = new_line(rt, alloc);
-    check_out(rt, &mut line, tree, &[look(3)]).expect(rt, "memory");
-    check_out(rt, &mut line, tree, &[change(3)]).expect(rt, "memory");
-    hold(rt, &mut line, tree, 2, &[look(2)]).expect(rt, "memory");
-    check_out(rt, &mut line, tree, &[look(4)]).expect(rt, "memory");
+    check_out(rt, &mut line, &tree, &[look(3)]).expect(rt, "memory");
+    check_out(rt, &mut line, &tree, &[change(3)]).expect(rt, "memory");
+    hold(rt, &mut line, &tree, 2, &[look(2)]).expect(rt, "memory");
+    check_out(rt, &mut line, &tree, &[look(4)]).expect(rt, "memory");
+    drop(tree);
     line
+}
+
+// Whether a copy is refused. Else it answers as the other line does.
+fn is_copy_refused<A: Allocator + Copy, B: Allocator>(
+    rt: &impl Abort,
+    line: &Line<A>,
+    other: &Line<B>,
+) -> bool {
+    match line.copy() {
+        Ok(copy) => {
+            assert!(rt; is_same(&copy, other));
+            drop(copy);
+            false
+        }
+        Err(NoMemory) => true,
+    }
 }
 
 #[test]
 fn copies_are_refused_each_request_in_turn(rt: HostRuntime) {
     let memory = Refusing::new(rt.alloc());
-    let line = small_line(&rt, &small_tree(&rt, &memory), &memory);
-    let ample = small_line(&rt, &small_tree(&rt, rt.alloc()), rt.alloc());
-    let mut refused = 0;
+    let line = small_line(&rt, &memory);
+    let ample = small_line(&rt, rt.alloc());
+    let mut refused = 0u64;
     for number in 1..24u64 {
         memory.refuse(number);
-        let copy = line.copy();
-        let is_waiting = memory.is_waiting();
+        let is_refused = is_copy_refused(&rt, &line, &ample);
+        assert!(rt; memory.is_waiting() == !is_refused);
         memory.refuse(0);
         assert!(rt; is_same(&line, &ample));
-        match copy {
-            Ok(copy) => {
-                assert!(rt; is_waiting && is_same(&copy, &ample));
-                break;
-            }
-            Err(NoMemory) => {
-                assert!(rt; !is_waiting);
-                refused = number;
-            }
+        if is_refused {
+            assert!(rt; number == refused.saturating_add(1));
+            refused = number;
         }
     }
-    assert_eq!(rt;
-        refused,
-        17,
-        "four requests for the claims, thirteen for their modes"
-    );
+    // Four requests for the claims, thirteen for their modes.
+    assert_eq!(rt; refused, 17);
+    drop(ample);
+    drop(line);
 }
 
 // The check-out of this number, of Anna.
@@ -77,11 +88,6 @@ fn long_claim(rt: &impl Abort, number: u32, items: Items) -> Claim {
     }
 }
 
-// The items of one item, which may name a place that isn't there.
-fn one(item: Item) -> Items {
-    Items::new().with(item)
-}
-
 // Why there is no line of a check-out with number 7, the last one, and this claim.
 fn refusal(rt: &impl Abort, tree: &Tree, alloc: Global, claim: Claim) -> Option<FromClaimsError> {
     let mut claims = Vec::new(alloc);
@@ -89,7 +95,24 @@ fn refusal(rt: &impl Abort, tree: &Tree, alloc: Global, claim: Claim) -> Option<
         .push(long_claim(rt, 7, one(look(3))))
         .expect(rt, "memory");
     claims.push(claim).expect(rt, "memory");
-    Line::from_claims(alloc, tree, 7, claims).err()
+    made_of(tree, alloc, 7, claims).err()
+}
+
+// How many claims the line of these has.
+fn made_of<A: Allocator + Copy>(
+    tree: &Tree<A>,
+    alloc: A,
+    last_long: u32,
+    claims: Vec<Claim, A>,
+) -> Result<usize, FromClaimsError> {
+    match Line::from_claims(alloc, tree, last_long, claims) {
+        Ok(line) => {
+            let count = line.len();
+            drop(line);
+            Ok(count)
+        }
+        Err(error) => Err(error),
+    }
 }
 
 // Three claims, not by number: held, queued behind the first, held.
@@ -109,16 +132,15 @@ fn a_line_is_made_of_claims_in_their_order(rt: HostRuntime) {
     let Ok(line) = Line::from_claims(rt.alloc(), &tree, 7, list) else {
         panic!(rt; "a line");
     };
-    assert_eq!(rt;
-        (line.len(), line.last_long(), line.last_short()),
-        (3, 7, 0)
-    );
+    assert!(rt; (line.len(), line.last_long(), line.last_short()) == (3, 7, 0));
     for (position, claim) in claims.iter().enumerate() {
         assert!(rt; line.at(position) == Some(claim) && line.get(claim.id) == Some(claim));
     }
     let (first, second) = (ClaimId::Long(2), ClaimId::Long(1));
-    assert_eq!(rt; line.standing(first), Some(Standing::Held));
-    assert_eq!(rt; line.standing(second), Some(Standing::Queued(first)));
+    assert!(rt; line.standing(first) == Some(Standing::Held));
+    assert!(rt; line.standing(second) == Some(Standing::Queued(first)));
+    drop(line);
+    drop(tree);
 }
 
 #[test]
@@ -141,8 +163,9 @@ fn claims_of_no_line_are_refused(rt: HostRuntime) {
     ];
     for claim in &wrong {
         let told = refusal(&rt, &tree, alloc, *claim);
-        assert_eq!(rt; told, Some(FromClaimsError::NotWellFormed), "{claim:?}");
+        assert!(rt; told == Some(FromClaimsError::NotWellFormed));
     }
+    drop(tree);
 }
 
 #[test]
@@ -150,35 +173,29 @@ fn a_line_of_claims_is_refused_each_request_in_turn(rt: HostRuntime) {
     let memory = Refusing::new(rt.alloc());
     let tree = small_tree(&rt, &memory);
     let claims = three_claims(&rt);
-    let mut refused = 0;
+    let mut refused = 0u64;
     for number in 1..24u64 {
         let list = Vec::from_slice(&memory, &claims).expect(&rt, "memory");
         memory.refuse(number);
-        let made = Line::from_claims(&memory, &tree, 7, list);
+        let made = made_of(&tree, &memory, 7, list);
         let is_waiting = memory.is_waiting();
         memory.refuse(0);
-        match made {
-            Ok(line) => {
-                assert!(rt; is_waiting && line.len() == 3);
-                break;
-            }
-            Err(error) => {
-                assert_eq!(rt; error, FromClaimsError::NoMemory);
-                assert!(rt; !is_waiting);
-                refused = number;
-            }
+        if is_waiting {
+            assert!(rt; made == Ok(3));
+        } else {
+            assert!(rt; made == Err(FromClaimsError::NoMemory));
+            assert!(rt; number == refused.saturating_add(1));
+            refused = number;
         }
     }
-    assert_eq!(rt;
-        refused,
-        16,
-        "four requests for the claims, twelve for their modes"
-    );
+    // Four requests for the claims, twelve for their modes.
+    assert_eq!(rt; refused, 16);
 
     // What no line has is told, though no memory is there.
     let list = Vec::from_slice(&memory, &claims).expect(&rt, "memory");
     memory.refuse(1);
-    let told = Line::from_claims(&memory, &tree, 4, list).err();
-    assert_eq!(rt; told, Some(FromClaimsError::NotWellFormed));
+    let told = made_of(&tree, &memory, 4, list);
+    assert_eq!(rt; told, Err(FromClaimsError::NotWellFormed));
     assert!(rt; memory.is_waiting());
+    drop(tree);
 }

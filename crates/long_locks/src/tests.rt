@@ -1,4 +1,4 @@
-ghost use Rattle.std.specs.Prelude.{List};
+ghost use Rattle.std.specs.Prelude.{◌≡◌, List, [], ◌∷◌};
 ghost use Rattle.vault_model.specs.declared.place.Place.{Place};
 ghost use Rattle.vault_model.specs.Vault.{AreThere};
 ghost use Rattle.long_locks.specs.Lines.{IsGrownFrom};
@@ -7,7 +7,7 @@ use super::*;
 use crate::from_claims::are_there;
 use design_tree::Tree;
 use lock_table::Extension;
-use std::alloc::Allocator;
+use std::alloc::{Allocator, Global};
 use std::process::Abort;
 use test_memory::Refusing;
 use vault_model::{ClaimId, Intent, Item, Items, Name, NoMemory, PlaceId, Standing};
@@ -19,6 +19,14 @@ const C2: ClaimId = ClaimId::Long(2);
 const C3: ClaimId = ClaimId::Long(3);
 
 const H1: ClaimId = ClaimId::Short(1);
+
+const H2: ClaimId = ClaimId::Short(2);
+
+const HELD: Standing = Standing::Held;
+
+const fn behind(id: ClaimId) -> Standing {
+    Standing::Queued(id)
+}
 
 pub(crate) fn look(place: u32) -> Item {
     Item {
@@ -57,6 +65,16 @@ pub(crate) fn small_tree<A: Allocator + Copy>(rt: &impl Abort, alloc: A) -> Tree
     make(rt, &mut tree, 2, "p1");
     make(rt, &mut tree, 2, "p2");
     tree
+}
+
+pub(crate) fn one(item: Item) -> Items
+    ensures { result ≡ item ∷ [] }
+{
+    Items::new().with(item)
+}
+
+fn two(item: Item, other: Item) -> Items {
+    one(item).with(other)
 }
 
 fn items_of<A: Allocator>(rt: &impl Abort, tree: &Tree<A>, wanted: &[Item]) -> Items
@@ -140,114 +158,172 @@ fn put_first<A: Allocator + Copy>(
     line.put_first(tree, id, items)
 }
 
-#[test]
-fn line_of_long_and_short_claims(rt: HostRuntime) {
-    let tree = small_tree(&rt, rt.alloc());
-    let mut line = new_line(&rt, rt.alloc());
-    let told = hold(&rt, &mut line, &tree, 2, &[look(3)]);
-    assert_eq!(rt; told, Ok(Standing::Held));
-    let told = check_out(&rt, &mut line, &tree, &[change(3)]);
-    assert_eq!(rt; told, Ok(Standing::Queued(H1)));
-    line.drop_claim(H1);
-    assert_eq!(rt; line.standing(C1), Some(Standing::Held));
-    let told = hold(&rt, &mut line, &tree, 2, &[look(3)]);
-    assert_eq!(rt; told, Ok(Standing::Queued(C1)));
-    assert_eq!(rt; line.last_short(), 2);
-    line.drop_session(2);
-    assert!(rt; line.get(ClaimId::Short(2)).is_none());
-    assert_eq!(rt; line.len(), 1);
-    assert_eq!(rt; line.last_long(), 1);
+/// A call of a line, with what it has to answer.
+#[derive(Clone, Copy)]
+enum Row {
+    CheckOut(Items, Standing),
+    Hold(u32, Items, Standing),
+    Extend(ClaimId, Items, Extension),
+    PutFirst(ClaimId, Items),
+    Drop(ClaimId),
+    DropSession(u32),
+    Restart,
+    Stands(ClaimId, Option<Standing>),
+    /// The first claim, and its items.
+    First(ClaimId, Items),
+    /// How many claims there are, and the last numbers given.
+    Counts(usize, u32, u32),
+}
+
+// Whether a claim stands so.
+fn stands<A: Allocator>(line: &Line<A>, id: ClaimId, standing: Option<Standing>) -> bool {
+    line.standing(id) == standing && line.get(id).is_some() == standing.is_some()
+}
+
+// Whether the first claim is this one, with these items.
+fn begins_with<A: Allocator>(line: &Line<A>, id: ClaimId, items: &Items) -> bool {
+    match line.at(0) {
+        Some(first) => first.id == id && first.items == *items,
+        None => false,
+    }
+}
+
+fn counts<A: Allocator>(line: &Line<A>) -> (usize, u32, u32) {
+    (line.len(), line.last_long(), line.last_short())
+}
+
+// Whether the line answers as a row says.
+fn act<A: Allocator + Copy>(
+    rt: &impl Abort,
+    line: &mut Line<A>,
+    tree: &Tree<A>,
+    row: &Row,
+) -> Result<bool, NoMemory>
+    requires { IsGrownFrom line.old.tree tree.now }
+    ensures { IsGrownFrom line.new.tree tree.now }
+{
+    match *row {
+        Row::CheckOut(items, standing) => {
+            let told = check_out(rt, line, tree, items.as_slice())?;
+            Ok(told == standing)
+        }
+        Row::Hold(session, items, standing) => {
+            let told = hold(rt, line, tree, session, items.as_slice())?;
+            Ok(told == standing)
+        }
+        Row::Extend(id, items, extension) => {
+            let told = extend(rt, line, tree, id, items.as_slice())?;
+            Ok(told == extension)
+        }
+        Row::PutFirst(id, items) => {
+            put_first(rt, line, tree, id, items.as_slice())?;
+            Ok(true)
+        }
+        Row::Drop(id) => {
+            line.drop_claim(id);
+            Ok(true)
+        }
+        Row::DropSession(session) => {
+            line.drop_session(session);
+            Ok(true)
+        }
+        Row::Restart => {
+            line.restart();
+            Ok(true)
+        }
+        Row::Stands(id, standing) => Ok(stands(line, id, standing)),
+        Row::First(id, items) => Ok(begins_with(line, id, &items)),
+        Row::Counts(len, long, short) => Ok(counts(line) == (len, long, short)),
+    }
+}
+
+// How many of these rows it answers so, one after another, up to the first that it doesn't.
+fn act_all<A: Allocator + Copy>(
+    rt: &impl Abort,
+    line: &mut Line<A>,
+    tree: &Tree<A>,
+    rows: &[Row],
+) -> usize
+    requires { IsGrownFrom line.old.tree tree.now }
+    ensures { IsGrownFrom line.new.tree tree.now }
+{
+    let mut count = 0;
+    for row in rows {
+        if act(rt, line, tree, row) != Ok(true) {
+            return count;
+        }
+        count = count.wrapping_add(1);
+    }
+    count
+}
+
+// The same over a new line.
+fn take_all(rt: &impl Abort, alloc: Global, rows: &[Row]) {
+    let tree = small_tree(rt, alloc);
+    let mut line = new_line(rt, alloc);
+    assert_eq!(rt; act_all(rt, &mut line, &tree, rows), rows.len());
     drop(line);
     drop(tree);
+}
+
+#[test]
+fn line_of_long_and_short_claims(rt: HostRuntime) {
+    let rows = [
+        Row::Hold(2, one(look(3)), HELD),
+        Row::CheckOut(one(change(3)), behind(H1)),
+        Row::Drop(H1),
+        Row::Stands(C1, Some(HELD)),
+        Row::Hold(2, one(look(3)), behind(C1)),
+        Row::Counts(2, 1, 2),
+        Row::DropSession(2),
+        Row::Stands(H2, None),
+        Row::Counts(1, 1, 2),
+    ];
+    take_all(&rt, rt.alloc(), &rows);
 }
 
 #[test]
 fn short_claims_end_with_the_life(rt: HostRuntime) {
-    let tree = small_tree(&rt, rt.alloc());
-    let mut line = new_line(&rt, rt.alloc());
-    let told = hold(&rt, &mut line, &tree, 2, &[change(2)]);
-    assert_eq!(rt; told, Ok(Standing::Held));
-    let told = check_out(&rt, &mut line, &tree, &[look(3)]);
-    assert_eq!(rt; told, Ok(Standing::Queued(H1)));
-    line.restart();
-    assert_eq!(rt; line.standing(C1), Some(Standing::Held));
-    assert_eq!(rt; line.standing(H1), None);
-    assert_eq!(rt; line.last_short(), 0);
-    drop(line);
-    drop(tree);
+    let rows = [
+        Row::Hold(2, one(change(2)), HELD),
+        Row::CheckOut(one(look(3)), behind(H1)),
+        Row::Restart,
+        Row::Stands(C1, Some(HELD)),
+        Row::Stands(H1, None),
+        Row::Counts(1, 1, 0),
+    ];
+    take_all(&rt, rt.alloc(), &rows);
 }
 
 #[test]
 fn an_extension_is_not_weighed_against_the_waiting(rt: HostRuntime) {
-    let tree = small_tree(&rt, rt.alloc());
-    let mut line = new_line(&rt, rt.alloc());
-    let told = check_out(&rt, &mut line, &tree, &[change(2)]);
-    assert_eq!(rt; told, Ok(Standing::Held));
-    let told = check_out(&rt, &mut line, &tree, &[look(1)]);
-    assert_eq!(rt; told, Ok(Standing::Queued(C1)));
-    let told = check_out(&rt, &mut line, &tree, &[look(0)]);
-    assert_eq!(rt; told, Ok(Standing::Queued(C1)));
-    let answer = extend(&rt, &mut line, &tree, C1, &[change(2), look(1)]);
-    assert_eq!(rt; answer, Ok(Extension::Done));
-    assert_eq!(rt; line.standing(C1), Some(Standing::Held));
-    assert_eq!(rt; line.standing(C2), Some(Standing::Queued(C1)));
-    assert_eq!(rt; line.standing(C3), Some(Standing::Queued(C1)));
-    drop(line);
-    drop(tree);
+    let rows = [
+        Row::CheckOut(one(change(2)), HELD),
+        Row::CheckOut(one(look(1)), behind(C1)),
+        Row::CheckOut(one(look(0)), behind(C1)),
+        Row::Extend(C1, two(change(2), look(1)), Extension::Done),
+        Row::Stands(C1, Some(HELD)),
+        Row::Stands(C2, Some(behind(C1))),
+        Row::Stands(C3, Some(behind(C1))),
+    ];
+    take_all(&rt, rt.alloc(), &rows);
 }
 
 #[test]
 fn extensions_of_held_claims(rt: HostRuntime) {
-    let tree = small_tree(&rt, rt.alloc());
-    let mut line = new_line(&rt, rt.alloc());
-    let told = check_out(&rt, &mut line, &tree, &[look(3)]);
-    assert_eq!(rt; told, Ok(Standing::Held));
-    let told = check_out(&rt, &mut line, &tree, &[look(3)]);
-    assert_eq!(rt; told, Ok(Standing::Held));
-    let answer = extend(&rt, &mut line, &tree, C1, &[look(3), change(3)]);
-    assert_eq!(rt; answer, Ok(Extension::InTheWay(C2)));
-    assert_eq!(rt; line.standing(C1), Some(Standing::Held));
-    assert_eq!(rt; line.standing(C2), Some(Standing::Held));
-    let told = check_out(&rt, &mut line, &tree, &[change(2)]);
-    assert_eq!(rt; told, Ok(Standing::Queued(C1)));
-    let answer = extend(&rt, &mut line, &tree, C2, &[look(3), change(4)]);
-    assert_eq!(rt; answer, Ok(Extension::Done));
-    assert_eq!(rt; line.standing(C3), Some(Standing::Queued(C2)));
-    let first = line.at(0).expect(&rt, "a claim");
-    assert_eq!(rt; first.id, C2);
-    assert_eq!(rt; first.items.len(), 2);
-    drop(line);
-    drop(tree);
-}
-
-#[test]
-fn a_claim_put_first_is_not_weighed(rt: HostRuntime) {
-    let memory = Refusing::new(rt.alloc());
-    let tree = small_tree(&rt, &memory);
-    let mut refused = 0;
-    for number in 1..24u32 {
-        let mut line = new_line(&rt, &memory);
-        let first = check_out(&rt, &mut line, &tree, &[look(3)]);
-        let second = check_out(&rt, &mut line, &tree, &[look(3)]);
-        let third = check_out(&rt, &mut line, &tree, &[look(3)]);
-        let fourth = check_out(&rt, &mut line, &tree, &[look(3)]);
-        assert_eq!(rt; (first, second), (third, fourth));
-        memory.refuse(u64::from(number));
-        if put_first(&rt, &mut line, &tree, C2, &[look(3), change(3)]).is_err() {
-            assert!(rt; !memory.is_waiting());
-            assert_eq!(rt; line.at(0).expect(&rt, "a claim").id, C1);
-            refused = number;
-        }
-        memory.refuse(0);
-        let told = put_first(&rt, &mut line, &tree, C2, &[look(3), change(3)]);
-        assert_eq!(rt; told, Ok(()));
-        assert_eq!(rt; line.at(0).expect(&rt, "a claim").id, C2);
-        assert_eq!(rt; line.at(0).expect(&rt, "a claim").items.len(), 2);
-        assert_eq!(rt; line.standing(C1), Some(Standing::Queued(C2)));
-        drop(line);
-    }
-    assert_eq!(rt; refused, 5, "five requests, for its modes");
-    drop(tree);
+    let wanted = two(look(3), change(4));
+    let rows = [
+        Row::CheckOut(one(look(3)), HELD),
+        Row::CheckOut(one(look(3)), HELD),
+        Row::Extend(C1, two(look(3), change(3)), Extension::InTheWay(C2)),
+        Row::Stands(C1, Some(HELD)),
+        Row::Stands(C2, Some(HELD)),
+        Row::CheckOut(one(change(2)), behind(C1)),
+        Row::Extend(C2, wanted, Extension::Done),
+        Row::Stands(C3, Some(behind(C2))),
+        Row::First(C2, wanted),
+    ];
+    take_all(&rt, rt.alloc(), &rows);
 }
 
 fn covered<A: Allocator>(
@@ -267,9 +343,9 @@ fn held_claims_cover_places(rt: HostRuntime) {
     let tree = small_tree(&rt, rt.alloc());
     let mut line = new_line(&rt, rt.alloc());
     let told = check_out(&rt, &mut line, &tree, &[look(1)]);
-    assert_eq!(rt; told, Ok(Standing::Held));
-    assert_eq!(rt; covered(&rt, &line, &tree, 2), Some(C1));
-    assert_eq!(rt; covered(&rt, &line, &tree, 0), None);
+    assert_eq!(rt; told, Ok(HELD));
+    assert!(rt; covered(&rt, &line, &tree, 2) == Some(C1));
+    assert!(rt; covered(&rt, &line, &tree, 0) == None);
     drop(line);
     drop(tree);
 }
@@ -285,70 +361,115 @@ fn a_new_line_is_refused_its_memory(rt: HostRuntime) {
     drop(line);
 }
 
+// Whether a row is refused its memory, where this request is refused. If so, some rows still hold, and
+// the next try succeeds. None where the line answers otherwise.
+fn is_refused<A: Allocator + Copy>(
+    rt: &impl Abort,
+    memory: &Refusing<Global>,
+    number: u64,
+    line: &mut Line<A>,
+    tree: &Tree<A>,
+    row: &Row,
+    still: &[Row],
+) -> Option<bool>
+    requires { IsGrownFrom line.old.tree tree.now }
+    ensures { IsGrownFrom line.new.tree tree.now }
+{
+    memory.refuse(number);
+    let told = act(rt, line, tree, row);
+    let is_waiting = memory.is_waiting();
+    memory.refuse(0);
+    if is_waiting && told == Ok(true) {
+        return Some(false);
+    }
+    let is_kept = !is_waiting && told.is_err() && act_all(rt, line, tree, still) == still.len();
+    (is_kept && act(rt, line, tree, row) == Ok(true)).then_some(true)
+}
+
+// The same behind these rows, over a new line.
+fn is_refused_behind<A: Allocator + Copy>(
+    rt: &impl Abort,
+    memory: &Refusing<Global>,
+    alloc: A,
+    number: u64,
+    tree: &Tree<A>,
+    rows: &[Row],
+    row: &Row,
+    still: &[Row],
+) -> Option<bool> {
+    let mut line = new_line(rt, alloc);
+    let count = act_all(rt, &mut line, tree, rows);
+    let told = is_refused(rt, memory, number, &mut line, tree, row, still);
+    drop(line);
+    if count == rows.len() { told } else { None }
+}
+
+// How many requests for memory a row makes behind these rows, each refused in turn.
+fn refused_in_turn<A: Allocator + Copy>(
+    rt: &impl Abort,
+    memory: &Refusing<Global>,
+    alloc: A,
+    tree: &Tree<A>,
+    rows: &[Row],
+    row: &Row,
+    still: &[Row],
+) -> Option<u64> {
+    let mut refused = 0u64;
+    for number in 1..24u64 {
+        if is_refused_behind(rt, memory, alloc, number, tree, rows, row, still)? {
+            refused = number;
+        }
+    }
+    Some(refused)
+}
+
 #[test]
 fn each_request_of_memory_of_a_new_claim_is_refused(rt: HostRuntime) {
     let memory = Refusing::new(rt.alloc());
     let tree = small_tree(&rt, &memory);
-    let mut refused = (0, 0);
-    for number in 1..24u32 {
-        let mut line = new_line(&rt, &memory);
-        memory.refuse(u64::from(number));
-        if check_out(&rt, &mut line, &tree, &[look(1)]).is_err() {
-            assert!(rt; !memory.is_waiting());
-            assert_eq!(rt; line.len(), 0);
-            assert_eq!(rt; line.last_long(), 0);
-            assert_eq!(rt; line.standing(C1), None);
-            refused.0 = number;
-        }
-        memory.refuse(0);
-        drop(line);
-        let mut line = new_line(&rt, &memory);
-        memory.refuse(u64::from(number));
-        if hold(&rt, &mut line, &tree, 1, &[look(1)]).is_err() {
-            assert!(rt; !memory.is_waiting());
-            assert_eq!(rt; line.last_short(), 0);
-            assert_eq!(rt; line.standing(H1), None);
-            refused.1 = number;
-        }
-        memory.refuse(0);
-        let told = hold(&rt, &mut line, &tree, 1, &[look(1)]);
-        assert_eq!(rt; told, Ok(Standing::Held));
-        drop(line);
-    }
-    assert_eq!(rt;
-        refused,
-        (10, 10),
-        "four requests for the claim, six for its modes"
-    );
+    let still = [
+        Row::Counts(0, 0, 0),
+        Row::Stands(C1, None),
+        Row::Stands(H1, None),
+    ];
+    // Four requests for the claim, six for its modes.
+    let row = Row::CheckOut(one(look(1)), HELD);
+    let refused = refused_in_turn(&rt, &memory, &memory, &tree, &[], &row, &still);
+    assert_eq!(rt; refused, Some(10));
+    let row = Row::Hold(1, one(look(1)), HELD);
+    let refused = refused_in_turn(&rt, &memory, &memory, &tree, &[], &row, &still);
+    assert_eq!(rt; refused, Some(10));
     drop(tree);
 }
 
 #[test]
-fn each_request_of_memory_of_an_extension_is_refused(rt: HostRuntime) {
+fn each_request_of_memory_for_the_front_is_refused(rt: HostRuntime) {
     let memory = Refusing::new(rt.alloc());
     let tree = small_tree(&rt, &memory);
-    let mut refused = 0;
-    for number in 1..24u32 {
-        let mut line = new_line(&rt, &memory);
-        let first = check_out(&rt, &mut line, &tree, &[look(1)]);
-        let second = check_out(&rt, &mut line, &tree, &[look(1)]);
-        let third = check_out(&rt, &mut line, &tree, &[look(1)]);
-        let fourth = check_out(&rt, &mut line, &tree, &[look(1)]);
-        assert_eq!(rt; (first, second), (third, fourth));
-        memory.refuse(u64::from(number));
-        if extend(&rt, &mut line, &tree, C2, &[look(2)]).is_err() {
-            assert!(rt; !memory.is_waiting());
-            assert_eq!(rt; line.at(0).expect(&rt, "a claim").id, C1);
-            refused = number;
-        }
-        memory.refuse(0);
-        let answer = extend(&rt, &mut line, &tree, C2, &[look(2)]);
-        assert_eq!(rt; answer, Ok(Extension::Done));
-        assert_eq!(rt; line.at(0).expect(&rt, "a claim").id, C2);
-        drop(line);
-    }
-    assert_eq!(rt; refused, 4, "four requests, for its modes");
+    let still = [Row::Stands(C1, Some(HELD)), Row::Counts(4, 4, 0)];
+    // All requests are for its modes.
+    let rows = [Row::CheckOut(one(look(1)), HELD); 4];
+    let row = Row::Extend(C2, one(look(2)), Extension::Done);
+    let refused = refused_in_turn(&rt, &memory, &memory, &tree, &rows, &row, &still);
+    assert_eq!(rt; refused, Some(4));
+    let rows = [Row::CheckOut(one(look(3)), HELD); 4];
+    let row = Row::PutFirst(C2, two(look(3), change(3)));
+    let refused = refused_in_turn(&rt, &memory, &memory, &tree, &rows, &row, &still);
+    assert_eq!(rt; refused, Some(5));
     drop(tree);
+}
+
+#[test]
+fn a_claim_put_first_is_not_weighed(rt: HostRuntime) {
+    let wanted = two(look(3), change(3));
+    let rows = [
+        Row::CheckOut(one(look(3)), HELD),
+        Row::CheckOut(one(look(3)), HELD),
+        Row::PutFirst(C2, wanted),
+        Row::First(C2, wanted),
+        Row::Stands(C1, Some(behind(C2))),
+    ];
+    take_all(&rt, rt.alloc(), &rows);
 }
 
 #[test]
@@ -356,23 +477,19 @@ fn a_growing_line_is_refused_its_memory(rt: HostRuntime) {
     let memory = Refusing::new(rt.alloc());
     let tree = small_tree(&rt, &memory);
     let mut line = new_line(&rt, &memory);
-    let mut refused = 0;
-    for count in 0..40usize {
+    let mut growths = 0u32;
+    let row = Row::CheckOut(one(look(1)), HELD);
+    for count in 0..40u32 {
         // Each claim asks once for its modes, and again where something has to grow.
-        memory.refuse(2);
-        if check_out(&rt, &mut line, &tree, &[look(1)]).is_err() {
-            assert!(rt; !memory.is_waiting());
-            assert_eq!(rt; line.len(), count);
-            assert!(rt; line.get(C1).is_some() || count == 0);
-            let told = check_out(&rt, &mut line, &tree, &[look(1)]);
-            assert_eq!(rt; told, Ok(Standing::Held));
-            refused |= 1u64 << count;
+        let still = Row::Counts(count as usize, count, 0);
+        let told = is_refused(&rt, &memory, 2, &mut line, &tree, &row, &[still]);
+        assert!(rt; told.is_some());
+        if told == Some(true) {
+            growths = growths.saturating_add(1);
         }
-        memory.refuse(0);
-        assert_eq!(rt; line.len(), count + 1);
     }
-    let growths = refused.count_ones();
-    assert!(rt; 2 < growths && growths < 16, "{refused:b}");
+    assert_eq!(rt; line.len(), 40);
+    assert!(rt; 2 < growths && growths < 16);
     drop(line);
     drop(tree);
 }

@@ -7,7 +7,7 @@ ghost use Rattle.group_commit.specs.World.{Stage, StartSnapshot};
 ghost use Rattle.group_commit.specs.View.{length_of, book_of, view_acted};
 ghost use Rattle.group_commit.specs.Seen.{snapshot_length};
 ghost use Rattle.group_commit.specs.Ticket.{claim_of};
-ghost use Rattle.group_commit.specs.Calls.{IsReason, IsRedeemed, IsForgotten, MayStart};
+ghost use Rattle.group_commit.specs.Calls.{IsReason, IsRedeemed, IsForgotten, IsRetired, MayStart};
 ghost use Rattle.group_commit.specs.Pasts.{IsNext};
 ghost use Rattle.vault_sessions.specs.Tallies.{IsOfTicket, CountsRedeem};
 ghost use Rattle.vault_sessions.specs.Pumping.{IsPumped, IsAtRest};
@@ -16,7 +16,7 @@ ghost use Rattle.vault_sessions.specs.declared.flusher.Flushed.TheVariants as Fl
 use crate::flusher::Flushed;
 use crate::pace::Pace;
 use crate::tally::{Share, Tally};
-use group_commit::{Forgotten, Phase, Pumped, Redeemed, Started, Ticket, Vault};
+use group_commit::{Forgotten, Phase, Pumped, Redeemed, Retired, Started, Ticket, Vault};
 use std::alloc::{Allocator, Global};
 use std::marker::Model;
 use std::sync::ledger::Book;
@@ -138,6 +138,16 @@ impl<D: Device, S: Tally, T: Tally, A: Allocator + Copy> Desk<D, S, T, A> {
     {
         self.vault.start_snapshot()
     }
+
+    /// Lets the oldest kept entry go, where it is settled and its ticket isn't out any more. No tally changes.
+    pub fn retire(&mut self) -> Retired
+        ensures retired { IsRetired self.old.vault self.new.vault result }
+        ensures same { (length_of self.new.vault.view ≡ length_of self.old.vault.view) × (self.new.vault.view.told ≡ self.old.vault.view.told) }
+        ensures open { self.new.closed ≡ self.old.closed }
+        ensures next { IsNext D.disk self.old.vault self.new.vault }
+    {
+        self.vault.retire()
+    }
 }
 
 impl<D: Device, S: Tally, T: Tally, A: Allocator + Copy> Desk<D, S, T, A> {
@@ -173,12 +183,19 @@ impl<D: Device, S: Tally, T: Tally, A: Allocator + Copy> Desk<D, S, T, A> {
         self.pace.staged(waiting, may_change)
     }
 
-    // Whether the flusher sleeps, since there is nothing to pump and more may come.
+    // Whether the flusher sleeps, since there is nothing to pump and more may come. It doesn't where a worker waits for room.
     pub(crate) fn rests(&mut self) -> bool
         ensures { self.new ≡ self.old }
     {
-        let is_quiet = self.is_quiet();
+        let is_quiet = self.is_quiet() && !self.pace.wants_room();
         self.pace.sleeps(is_quiet, 1)
+    }
+
+    // A worker waits for room in the history.
+    pub(crate) fn asks_for_room(&mut self)
+        ensures { self.new ≡ self.old }
+    {
+        self.pace.asks_for_room();
     }
 
     // Whether the flusher waits for those whom the last commit told.

@@ -4,7 +4,7 @@ use crate::gate::{Gate, Point};
 use crate::pace::{Commit, LOOKS};
 use crate::shared::Shared;
 use crate::tally::Tally;
-use group_commit::{Pumped, Started};
+use group_commit::{Pumped, Retired, Started};
 use std::alloc::Allocator;
 use std::sync::Wait;
 use std::time::{Clock, Instant};
@@ -23,7 +23,8 @@ pub enum Flushed {
 /// pump at a time, which makes at most one device call, and workers are woken only where a pump settled entries or failed. Before
 /// a commit it waits for those whom the last one told, for a small part of the time that this one took. Where many frames stand in
 /// the active file, it begins a snapshot under one more holding, and pumps that to its end. Where the memory for it is refused, it
-/// goes on without, and begins it once more entries are settled.
+/// goes on without, and begins it once more entries are settled. Before each commit it lets the entries go that are
+/// settled and whose tickets aren't out, one at a time.
 pub fn run_flusher<D: Device, S: Tally, T: Tally, A: Allocator + Copy, G: Gate, H: Wait + Clock>(
     rt: &H,
     shared: &Shared<D, S, T, A>,
@@ -39,6 +40,7 @@ pub fn run_flusher<D: Device, S: Tally, T: Tally, A: Allocator + Copy, G: Gate, 
         if let Some(flushed) = flusher.wait_for_work() {
             return flushed;
         }
+        flusher.retire();
         if let Some(commit) = flusher.settle() {
             last = commit;
         }
@@ -97,6 +99,16 @@ impl<D: Device, S: Tally, T: Tally, A: Allocator + Copy, G: Gate, H: Wait + Cloc
         let desk = shared.desk.lock(self.rt);
         let desk = shared.work.wait_while(self.rt, desk, |desk| desk.rests());
         desk.flushed()
+    }
+
+    // Lets the entries go that are settled and whose tickets aren't out, the oldest first. Whoever was told by the last commit waits for
+    // the next one by now, and not for the lock.
+    fn retire(&self) {
+        for _ in self.rt.forever() {
+            if self.shared.desk.lock(self.rt).retire() == Retired::Nothing {
+                return;
+            }
+        }
     }
 
     // Pumps until entries are settled, or a device call failed, and wakes the workers. What it made, where it called the device.

@@ -38,6 +38,8 @@ pub(crate) struct Pace {
     has_change: bool,
     // What the next pump goes on with.
     under_way: UnderWay,
+    // Whether a worker waits for room in the history.
+    is_asked_for_room: bool,
 }
 
 // What was begun at the devices, and isn't settled.
@@ -56,7 +58,20 @@ impl Pace {
             group: 0,
             has_change: false,
             under_way: UnderWay::Nothing,
+            is_asked_for_room: false,
         }
+    }
+
+    /// A worker waits for room in the history.
+    pub fn asks_for_room(&mut self) {
+        self.is_asked_for_room = true;
+    }
+
+    /// Whether one has begun to wait for it since this was asked last.
+    pub fn wants_room(&mut self) -> bool {
+        let is_asked = self.is_asked_for_room;
+        self.is_asked_for_room = false;
+        is_asked
     }
 
     /// A command was staged, and so many entries wait now. Whether the flusher sleeps and has to be woken.

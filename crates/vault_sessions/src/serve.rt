@@ -203,7 +203,7 @@ impl<D: Device, S: Tally, T: Tally, A: Allocator + Copy, G: Gate, H: Wait> Worke
         }
     }
 
-    // Stages a command, and wakes the flusher where it sleeps.
+    // Stages a command, and wakes the flusher where it sleeps, also where there is no room.
     fn stage(
         &self,
         session: u32,
@@ -225,7 +225,13 @@ impl<D: Device, S: Tally, T: Tally, A: Allocator + Copy, G: Gate, H: Wait> Worke
                 }
                 Ok(ticket)
             }
-            Err((outside, _command)) => Err(outside),
+            Err((outside, _command)) => {
+                if outside == Outside::Busy {
+                    desk.asks_for_room();
+                    shared.work.notify_one();
+                }
+                Err(outside)
+            }
         }
     }
 
@@ -258,7 +264,8 @@ impl<D: Device, S: Tally, T: Tally, A: Allocator + Copy, G: Gate, H: Wait> Worke
         let _ = shared.desk.lock(self.rt).forget(ticket);
     }
 
-    // Stages a leave of the session that the answers leave standing. None where it is refused.
+    // Stages a leave of the session that the answers leave standing, and waits for room where there is none. None where it is refused
+    // for another reason.
     fn stage_leave(
         &self,
         outs: &Vec<Out<A>, A>,
@@ -269,7 +276,27 @@ impl<D: Device, S: Tally, T: Tally, A: Allocator + Copy, G: Gate, H: Wait> Worke
         ensures ticket { IfSome result (λ ticket. (ticket.session ≡ session_of 0 outs.now.items) × (ticket.command ≡ Leave)) }
         ensures counted { MatchOption result (share.new ≡ share.old) (λ ticket. share.new ≡ record share.old { staged = share.old.staged + 1 }) }
     {
-        self.stage(session, Command::Leave, share).ok()
+        let shared = self.shared;
+        let mut desk = shared.desk.lock(self.rt);
+        for _ in self.rt.forever() {
+            match desk.stage(session, Command::Leave, share) {
+                Ok(ticket) => {
+                    let wakes = desk.wakes_flusher(false);
+                    drop(desk);
+                    if wakes {
+                        shared.work.notify_one();
+                    }
+                    return Some(ticket);
+                }
+                Err((Outside::Busy, _command)) => {
+                    desk.asks_for_room();
+                    shared.work.notify_one();
+                    desk = shared.settled.wait(self.rt, desk);
+                }
+                Err(_) => return None,
+            }
+        }
+        None
     }
 
     // Stages a last leave, and forgets its ticket. Where it is refused, the session stands.

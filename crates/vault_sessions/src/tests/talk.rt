@@ -45,7 +45,7 @@ pub fn new_vault<A: Allocator + Copy>(
     Vault::create(alloc, first, second, 1).ok()
 }
 
-// Commits what was staged at once, in place of a flusher.
+// Commits what was staged at once, in place of a flusher, and lets the entry before it go.
 #[derive(Drop)]
 struct Committing<'a, S: Tally, T: Tally, A: Allocator + Copy, H: Wait> {
     rt: &'a H,
@@ -59,6 +59,7 @@ impl<S: Tally, T: Tally, A: Allocator + Copy, H: Wait> Gate for Committing<'_, S
             for _step in 0..4 {
                 let _ = shared.desk.lock(self.rt).pump();
             }
+            let _ = shared.desk.lock(self.rt).retire();
         }
     }
 }
