@@ -1,12 +1,12 @@
 //! One history of all sessions' commands, committed in groups: its definitions, the laws of every run, and the vault that
 //! keeps it.
 //!
-//! Promises: each call of `Vault` is one act that the view allows (`create`, `open`, `stage`, `pump`, `redeem`, `forget`,
-//! `start_snapshot`, `retire`). A
-//! reply is told only once its entry is settled. Over any past of calls, stops and openings, which is one run call by call, what
-//! a crash leaves, between two calls or at any moment of a pump or of an opening, is the durable vault after one prefix of one
-//! history, with all that was told (`promises::recovery_gives_one_prefix`); a receipt is found again in it. `laws` say the same
-//! of the definitions, over every run: a caller's view acts as the whole world. Ten runs worked out by hand hold, by proof.
+//! Promises: each call of `Vault` is one act that the view allows (`create`, `open`, `stage`, `pump`, `start_snapshot`, `redeem`,
+//! `forget`, `retire`). A reply is told only once its entry is settled. Over any past of calls, stops and openings, which is one
+//! run call by call, what a crash leaves, between two calls or at any moment of a pump or of an opening, is the durable vault
+//! after one prefix of one history, with all that was told (`promises::recovery_gives_one_prefix`); a receipt is found again in
+//! it. `laws` say the same of the definitions, over every run: a caller's view acts as the whole world. Ten runs worked out by
+//! hand hold, by proof.
 //! Stands on: vault_model, vault_device, vault_journal, vault_checkout, vault_store. Must not know: lines, connections,
 //! threads, what a command does (proofs cite five laws of the step, in proofs/Facts.antt).
 //!
@@ -18,10 +18,10 @@
 //! 5. At most 4,096 entries are kept.
 //! 6. The store keeps the durable vaults after the settled entries, after the sealed ones and after all.
 //!
-//! Only tested: runs over devices in memory (a full buffer, a full history, a failed write), each request for memory refused,
-//! speed.
+//! Only tested: runs over devices in memory (a full buffer, a full history, a snapshot, a failed write), each request for memory
+//! refused, speed.
 //! Start at: promises.rt, `recovery_gives_one_prefix`, specs/World.antt and specs/Recovered.antt; for code vault.rt,
-//! staging.rt, pumping.rt.
+//! staging.rt, pumping.rt, starting.rt, retiring.rt.
 #![tactic(auto)]
 
 mod answers;

@@ -1,8 +1,9 @@
 //! The lines of the vault, commands in and replies out, and scripts of them.
 //!
-//! Promises: a line is read exactly as the command that it spells, each reply has its text, and a script prints exactly the
-//! output that its bytes mean, whatever pieces they are read in; where it fails it has printed a first part of that. Each
-//! script is a run of the world (`read_line_of`, `text_of`, `outside_text`, `run_script`, `laws`).
+//! Promises: a line is read exactly as the command that it spells, each reply has its text, and a script, with its commits,
+//! pumps, snapshots and stops, prints exactly the output that its bytes mean, whatever pieces they are read in; where it fails it
+//! has printed a first part of that. Each script is a run of the world (`read_line_of`, `text_of`, `outside_text`, `run_script`,
+//! `laws`).
 //! Stands on: vault_model, vault_device, vault_journal, vault_store, group_commit. Must not know: sockets, files, threads.
 //!
 //! Invariants:

@@ -104,8 +104,10 @@ impl<D: Device, S: Tally, T: Tally, A: Allocator + Copy, G: Gate, H: Wait + Cloc
     // Lets the entries go that are settled and whose tickets aren't out, the oldest first. Whoever was told by the last commit waits for
     // the next one by now, and not for the lock.
     fn retire(&self) {
+        let shared = self.shared;
         for _ in self.rt.forever() {
-            if self.shared.desk.lock(self.rt).retire() == Retired::Nothing {
+            let retired = shared.desk.lock(self.rt).retire();
+            if retired == Retired::Nothing {
                 return;
             }
         }

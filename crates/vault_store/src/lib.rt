@@ -1,7 +1,9 @@
-//! A vault in two files: created, committed in four steps, and read again after a crash.
+//! A vault in two files: created, committed in four steps, written anew in the other file as a snapshot, and read again after a
+//! crash.
 //!
-//! Promises: at each exit of a step, and at each moment inside it, what a crash leaves of the files stands for the settled
-//! vault or, while a gate is being opened, for the settled or the sealed one (`advance`). A creation, also one that was stopped,
+//! Promises: at each exit of a step, of a commit and of a snapshot, and at each moment inside it, what a crash leaves of the
+//! files stands for the settled vault or, while a gate is being opened, for the settled or the sealed one (`advance`). A
+//! snapshot is of the book with all that was noted (`start_snapshot`). A creation, also one that was stopped,
 //! leaves the new vault or none (`create`). Two files stand for at most one vault, and each durable vault has one spelling
 //! (`laws`). Opening gives that vault, or tells the first thing that is wrong with its file and offset, and writes nothing
 //! (`open`; of one file alone `read_head` and `read_body`).
@@ -14,10 +16,11 @@
 //! 3. Where records wait or a frame is under way, the tail gate stands at most one frame behind 2^62.
 //! 4. The frames have at most as many bytes as stand before the tail gate.
 //! 5. The active file, if honest, is on the disk what the phase says: a front up to the tail gate, and the frame under way.
+//! 6. The spare file, if honest, is so, too: closed or older, and behind its head gate what is written of the snapshot under way.
 //!
-//! Only tested: two real files; commits and a creation stopped at each device call, under each kind of crash; speed and
-//! memory of opening.
-//! Start at: docs/FORMAT.md, specs/Phases.antt (the table), commit.rt; for reading specs/Files.antt and opening.rt.
+//! Only tested: two real files; commits and a creation stopped at each device call, under each kind of crash, and a snapshot
+//! stopped between its calls; speed and memory of opening.
+//! Start at: docs/FORMAT.md, specs/Phases.antt (the table), commit.rt, renewal.rt; for reading specs/Files.antt and opening.rt.
 #![tactic(auto)]
 
 mod body;

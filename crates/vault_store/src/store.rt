@@ -39,12 +39,13 @@ pub struct Store<D: Device, A: Allocator = Global> {
     pub(crate) tail: u64,
     /// How many bytes of frames the active file has.
     pub(crate) journal: u64,
-    /// Which step of a commit comes next.
+    /// Which step of a commit or of a snapshot comes next.
     pub(crate) phase: Phase,
     /// Whether a device call failed. None is made then.
     pub(crate) broken: bool,
-    // Whether the spare file's head gate is known to be closed, and what a snapshot writes behind it.
+    /// Whether the spare file's head gate is known to be closed.
     pub(crate) spare_shut: bool,
+    /// What a snapshot writes behind that gate. There is some while one is under way.
     pub(crate) rest: Option<Vec<u8, A>>,
 }
 

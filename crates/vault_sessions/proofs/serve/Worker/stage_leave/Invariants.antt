@@ -1,0 +1,6 @@
+use Rattle.std.proofs.Common.{◌≡◌}
+use Rattle.vault_sessions.proofs.serve.Worker.stage_leave.Given as goal
+
+-- nothing was counted yet
+abbrev pub invariant-loop : goal.invariant-loop
+invariant-loop g l = l.share ≡ l.initial.share
