@@ -93,18 +93,22 @@ IsRedeemed old new claim (redeemed.Told receipt) =
     × ViewAllows snapshot_length old.view (Tell claim.position)
     × (new ≡ record old { view = view_acted snapshot_length old.view (Tell claim.position) })
     × IsReceiptOf claim old.view receipt
-IsRedeemed old new claim (redeemed.NotYet back) = (back ≡ claim) × (new ≡ old) × NamesOpen old claim × (old.view.settled ≤ claim.position) × (old.view.broken ≡ false)
-IsRedeemed old new claim (redeemed.Unknown back) = (back ≡ claim) × (new ≡ old) × NamesOpen old claim × (old.view.settled ≤ claim.position) × (old.view.broken ≡ true)
+IsRedeemed old new claim (redeemed.NotYet back) =
+    (back ≡ claim) × (new ≡ old) × NamesOpen old claim × (old.view.settled ≤ claim.position) × (old.view.broken ≡ false)
+IsRedeemed old new claim (redeemed.Unknown back) =
+    (back ≡ claim) × (new ≡ old) × NamesOpen old claim × (old.view.settled ≤ claim.position) × (old.view.broken ≡ true)
 IsRedeemed old new claim (redeemed.Stranger back) = (back ≡ claim) × (new ≡ old) × (NamesOpen old claim → ⊥)
 IsRedeemed old new claim (redeemed.NoMemory back) = (back ≡ claim) × (new ≡ old) × NamesOpen old claim × (claim.position < old.view.settled)
 
 -- What forgetting a ticket did: the open entry that it names was closed; or it names none, and nothing changed.
 abbrev pub IsForgotten : {D : Type 0} → Seen D → Seen D → Claim → Forgotten → Type 0
-IsForgotten old new claim forgotten.Here = NamesOpen old claim × (new ≡ record old { view = view_acted snapshot_length old.view (Forget claim.position) })
+IsForgotten old new claim forgotten.Here =
+    NamesOpen old claim × (new ≡ record old { view = view_acted snapshot_length old.view (Forget claim.position) })
 IsForgotten old new claim forgotten.Stranger = (new ≡ old) × (NamesOpen old claim → ⊥)
 
 -- What retiring did: the oldest kept entry, which is settled and whose ticket isn't out, went into the base; or it is no such entry, and
 -- nothing changed.
 abbrev pub IsRetired : {D : Type 0} → Seen D → Seen D → Retired → Type 0
-IsRetired old new retired.One = ViewAllows snapshot_length old.view Retire × (new ≡ record old { view = view_acted snapshot_length old.view Retire })
+IsRetired old new retired.One =
+    ViewAllows snapshot_length old.view Retire × (new ≡ record old { view = view_acted snapshot_length old.view Retire })
 IsRetired old new retired.Nothing = (new ≡ old) × (ViewAllows snapshot_length old.view Retire → ⊥)

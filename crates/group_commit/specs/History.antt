@@ -15,7 +15,8 @@ pub data Member : Type 0 where
 -- the number of a command that a session gives now: how many it gave with this one, by the door's count for session 0; 0 where no such
 -- session stands
 abbrev pub number_of : Vault → ℕ → ℕ
-number_of v session = if session == 0 then v.door_count + 1 else option_map_or (λ (s : Session). s.count + 1) (session_of v.sessions session) 0
+number_of v session =
+    if session == 0 then v.door_count + 1 else option_map_or (λ (s : Session). s.count + 1) (session_of v.sessions session) 0
 
 -- what the step makes of an entry's command
 abbrev pub outcome_of : Vault → Entry → Outcome
@@ -43,7 +44,8 @@ IsLegal v (member ∷ members) = MayFollow v member × IsLegal (moved v member) 
 
 -- the entry of a command that is given now
 abbrev pub entry_of : Vault → ℕ → Command → Entry
-entry_of v session command = record { session = session; number = number_of v session; command = command; reply = (step v session command).reply }
+entry_of v session command =
+    record { session = session; number = number_of v session; command = command; reply = (step v session command).reply }
 
 -- entries as members of a history
 abbrev pub members : List Kept → List Member

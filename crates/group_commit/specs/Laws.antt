@@ -19,7 +19,8 @@ use Rattle.group_commit.specs.View.{View, view_of, opened_view, view_row, ViewAl
 
 -- what holds of the world after every run
 abbrev pub AfterEveryRun : ((Vault → ℕ) → World → Type 0) → Type 0
-AfterEveryRun P = (snapshot : Vault → ℕ) (events : List Event) → IsRun snapshot new_world events → P snapshot (run snapshot new_world events)
+AfterEveryRun P =
+    (snapshot : Vault → ℕ) (events : List Event) → IsRun snapshot new_world events → P snapshot (run snapshot new_world events)
 
 -- an act on a world is that act on its view: allowed exactly where it is on the view, a pump makes the same row of the table, and
 -- the view of the world after the act is the view after the act
@@ -34,7 +35,8 @@ ActsAreOfTheView = AfterEveryRun (λ snapshot w. (act : Act) → ActsAsItsView s
 
 -- the new world is seen as the new vault, opened; the world after a crash as what recovery gives, opened
 abbrev pub CrashesOpen : Type 0
-CrashesOpen = (view_of new_world ≡ opened_view new_vault) × ((w : World) (gate : Gate) → view_of (crashed w gate) ≡ opened_view (recovered w gate))
+CrashesOpen =
+    (view_of new_world ≡ opened_view new_vault) × ((w : World) (gate : Gate) → view_of (crashed w gate) ≡ opened_view (recovered w gate))
 
 -- the history is legal from the new vault
 abbrev pub HistoryIsLegal : Type 0
@@ -49,7 +51,8 @@ pub record IsToldAt (w : World) (place : ℕ) (entry : Entry) : Type 0 where
 -- what was told at any point of a run stands at its place, with its reply, after any more events, crashes too
 abbrev pub ToldStays : Type 0
 ToldStays = (snapshot : Vault → ℕ) (events more : List Event) (place : ℕ) (entry : Entry) → IsRun snapshot new_world (events ++ more)
-    → IsToldAt (run snapshot new_world events) place entry → slice_get (history (run snapshot new_world (events ++ more))) place ≡ Some (Given entry)
+    → IsToldAt (run snapshot new_world events) place entry
+    → slice_get (history (run snapshot new_world (events ++ more))) place ≡ Some (Given entry)
 
 -- what is told is settled
 abbrev pub ToldIsSettled : Type 0
@@ -104,7 +107,8 @@ LeftIsRecovered = AfterEveryRun (λ snapshot w. (left : Vault) → MayLeave (vie
 abbrev pub EffectsAreTheChange : Type 0
 EffectsAreTheChange =
     AfterEveryRun
-    (λ snapshot w. (n m : ℕ) → n ≤ m → applied (durable (vault_at w n)) (effects (vault_at w n) (take (m - n) (drop n w.life))) ≡ Some (durable (vault_at w m)))
+    (λ snapshot w. (n m : ℕ) → n ≤ m
+        → applied (durable (vault_at w n)) (effects (vault_at w n) (take (m - n) (drop n w.life))) ≡ Some (durable (vault_at w m)))
 
 -- after the first n entries of a life, each session, and the door, has counted at most n commands
 abbrev pub CountsAreOfTheLife : Type 0
@@ -120,5 +124,6 @@ pub record IsReachable (snapshot : Vault → ℕ) (view : View) : Type 0 where
 -- what a crash may leave of one
 pub record ReachableGoesOn (snapshot : Vault → ℕ) : Type 0 where
   pub begins : IsReachable snapshot (opened_view new_vault)
-  pub acts : (view : View) (act : Act) → IsReachable snapshot view → ViewAllows snapshot view act → IsReachable snapshot (view_acted snapshot view act)
+  pub acts : (view : View) (act : Act) → IsReachable snapshot view → ViewAllows snapshot view act
+      → IsReachable snapshot (view_acted snapshot view act)
   pub opens : (view : View) (left : Vault) → IsReachable snapshot view → MayLeave view left → IsReachable snapshot (opened_view left)

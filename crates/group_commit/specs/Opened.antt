@@ -23,7 +23,8 @@ pub record Begins {D : Type 0} (store : StoreSeen D) (generation tail journal : 
 abbrev pub IsNotCreated : Disk → Disk → Disk → Disk → CreateError → Type 0
 IsNotCreated first second first_new second_new Exists = IsNotMade first second first_new second_new Exists
 IsNotCreated first second first_new second_new Device = IsNotMade first second first_new second_new Device
-IsNotCreated first second first_new second_new NoMemory = IsTrue first.honest → IsTrue second.honest → ShowTheSame first second first_new second_new
+IsNotCreated first second first_new second_new NoMemory =
+    IsTrue first.honest → IsTrue second.honest → ShowTheSame first second first_new second_new
 
 -- a vault that begins over a store and its book
 pub record IsBegun {D : Type 0} (store : StoreSeen D) (book : Vault) (life : ℕ) (new : Seen D) : Type 0 where
@@ -38,7 +39,8 @@ pub record IsNotBegun {D : Type 0} (store : StoreSeen D) (refused : Refused D Op
   pub second_is : refused.second ≡ second_of store
 
 -- What becomes of an opening of a store: its refusal is handed on as it is; else a vault begins over the store, or memory was wanted for that.
-abbrev pub IsHandedOver : {D : Type 0} → Result (StoreSeen D × Vault) (Refused D OpenError) → ℕ → Result (Seen D) (Refused D OpenError) → Type 0
+abbrev pub IsHandedOver : {D : Type 0} → Result (StoreSeen D × Vault) (Refused D OpenError) → ℕ → Result (Seen D) (Refused D OpenError)
+    → Type 0
 IsHandedOver (Err refused) life result = result ≡ Err refused
 IsHandedOver (Ok opened) life (Ok new) = IsBegun opened.0 opened.1 life new
 IsHandedOver (Ok opened) life (Err refused) = IsNotBegun opened.0 refused

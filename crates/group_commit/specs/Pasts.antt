@@ -33,12 +33,15 @@ pub record IsStopInside {D : Type 0} (disk : D → Disk) (seen : Seen D) (x y : 
   pub whole : seen.view.broken ≡ false
   pub honest : AreHonest disk seen.store
   pub moments : MomentsStand disk seen other
-  pub left : MayBeLeft (disk (first_of seen.store)) (disk (second_of seen.store)) (disk (first_of other.store)) (disk (second_of other.store)) x y
+  pub left : MayBeLeft (disk (first_of seen.store)) (disk (second_of seen.store)) (disk (first_of other.store))
+      (disk (second_of other.store)) x y
 
 -- a crash at any moment of a pump leaves the files of a stop inside it
 abbrev pub StopsInside : {D : Type 0} → (D → Disk) → Seen D → Seen D → Type 0
 StopsInside disk old new =
-    (x y : List ℕ) → AreHonest disk old.store → MayBeLeft (disk (first_of old.store)) (disk (second_of old.store)) (disk (first_of new.store)) (disk (second_of new.store)) x y → IsStopInside disk old x y
+    (x y : List ℕ) → AreHonest disk old.store
+    → MayBeLeft (disk (first_of old.store)) (disk (second_of old.store)) (disk (first_of new.store)) (disk (second_of new.store)) x y
+    → IsStopInside disk old x y
 
 -- the machine stopped, between two calls or inside one, and these files were left
 abbrev pub IsStop : {D : Type 0} → (D → Disk) → Seen D → List ℕ → List ℕ → Type 0
@@ -59,12 +62,14 @@ pub record IsOpening {D : Type 0} (disk : D → Disk) (seen : Seen D) (first sec
 
 -- it is so for each earlier vault whose devices these were
 abbrev pub StopsInOpening : {D : Type 0} → (D → Disk) → D → D → D → D → Type 0
-StopsInOpening disk first second first_new second_new = (seen : Seen _) → AreLeft disk seen first second → IsOpening disk seen first second first_new second_new
+StopsInOpening disk first second first_new second_new =
+    (seen : Seen _) → AreLeft disk seen first second → IsOpening disk seen first second first_new second_new
 
 -- a vault was opened on these files
 pub record IsOpenedOn {D : Type 0} (x y : List ℕ) (new : Seen D) : Type 0 where
   pub begins : new.view ≡ opened_view new.view.base
-  pub read : AreRead x y (record { vault = new.view.base; generation = new.store.generation; tail = new.store.tail; journal = new.store.journal })
+  pub read : AreRead x y (record { vault = new.view.base; generation = new.store.generation; tail = new.store.tail;
+      journal = new.store.journal })
 
 -- the machine stopped, and another life began on the files that were left
 pub record IsReopened {D : Type 0} (disk : D → Disk) (old new : Seen D) : Type 0 where

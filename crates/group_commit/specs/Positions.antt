@@ -19,15 +19,18 @@ pub record HasEntry (v : View) (position : ℕ) (entry : Entry) : Type 0 where
 
 -- a staged command's entry stands at the position of its ticket
 abbrev pub StagedAtItsPosition : Type 0
-StagedAtItsPosition = (v : View) (session : ℕ) (command : Command) → HasEntry (view_acted snapshot_length v (Stage session command)) (length_of v) (entry_of (book_of v) session command)
+StagedAtItsPosition = (v : View) (session : ℕ) (command : Command)
+    → HasEntry (view_acted snapshot_length v (Stage session command)) (length_of v) (entry_of (book_of v) session command)
 
 -- whatever act is made, it stays there until it is retired
 abbrev pub PositionsStay : Type 0
-PositionsStay = (v : View) (act : Act) (position : ℕ) (entry : Entry) → HasEntry v position entry → (view_acted snapshot_length v act).retired ≤ position → HasEntry (view_acted snapshot_length v act) position entry
+PositionsStay = (v : View) (act : Act) (position : ℕ) (entry : Entry) → HasEntry v position entry
+    → (view_acted snapshot_length v act).retired ≤ position → HasEntry (view_acted snapshot_length v act) position entry
 
 -- so the receipt for its ticket is this entry's, with its reply
 abbrev pub ReceiptsAreOfTheirEntries : Type 0
-ReceiptsAreOfTheirEntries = (v : View) (life position : ℕ) (entry : Entry) (told : Told) → HasEntry v position entry → IsReceiptOf (claim_of life position entry) v told → told ≡ told_for (claim_of life position entry) entry.reply
+ReceiptsAreOfTheirEntries = (v : View) (life position : ℕ) (entry : Entry) (told : Told) → HasEntry v position entry
+    → IsReceiptOf (claim_of life position entry) v told → told ≡ told_for (claim_of life position entry) entry.reply
 
 -- the entry of this receipt is kept, at its position of the life, and was told
 pub record HasTold (v : View) (told : Told) : Type 0 where
@@ -40,5 +43,6 @@ pub record HasTold (v : View) (told : Told) : Type 0 where
 -- and once it was given, that entry is told
 abbrev pub ReceiptsAreTold : Type 0
 ReceiptsAreTold =
-    (v : View) (life position : ℕ) (entry : Entry) (told : Told) → HasEntry v position entry → IsReceiptOf (claim_of life position entry) v told
+    (v : View) (life position : ℕ) (entry : Entry) (told : Told) → HasEntry v position entry
+    → IsReceiptOf (claim_of life position entry) v told
     → HasTold (view_acted snapshot_length v (Tell position)) told

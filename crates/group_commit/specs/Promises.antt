@@ -23,18 +23,21 @@ pub record ImagesStand {D : Type 0} (disk : D → Disk) (seen : Seen D) : Type 0
   pub left : (x y : List ℕ) → IsCrash disk seen x y → IsLeft seen.store (state_of seen.view) x y
   pub stands : (x y : List ℕ) → IsCrash disk seen x y → (left : Vault) × MayLeave seen.view left × StandFor x y left
   -- while a gate is being opened, and before a device call failed, a crash changes that byte of its file alone
-  pub gate : AreHonest disk seen.store → is_opening seen.view.phase ≡ true → seen.view.broken ≡ false → IsOneGate (disk (gated seen.view.phase seen.store.active seen.store.spare)) (gate_at seen.store seen.view.phase)
+  pub gate : AreHonest disk seen.store → is_opening seen.view.phase ≡ true → seen.view.broken ≡ false
+      → IsOneGate (disk (gated seen.view.phase seen.store.active seen.store.spare)) (gate_at seen.store seen.view.phase)
 
 -- what a stop inside a call leaves is read as the vault after the entries settled before or, where a gate may be opened, after the
 -- sealed ones
 abbrev pub MomentsStand : {D : Type 0} → (D → Disk) → Seen D → Seen D → Type 0
 MomentsStand disk old new =
-    (x y : List ℕ) → AreHonest disk old.store → MayBeLeft (disk (first_of old.store)) (disk (second_of old.store)) (disk (first_of new.store)) (disk (second_of new.store)) x y
+    (x y : List ℕ) → AreHonest disk old.store
+    → MayBeLeft (disk (first_of old.store)) (disk (second_of old.store)) (disk (first_of new.store)) (disk (second_of new.store)) x y
     → IsLeftInside old.store (state_of old.view) x y
 
 -- Whatever run reached this view: what a crash leaves stands for the durable vault after one prefix of the history, with all that
 -- was told.
 abbrev pub RecoveryGivesOnePrefix : {D : Type 0} → (D → Disk) → Seen D → Type 0
 RecoveryGivesOnePrefix disk seen =
-    (snapshot : Vault → ℕ) (events : List Event) (x y : List ℕ) → IsRun snapshot new_world events → view_of (run snapshot new_world events) ≡ seen.view → IsCrash disk seen x y
+    (snapshot : Vault → ℕ) (events : List Event) (x y : List ℕ) → IsRun snapshot new_world events
+    → view_of (run snapshot new_world events) ≡ seen.view → IsCrash disk seen x y
     → (gate : Gate) × StandFor x y (recovered (run snapshot new_world events) gate) × IsPrefix (run snapshot new_world events) gate

@@ -38,7 +38,8 @@ AreOfNext (inl (inr made)) events = events ≡ Within made.0 ∷ []
 AreOfNext (inr reopened) events = AreOfStop reopened.left events
 
 -- events that happened before, and behind them those of what came next
-pub record GoOn {D : Type 0} {disk : D → Disk} {old new : Seen D} (next : IsNext disk old new) (HappenedBefore : List Event → Type 0) (events : List Event) : Type 0 where
+pub record GoOn {D : Type 0} {disk : D → Disk} {old new : Seen D} (next : IsNext disk old new) (HappenedBefore : List Event → Type 0)
+    (events : List Event) : Type 0 where
   pub before : List Event
   pub last : List Event
   pub whole : events ≡ before ++ last
@@ -46,12 +47,14 @@ pub record GoOn {D : Type 0} {disk : D → Disk} {old new : Seen D} (next : IsNe
   pub of_next : AreOfNext next last
 
 -- The events of a past, call by call: none before the new vault was seen, and then those of each that came next.
-abbrev pub AreOfPast : {D : Type 0} → (disk : D → Disk) → (now : Seen D) → (past : List (Seen D)) → IsPast disk now past → List Event → Type 0
+abbrev pub AreOfPast : {D : Type 0} → (disk : D → Disk) → (now : Seen D) → (past : List (Seen D)) → IsPast disk now past → List Event
+    → Type 0
 AreOfPast disk now [] is events = events ≡ []
 AreOfPast disk now (old ∷ past) is events = GoOn is.1 (AreOfPast disk old past is.2) events
 
 -- those of them that had happened when the nth was seen, the latest first
-abbrev pub events_until : {D : Type 0} → (disk : D → Disk) → (now : Seen D) → (past : List (Seen D)) → (is : IsPast disk now past) → (events : List Event) → AreOfPast disk now past is events → ℕ → List Event
+abbrev pub events_until : {D : Type 0} → (disk : D → Disk) → (now : Seen D) → (past : List (Seen D)) → (is : IsPast disk now past)
+    → (events : List Event) → AreOfPast disk now past is events → ℕ → List Event
 events_until disk now past is events are zero = events
 events_until disk now [] is events are (suc n) = []
 events_until disk now (old ∷ past) is events are (suc n) = events_until disk old past is.2 are.before are.happened_before n
@@ -63,19 +66,23 @@ pub record IsOneRun {D : Type 0} (disk : D → Disk) (now : Seen D) (past : List
   -- between two that were seen, one behind the other, nothing else happened than what led from the one to the other
   pub calls : AreOfPast disk now past is events
   -- each that was seen, the latest first, is the view of the world as it was then
-  pub shown : (n : ℕ) (seen : Seen D) → slice_get (now ∷ past) n ≡ Some seen → view_of (world_after (events_until disk now past is events calls n)) ≡ seen.view
+  pub shown : (n : ℕ) (seen : Seen D) → slice_get (now ∷ past) n ≡ Some seen
+      → view_of (world_after (events_until disk now past is events calls n)) ≡ seen.view
 
 -- the single history of a past
-abbrev pub history_of : {D : Type 0} → {disk : D → Disk} → {now : Seen D} → {past : List (Seen D)} → {is : IsPast disk now past} → IsOneRun disk now past is → List Member
+abbrev pub history_of : {D : Type 0} → {disk : D → Disk} → {now : Seen D} → {past : List (Seen D)} → {is : IsPast disk now past}
+    → IsOneRun disk now past is → List Member
 history_of one = history (world_after one.events)
 
 -- where in it the life begins in which the nth was seen
-abbrev pub life_begins : {D : Type 0} → {disk : D → Disk} → {now : Seen D} → {past : List (Seen D)} → {is : IsPast disk now past} → IsOneRun disk now past is → ℕ → ℕ
+abbrev pub life_begins : {D : Type 0} → {disk : D → Disk} → {now : Seen D} → {past : List (Seen D)} → {is : IsPast disk now past}
+    → IsOneRun disk now past is → ℕ → ℕ
 life_begins {D} {disk} {now} {past} {is} one n = length (world_after (events_until disk now past is one.events one.calls n)).earlier
 
 -- These files stand for a vault, opening finds nothing wrong with them, and recovery gives it: the durable vault after one prefix of the
 -- single history, up to the settled entries or, where a gate may be open, up to the sealed ones.
-pub record IsRecovered {D : Type 0} {disk : D → Disk} {now : Seen D} {past : List (Seen D)} {is : IsPast disk now past} (one : IsOneRun disk now past is) (open_gate : Bool) (x y : List ℕ) : Type 0 where
+pub record IsRecovered {D : Type 0} {disk : D → Disk} {now : Seen D} {past : List (Seen D)} {is : IsPast disk now past}
+    (one : IsOneRun disk now past is) (open_gate : Bool) (x y : List ℕ) : Type 0 where
   pub vault : Vault
   pub stands : StandFor x y vault
   pub sound : (why : OpenError) → IsFound why → IsNotOpened x y why → ⊥
@@ -87,7 +94,8 @@ pub record IsRecovered {D : Type 0} {disk : D → Disk} {now : Seen D} {past : L
   pub within : cut ≤ length (history_of one)
   pub prefix : vault ≡ durable (replay new_vault (take cut (history_of one)))
   -- whatever was told at any point of the past stands in that prefix, at its place, with its reply
-  pub told : (n place : ℕ) (seen : Seen D) (kept : Kept) (at : slice_get (now ∷ past) n ≡ Some seen) → slice_get seen.view.kept place ≡ Some kept → kept.mark ≡ Told
+  pub told : (n place : ℕ) (seen : Seen D) (kept : Kept) (at : slice_get (now ∷ past) n ≡ Some seen)
+      → slice_get seen.view.kept place ≡ Some kept → kept.mark ≡ Told
       → slice_get (take cut (history_of one)) (life_begins one n + (seen.view.retired + place)) ≡ Some (Given kept.entry)
   -- its long claims stand in their order, and short ones are gone
   pub claims : vault.line ≡ without_short (replay new_vault (take cut (history_of one))).line
@@ -110,13 +118,17 @@ EachPastIsKept {D} disk now = (past : List (Seen D)) (is : IsPast disk now past)
 
 -- A receipt is found again, over this past: wherever the machine stops now, its entry stands at one place of the prefix that recovery
 -- gives, with its session, its number, its command and its reply.
-pub record IsFoundAgain {D : Type 0} (disk : D → Disk) (now : Seen D) (past : List (Seen D)) (is : IsPast disk now past) (told : Receipt) : Type 0 where
+pub record IsFoundAgain {D : Type 0} (disk : D → Disk) (now : Seen D) (past : List (Seen D)) (is : IsPast disk now past)
+    (told : Receipt) : Type 0 where
   pub kept : IsKeptThrough disk now past is
   pub place : ℕ
-  pub between : (x y : List ℕ) (crash : IsCrash disk now x y) → slice_get (take (kept.between x y crash).cut (history_of kept.one)) place ≡ Some (Given (entry_in told))
-  pub inside : (x y : List ℕ) (stop : IsStopInside disk now x y) → slice_get (take (kept.inside x y stop).cut (history_of kept.one)) place ≡ Some (Given (entry_in told))
+  pub between : (x y : List ℕ) (crash : IsCrash disk now x y)
+      → slice_get (take (kept.between x y crash).cut (history_of kept.one)) place ≡ Some (Given (entry_in told))
+  pub inside : (x y : List ℕ) (stop : IsStopInside disk now x y)
+      → slice_get (take (kept.inside x y stop).cut (history_of kept.one)) place ≡ Some (Given (entry_in told))
 
 -- so is each receipt whose entry was seen told at any point of a past
 abbrev pub ReceiptsAreFoundAgain : {D : Type 0} → (D → Disk) → Seen D → Type 0
 ReceiptsAreFoundAgain {D} disk now =
-    (past : List (Seen D)) (is : IsPast disk now past) (n : ℕ) (seen : Seen D) (told : Receipt) → slice_get (now ∷ past) n ≡ Some seen → HasTold seen.view told → IsFoundAgain disk now past is told
+    (past : List (Seen D)) (is : IsPast disk now past) (n : ℕ) (seen : Seen D) (told : Receipt) → slice_get (now ∷ past) n ≡ Some seen
+    → HasTold seen.view told → IsFoundAgain disk now past is told

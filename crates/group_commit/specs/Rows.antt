@@ -72,7 +72,8 @@ abbrev pub two_sessions : List Event
 two_sessions =
     stage 0 (Join anna) ∷ stage 0 (Join ben) ∷ pumps 1
     ++ stage 1 (make path_e) ∷ stage 2 (make path_f) ∷ pumps 4
-    ++ Within (Tell 2) ∷ Within (Tell 3) ∷ Within (Tell 0) ∷ Within (Tell 1) ∷ Within Retire ∷ Within Retire ∷ Within Retire ∷ Within Retire ∷ []
+    ++ Within (Tell 2) ∷ Within (Tell 3) ∷ Within (Tell 0) ∷ Within (Tell 1) ∷ Within Retire ∷ Within Retire ∷ Within Retire ∷ Within Retire
+    ∷ []
 
 -- it takes four device calls
 abbrev pub TwoSessionsOneFrame : Type 0
@@ -84,7 +85,8 @@ TwoSessionsOneFrame =
 
 -- one who has nothing to say for good needs no device call, and then there is nothing to do
 abbrev pub NothingForGood : Type 0
-NothingForGood = Shows (stage 1 (State (Long 1)) ∷ pumps 1 ++ Within (Tell 0) ∷ pumps 1) (NoCall ∷ NoCall ∷ []) (Settled ∷ Rests ∷ []) (Refused NoSession ∷ [])
+NothingForGood = Shows (stage 1 (State (Long 1)) ∷ pumps 1 ++ Within (Tell 0) ∷ pumps 1) (NoCall ∷ NoCall ∷ []) (Settled ∷ Rests ∷ [])
+    (Refused NoSession ∷ [])
 
 -- one project is committed and told, a second is staged and pumped three times: its gate is being opened
 abbrev pub half_committed : List Event
@@ -104,11 +106,13 @@ half_calls = Write ∷ Sync ∷ Write ∷ Sync ∷ Write ∷ Sync ∷ Write ∷ 
 
 -- a crash that leaves the gate closed loses the second project
 abbrev pub TornGateClosed : Type 0
-TornGateClosed = Shows (half_committed ++ Crash StaysClosed ∷ look_again) half_calls half_answers (Session 1 ∷ Place 1 ∷ Session 1 ∷ Children (codes "e" ∷ []) ∷ [])
+TornGateClosed = Shows (half_committed ++ Crash StaysClosed ∷ look_again) half_calls half_answers
+    (Session 1 ∷ Place 1 ∷ Session 1 ∷ Children (codes "e" ∷ []) ∷ [])
 
 -- one that leaves it open keeps it
 abbrev pub TornGateOpen : Type 0
-TornGateOpen = Shows (half_committed ++ Crash IsOpen ∷ look_again) half_calls half_answers (Session 1 ∷ Place 1 ∷ Place 2 ∷ Session 1 ∷ Children (codes "e" ∷ codes "f" ∷ []) ∷ [])
+TornGateOpen = Shows (half_committed ++ Crash IsOpen ∷ look_again) half_calls half_answers
+    (Session 1 ∷ Place 1 ∷ Place 2 ∷ Session 1 ∷ Children (codes "e" ∷ codes "f" ∷ []) ∷ [])
 
 -- what was told before the crash stands at its place behind it
 abbrev pub ToldStands : Type 0
@@ -120,7 +124,8 @@ ToldStands =
 abbrev pub HoldGoes : Type 0
 HoldGoes =
     Shows
-    (stage 0 (Join anna) ∷ stage 0 (Join ben) ∷ stage 1 (make path_e) ∷ stage 2 (Hold (change path_e ∷ [])) ∷ stage 1 (CheckOut (look path_e ∷ [])) ∷ pumps 4
+    (stage 0 (Join anna) ∷ stage 0 (Join ben) ∷ stage 1 (make path_e) ∷ stage 2 (Hold (change path_e ∷ []))
+        ∷ stage 1 (CheckOut (look path_e ∷ [])) ∷ pumps 4
     ++ Crash StaysClosed ∷ stage 0 (Join anna) ∷ stage 1 (State (Long 1)) ∷ stage 1 (State (Short 1)) ∷ [])
     (Write ∷ Sync ∷ Write ∷ Sync ∷ []) (Moved ∷ Moved ∷ Moved ∷ Settled ∷ [])
     (Session 1 ∷ Session 2 ∷ Place 1 ∷ Held (Short 1) ∷ Queued (Long 1) (Short 1) ∷ Session 1 ∷ Held (Long 1) ∷ Refused NoClaim ∷ [])
@@ -139,12 +144,14 @@ snapshot_answers = Moved ∷ Moved ∷ Moved ∷ Settled ∷ Moved ∷ Moved ∷
 
 -- a crash that leaves the gate closed finds the old file
 abbrev pub SnapshotTornClosed : Type 0
-SnapshotTornClosed = Shows (half_a_snapshot ++ Crash StaysClosed ∷ look_again) snapshot_calls snapshot_answers (Session 1 ∷ Place 1 ∷ Session 1 ∷ Children (codes "e" ∷ []) ∷ [])
+SnapshotTornClosed = Shows (half_a_snapshot ++ Crash StaysClosed ∷ look_again) snapshot_calls snapshot_answers
+    (Session 1 ∷ Place 1 ∷ Session 1 ∷ Children (codes "e" ∷ []) ∷ [])
 
 -- one that leaves it open finds the new file
 abbrev pub SnapshotTornOpen : Type 0
 SnapshotTornOpen =
-    Shows (half_a_snapshot ++ Crash IsOpen ∷ look_again) snapshot_calls snapshot_answers (Session 1 ∷ Place 1 ∷ Place 2 ∷ Session 1 ∷ Children (codes "e" ∷ codes "f" ∷ []) ∷ [])
+    Shows (half_a_snapshot ++ Crash IsOpen ∷ look_again) snapshot_calls snapshot_answers
+    (Session 1 ∷ Place 1 ∷ Place 2 ∷ Session 1 ∷ Children (codes "e" ∷ codes "f" ∷ []) ∷ [])
 
 -- with a sixth pump the snapshot is settled, whatever the crash leaves
 abbrev pub SnapshotSettled : Type 0
@@ -162,7 +169,8 @@ pub record FailedWrite : Type 0 where
   pub no_pump : Allows ten_bytes (after_events a_failed_write) Pump → ⊥
   pub untold : Allows ten_bytes (after_events a_failed_write) (Tell 2) → ⊥
   pub goes_on :
-      Shows (a_failed_write ++ Within (Tell 1) ∷ Within (Forget 2) ∷ Crash StaysClosed ∷ look_again) (Write ∷ Sync ∷ Write ∷ Sync ∷ []) (Moved ∷ Moved ∷ Moved ∷ Settled ∷ [])
+      Shows (a_failed_write ++ Within (Tell 1) ∷ Within (Forget 2) ∷ Crash StaysClosed ∷ look_again) (Write ∷ Sync ∷ Write ∷ Sync ∷ [])
+      (Moved ∷ Moved ∷ Moved ∷ Settled ∷ [])
       (Session 1 ∷ Place 1 ∷ Session 1 ∷ Children (codes "e" ∷ []) ∷ [])
 
 -- all of them

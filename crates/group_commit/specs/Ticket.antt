@@ -22,11 +22,13 @@ pub record Told : Type 0 where
 
 -- the ticket of an entry
 abbrev pub claim_of : ℕ → ℕ → Entry → Claim
-claim_of life position entry = record { life = life; position = position; session = entry.session; number = entry.number; command = entry.command }
+claim_of life position entry =
+    record { life = life; position = position; session = entry.session; number = entry.number; command = entry.command }
 
 -- the receipt for a ticket, with this reply
 abbrev pub told_for : Claim → Reply → Told
-told_for claim reply = record { position = claim.position; session = claim.session; number = claim.number; command = claim.command; reply = reply }
+told_for claim reply =
+    record { position = claim.position; session = claim.session; number = claim.number; command = claim.command; reply = reply }
 
 -- the entry of a receipt
 abbrev pub entry_in : Told → Entry

@@ -63,17 +63,26 @@ ViewAllows snapshot v (Stage session command) = v.broken ≡ false
 ViewAllows snapshot v Pump = v.broken ≡ false
 ViewAllows snapshot v Fault = (v.broken ≡ false) × ((view_row snapshot v).call ≢ NoCall)
 ViewAllows snapshot v StartSnapshot = (v.broken ≡ false) × (v.phase ≡ Idle)
-ViewAllows snapshot v (Tell position) = (position < v.settled) × (v.retired ≤ position) × (mark_at v.kept (position - v.retired) ≡ Some Open)
+ViewAllows snapshot v (Tell position) =
+    (position < v.settled) × (v.retired ≤ position) × (mark_at v.kept (position - v.retired) ≡ Some Open)
 ViewAllows snapshot v (Forget position) = (v.retired ≤ position) × (mark_at v.kept (position - v.retired) ≡ Some Open)
 ViewAllows snapshot v Retire = (v.retired < v.settled) × (mark_at v.kept 0 ≢ Some Open)
 
 -- the view after a pump that made this row
 abbrev pub view_pumped : Row → View → View
-view_pumped r v = record v { settled = settled_by r.settles v.settled v.sealed (length_of v); sealed = if r.seals then length_of v else v.sealed; phase = r.next }
+view_pumped r v = record v {
+  settled = settled_by r.settles v.settled v.sealed (length_of v);
+  sealed = if r.seals then length_of v else v.sealed;
+  phase = r.next;
+}
 
 -- the view after a pump that failed at this row
 abbrev pub view_failed : Row → View → View
-view_failed r v = record v { sealed = after_fault r.call v.sealed (if r.seals then length_of v else v.sealed); phase = after_fault r.call v.phase r.next; broken = true }
+view_failed r v = record v {
+  sealed = after_fault r.call v.sealed (if r.seals then length_of v else v.sealed);
+  phase = after_fault r.call v.phase r.next;
+  broken = true;
+}
 
 -- the vault after the first of these entries
 abbrev pub after_first : Vault → List Kept → Vault

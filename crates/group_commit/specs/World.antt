@@ -71,11 +71,19 @@ Allows snapshot w Retire = (w.retired < w.settled) × (mark_at w.life w.retired 
 
 -- the world after a pump that made this row
 abbrev pub pumped : Row → World → World
-pumped r w = record w { settled = settled_by r.settles w.settled w.sealed (length w.life); sealed = if r.seals then length w.life else w.sealed; phase = r.next }
+pumped r w = record w {
+  settled = settled_by r.settles w.settled w.sealed (length w.life);
+  sealed = if r.seals then length w.life else w.sealed;
+  phase = r.next;
+}
 
 -- the world after a pump that failed at this row
 abbrev pub failed : Row → World → World
-failed r w = record w { sealed = after_fault r.call w.sealed (if r.seals then length w.life else w.sealed); phase = after_fault r.call w.phase r.next; broken = true }
+failed r w = record w {
+  sealed = after_fault r.call w.sealed (if r.seals then length w.life else w.sealed);
+  phase = after_fault r.call w.phase r.next;
+  broken = true;
+}
 
 -- The world after each act.
 abbrev pub acted : (Vault → ℕ) → World → Act → World
@@ -100,7 +108,15 @@ kept_by w IsOpen = if is_opening w.phase then w.sealed else w.settled
 
 -- the world after a crash and a restart: a new life behind the entries that are kept
 abbrev pub crashed : World → Gate → World
-crashed w gate = record { earlier = history_to w (kept_by w gate) ++ Restart ∷ []; life = []; settled = 0; sealed = 0; retired = 0; phase = Idle; broken = false }
+crashed w gate = record {
+  earlier = history_to w (kept_by w gate) ++ Restart ∷ [];
+  life = [];
+  settled = 0;
+  sealed = 0;
+  retired = 0;
+  phase = Idle;
+  broken = false;
+}
 
 -- what recovery gives: the durable vault after the entries that are kept
 abbrev pub recovered : World → Gate → Vault

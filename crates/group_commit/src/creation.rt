@@ -33,7 +33,8 @@ fn refused_memory<D: Device>(first: D, second: D) -> Refused<D, CreateError>
     ensures second { IsHandedOn (D.disk second) (D.disk result.second) }
     ensures settled { AreSettledUnmade (D.disk result.first) (D.disk result.second) result.why }
     ensures why { result.why ≡ Exists → ⊥ }
-    ensures cause { result.why ≡ DeviceFailed → HasCause (D.disk first) (D.disk result.first) ⊎ HasCause (D.disk second) (D.disk result.second) }
+    ensures cause { result.why ≡ DeviceFailed → HasCause (D.disk first) (D.disk result.first)
+        ⊎ HasCause (D.disk second) (D.disk result.second) }
     ensures memory { result.why ≡ Wanted → AreQuiet (D.disk first) (D.disk second) (D.disk result.first) (D.disk result.second) }
 {
     let mut first = first;
@@ -83,15 +84,23 @@ impl<D: Device, A: Allocator + Copy> Vault<D, A> {
         ensures view { IfOk result (λ vault. vault.view ≡ opened_view new_vault) }
         ensures life { IfOk result (λ vault. vault.life ≡ life) }
         ensures numbers { IfOk result (λ vault. Begins vault.store 1 34 0) }
-        ensures file { IsTrue (D.disk first).honest → IfOk result (λ vault. IsFilled (D.disk first) (D.disk (first_of vault.store)) new_file) }
-        ensures empty { IsTrue (D.disk second).honest → IfOk result (λ vault. IsFilled (D.disk second) (D.disk (second_of vault.store)) []) }
-        ensures called { IfOk result (λ vault. IsCalled (D.disk first) (D.disk (first_of vault.store)) × IsCalled (D.disk second) (D.disk (second_of vault.store))) }
-        ensures stops { IfOk result (λ vault. StopsInCreation (D.disk first) (D.disk second) (D.disk (first_of vault.store)) (D.disk (second_of vault.store))) }
-        ensures refused_stops { IfErr result (λ refused. StopsInCreation (D.disk first) (D.disk second) (D.disk refused.first) (D.disk refused.second)) }
-        ensures refused { IfErr result (λ refused. IsNotCreated (D.disk first) (D.disk second) (D.disk refused.first) (D.disk refused.second) refused.why) }
+        ensures file { IsTrue (D.disk first).honest
+            → IfOk result (λ vault. IsFilled (D.disk first) (D.disk (first_of vault.store)) new_file) }
+        ensures empty { IsTrue (D.disk second).honest
+            → IfOk result (λ vault. IsFilled (D.disk second) (D.disk (second_of vault.store)) []) }
+        ensures called { IfOk result
+            (λ vault. IsCalled (D.disk first) (D.disk (first_of vault.store)) × IsCalled (D.disk second) (D.disk (second_of vault.store))) }
+        ensures stops { IfOk result
+            (λ vault. StopsInCreation (D.disk first) (D.disk second) (D.disk (first_of vault.store)) (D.disk (second_of vault.store))) }
+        ensures refused_stops { IfErr result
+            (λ refused. StopsInCreation (D.disk first) (D.disk second) (D.disk refused.first) (D.disk refused.second)) }
+        ensures refused { IfErr result
+            (λ refused. IsNotCreated (D.disk first) (D.disk second) (D.disk refused.first) (D.disk refused.second) refused.why) }
         ensures left_settled { IfErr result (λ refused. AreSettledUnmade (D.disk refused.first) (D.disk refused.second) refused.why) }
-        ensures memory { IfErr result (λ refused. refused.why ≡ Wanted → AreQuiet (D.disk first) (D.disk second) (D.disk refused.first) (D.disk refused.second)) }
-        ensures handed_back { IfErr result (λ refused. IsCalled (D.disk first) (D.disk refused.first) × IsCalled (D.disk second) (D.disk refused.second)) }
+        ensures memory { IfErr result
+            (λ refused. refused.why ≡ Wanted → AreQuiet (D.disk first) (D.disk second) (D.disk refused.first) (D.disk refused.second)) }
+        ensures handed_back { IfErr result
+            (λ refused. IsCalled (D.disk first) (D.disk refused.first) × IsCalled (D.disk second) (D.disk refused.second)) }
     {
         let Ok((book, kept)) = new_parts(alloc) else {
             return Err(refused_memory(first, second));

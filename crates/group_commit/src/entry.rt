@@ -29,7 +29,8 @@ impl<A: Allocator> Model for Entry<A> {
 
     ghost use Rattle.group_commit.specs.History.{number_of};
 
-    ghost view = { λ e. record { entry = record { session = e.session.value; number = number_of e.before.value e.session.value; command = e.command.value; reply = e.reply }; mark = e.mark } };
+    ghost view = { λ e. record { entry = record { session = e.session.value; number = number_of e.before.value e.session.value;
+        command = e.command.value; reply = e.reply }; mark = e.mark } };
 }
 
 impl<A: Allocator> Entry<A> {
@@ -40,7 +41,8 @@ impl<A: Allocator> Entry<A> {
         command: &CommandIn<A>,
         reply: ReplyIn<A>,
     ) -> Entry<A>
-        ensures { result ≡ opened (record { session = session; number = number_of before.value session; command = command.now; reply = reply }) }
+        ensures { result ≡ opened
+            (record { session = session; number = number_of before.value session; command = command.now; reply = reply }) }
     {
         Entry {
             session: Snapshot::of(&session),

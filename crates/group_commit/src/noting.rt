@@ -33,7 +33,8 @@ pub(crate) fn note_any<D: Device, A: Allocator, B: Allocator>(
     requires room { IsTrue (has_room store.old) }
     requires has { IfSome effect (λ e. IsOfItsType e → HasRecord e) }
     ensures noted { store.new ≡ noted effect store.old }
-    ensures kept { IfSome effect (λ e. (s : StoreState) (next : Vault) → Keeps D.disk store.old s → after s.noted e ≡ Some next → Keeps D.disk store.new (with_effect s e next)) }
+    ensures kept { IfSome effect (λ e. (s : StoreState) (next : Vault) → Keeps D.disk store.old s → after s.noted e ≡ Some next
+        → Keeps D.disk store.new (with_effect s e next)) }
 {
     let Some(effect) = effect else {
         return;

@@ -52,16 +52,27 @@ impl<D: Device, A: Allocator + Copy> Vault<D, A> {
         ensures begins { IfOk result (λ vault. vault.view ≡ opened_view vault.view.base) }
         ensures life { IfOk result (λ vault. vault.life ≡ life) }
         ensures buffer { IfOk result (λ vault. vault.store.buffer ≡ []) }
-        ensures read { IsTrue (D.disk first).honest → IsTrue (D.disk second).honest → IfOk result (λ vault. AreRead (D.disk first).shown (D.disk second).shown (record { vault = vault.view.base; generation = vault.store.generation; tail = vault.store.tail; journal = vault.store.journal })) }
-        ensures next { IsTrue (D.disk first).honest → IsTrue (D.disk second).honest → IfOk result (λ vault. (old : Seen D) → IsStop D.disk old (D.disk first).shown (D.disk second).shown → IsNext D.disk old vault) }
+        ensures read { IsTrue (D.disk first).honest → IsTrue (D.disk second).honest
+            → IfOk result (λ vault. AreRead (D.disk first).shown (D.disk second).shown
+            (record { vault = vault.view.base; generation = vault.store.generation; tail = vault.store.tail;
+            journal = vault.store.journal })) }
+        ensures next { IsTrue (D.disk first).honest → IsTrue (D.disk second).honest
+            → IfOk result (λ vault. (old : Seen D) → IsStop D.disk old (D.disk first).shown (D.disk second).shown
+            → IsNext D.disk old vault) }
         ensures stops { IfOk result (λ vault. StopsInOpening D.disk first second (first_of vault.store) (second_of vault.store)) }
-        ensures handed_on { IfOk result (λ vault. IsHandedOn (D.disk first) (D.disk (first_of vault.store)) × IsHandedOn (D.disk second) (D.disk (second_of vault.store))) }
-        ensures refused { IsTrue (D.disk first).honest → IsTrue (D.disk second).honest → IfErr result (λ refused. IsNotOpened (D.disk first).shown (D.disk second).shown refused.why) }
+        ensures handed_on { IfOk result
+            (λ vault. IsHandedOn (D.disk first) (D.disk (first_of vault.store))
+            × IsHandedOn (D.disk second) (D.disk (second_of vault.store))) }
+        ensures refused { IsTrue (D.disk first).honest → IsTrue (D.disk second).honest
+            → IfErr result (λ refused. IsNotOpened (D.disk first).shown (D.disk second).shown refused.why) }
         ensures refused_stops { IfErr result (λ refused. StopsInOpening D.disk first second refused.first refused.second) }
         ensures left_settled { IfErr result (λ refused. AreLeftSettled (D.disk refused.first) (D.disk refused.second) refused.why) }
-        ensures cause { IfErr result (λ refused. refused.why ≡ DeviceFailed → HasCause (D.disk first) (D.disk refused.first) ⊎ HasCause (D.disk second) (D.disk refused.second)) }
-        ensures memory { IfErr result (λ refused. refused.why ≡ Wanted → AreQuiet (D.disk first) (D.disk second) (D.disk refused.first) (D.disk refused.second)) }
-        ensures handed_back { IfErr result (λ refused. IsHandedOn (D.disk first) (D.disk refused.first) × IsHandedOn (D.disk second) (D.disk refused.second)) }
+        ensures cause { IfErr result (λ refused. refused.why ≡ DeviceFailed → HasCause (D.disk first) (D.disk refused.first)
+            ⊎ HasCause (D.disk second) (D.disk refused.second)) }
+        ensures memory { IfErr result
+            (λ refused. refused.why ≡ Wanted → AreQuiet (D.disk first) (D.disk second) (D.disk refused.first) (D.disk refused.second)) }
+        ensures handed_back { IfErr result
+            (λ refused. IsHandedOn (D.disk first) (D.disk refused.first) × IsHandedOn (D.disk second) (D.disk refused.second)) }
     {
         begin(alloc, Store::open(alloc, first, second), life)
     }

@@ -27,7 +27,8 @@ pub fn a_vault_keeps_its_history<D: Device, A: Allocator>(vault: &Vault<D, A>)
 /// makes its calls one after another, and opens it again where the machine stopped, has its past.
 pub fn a_past_goes_on<D: Device, A: Allocator>(vault: &Vault<D, A>)
     ensures begins { vault.now.view ≡ opened_view new_vault → IsPast D.disk vault.now [] }
-    ensures goes_on { (old : Seen D) (past : List (Seen D)) → IsPast D.disk old past → IsNext D.disk old vault.now → IsPast D.disk vault.now (old ∷ past) }
+    ensures goes_on { (old : Seen D) (past : List (Seen D)) → IsPast D.disk old past → IsNext D.disk old vault.now
+        → IsPast D.disk vault.now (old ∷ past) }
 {
     a_vault_keeps_its_history(vault);
 }

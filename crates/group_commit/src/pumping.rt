@@ -39,10 +39,12 @@ impl<D: Device, A: Allocator + Copy> Vault<D, A> {
         ensures broken { self.old.view.broken ≡ true → (result ≡ Ok answers.Broken) × (self.new ≡ self.old) }
         ensures answer { self.old.view.broken ≡ false → IfOk result (λ answer. answer ≡ (view_row snapshot_length self.old.view).answer) }
         ensures pumped { self.old.view.broken ≡ false → OnOk result (self.new.view ≡ view_acted snapshot_length self.old.view Pump) }
-        ensures failed { OnErr result (ViewAllows snapshot_length self.old.view Fails × (self.new.view ≡ view_acted snapshot_length self.old.view Fails)) }
+        ensures failed { OnErr result
+            (ViewAllows snapshot_length self.old.view Fails × (self.new.view ≡ view_acted snapshot_length self.old.view Fails)) }
         ensures life { self.new.life ≡ self.old.life }
         ensures still { (view_row snapshot_length self.old.view).call ≡ NoCall → self.new.store ≡ self.old.store }
-        ensures calls { IsAtMostOneCall (D.disk (first_of self.old.store)) (D.disk (second_of self.old.store)) (D.disk (first_of self.new.store)) (D.disk (second_of self.new.store)) result }
+        ensures calls { IsAtMostOneCall (D.disk (first_of self.old.store)) (D.disk (second_of self.old.store))
+            (D.disk (first_of self.new.store)) (D.disk (second_of self.new.store)) result }
         ensures numbers { AreNumbers self.old self.new result }
         ensures moments { self.old.view.broken ≡ false → MomentsStand D.disk self.old self.new }
         ensures next { IsNext D.disk self.old self.new }

@@ -13,7 +13,8 @@ use vault_model::NoMemory;
 impl<D: Device, A: Allocator + Copy> Vault<D, A> {
     // Where the open entry that a ticket names is kept.
     fn open_place(&self, ticket: &Ticket<A>) -> Option<usize>
-        ensures some { IfSome result (λ place. NamesOpen self.now ticket.now × (place ≡ ticket.now.position - self.now.view.retired) × (place < length self.now.view.kept)) }
+        ensures some { IfSome result (λ place. NamesOpen self.now ticket.now × (place ≡ ticket.now.position - self.now.view.retired)
+            × (place < length self.now.view.kept)) }
         ensures none { IfNone result (NamesOpen self.now ticket.now → ⊥) }
     {
         if ticket.life() != self.life || ticket.position() < self.retired {

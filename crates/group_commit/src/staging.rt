@@ -31,7 +31,8 @@ impl<D: Device, A: Allocator + Copy> Vault<D, A> {
         ensures staged { OnOk result (self.new.view ≡ view_acted snapshot_length self.old.view (Stage session command)) }
         ensures noted { OnOk result (self.new.store ≡ noted (step (book_of self.old.view) session command).effect self.old.store) }
         ensures life { self.new.life ≡ self.old.life }
-        ensures ticket { IfOk result (λ ticket. ticket ≡ claim_of self.old.life (length_of self.old.view) (entry_of (book_of self.old.view) session command)) }
+        ensures ticket { IfOk result
+            (λ ticket. ticket ≡ claim_of self.old.life (length_of self.old.view) (entry_of (book_of self.old.view) session command)) }
         ensures refused { OnErr result (self.new ≡ self.old) }
         ensures handed_back { IfErr result (λ refusal. refusal.1 ≡ command) }
         ensures reason { IfErr result (λ refusal. IsReason self.old refusal.0) }

@@ -61,7 +61,8 @@ IsOwn id own seats = group_of (seat_modes (held_seats seats)) ≡ with_own own (
 -- a claim has a seat of this mode, held or not, and no other
 pub record HasSeat (id : ClaimId) (m : Mode) (held : Bool) (seats : List Seat) : Type 0 where
   pub all : group_of (seat_modes seats) ≡ with_one (group_of (seat_modes (seats_without id seats))) m
-  pub held_ones : group_of (seat_modes (held_seats seats)) ≡ with_own (if held then Some m else None) (group_of (seat_modes (held_seats (seats_without id seats))))
+  pub held_ones : group_of (seat_modes (held_seats seats))
+      ≡ with_own (if held then Some m else None) (group_of (seat_modes (held_seats (seats_without id seats))))
 
 -- a list of seats after what the mode of a lock does, where there is one
 abbrev pub by_lock : (Mode → List Seat → List Seat) → Option Mode → List Seat → List Seat
@@ -104,7 +105,8 @@ queue_of table p = seats_by (is_held_in table) table p
 -- the same, entry after entry, each weighed against those before it
 abbrev pub seats_from : List Entry → List Entry → ℕ → List Seat
 seats_from before [] p = []
-seats_from before (e ∷ es) p = seat_of (is_none (first_in_way before e.locks)) e.id (mode_at e.locks p) ++ seats_from (before ++ e ∷ []) es p
+seats_from before (e ∷ es) p =
+    seat_of (is_none (first_in_way before e.locks)) e.id (mode_at e.locks p) ++ seats_from (before ++ e ∷ []) es p
 
 -- the seats at a place of some entries, held or not
 pub record AreSeated (table : List Entry) (cells : List CellSeen) : Type 0 where
@@ -208,4 +210,5 @@ seat_in_way table cells locks = earliest (λ (l : Lock). place_of table (first_o
 
 -- and the first held one but one
 abbrev pub held_seat_in_way : List Entry → List CellSeen → ClaimId → List Lock → Option ℕ
-held_seat_in_way table cells id locks = earliest (λ (l : Lock). place_of table (first_of (is_held_in_way id l.mode) (seats_at cells l.place))) locks
+held_seat_in_way table cells id locks =
+    earliest (λ (l : Lock). place_of table (first_of (is_held_in_way id l.mode) (seats_at cells l.place))) locks

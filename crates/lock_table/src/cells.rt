@@ -98,7 +98,9 @@ pub(crate) fn cover_at<A: Allocator>(cells: &[Cell<A>], place: PlaceId) -> Optio
 
 /// Whether the group of all admits each mode at its place.
 pub(crate) fn admit<A: Allocator>(cells: &[Cell<A>], locks: &LockSet) -> bool
-    ensures { result ≡ list_all (λ lock. list_all (λ member. compatible member lock.mode) (members (group_of (seat_modes (seats_at cells.now lock.place))))) locks.now }
+    ensures { result ≡ list_all
+        (λ lock. list_all (λ member. compatible member lock.mode)
+        (members (group_of (seat_modes (seats_at cells.now lock.place))))) locks.now }
 {
     locks
         .as_slice()
@@ -200,7 +202,8 @@ pub(crate) fn put_last<A: Allocator>(
 fn put_first_at<A: Allocator>(cells: &mut Vec<Cell<A>, A>, id: ClaimId, lock: Lock)
     requires room { length (seats_at cells.old.items lock.place) < room_at cells.old.items lock.place }
     requires few { length (seats_at cells.old.items lock.place) < most_claims }
-    ensures here { seats_at cells.new.items lock.place ≡ record { id = id; mode = lock.mode; is_held = true } ∷ seats_at cells.old.items lock.place }
+    ensures here { seats_at cells.new.items lock.place ≡ record { id = id; mode = lock.mode; is_held = true }
+        ∷ seats_at cells.old.items lock.place }
     ensures elsewhere { (p : ℕ) → p ≢ lock.place → seats_at cells.new.items p ≡ seats_at cells.old.items p }
     ensures room { (p : ℕ) → room_at cells.old.items p ≤ room_at cells.new.items p }
 {
@@ -244,7 +247,8 @@ pub(crate) fn take_out<A: Allocator>(
     is_held: bool,
 )
     requires { (p : ℕ) (m : Mode) → mode_at locks.now p ≡ Some m → HasSeat id m is_held (seats_at cells.old.items p) }
-    ensures seats { (p : ℕ) → seats_at cells.new.items p ≡ by_lock (λ m. seats_without id) (mode_at locks.now p) (seats_at cells.old.items p) }
+    ensures seats { (p : ℕ) → seats_at cells.new.items p
+        ≡ by_lock (λ m. seats_without id) (mode_at locks.now p) (seats_at cells.old.items p) }
     ensures room { (p : ℕ) → room_at cells.old.items p ≤ room_at cells.new.items p }
 {
     for lock in locks.as_slice() {
@@ -273,7 +277,8 @@ pub(crate) fn stand<A: Allocator>(
     is_held: bool,
 )
     requires { (p : ℕ) → length (seats_at cells.old.items p) ≤ most_claims }
-    ensures seats { (p : ℕ) → seats_at cells.new.items p ≡ by_lock (λ m. restood id is_held) (mode_at locks.now p) (seats_at cells.old.items p) }
+    ensures seats { (p : ℕ) → seats_at cells.new.items p ≡ by_lock (λ m. restood id is_held) (mode_at locks.now p)
+        (seats_at cells.old.items p) }
     ensures room { (p : ℕ) → room_at cells.old.items p ≤ room_at cells.new.items p }
 {
     for lock in locks.as_slice() {

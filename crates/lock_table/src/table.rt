@@ -46,7 +46,8 @@ impl<A: Allocator> Model for Table<A> {
     ghost view = { λ t. t.entries.items };
 
     // Invariants 2 and 3 of lib.rt, then 4, then 5.
-    ghost invariant = { λ t. IsTable t.entries.items × AreQueues t.entries.items t.cells.items × (t.blockers.items ≡ blockers_of t.entries.items) };
+    ghost invariant =
+        { λ t. IsTable t.entries.items × AreQueues t.entries.items t.cells.items × (t.blockers.items ≡ blockers_of t.entries.items) };
 }
 
 fn standing_by(blocker: Option<ClaimId>) -> Standing
@@ -91,9 +92,12 @@ fn weigh_at<A: Allocator>(
     requires table { IsTable entries.now }
     requires many { length blockers.old.items ≡ length entries.now }
     requires seated { AreSeated entries.now cells.old.items }
-    ensures blockers { (e : Entry) → slice_get entries.now index ≡ Some e → blockers.new.items ≡ set blockers.old.items index (first_in_way (take index entries.now) e.locks) }
-    ensures seats { (held : Entry → Bool) (e : Entry) → slice_get entries.now index ≡ Some e → IsHeldAs held e blockers.old.items index → ((p : ℕ) → seats_at cells.old.items p ≡ seats_by held entries.now p) →
-        (p : ℕ) → seats_at cells.new.items p ≡ seats_by (held_by held e.id (is_none (first_in_way (take index entries.now) e.locks))) entries.now p }
+    ensures blockers { (e : Entry) → slice_get entries.now index ≡ Some e
+        → blockers.new.items ≡ set blockers.old.items index (first_in_way (take index entries.now) e.locks) }
+    ensures seats { (held : Entry → Bool) (e : Entry) → slice_get entries.now index ≡ Some e → IsHeldAs held e blockers.old.items index
+        → ((p : ℕ) → seats_at cells.old.items p ≡ seats_by held entries.now p) →
+        (p : ℕ) → seats_at cells.new.items p
+        ≡ seats_by (held_by held e.id (is_none (first_in_way (take index entries.now) e.locks))) entries.now p }
     ensures room { (p : ℕ) → room_at cells.old.items p ≤ room_at cells.new.items p }
 {
     let blocker = blocker_of(entries, cells, index);
@@ -158,7 +162,8 @@ fn leave<A: Allocator>(
     requires table { IsTable entries.now }
     requires queues { (p : ℕ) → seats_at cells.old.items p ≡ queue_of entries.now p }
     requires blockers { blockers.now ≡ blockers_of entries.now }
-    ensures seats { (e : Entry) → slice_get entries.now index ≡ Some e → (p : ℕ) → seats_at cells.new.items p ≡ seats_by (is_held_in entries.now) (entries_without entries.now e.id) p }
+    ensures seats { (e : Entry) → slice_get entries.now index ≡ Some e → (p : ℕ)
+        → seats_at cells.new.items p ≡ seats_by (is_held_in entries.now) (entries_without entries.now e.id) p }
     ensures room { (p : ℕ) → room_at cells.old.items p ≤ room_at cells.new.items p }
 {
     let entry = &entries[index];
@@ -209,7 +214,8 @@ fn put_first<A: Allocator + Copy>(
     requires queues { AreQueues entries.old.items cells.old.items }
     requires blockers { blockers.old.items ≡ blockers_of entries.old.items }
     requires there { is_some (entry_of entries.old.items id) ≡ true }
-    requires enough { All (λ (e : Entry). is_taken again (blocker_at entries.old.items e) ≡ false → blocker_at entries.old.items e ≡ blocker_at (put_first entries.old.items id locks) e) (entries_without entries.old.items id) }
+    requires enough { All (λ (e : Entry). is_taken again (blocker_at entries.old.items e) ≡ false
+        → blocker_at entries.old.items e ≡ blocker_at (put_first entries.old.items id locks) e) (entries_without entries.old.items id) }
     ensures done { OnOk result (entries.new.items ≡ put_first entries.old.items id locks) }
     ensures table { IsTable entries.new.items }
     ensures queues { AreQueues entries.new.items cells.new.items }

@@ -94,7 +94,8 @@ fn extend<A: Allocator + Copy>(
     requires items { AreThere tree.now items }
     requires held { standing_of tree.now claims.old.claims id ≡ Some Standing.Held }
     ensures answer { IfOk result (λ extension. extension ≡ extension_by (in_way_of tree.now claims.old.claims id items)) }
-    ensures extended { OnOk result (claims.new.claims ≡ extended_by (in_way_of tree.now claims.old.claims id items) claims.old.claims id items) }
+    ensures extended { OnOk result
+        (claims.new.claims ≡ extended_by (in_way_of tree.now claims.old.claims id items) claims.old.claims id items) }
     ensures table { OnOk result (IsTableOf tree.now claims.new.claims table.new) }
     ensures memory { OnErr result (in_way_of tree.now claims.old.claims id items ≡ None) }
     ensures unchanged { OnErr result (claims.new.claims ≡ claims.old.claims) }

@@ -8,7 +8,8 @@ Empty = output (codes "") ≡ codes ""
 
 -- the last line may lack its line feed, and a commit has nothing to do
 abbrev pub OneLine : Type 0
-OneLine = (output (codes "@1 hello anna") ≡ codes "@1 OK session 1\n") × (output (codes "@1 hello anna\n!commit\n") ≡ codes "@1 OK session 1\n")
+OneLine =
+    (output (codes "@1 hello anna") ≡ codes "@1 OK session 1\n") × (output (codes "@1 hello anna\n!commit\n") ≡ codes "@1 OK session 1\n")
 
 -- of two claims on one place the second waits
 abbrev pub TwoDesigners : Type 0
@@ -130,7 +131,8 @@ BadContents =
 
 -- a commit stopped while its gate is being opened, by this pick
 abbrev pub gate_stopped : List ℕ → List ℕ
-gate_stopped pick = output (begun ++ codes "!commit\n@1 make /f\n!pump\n!pump\n!pump\n!crash " ++ pick ++ codes "\n@1 hello anna\n@1 list /\n")
+gate_stopped pick =
+    output (begun ++ codes "!commit\n@1 make /f\n!pump\n!pump\n!pump\n!crash " ++ pick ++ codes "\n@1 hello anna\n@1 list /\n")
 
 -- the commit counts where the gate is found open, and its reply is told in no case
 abbrev pub GateStopped : Type 0

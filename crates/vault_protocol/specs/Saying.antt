@@ -17,7 +17,8 @@ is_sayable talk = may_be_said talk.view.settled talk.lines
 abbrev pub said_in_front : Talk → List Line → Said
 said_in_front talk [] = record { text = []; talk = talk }
 said_in_front talk (Known text ∷ lines) = record { text = text; talk = record talk { lines = lines } }
-said_in_front talk (Awaited connection position ∷ lines) = record { text = told_text connection (reply_at talk.view position); talk = record (told talk connection position) { lines = lines } }
+said_in_front talk (Awaited connection position ∷ lines) =
+    record { text = told_text connection (reply_at talk.view position); talk = record (told talk connection position) { lines = lines } }
 
 abbrev pub said_first : Talk → Said
 said_first talk = said_in_front talk talk.lines

@@ -35,11 +35,13 @@ ended_by lines = (said (committed (reached_by lines))).talk
 
 -- what is printed for a script's lines is what the first of them print, and what the others print in the conversation behind them
 abbrev pub PrintedInParts : Type 0
-PrintedInParts = (lines more : List (List ℕ)) → printed new_talk (lines ++ more) ≡ texts_of new_talk lines ++ printed (reached_by lines) more
+PrintedInParts =
+    (lines more : List (List ℕ)) → printed new_talk (lines ++ more) ≡ texts_of new_talk lines ++ printed (reached_by lines) more
 
 -- the vault of a script is seen as the world that some run reaches, behind any of its lines and at its end
 abbrev pub ScriptsAreRuns : Type 0
-ScriptsAreRuns = (lines : List (List ℕ)) → IsReachable snapshot_length (reached_by lines).view × IsReachable snapshot_length (ended_by lines).view
+ScriptsAreRuns =
+    (lines : List (List ℕ)) → IsReachable snapshot_length (reached_by lines).view × IsReachable snapshot_length (ended_by lines).view
 
 -- these events are a run, and reach a world that is seen so
 pub record IsRunTo (events : List Event) (view : View) : Type 0 where
@@ -67,14 +69,16 @@ gate_of pick = if gives_one pick then IsOpen else StaysClosed
 -- a line that stops the devices is one crash, with the gate of its pick
 abbrev pub StopsAreCrashes : Type 0
 StopsAreCrashes =
-    (lines : List (List ℕ)) (line : List ℕ) (pick : Pick) (events : List Event) → crash_line line ≡ Some pick → IsRunTo events (reached_by lines).view
+    (lines : List (List ℕ)) (line : List ℕ) (pick : Pick) (events : List Event) → crash_line line ≡ Some pick
+    → IsRunTo events (reached_by lines).view
     → IsRunTo (events ++ Crash (gate_of pick) ∷ []) (said_for (reached_by lines) line).talk.view
 
 -- any other line, and the end, are acts alone
 abbrev pub OthersAreActs : Type 0
 OthersAreActs =
     (lines : List (List ℕ)) (events : List Event) → IsRunTo events (reached_by lines).view
-    → ((line : List ℕ) → crash_line line ≡ None → ActsOnTo events (said_for (reached_by lines) line).talk.view) × ActsOnTo events (ended_by lines).view
+    → ((line : List ℕ) → crash_line line ≡ None → ActsOnTo events (said_for (reached_by lines) line).talk.view)
+    × ActsOnTo events (ended_by lines).view
 
 -- A commit settles all, leaves none under way, and changes nothing else of the view but the number sealed.
 abbrev pub CommitsSettle : Type 0
@@ -104,7 +108,8 @@ pub record IsToldAt (view : View) (place : ℕ) (text : List ℕ) : Type 0 where
 -- of these texts each is outside the history or such a reply, of the entries from one place to a later one, each in its turn
 abbrev pub AreTold : View → ℕ → ℕ → List (List ℕ) → Type 0
 AreTold view from to [] = from ≡ to
-AreTold view from to (text ∷ texts) = (IsOutside text × AreTold view from to texts) ⊎ (IsToldAt view from text × AreTold view (from + 1) to texts)
+AreTold view from to (text ∷ texts) =
+    (IsOutside text × AreTold view from to texts) ⊎ (IsToldAt view from text × AreTold view (from + 1) to texts)
 
 -- one after the other
 abbrev pub joined : List (List ℕ) → List ℕ
@@ -120,9 +125,12 @@ pub record IsMadeOfTold (view : View) (from to : ℕ) (text : List ℕ) : Type 0
 -- A line that is no stop prints, beside outside texts, the reply of each entry that it tells, in their order and once; a stop prints
 -- outside texts alone; the end prints the replies of all entries that weren't told yet.
 pub record PrintsReplies (lines : List (List ℕ)) : Type 0 where
-  pub others : (line : List ℕ) → crash_line line ≡ None → let next = said_for (reached_by lines) line in IsMadeOfTold next.talk.view (reached_by lines).view.told next.talk.view.told next.text
-  pub stops : (line : List ℕ) (pick : Pick) → crash_line line ≡ Some pick → let next = said_for (reached_by lines) line in IsMadeOfTold next.talk.view 0 0 next.text
-  pub at_end : IsMadeOfTold (ended_by lines).view (reached_by lines).view.told (length_of (ended_by lines).view) (said (committed (reached_by lines))).text
+  pub others : (line : List ℕ) → crash_line line ≡ None → let next =
+      said_for (reached_by lines) line in IsMadeOfTold next.talk.view (reached_by lines).view.told next.talk.view.told next.text
+  pub stops : (line : List ℕ) (pick : Pick) → crash_line line ≡ Some pick → let next =
+      said_for (reached_by lines) line in IsMadeOfTold next.talk.view 0 0 next.text
+  pub at_end : IsMadeOfTold (ended_by lines).view (reached_by lines).view.told (length_of (ended_by lines).view)
+      (said (committed (reached_by lines))).text
 
 -- so it is whatever lines came before
 abbrev pub RepliesAreTold : Type 0

@@ -56,7 +56,15 @@ none_each = replicate last_connection 0
 
 -- a new vault, and no connection with a session: each speaks for the door, which is session 0
 abbrev pub new_talk : Talk
-new_talk = record { view = opened_view new_vault; buffer = 0; generation = 1; tail = first_tail; sessions = none_each; asked = none_each; lines = [] }
+new_talk = record {
+  view = opened_view new_vault;
+  buffer = 0;
+  generation = 1;
+  tail = first_tail;
+  sessions = none_each;
+  asked = none_each;
+  lines = [];
+}
 
 -- a connection speaks for the session that it was told last, and for the door again once it left
 abbrev pub sessions_after : List ℕ → ℕ → Reply → List ℕ
@@ -99,7 +107,8 @@ abbrev pub said_of : Talk → List Line → Said
 said_of talk [] = record { text = []; talk = record talk { lines = [] } }
 said_of talk (Known text ∷ lines) = behind text (said_of talk lines)
 said_of talk (Awaited connection position ∷ lines) =
-    if nat_lt position talk.view.settled then behind (told_text connection (reply_at talk.view position)) (said_of (told talk connection position) lines)
+    if nat_lt position talk.view.settled
+    then behind (told_text connection (reply_at talk.view position)) (said_of (told talk connection position) lines)
     else record { text = []; talk = record talk { lines = Awaited connection position ∷ lines } }
 
 -- what is printed now

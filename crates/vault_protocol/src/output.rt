@@ -9,7 +9,8 @@ use std::io::Write;
 /// Writes the whole text. A writer that takes none of some bytes has failed.
 pub(crate) fn write_text<W: Write>(writer: &mut W, text: &[u8]) -> Result<(), ScriptError>
     ensures ok { OnOk result (Appends (W.contents writer.old) (W.contents writer.new) text.now) }
-    ensures err { OnErr result ((n : ℕ) × (n ≤ length text.now) × Appends (W.contents writer.old) (W.contents writer.new) (take n text.now)) }
+    ensures err { OnErr result
+        ((n : ℕ) × (n ≤ length text.now) × Appends (W.contents writer.old) (W.contents writer.new) (take n text.now)) }
     ensures cause { IfErr result (λ e. e ≡ ScriptError.Write) }
 {
     let mut done = 0;

@@ -22,10 +22,18 @@ pub(crate) fn reopened<A: Allocator + Copy>(
     pick: Pick,
     life: u64,
 ) -> Result<Vault<MemDevice<A>, A>, ScriptError>
-    ensures view { IfOk result (λ next. next.view ≡ opened_view (durable (view_at vault.view (if gives_one pick && is_opening vault.view.phase then vault.view.sealed else vault.view.settled)))) }
+    ensures view { IfOk result
+        (λ next. next.view ≡ opened_view
+        (durable (view_at vault.view (if gives_one pick && is_opening vault.view.phase then vault.view.sealed else vault.view.settled)))) }
     ensures buffer { IfOk result (λ next. next.store.buffer ≡ []) }
-    ensures generation { IfOk result (λ next. next.store.generation ≡ (if gives_one pick && is_opening vault.view.phase then generation_after vault.view (Ok Settled) vault.store.generation else vault.store.generation)) }
-    ensures tail { IfOk result (λ next. next.store.tail ≡ (if gives_one pick && is_opening vault.view.phase then tail_after vault.view (Ok Settled) vault.store.tail else vault.store.tail)) }
+    ensures generation { IfOk result
+        (λ next. next.store.generation
+        ≡ (if gives_one pick && is_opening vault.view.phase then generation_after vault.view (Ok Settled) vault.store.generation
+        else vault.store.generation)) }
+    ensures tail { IfOk result
+        (λ next. next.store.tail
+        ≡ (if gives_one pick && is_opening vault.view.phase then tail_after vault.view (Ok Settled) vault.store.tail
+        else vault.store.tail)) }
     ensures cause { IfErr result (λ e. e ≡ ScriptError.NoMemory) }
 {
     if vault.is_broken() {

@@ -32,7 +32,8 @@ IsOneLine line = All (λ b. b ≢ 10) line
 
 -- the next byte of those that were pending and those that were given since
 abbrev pub GivesByte : Inflow → List ℕ → NextByte → Inflow → Option (List ℕ) → Type 0
-GivesByte old given (bytes.Byte b) new rest = (old.pending ++ given ≡ b ∷ new.pending) × (new.taken ≡ old.taken + 1) × (new.taken ≤ most_bytes)
+GivesByte old given (bytes.Byte b) new rest =
+    (old.pending ++ given ≡ b ∷ new.pending) × (new.taken ≡ old.taken + 1) × (new.taken ≤ most_bytes)
 GivesByte old given bytes.End new rest = (old.pending ++ given ≡ []) × IsAtEnd rest
 GivesByte old given bytes.Fault new rest = Unit {0}
 GivesByte old given bytes.Limit new rest = most_bytes < old.taken + length (old.pending ++ given)
@@ -59,7 +60,8 @@ GivesLine old given lines.Limit line new rest = most_bytes < old.taken + length 
 
 -- a read gave the first bytes of the chunk, none only at the end
 abbrev pub ReadsChunk : Option (List ℕ) → Option (List ℕ) → List ℕ → Option ℕ → Type 0
-ReadsChunk old new chunk (Some count) = (count ≤ length chunk) × (count ≤ chunk_size) × Consumes old new (take count chunk) × (count ≡ 0 → IsAtEnd new)
+ReadsChunk old new chunk (Some count) =
+    (count ≤ length chunk) × (count ≤ chunk_size) × Consumes old new (take count chunk) × (count ≡ 0 → IsAtEnd new)
 ReadsChunk old new chunk None = (given : List ℕ) × Consumes old new given
 
 -- bytes wait now, or none is left
@@ -89,8 +91,10 @@ TakesPiece old so_far pieces.Limit kept new = most_bytes < old.taken + length ol
 
 -- the same of what was pending and what a read gave, of which there is something where no line feed is
 abbrev pub GivesPiece : Inflow → List ℕ → List ℕ → Piece → List ℕ → Inflow → Option (List ℕ) → Type 0
-GivesPiece old given so_far pieces.Whole kept new rest = (piece : List ℕ) × CutsLine old given piece new × KeepsLine (so_far ++ piece) kept false
-GivesPiece old given so_far pieces.TooLong kept new rest = (piece : List ℕ) × CutsLine old given piece new × KeepsLine (so_far ++ piece) kept true
+GivesPiece old given so_far pieces.Whole kept new rest =
+    (piece : List ℕ) × CutsLine old given piece new × KeepsLine (so_far ++ piece) kept false
+GivesPiece old given so_far pieces.TooLong kept new rest =
+    (piece : List ℕ) × CutsLine old given piece new × KeepsLine (so_far ++ piece) kept true
 GivesPiece old given so_far (pieces.More is_long) kept new rest =
     IsOneLine (old.pending ++ given) × (new.pending ≡ []) × KeepsLine (so_far ++ (old.pending ++ given)) kept is_long
     × (new.taken ≡ old.taken + length (old.pending ++ given)) × (new.taken ≤ most_bytes) × (old.taken < new.taken)

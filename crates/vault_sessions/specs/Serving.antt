@@ -39,7 +39,8 @@ abbrev pub with_feed : List ℕ → List ℕ
 with_feed line = line ++ 10 ∷ []
 
 -- what the reader gave is the lines that were answered, each answer at its line's place, and then what is left
-pub record Hears {A : Type 0} (old new : Option (List ℕ)) (given : List ℕ) (lines : List (List ℕ)) (outs : List (Out A)) (left : List ℕ) : Type 0 where
+pub record Hears {A : Type 0} (old new : Option (List ℕ)) (given : List ℕ) (lines : List (List ℕ)) (outs : List (Out A))
+    (left : List ℕ) : Type 0 where
   pub given_is : Consumes old new given
   pub lines_are : given ≡ flat_map with_feed lines ++ left
   pub answered : AllZip IsAnswer lines outs

@@ -51,7 +51,8 @@ impl<D: Device, S: Tally, T: Tally, A: Allocator> Model for Desk<D, S, T, A> {
     ghost view = { λ d. record { vault = d.vault; closed = d.closed } };
 
     // Invariants 1 to 3 of lib.rt, in this order; the third takes two.
-    ghost invariant = { λ d. (d.staged.total ≡ length_of d.vault.view) × (d.told.total ≡ d.vault.view.told) × (d.opening.staged ≡ S.opening) × (d.opening.told ≡ T.opening) };
+    ghost invariant = { λ d. (d.staged.total ≡ length_of d.vault.view) × (d.told.total ≡ d.vault.view.told) × (d.opening.staged ≡ S.opening)
+        × (d.opening.told ≡ T.opening) };
 }
 
 impl<D: Device, S: Tally, T: Tally, A: Allocator + Copy> Desk<D, S, T, A> {
@@ -64,12 +65,15 @@ impl<D: Device, S: Tally, T: Tally, A: Allocator + Copy> Desk<D, S, T, A> {
     ) -> Result<Ticket<A>, (Outside, CommandIn<A>)>
         ensures staged { OnOk result (self.new.vault.view ≡ view_acted snapshot_length self.old.vault.view (Stage session command)) }
         ensures counted { OnOk result (share.new ≡ record share.old { staged = share.old.staged + 1 }) }
-        ensures ticket { IfOk result (λ ticket. ticket ≡ claim_of self.old.vault.life (length_of self.old.vault.view) (entry_of (book_of self.old.vault.view) session command)) }
+        ensures ticket { IfOk result
+            (λ ticket. ticket ≡ claim_of self.old.vault.life (length_of self.old.vault.view)
+            (entry_of (book_of self.old.vault.view) session command)) }
         ensures asked { IfOk result (λ ticket. (ticket.session ≡ session) × (ticket.command ≡ command)) }
         ensures refused { OnErr result ((self.new ≡ self.old) × (share.new ≡ share.old)) }
         ensures handed_back { IfErr result (λ refusal. refusal.1 ≡ command) }
         ensures reason { IfErr result (λ refusal. IsReason self.old.vault refusal.0) }
-        ensures least { (share.new.staged + S.opening ≤ length_of self.new.vault.view) × (share.new.told + T.opening ≤ self.new.vault.view.told) }
+        ensures least { (share.new.staged + S.opening ≤ length_of self.new.vault.view)
+            × (share.new.told + T.opening ≤ self.new.vault.view.told) }
         ensures open { self.new.closed ≡ self.old.closed }
         ensures next { IsNext D.disk self.old.vault self.new.vault }
     {
@@ -90,7 +94,8 @@ impl<D: Device, S: Tally, T: Tally, A: Allocator + Copy> Desk<D, S, T, A> {
         ensures redeemed { IsRedeemed self.old.vault self.new.vault ticket result }
         ensures of_ticket { IsOfTicket ticket result }
         ensures counted { CountsRedeem share.old result share.new }
-        ensures least { (share.new.staged + S.opening ≤ length_of self.new.vault.view) × (share.new.told + T.opening ≤ self.new.vault.view.told) }
+        ensures least { (share.new.staged + S.opening ≤ length_of self.new.vault.view)
+            × (share.new.told + T.opening ≤ self.new.vault.view.told) }
         ensures open { self.new.closed ≡ self.old.closed }
         ensures next { IsNext D.disk self.old.vault self.new.vault }
     {
@@ -118,7 +123,8 @@ impl<D: Device, S: Tally, T: Tally, A: Allocator + Copy> Desk<D, S, T, A> {
     /// Does the next step of a commit or of a snapshot. No tally changes.
     pub fn pump(&mut self) -> Result<Pumped, Fault>
         ensures pumped { IsPumped self.old.vault result self.new.vault }
-        ensures same { (length_of self.new.vault.view ≡ length_of self.old.vault.view) × (self.new.vault.view.told ≡ self.old.vault.view.told) }
+        ensures same { (length_of self.new.vault.view ≡ length_of self.old.vault.view)
+            × (self.new.vault.view.told ≡ self.old.vault.view.told) }
         ensures open { self.new.closed ≡ self.old.closed }
         ensures next { IsNext D.disk self.old.vault self.new.vault }
     {
@@ -132,7 +138,8 @@ impl<D: Device, S: Tally, T: Tally, A: Allocator + Copy> Desk<D, S, T, A> {
         ensures may_not { result ≡ Ok Started.NotNow → MayStart self.old.vault → ⊥ }
         ensures not_now { result ≡ Ok Started.NotNow → self.new ≡ self.old }
         ensures refused { OnErr result (self.new ≡ self.old) }
-        ensures same { (length_of self.new.vault.view ≡ length_of self.old.vault.view) × (self.new.vault.view.told ≡ self.old.vault.view.told) }
+        ensures same { (length_of self.new.vault.view ≡ length_of self.old.vault.view)
+            × (self.new.vault.view.told ≡ self.old.vault.view.told) }
         ensures open { self.new.closed ≡ self.old.closed }
         ensures next { IsNext D.disk self.old.vault self.new.vault }
     {
@@ -142,7 +149,8 @@ impl<D: Device, S: Tally, T: Tally, A: Allocator + Copy> Desk<D, S, T, A> {
     /// Lets the oldest kept entry go, where it is settled and its ticket isn't out any more. No tally changes.
     pub fn retire(&mut self) -> Retired
         ensures retired { IsRetired self.old.vault self.new.vault result }
-        ensures same { (length_of self.new.vault.view ≡ length_of self.old.vault.view) × (self.new.vault.view.told ≡ self.old.vault.view.told) }
+        ensures same { (length_of self.new.vault.view ≡ length_of self.old.vault.view)
+            × (self.new.vault.view.told ≡ self.old.vault.view.told) }
         ensures open { self.new.closed ≡ self.old.closed }
         ensures next { IsNext D.disk self.old.vault self.new.vault }
     {

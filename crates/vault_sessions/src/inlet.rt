@@ -152,7 +152,8 @@ impl Inlet {
     fn take_piece<A: Allocator>(&mut self, line: &mut Vec<u8, A>, is_long: bool) -> Piece
         requires room { longest_line ≤ vec_capacity line.old }
         ensures room { vec_capacity line.old ≤ vec_capacity line.new }
-        ensures taken { (so_far : List ℕ) → KeepsLine so_far line.old.items is_long → TakesPiece self.old so_far result line.new.items self.new }
+        ensures taken { (so_far : List ℕ) → KeepsLine so_far line.old.items is_long
+            → TakesPiece self.old so_far result line.new.items self.new }
     {
         let waiting = &self.chunk[self.at..self.end];
         let left = MOST_BYTES - self.taken;
@@ -191,7 +192,8 @@ impl Inlet {
     ) -> Piece
         requires room { longest_line ≤ vec_capacity line.old }
         ensures room { vec_capacity line.old ≤ vec_capacity line.new }
-        ensures given { (so_far : List ℕ) → KeepsLine so_far line.old.items is_long → (given : List ℕ) × Consumes (R.remaining reader.old) (R.remaining reader.new) given
+        ensures given { (so_far : List ℕ) → KeepsLine so_far line.old.items is_long
+            → (given : List ℕ) × Consumes (R.remaining reader.old) (R.remaining reader.new) given
             × GivesPiece self.old given so_far result line.new.items self.new (R.remaining reader.new) }
     {
         match self.fill(reader) {

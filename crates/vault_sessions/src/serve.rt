@@ -146,9 +146,11 @@ impl<D: Device, S: Tally, T: Tally, A: Allocator + Copy, G: Gate, H: Wait> Worke
         requires { longest_line ≤ vec_capacity line.old }
         ensures room { vec_capacity line.old ≤ vec_capacity line.new }
         ensures heard { (start : Option (List ℕ)) (outs : List (Out A)) → HeardSoFar start (R.remaining reader.old) inlet.old outs
-            → MatchResult result (λ out. HeardSoFar start (R.remaining reader.new) inlet.new (outs ++ out ∷ [])) (λ ended. HeardAll start (R.remaining reader.new) outs ended) }
+            → MatchResult result (λ out. HeardSoFar start (R.remaining reader.new) inlet.new (outs ++ out ∷ []))
+            (λ ended. HeardAll start (R.remaining reader.new) outs ended) }
         ensures spoken { IfOk result (IsOf session) }
-        ensures counted { MatchResult result (λ out. CountsOne share.old out share.new) (λ ended. Counts share.old 0 (lost_by ended) share.new) }
+        ensures counted { MatchResult result (λ out. CountsOne share.old out share.new)
+            (λ ended. Counts share.old 0 (lost_by ended) share.new) }
         ensures ended { IfErr result (λ ended. (ended ≢ Ended.Quit) × (ended ≢ Ended.Write)) }
     {
         match inlet.next_line(reader, line) {
@@ -210,7 +212,9 @@ impl<D: Device, S: Tally, T: Tally, A: Allocator + Copy, G: Gate, H: Wait> Worke
         command: CommandIn<A>,
         share: &mut Share<S, T>,
     ) -> Result<Ticket<A>, Outside>
-        ensures ok { IfOk result (λ ticket. (ticket.session ≡ session) × (ticket.command ≡ command) × (share.new ≡ record share.old { staged = share.old.staged + 1 })) }
+        ensures ok { IfOk result
+            (λ ticket. (ticket.session ≡ session) × (ticket.command ≡ command)
+            × (share.new ≡ record share.old { staged = share.old.staged + 1 })) }
         ensures err { IfErr result (λ outside. (outside ≢ Outside.BadLine) × (share.new ≡ share.old)) }
     {
         let shared = self.shared;
@@ -274,7 +278,8 @@ impl<D: Device, S: Tally, T: Tally, A: Allocator + Copy, G: Gate, H: Wait> Worke
     ) -> Option<Ticket<A>>
         requires { session ≡ session_of 0 outs.now.items }
         ensures ticket { IfSome result (λ ticket. (ticket.session ≡ session_of 0 outs.now.items) × (ticket.command ≡ Leave)) }
-        ensures counted { MatchOption result (share.new ≡ share.old) (λ ticket. share.new ≡ record share.old { staged = share.old.staged + 1 }) }
+        ensures counted { MatchOption result (share.new ≡ share.old)
+            (λ ticket. share.new ≡ record share.old { staged = share.old.staged + 1 }) }
     {
         let shared = self.shared;
         let mut desk = shared.desk.lock(self.rt);
@@ -327,7 +332,8 @@ fn say<A: Allocator + Copy, W: Write>(
 ) -> Option<Ended>
     requires { vec_len outs.old < vec_capacity outs.old }
     ensures outs { outs.new.items ≡ outs.old.items ++ out ∷ [] }
-    ensures written { MatchOption result (Appends (W.contents writer.old) (W.contents writer.new) (text_of_answer out)) (λ ended. CutsBy ended (W.contents writer.old) (W.contents writer.new) out) }
+    ensures written { MatchOption result (Appends (W.contents writer.old) (W.contents writer.new) (text_of_answer out))
+        (λ ended. CutsBy ended (W.contents writer.old) (W.contents writer.new) out) }
     ensures goes_on { IsLeft out → result ≢ None }
 {
     let text = text_of_out(alloc, &out);

@@ -136,7 +136,8 @@ fn run<
     requires workers { (0 < terms.now.workers) × (terms.now.workers ≤ 64) }
     requires frees { Frees A.Allocator A.dealloc_token }
     requires whole { (S.all ≡ S.parts) × (T.all ≡ T.parts) }
-    requires staged { (staged.name ≡ S.name) × (staged.parts ≡ S.parts) × (S.all ≡ terms.now.workers + 1) × (S.opening ≡ length_of vault.view) }
+    requires staged { (staged.name ≡ S.name) × (staged.parts ≡ S.parts) × (S.all ≡ terms.now.workers + 1)
+        × (S.opening ≡ length_of vault.view) }
     requires told { (told.name ≡ T.name) × (told.parts ≡ T.parts) × (T.all ≡ terms.now.workers + 1) × (T.opening ≡ vault.view.told) }
     ensures grown { IfOk result (λ served. HasGrown vault.view served.0.view served.1) }
 {
@@ -187,7 +188,8 @@ impl<
             thread::scope_env(),
             self.rt,
             |scope| -> Result<Vec<Share<S, T>, A>, ServerError>
-                requires { IsSend D.row × IsSend A.row × IsSync A.row × Frees A.Allocator A.dealloc_token × IsSync G.row × IsSync H.row × IsSend S.row × IsSync S.row × IsSend T.row × IsSync T.row }
+                requires { IsSend D.row × IsSend A.row × IsSync A.row × Frees A.Allocator A.dealloc_token × IsSync G.row × IsSync H.row
+                    × IsSend S.row × IsSync S.row × IsSend T.row × IsSync T.row }
             { self.serve_within(scope, shares, listener, terms) },
         )
     }

@@ -104,8 +104,10 @@ pub fn gather<D: Device, S: Tally, T: Tally, A: Allocator + Copy>(
 ) -> Result<(Vault<D, A>, Totals), (Shared<D, S, T, A>, Vec<Share<S, T>, A>)>
     requires { (S.all ≡ S.parts) × (T.all ≡ T.parts) }
     ensures all { IsOk result ↔ (vec_len shares ≡ shared) }
-    ensures totals { IfOk result (λ gathered. (gathered.1.staged ≡ sum_by (λ share. share.staged) shares.items) × (gathered.1.told ≡ sum_by (λ share. share.told) shares.items)) }
-    ensures grown { IfOk result (λ gathered. (length_of gathered.0.view ≡ S.opening + gathered.1.staged) × (gathered.0.view.told ≡ T.opening + gathered.1.told)) }
+    ensures totals { IfOk result (λ gathered. (gathered.1.staged ≡ sum_by (λ share. share.staged) shares.items)
+        × (gathered.1.told ≡ sum_by (λ share. share.told) shares.items)) }
+    ensures grown { IfOk result
+        (λ gathered. (length_of gathered.0.view ≡ S.opening + gathered.1.staged) × (gathered.0.view.told ≡ T.opening + gathered.1.told)) }
     ensures handed_back { IfErr result (λ back. (back.0 ≡ shared) × (back.1.items ≡ shares.items)) }
 {
     if shares.len() != shared.workers {
@@ -152,7 +154,8 @@ fn merge<D: Device, S: Tally, T: Tally, A: Allocator + Copy>(
     shares: Vec<Share<S, T>, A>,
 ) -> (Vault<D, A>, Totals)
     requires { (vec_len shares + 1 ≡ S.parts) × (vec_len shares + 1 ≡ T.parts) }
-    ensures totals { (result.1.staged ≡ sum_by (λ share. share.staged) shares.items) × (result.1.told ≡ sum_by (λ share. share.told) shares.items) }
+    ensures totals { (result.1.staged ≡ sum_by (λ share. share.staged) shares.items)
+        × (result.1.told ≡ sum_by (λ share. share.told) shares.items) }
     ensures grown { (length_of result.0.view ≡ S.opening + result.1.staged) × (result.0.view.told ≡ T.opening + result.1.told) }
 {
     let Desk {
@@ -178,7 +181,8 @@ fn add_up<S: Tally, T: Tally, A: Allocator>(
 ) -> Totals
     requires parts { (vec_len shares + 1 ≡ S.parts) × (vec_len shares + 1 ≡ T.parts) }
     requires bounds { (staged.total < 2 ^ 64) × (told.total < 2 ^ 64) }
-    ensures totals { (result.staged ≡ sum_by (λ share. share.staged) shares.items) × (result.told ≡ sum_by (λ share. share.told) shares.items) }
+    ensures totals { (result.staged ≡ sum_by (λ share. share.staged) shares.items)
+        × (result.told ≡ sum_by (λ share. share.told) shares.items) }
     ensures staged { staged.total ≡ opening.staged + result.staged }
     ensures told { told.total ≡ opening.told + result.told }
 {

@@ -14,7 +14,9 @@ use vault_model::CommandIn;
 
 // The receipt of a command without an effect, which is staged, settled and told.
 fn told(vault: &mut Vault<MemDevice>, command: CommandIn<Global>) -> Option<Receipt>
-    ensures past { (past : List (Seen MemDisk)) → IsPast disk_of vault.old past → OnSome result ((staged : Seen MemDisk) × (pumped : Seen MemDisk) × IsPast disk_of vault.new (pumped ∷ staged ∷ vault.old ∷ past)) }
+    ensures past { (past : List (Seen MemDisk)) → IsPast disk_of vault.old past
+        → OnSome result ((staged : Seen MemDisk) × (pumped : Seen MemDisk)
+        × IsPast disk_of vault.new (pumped ∷ staged ∷ vault.old ∷ past)) }
     ensures receipt { IfSome result (λ receipt. HasTold vault.new.view receipt) }
 {
     let Ok(ticket) = vault.stage(0, command) else {
@@ -43,7 +45,8 @@ fn told(vault: &mut Vault<MemDevice>, command: CommandIn<Global>) -> Option<Rece
 
 // The vault of the next life, in the files that a stop left.
 fn opened(alloc: Global, first: MemDevice, second: MemDevice) -> Option<Vault<MemDevice>>
-    ensures { (old : Seen MemDisk) (past : List (Seen MemDisk)) → AreLeft disk_of old first second → IsPast disk_of old past → IfSome result (λ next. IsPast disk_of next (old ∷ past)) }
+    ensures { (old : Seen MemDisk) (past : List (Seen MemDisk)) → AreLeft disk_of old first second → IsPast disk_of old past
+        → IfSome result (λ next. IsPast disk_of next (old ∷ past)) }
 {
     match Vault::open(alloc, first, second, 2) {
         Ok(next) => {
@@ -125,7 +128,8 @@ fn begun(
     second: MemDevice,
     command: CommandIn<Global>,
 ) -> Option<(Vault<MemDevice>, Receipt)>
-    ensures { IfSome result (λ begun. (past : List (Seen MemDisk)) × IsPast disk_of begun.0 past × (length past ≡ 3) × HasTold begun.0.view begun.1) }
+    ensures { IfSome result (λ begun. (past : List (Seen MemDisk)) × IsPast disk_of begun.0 past × (length past ≡ 3)
+        × HasTold begun.0.view begun.1) }
 {
     let Ok(mut vault) = Vault::create(alloc, first, second, 1) else {
         return None;
@@ -146,7 +150,8 @@ pub fn two_lives(
     command: CommandIn<Global>,
     pick: Pick,
 ) -> Option<(Vault<MemDevice>, Receipt)>
-    ensures { IfSome result (λ found. (past : List (Seen MemDisk)) × (is : IsPast disk_of found.0 past) × (length past ≡ 4) × IsFoundAgain disk_of found.0 past is found.1) }
+    ensures { IfSome result (λ found. (past : List (Seen MemDisk)) × (is : IsPast disk_of found.0 past) × (length past ≡ 4)
+        × IsFoundAgain disk_of found.0 past is found.1) }
 {
     let (vault, receipt) = begun(alloc, first, second, command)?;
     let Some(next) = stopped(alloc, vault, pick) else {
@@ -159,7 +164,8 @@ pub fn two_lives(
 
 // A place's making is staged, its ticket given up, and its commit begun: two of its steps are done.
 fn under_way(vault: &mut Vault<MemDevice>, command: CommandIn<Global>) -> bool
-    ensures { (past : List (Seen MemDisk)) → IsPast disk_of vault.old past → IsTrue result → (staged given_up written : Seen MemDisk) × IsPast disk_of vault.new (written ∷ given_up ∷ staged ∷ vault.old ∷ past) }
+    ensures { (past : List (Seen MemDisk)) → IsPast disk_of vault.old past → IsTrue result → (staged given_up written : Seen MemDisk)
+        × IsPast disk_of vault.new (written ∷ given_up ∷ staged ∷ vault.old ∷ past) }
 {
     let Ok(ticket) = vault.stage(1, command) else {
         return false;
@@ -183,7 +189,8 @@ pub fn inside_a_pump(
     next: CommandIn<Global>,
     pick: Pick,
 ) -> Option<(Vault<MemDevice>, Receipt)>
-    ensures { IfSome result (λ found. (past : List (Seen MemDisk)) × (is : IsPast disk_of found.0 past) × (length past ≡ 8) × IsFoundAgain disk_of found.0 past is found.1) }
+    ensures { IfSome result (λ found. (past : List (Seen MemDisk)) × (is : IsPast disk_of found.0 past) × (length past ≡ 8)
+        × IsFoundAgain disk_of found.0 past is found.1) }
 {
     let (mut vault, receipt) = begun(alloc, first, second, command)?;
     if !under_way(&mut vault, next) {
@@ -208,7 +215,8 @@ pub fn inside_an_opening(
     pick: Pick,
     call: u64,
 ) -> Option<(Vault<MemDevice>, Receipt)>
-    ensures { IfSome result (λ found. (past : List (Seen MemDisk)) × (is : IsPast disk_of found.0 past) × (length past ≡ 4) × IsFoundAgain disk_of found.0 past is found.1) }
+    ensures { IfSome result (λ found. (past : List (Seen MemDisk)) × (is : IsPast disk_of found.0 past) × (length past ≡ 4)
+        × IsFoundAgain disk_of found.0 past is found.1) }
 {
     let (vault, receipt) = begun(alloc, first, second, command)?;
     let Some(next) = stopped_in_an_opening(alloc, vault, pick, call) else {
@@ -228,7 +236,8 @@ pub fn three_lives(
     other: CommandIn<Global>,
     pick: Pick,
 ) -> Option<(Vault<MemDevice>, Receipt, Receipt)>
-    ensures { IfSome result (λ found. (past : List (Seen MemDisk)) × (is : IsPast disk_of found.0 past) × (length past ≡ 8) × IsFoundAgain disk_of found.0 past is found.1 × IsFoundAgain disk_of found.0 past is found.2) }
+    ensures { IfSome result (λ found. (past : List (Seen MemDisk)) × (is : IsPast disk_of found.0 past) × (length past ≡ 8)
+        × IsFoundAgain disk_of found.0 past is found.1 × IsFoundAgain disk_of found.0 past is found.2) }
 {
     let (vault, early) = begun(alloc, first, second, one)?;
     let Some(mut vault) = stopped(alloc, vault, pick) else {
