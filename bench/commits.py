@@ -19,9 +19,7 @@ import time
 from measure import arguments, head, prepared, table
 
 HERE = os.path.dirname(os.path.abspath(__file__))
-# One start of the server takes 4,096 commands: 67 for the places, three for each client beside its cycles.
-MOST_COMMANDS = 4096
-# And so many cycles stay below 1 MiB of journal, so that no snapshot comes between.
+# So many cycles stay below 1 MiB of journal, so that no snapshot comes between.
 MOST_CYCLES = 960
 PARTS = 64
 
@@ -70,7 +68,7 @@ def measured(program, folder, options, load, clients):
         told(options.port, ["hello z", "make /w", "make /w/a"] + [f"make /w/a/p{k}" for k in range(PARTS)] + ["quit"])
         with open(f"{folder}/plan", "w", encoding="ascii") as file:
             file.write("\n\n".join(plan(client) for client in range(clients)) + "\n")
-        cycles = min(MOST_CYCLES, (MOST_COMMANDS - 70 - 6 * clients) // 3)
+        cycles = MOST_CYCLES
         cycles = clients if options.tiny else cycles
         used = processor(server.pid)
         run = [load, str(options.port), "line", f"{folder}/plan", str(clients), "20", str(cycles), "0", "1000"]

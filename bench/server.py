@@ -20,10 +20,8 @@ import time
 from measure import arguments, head, megabytes, prepared, table
 
 WORKERS = 64
-# One start of the server takes 4,096 commands: five for each connection beside its cycles. So many cycles stay below 1 MiB of journal, so
-# that no snapshot comes between; bench/snapshot.py measures those.
+# So many cycles stay below 1 MiB of journal, so that no snapshot comes between; bench/snapshot.py measures those.
 MOST_CYCLES = 960
-MOST_COMMANDS = 4096
 CONTENT = "61" * 1000
 
 
@@ -129,7 +127,7 @@ def measured(program, folder, options, connections, before=(), ready=lambda: Non
     subprocess.run([program, "create", *files], check=True, stdout=subprocess.DEVNULL)
     SERVE[:] = ["serve", *files, f"127.0.0.1:{options.port}", "--workers", str(WORKERS), "--connections", str(connections)]
     server = served(program, before)
-    cycles = min(MOST_CYCLES, (MOST_COMMANDS - 5 * connections) // 3) // connections
+    cycles = MOST_CYCLES // connections
     cycles = 2 if options.tiny else cycles
     shares = [range(1, connections + 1)[n::options.processes] for n in range(min(options.processes, connections))]
     gates = [multiprocessing.Barrier(len(shares) + 1) for _ in range(3)]

@@ -94,7 +94,7 @@ class Client(threading.Thread):
             raise SystemExit(f"a connection was told: {told.decode()}")
 
     def run(self):
-        # One start of the server takes 4,096 commands.
+        # A few of all these saves reach 1 MiB.
         for _ in range(3500 // WORKERS):
             if self.stop.is_set():
                 return

@@ -29,7 +29,7 @@ SENTENCES: Dict[int, str] = {
     36: "A check-out has one to eight items, those of its extensions among them. Ask for a place further up.",
     40: "There is no such version. `vault history` lists those that there are.",
     50: "A limit of the vault is reached, for content 1,024 bytes; docs/PROTOCOL.md has them all. Nothing was changed.",
-    80: "The server takes no more commands until it is started again. Ask whoever runs it; nothing was changed.",
+    80: "The server takes no more commands at this moment. Try again later; nothing was changed.",
     81: "The server has no memory for this now. Try again later; nothing was changed.",
     82: "The server's disk failed. Ask whoever runs it to mend that and to start it again.",
 }
