@@ -108,7 +108,7 @@ abbrev pub EffectsAreTheChange : Type 0
 EffectsAreTheChange =
     AfterEveryRun
     (λ snapshot w. (n m : ℕ) → n ≤ m
-        → applied (durable (vault_at w n)) (effects (vault_at w n) (take (m - n) (drop n w.life))) ≡ Some (durable (vault_at w m)))
+    → applied (durable (vault_at w n)) (effects (vault_at w n) (take (m - n) (drop n w.life))) ≡ Some (durable (vault_at w m)))
 
 -- after the first n entries of a life, each session, and the door, has counted at most n commands
 abbrev pub CountsAreOfTheLife : Type 0

@@ -68,8 +68,12 @@ StopsInOpening disk first second first_new second_new =
 -- a vault was opened on these files
 pub record IsOpenedOn {D : Type 0} (x y : List ℕ) (new : Seen D) : Type 0 where
   pub begins : new.view ≡ opened_view new.view.base
-  pub read : AreRead x y (record { vault = new.view.base; generation = new.store.generation; tail = new.store.tail;
-      journal = new.store.journal })
+  pub read : AreRead x y (record {
+    vault = new.view.base;
+    generation = new.store.generation;
+    tail = new.store.tail;
+    journal = new.store.journal;
+  })
 
 -- the machine stopped, and another life began on the files that were left
 pub record IsReopened {D : Type 0} (disk : D → Disk) (old new : Seen D) : Type 0 where

@@ -125,7 +125,7 @@ abbrev pub HoldGoes : Type 0
 HoldGoes =
     Shows
     (stage 0 (Join anna) ∷ stage 0 (Join ben) ∷ stage 1 (make path_e) ∷ stage 2 (Hold (change path_e ∷ []))
-        ∷ stage 1 (CheckOut (look path_e ∷ [])) ∷ pumps 4
+    ∷ stage 1 (CheckOut (look path_e ∷ [])) ∷ pumps 4
     ++ Crash StaysClosed ∷ stage 0 (Join anna) ∷ stage 1 (State (Long 1)) ∷ stage 1 (State (Short 1)) ∷ [])
     (Write ∷ Sync ∷ Write ∷ Sync ∷ []) (Moved ∷ Moved ∷ Moved ∷ Settled ∷ [])
     (Session 1 ∷ Session 2 ∷ Place 1 ∷ Held (Short 1) ∷ Queued (Long 1) (Short 1) ∷ Session 1 ∷ Held (Long 1) ∷ Refused NoClaim ∷ [])

@@ -29,8 +29,15 @@ impl<A: Allocator> Model for Entry<A> {
 
     ghost use Rattle.group_commit.specs.History.{number_of};
 
-    ghost view = { λ e. record { entry = record { session = e.session.value; number = number_of e.before.value e.session.value;
-        command = e.command.value; reply = e.reply }; mark = e.mark } };
+    ghost view = { λ e. record {
+      entry = record {
+        session = e.session.value;
+        number = number_of e.before.value e.session.value;
+        command = e.command.value;
+        reply = e.reply;
+      };
+      mark = e.mark;
+    } };
 }
 
 impl<A: Allocator> Entry<A> {

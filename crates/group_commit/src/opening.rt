@@ -54,8 +54,12 @@ impl<D: Device, A: Allocator + Copy> Vault<D, A> {
         ensures buffer { IfOk result (λ vault. vault.store.buffer ≡ []) }
         ensures read { IsTrue (D.disk first).honest → IsTrue (D.disk second).honest
             → IfOk result (λ vault. AreRead (D.disk first).shown (D.disk second).shown
-            (record { vault = vault.view.base; generation = vault.store.generation; tail = vault.store.tail;
-            journal = vault.store.journal })) }
+            (record {
+              vault = vault.view.base;
+              generation = vault.store.generation;
+              tail = vault.store.tail;
+              journal = vault.store.journal;
+            })) }
         ensures next { IsTrue (D.disk first).honest → IsTrue (D.disk second).honest
             → IfOk result (λ vault. (old : Seen D) → IsStop D.disk old (D.disk first).shown (D.disk second).shown
             → IsNext D.disk old vault) }

@@ -84,8 +84,13 @@ impl<A: Allocator> Model for Receipt<A> {
 
     ghost Value = { Told };
 
-    ghost view = { λ r. record { position = r.position; session = r.entry.value.entry.session; number = r.entry.value.entry.number;
-        command = r.entry.value.entry.command; reply = r.reply } };
+    ghost view = { λ r. record {
+      position = r.position;
+      session = r.entry.value.entry.session;
+      number = r.entry.value.entry.number;
+      command = r.entry.value.entry.command;
+      reply = r.reply;
+    } };
 }
 
 impl<A: Allocator> Receipt<A> {

@@ -46,8 +46,8 @@ impl<A: Allocator> Model for Table<A> {
     ghost view = { λ t. t.entries.items };
 
     // Invariants 2 and 3 of lib.rt, then 4, then 5.
-    ghost invariant =
-        { λ t. IsTable t.entries.items × AreQueues t.entries.items t.cells.items × (t.blockers.items ≡ blockers_of t.entries.items) };
+    ghost invariant = { λ t. IsTable t.entries.items × AreQueues t.entries.items t.cells.items
+        × (t.blockers.items ≡ blockers_of t.entries.items) };
 }
 
 fn standing_by(blocker: Option<ClaimId>) -> Standing

@@ -6,7 +6,8 @@ ghost use Rattle.vault_model.specs.Limits.{longest_content, most_versions, most_
 /// Behind the versions that a place has come the contents of its drafts, in order, and nothing else.
 pub fn drafts_follow_versions()
     ensures { (shelf : List (List (List ℕ))) (drafts : List Draft) (place : ℕ) →
-        versions_of (shelved_all shelf drafts) place ≡ versions_of shelf place ++ map (λ (draft : Draft). draft.content) (filter (λ (draft : Draft). draft.place == place) drafts) }
+        versions_of (shelved_all shelf drafts) place
+        ≡ versions_of shelf place ++ map (λ (draft : Draft). draft.content) (filter (λ (draft : Draft). draft.place == place) drafts) }
 {}
 
 /// Drafts add what they weigh.

@@ -32,7 +32,7 @@ torn_whole at bytes old = record {
   behind = λ i within above.
       let back : at + length bytes + (i - (at + length bytes)) ≡ i = omega arith in
       get_or-append_right (take at old ++ bytes) (drop (at + length bytes) old) (at + length bytes) i 0
-          (omega (arith, length-append (take at old) bytes, length-take at old)) above
+      (omega (arith, length-append (take at old) bytes, length-take at old)) above
       ∙ get_or-drop (at + length bytes) old (i - (at + length bytes)) 0
       ∙ ap (λ (k : ℕ). get_or old k 0) back;
 }

@@ -43,8 +43,11 @@ impl Counts {
 
     // Counts a growth that was refused, and a fault of it, where the call isn't one that fails already.
     fn refuse(&mut self, fails: bool)
-        ensures { self.new ≡ record self.old { refused = min (self.old.refused + 1) last_count; faults = if fails then self.old.faults
-            else min (self.old.faults + 1) last_count } }
+        ensures { self.new ≡ record self.old {
+          refused = min (self.old.refused + 1) last_count;
+          faults = if fails then self.old.faults
+              else min (self.old.faults + 1) last_count;
+        } }
     {
         self.refused = self.refused.saturating_add(1);
         if !fails {
@@ -66,8 +69,13 @@ impl<A: Allocator> Model for MemDevice<A> {
 
     ghost Value = { MemDisk };
 
-    ghost view = { λ d. record { history = d.memory; calls = d.counts.calls; faults = d.counts.faults; refused = d.counts.refused;
-        failing = d.counts.failing } };
+    ghost view = { λ d. record {
+      history = d.memory;
+      calls = d.counts.calls;
+      faults = d.counts.faults;
+      refused = d.counts.refused;
+      failing = d.counts.failing;
+    } };
 }
 
 impl<A: Allocator + Copy> MemDevice<A> {

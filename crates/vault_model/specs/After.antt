@@ -61,8 +61,8 @@ unfoldable pub after_extended : Vault → ℕ → List Item → Option Vault
 after_extended w number items =
     option_and_then
     (λ (claim : Claim). only_if
-        (may_extend w claim items && drafts_held w.tree (put_first w.line (Long number) (claim.items ++ items)) w.drafts)
-        (with_items w (Long number) (claim.items ++ items)))
+    (may_extend w claim items && drafts_held w.tree (put_first w.line (Long number) (claim.items ++ items)) w.drafts)
+    (with_items w (Long number) (claim.items ++ items)))
     (claim_of w.line (Long number))
 
 -- a draft may be saved: the claim is held, the place is a part of its change set, and the limits hold
@@ -72,7 +72,7 @@ after_saved w number place content =
     (λ (claim : Claim).
     only_if
     (is_held w.tree w.line claim && nat_le place (length w.tree) && is_part w.tree place && change_set w.tree claim.items place
-        && may_save w (new_draft number place content))
+    && may_save w (new_draft number place content))
     (with_content w number place content))
     (claim_of w.line (Long number))
 

@@ -23,6 +23,6 @@ pub record IsRoomed (room : List Item) (len : ℕ) : Type 0 where
 pub inverse_of_roomed : (room : List Item) (len : ℕ) → IsRoomed room len → (roomed (take len room) ≡ room) × (length (take len room) ≡ len)
 inverse_of_roomed room len h = (
   ap (λ n. take len room ++ replicate (most_items - n) spare_item) (length-take-le len room h.within)
-  ∙ (ap (λ xs. take len room ++ xs) (sym h.spare) ∙ take-append-drop len room),
+      ∙ (ap (λ xs. take len room ++ xs) (sym h.spare) ∙ take-append-drop len room),
   length-take-le len room h.within,
 )

@@ -102,11 +102,11 @@ abbrev pub ClaimRefusals : Type 0
 ClaimRefusals =
     Told
     ((1, CheckOut []) ∷ (1, CheckOut (replicate 9 (look (codes "x" ∷ [])))) ∷ (1, CheckOut (look (codes "x" ∷ []) ∷ []))
-        ∷ (1, CheckOut (change path_b ∷ [])) ∷ (2, Make path_p1 None)
+    ∷ (1, CheckOut (change path_b ∷ [])) ∷ (2, Make path_p1 None)
     ∷ (2, Make (codes "e" ∷ codes "b" ∷ codes "p3" ∷ []) None) ∷ (2, Abandon 1) ∷ (2, Abandon 2) ∷ (2, State (Long 2))
     ∷ (2, State (Short 1)) ∷ (2, State (Long 1)) ∷ [])
     (Refused ItemCount ∷ Refused ItemCount ∷ Refused NoPlace ∷ Held (Long 1) ∷ Refused Exists ∷ Refused (Covered (Long 1))
-        ∷ Refused NotYours ∷ Refused NoClaim ∷ Refused NoClaim ∷ Refused NoClaim
+    ∷ Refused NotYours ∷ Refused NoClaim ∷ Refused NoClaim ∷ Refused NoClaim
     ∷ Held (Long 1) ∷ [])
 
 -- an extension is refused by the first held claim in its way, and nothing moves
@@ -132,32 +132,32 @@ abbrev pub MadeUnderAClaim : Type 0
 MadeUnderAClaim =
     Told
     ((1, CheckOut (look path_e ∷ [])) ∷ (2, Make (path_p 57) None) ∷ (1, Make (path_p 57) (Some 1))
-        ∷ (1, Extend (Long 1) (change path_b ∷ [])) ∷ (1, Make (path_p 57) (Some 1)) ∷ (2, Make (path_p 56) None)
+    ∷ (1, Extend (Long 1) (change path_b ∷ [])) ∷ (1, Make (path_p 57) (Some 1)) ∷ (2, Make (path_p 56) None)
     ∷ (2, Make (codes "f" ∷ []) None) ∷ (1, Names path_b) ∷ [])
     (Held (Long 1) ∷ Refused (Covered (Long 1)) ∷ Refused NotCovered ∷ Held (Long 1) ∷ Place 5 ∷ Refused (Covered (Long 1)) ∷ Place 6
-        ∷ Children (codes "p1" ∷ codes "p2" ∷ codes "p9" ∷ []) ∷ [])
+    ∷ Children (codes "p1" ∷ codes "p2" ∷ codes "p9" ∷ []) ∷ [])
 
 -- a check-out waits behind a hold, a hold behind a check-out, and a hold goes with its session
 abbrev pub HoldsAndLeaving : Type 0
 HoldsAndLeaving =
     Told
     ((2, Hold (look path_p1 ∷ [])) ∷ (1, CheckOut (change path_p1 ∷ [])) ∷ (1, Release 1) ∷ (2, Release 1) ∷ (1, State (Long 1))
-        ∷ (2, Hold (look path_p1 ∷ [])) ∷ (2, Leave) ∷ (1, State (Short 2))
+    ∷ (2, Hold (look path_p1 ∷ [])) ∷ (2, Leave) ∷ (1, State (Short 2))
     ∷ (2, Names []) ∷ [])
     (Held (Short 1) ∷ Queued (Long 1) (Short 1) ∷ Refused NotYours ∷ Released ∷ Held (Long 1) ∷ Queued (Short 2) (Long 1) ∷ Left
-        ∷ Refused NoClaim ∷ Refused NoSession ∷ [])
+    ∷ Refused NoClaim ∷ Refused NoSession ∷ [])
 
 -- each refusal of extensions and holds but the limits
 abbrev pub ExtensionRefusals : Type 0
 ExtensionRefusals =
     Told
     ((1, CheckOut (change path_b ∷ [])) ∷ (2, CheckOut (change path_p1 ∷ [])) ∷ (2, Extend (Long 9) []) ∷ (2, Extend (Long 1) [])
-        ∷ (2, Extend (Long 2) []) ∷ (1, Extend (Long 1) []) ∷ (1, Extend (Long 1) (replicate 8 (look path_e)))
+    ∷ (2, Extend (Long 2) []) ∷ (1, Extend (Long 1) []) ∷ (1, Extend (Long 1) (replicate 8 (look path_e)))
     ∷ (1, Extend (Long 1) (look (codes "x" ∷ []) ∷ [])) ∷ (2, Make (path_p 57) (Some 9)) ∷ (2, Make (path_p 57) (Some 1))
     ∷ (2, Make (path_p 57) (Some 2)) ∷ (2, Hold []) ∷ (2, Hold (look (codes "x" ∷ []) ∷ [])) ∷ (2, Release 1)
     ∷ (2, Names (codes "x" ∷ [])) ∷ [])
     (Held (Long 1) ∷ Queued (Long 2) (Long 1) ∷ Refused NoClaim ∷ Refused NotYours ∷ Refused NotHeld ∷ Refused ItemCount ∷ Refused ItemCount
-        ∷ Refused NoPlace ∷ Refused NoClaim ∷ Refused NotYours ∷ Refused NotHeld
+    ∷ Refused NoPlace ∷ Refused NoClaim ∷ Refused NotYours ∷ Refused NotHeld
     ∷ Refused ItemCount ∷ Refused NoPlace ∷ Refused NoClaim ∷ Refused NoPlace ∷ [])
 
 -- drafts become versions at check-in, and a second save replaces the first
@@ -165,22 +165,22 @@ abbrev pub DraftsAndVersions : Type 0
 DraftsAndVersions =
     Told
     ((1, CheckOut (change path_b ∷ [])) ∷ (1, Save 1 path_p1 []) ∷ (1, Save 1 path_p1 (codes "ab")) ∷ (1, Save 1 path_p2 [])
-        ∷ (1, CheckIn 1) ∷ (1, Fetch path_p1 0) ∷ (1, Fetch path_p1 1) ∷ (1, Fetch path_p1 2)
+    ∷ (1, CheckIn 1) ∷ (1, Fetch path_p1 0) ∷ (1, Fetch path_p1 1) ∷ (1, Fetch path_p1 2)
     ∷ (1, Fetch path_p2 1) ∷ (1, State (Long 1)) ∷ (2, Count path_p1) ∷ (2, Count path_e) ∷ (2, Fetch path_b 1)
     ∷ (2, Fetch (codes "x" ∷ []) 1) ∷ [])
     (Held (Long 1) ∷ Saved ∷ Saved ∷ Saved ∷ CheckedIn 2 ∷ Refused NoVersion ∷ Content (codes "ab") ∷ Refused NoVersion ∷ Content []
-        ∷ Refused NoClaim ∷ Versions 1 ∷ Refused WrongKind ∷ Refused WrongKind ∷ Refused NoPlace ∷ [])
+    ∷ Refused NoClaim ∷ Versions 1 ∷ Refused WrongKind ∷ Refused WrongKind ∷ Refused NoPlace ∷ [])
 
 -- each refusal of drafts but the limits
 abbrev pub DraftRefusals : Type 0
 DraftRefusals =
     Told
     ((1, CheckOut (look path_b ∷ change path_p1 ∷ [])) ∷ (2, CheckOut (change path_p1 ∷ [])) ∷ (2, Save 1 path_p1 [])
-        ∷ (2, Save 2 path_p1 []) ∷ (2, CheckIn 2) ∷ (1, Save 1 (path_p 51) []) ∷ (1, Save 1 path_b []) ∷ (1, Save 9 [] [])
+    ∷ (2, Save 2 path_p1 []) ∷ (2, CheckIn 2) ∷ (1, Save 1 (path_p 51) []) ∷ (1, Save 1 path_b []) ∷ (1, Save 9 [] [])
     ∷ (1, Save 1 path_p2 []) ∷ (1, Save 1 path_p1 (replicate 1025 0)) ∷ (1, Save 1 path_p1 []) ∷ (1, Abandon 1) ∷ (2, CheckIn 2)
     ∷ (1, Count path_p1) ∷ [])
     (Held (Long 1) ∷ Queued (Long 2) (Long 1) ∷ Refused NotYours ∷ Refused NotHeld ∷ Refused NotHeld ∷ Refused NoPlace ∷ Refused WrongKind
-        ∷ Refused NoClaim
+    ∷ Refused NoClaim
     ∷ Refused NotCovered ∷ Refused Limit ∷ Saved ∷ Abandoned ∷ CheckedIn 0 ∷ Versions 0 ∷ [])
 
 -- all of them

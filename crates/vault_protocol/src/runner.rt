@@ -42,8 +42,15 @@ impl<A: Allocator + Copy> Model for Runner<A> {
 
     ghost Value = { Talk };
 
-    ghost view = { λ r. record { view = r.vault.view; buffer = length r.vault.store.buffer; generation = r.vault.store.generation;
-        tail = r.vault.store.tail; sessions = r.sessions; asked = r.asked; lines = lines_of r.lines.items } };
+    ghost view = { λ r. record {
+      view = r.vault.view;
+      buffer = length r.vault.store.buffer;
+      generation = r.vault.store.generation;
+      tail = r.vault.store.tail;
+      sessions = r.sessions;
+      asked = r.asked;
+      lines = lines_of r.lines.items;
+    } };
 }
 
 /// A connection speaks for the session that it was told last, and for session 0 again once it left.

@@ -46,8 +46,8 @@ impl<S: Tally, T: Tally> Model for Share<S, T> {
     ghost view = { λ s. s.counts };
 
     // Invariant 5 of lib.rt.
-    ghost invariant =
-        { λ s. (s.staged.parts ≡ 1) × (s.staged.amount ≡ s.counts.staged) × (s.told.parts ≡ 1) × (s.told.amount ≡ s.counts.told) };
+    ghost invariant = { λ s. (s.staged.parts ≡ 1) × (s.staged.amount ≡ s.counts.staged)
+        × (s.told.parts ≡ 1) × (s.told.amount ≡ s.counts.told) };
 }
 
 impl<S: Tally, T: Tally> Share<S, T> {
