@@ -79,8 +79,9 @@ fn renewed(
     let started = store.start_snapshot(alloc, &book);
     drop(book);
     assert!(rt; started == Ok(Started::Yes));
-    assert!(rt; is_settled_by(&mut store, 6) && store.room());
+    assert!(rt; is_settled_by(&mut store, 6));
     let f = Name::read(b"f").expect(rt, "a name");
+    assert!(rt; store.room());
     store.note(&EffectIn::<Global>::Made(PlaceId(0), f));
     assert!(rt; is_settled_by(&mut store, 4));
     store.into_devices()
