@@ -1,12 +1,12 @@
 //! One history of all sessions' commands, committed in groups: its definitions, the laws of every run, and the vault that
 //! keeps it.
 //!
-//! Promises: each call of `Vault` is one act that the view allows (`create`, `open`, `stage`, `pump`, `start_snapshot`, `redeem`,
-//! `forget`, `retire`). A reply is told only once its entry is settled. Over any past of calls, stops and openings, which is one
-//! run call by call, what a crash leaves, between two calls or at any moment of a pump or of an opening, is the durable vault
-//! after one prefix of one history, with all that was told (`promises::recovery_gives_one_prefix`); a receipt is found again in
-//! it. `laws` say the same of the definitions, over every run: a caller's view acts as the whole world. Ten runs worked out by
-//! hand hold, by proof.
+//! Promises: `create` and `open` begin a life. Each later call of `Vault` changes nothing, or makes one act that the view allows
+//! (`stage`, `pump`, `start_snapshot`, `redeem`, `forget`, `retire`). A reply is told only once its entry is settled. Any past of
+//! calls, stops and openings is one run, call by call. What a crash leaves, between two calls or at any moment of a pump or of an
+//! opening, is the durable vault after one prefix of its one history, with all that was told (`promises::recovery_gives_one_prefix`);
+//! a receipt is found again in it. `laws` say the same of the definitions, over every run: a caller's view acts as the whole world.
+//! Ten runs worked out by hand hold, by proof.
 //! Stands on: vault_model, vault_device, vault_journal, vault_checkout, vault_store. Must not know: lines, connections,
 //! threads, what a command does (proofs cite five laws of the step, in proofs/Facts.antt).
 //!

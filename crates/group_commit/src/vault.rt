@@ -30,7 +30,7 @@ pub struct Vault<D: Device, A: Allocator = Global> {
     pub(crate) retired: u64,
     /// How many entries are durable.
     pub(crate) settled: u64,
-    /// How many are in frames while a commit is under way, also in that commit's.
+    /// While a commit is under way, how many are in frames, also in that commit's. While a snapshot is, how many are in it.
     pub(crate) sealed: u64,
     /// How many receipts were given.
     pub(crate) told: u64,

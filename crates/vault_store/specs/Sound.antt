@@ -48,7 +48,7 @@ pub record IsActive (disk : Disk) (tail sealed : ℕ) (phase : Phase) (broken : 
 
 -- what every store keeps
 pub record IsSound {D : Type 0} (disk : D → Disk) (store : Seen D) : Type 0 where
-  -- invariants 1 to 5 of src/lib.rt, in this order
+  -- invariants 1 to 7 of src/lib.rt, in this order
   pub reached : IsReached store.phase store.generation store.rest
   pub sealed_fits : store.sealed + frame_extra ≤ frame_room
   pub bounded : IsBounded store.phase (length store.buffer) store.tail

@@ -11,12 +11,14 @@
 //! replies, sessions, tickets, how many entries there are.
 //!
 //! Invariants, of `Store`:
-//! 1. The phase is one that code reaches.
+//! 1. While a snapshot is under way, its bytes are there, no more of them are left to write, and there is a next generation.
 //! 2. The records of the frame under way have room in a frame.
 //! 3. Where records wait or a frame is under way, the tail gate stands at most one frame behind 2^62.
 //! 4. The frames have at most as many bytes as stand before the tail gate.
-//! 5. The active file, if honest, is on the disk what the phase says: a front up to the tail gate, and the frame under way.
-//! 6. The spare file, if honest, is so, too: closed or older, and behind its head gate what is written of the snapshot under way.
+//! 5. A snapshot's bytes are fewer than 2^33.
+//! 6. The active file, if honest, is on the disk what the phase says: a front up to the tail gate, and the frame under way.
+//! 7. The spare file, if honest, is so, too: settled while nothing of a snapshot is written, and its head gate closed where that is
+//!    known; else, behind that gate, what is written of the snapshot under way.
 //!
 //! Only tested: two real files; commits and a creation stopped at each device call, under each kind of crash, and a snapshot
 //! stopped between its calls; speed and memory of opening.
