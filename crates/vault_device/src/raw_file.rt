@@ -55,8 +55,12 @@ fn moved(answer: io::Result<usize>) -> Result<Option<usize>, Fault>
 {
     match answer {
         Ok(count) => Ok(Some(count)),
-        Err(error) if error.kind() == ErrorKind::Interrupted => Ok(None),
-        Err(_) => Err(Fault),
+        Err(error) => {
+            if error.kind() == ErrorKind::Interrupted {
+                return Ok(None);
+            }
+            Err(Fault)
+        }
     }
 }
 
