@@ -1,5 +1,5 @@
 -- What claims wait for, before and after a claim leaves the line or moves to its front.
-use Rattle.std.specs.Prelude.{◌≡◌, ℕ, zero, suc, ◌+◌, Bool, true, false, not, ◌&&◌, List, [], ◌∷◌, ◌++◌, map, find, filter, take, length, position, slice_get, Option, None, Some, is_none, is_some, All, refl}
+use Rattle.std.specs.Prelude.{◌≡◌, ℕ, zero, suc, ◌+◌, Bool, true, false, not, ◌&&◌, List, [], ◌∷◌, ◌++◌, map, find, filter, take, drop, length, position, slice_get, Option, None, Some, is_none, is_some, All, refl}
 use Rattle.std.proofs.Common.{sym, ap, subst, ◌∙◌, cond, arith, ◌⊎◌, inl, inr}
 use Rattle.std.specs.List.{list_any, prefix_len, position_or_len, remove, AllByRecursion, IsDistinct}
 use Rattle.std.specs.Option.{option_map}
@@ -16,7 +16,7 @@ use Rattle.lock_table.specs.declared.again.Again.{Again}
 use Rattle.lock_table.specs.declared.again.Again.TheVariants.{Behind, Queued, Everyone}
 use Rattle.lock_table.specs.Locks.{mode_at, AreApart, conflict}
 use Rattle.lock_table.specs.Tables.{first_in_way, entry_of, entries_before, entries_without, is_held_in, held_in_way, put_first}
-use Rattle.lock_table.specs.Queues.{CellSeen, AreStale, AreQueues, seats_at, seats_by, seat_of, blocker_at, blockers_of, is_taken}
+use Rattle.lock_table.specs.Queues.{CellSeen, AreStale, IsWeighing, AreQueues, seats_at, seats_by, seat_of, blocker_at, blockers_of, is_taken}
 use Rattle.lock_table.proofs.LockConflicts.{HasLock, lock_from, lock_to}
 use Rattle.std.proofs.lemmas.Option.{same_Some}
 use Rattle.lock_table.proofs.Removals.{ids, is_its, own_index, remove_first, none_its}
@@ -73,16 +73,6 @@ all_filtered id P f (x ∷ xs) = by_test (same_id x.id id) refl (all_filtered id
     by_test : (b : Bool) → same_id x.id id ≡ b → All P (entries_without xs id) → All P (cond (not b) (x ∷ entries_without xs id) (entries_without xs id))
     by_test true h ih = ih
     by_test false h ih = All-cons P x (entries_without xs id) (f x h) ih
-
--- when a claim leaves, those that didn't wait for it stay right
-pub stale_left : (table : List Entry) (id : ClaimId) (blockers : List (Option ClaimId)) (cells : List CellSeen) → blockers ≡ map (blocker_at table) (entries_without table id)
-    → ((p : ℕ) → seats_at cells p ≡ seats_by (is_held_in table) (entries_without table id) p) → AreStale (Behind id) (entries_without table id) blockers cells
-stale_left table id blockers cells were seats = record {
-  old = blocker_at table;
-  were = were;
-  seats = seats;
-  right = all_filtered id (λ (e : Entry). is_taken (Behind id) (blocker_at table e) ≡ false → blocker_at table e ≡ blocker_at (entries_without table id) e) (λ e h. still_waits table id e h) table;
-}
 
 -- when a claim moves to the front, held
 pub stale_first : (again : Again) (table : List Entry) (id : ClaimId) (locks : List Lock) (blockers : List (Option ClaimId)) (cells : List CellSeen) → blockers ≡ None ∷ map (blocker_at table) (entries_without table id)
@@ -194,6 +184,79 @@ pub taken_beside : (table : List Entry) (blockers : List (Option ClaimId)) (id :
     → remove blockers i ≡ map (blocker_at table) (entries_without table id)
 taken_beside table blockers id i distinct at beside =
     ap (λ (xs : List (Option ClaimId)). remove xs i) beside ∙ (remove_map (blocker_at table) table i ∙ ap (map (blocker_at table)) (taken_out table id i distinct at))
+
+-- nobody before a claim waits for it
+abbrev IsFree : ClaimId → List Entry → Entry → Type 0
+IsFree id xs e = All (λ (y : Entry). same_id y.id id ≡ false) (entries_before xs e.id)
+
+free_behind : (x : Entry) (xs : List Entry) (id : ClaimId) → same_id x.id id ≡ false → (e : Entry) → IsFree id xs e → IsFree id (x ∷ xs) e
+free_behind x xs id h e all = by_test (same_id x.id e.id) refl
+  where
+    by_test : (b : Bool) → same_id x.id e.id ≡ b → IsFree id (x ∷ xs) e
+    by_test true g = subst (λ (ys : List Entry). All (λ (y : Entry). same_id y.id id ≡ false) ys) (sym (before_its x xs e.id g)) (All-nil (λ (y : Entry). same_id y.id id ≡ false))
+    by_test false g = subst (λ (ys : List Entry). All (λ (y : Entry). same_id y.id id ≡ false) ys) (sym (before_other x xs e.id g)) (All-cons (λ (y : Entry). same_id y.id id ≡ false) x (entries_before xs e.id) h all)
+
+front_free : (xs : List Entry) (id : ClaimId) → All (IsFree id xs) (entries_before xs id)
+front_free [] id = All-nil (IsFree id [])
+front_free (x ∷ xs) id = by_test (same_id x.id id) refl (front_free xs id)
+  where
+    by_test : (b : Bool) → same_id x.id id ≡ b → All (IsFree id xs) (entries_before xs id) → All (IsFree id (x ∷ xs)) (entries_before (x ∷ xs) id)
+    by_test true h ih = subst (λ (ys : List Entry). All (IsFree id (x ∷ xs)) ys) (sym (before_its x xs id h)) (All-nil (IsFree id (x ∷ xs)))
+    by_test false h ih = subst (λ (ys : List Entry). All (IsFree id (x ∷ xs)) ys) (sym (before_other x xs id h))
+        (All-cons (IsFree id (x ∷ xs)) x (entries_before xs id)
+        (subst (λ (ys : List Entry). All (λ (y : Entry). same_id y.id id ≡ false) ys) (sym (before_its x xs x.id (same_id_itself x.id))) (All-nil (λ (y : Entry). same_id y.id id ≡ false)))
+        (all_map (IsFree id xs) (IsFree id (x ∷ xs)) (free_behind x xs id h) (entries_before xs id) ih))
+
+front_others : (xs : List Entry) (id : ClaimId) → All (λ (e : Entry). same_id e.id id ≡ false) (entries_before xs id)
+front_others [] id = All-nil (λ (e : Entry). same_id e.id id ≡ false)
+front_others (x ∷ xs) id = by_test (same_id x.id id) refl (front_others xs id)
+  where
+    by_test : (b : Bool) → same_id x.id id ≡ b → All (λ (e : Entry). same_id e.id id ≡ false) (entries_before xs id) → All (λ (e : Entry). same_id e.id id ≡ false) (entries_before (x ∷ xs) id)
+    by_test true h ih = subst (λ (ys : List Entry). All (λ (e : Entry). same_id e.id id ≡ false) ys) (sym (before_its x xs id h)) (All-nil (λ (e : Entry). same_id e.id id ≡ false))
+    by_test false h ih = subst (λ (ys : List Entry). All (λ (e : Entry). same_id e.id id ≡ false) ys) (sym (before_other x xs id h)) (All-cons (λ (e : Entry). same_id e.id id ≡ false) x (entries_before xs id) h ih)
+
+free_waits : (t : Entry → Bool) (ys : List Entry) (id : ClaimId) → All (λ (y : Entry). same_id y.id id ≡ false) ys → is_taken (Behind id) (option_map (λ (e : Entry). e.id) (find t ys)) ≡ false
+free_waits t [] id all = refl
+free_waits t (y ∷ ys) id all = by_test (t y) (free_waits t ys id (All-tail (λ (x : Entry). same_id x.id id ≡ false) y ys all))
+  where
+    by_test : (b : Bool) → is_taken (Behind id) (option_map (λ (e : Entry). e.id) (find t ys)) ≡ false → is_taken (Behind id) (option_map (λ (e : Entry). e.id) (cond b (Some y) (find t ys))) ≡ false
+    by_test true ih = All-head (λ (x : Entry). same_id x.id id ≡ false) y ys all
+    by_test false ih = ih
+
+front_stays : (table : List Entry) (id : ClaimId) → All (λ (e : Entry). blocker_at table e ≡ blocker_at (entries_without table id) e) (entries_before table id)
+front_stays table id =
+    all_both (IsFree id table) (λ (e : Entry). same_id e.id id ≡ false) (λ (e : Entry). blocker_at table e ≡ blocker_at (entries_without table id) e)
+    (λ e free other. still_waits table id e other (free_waits (λ (x : Entry). conflict e.locks x.locks) (entries_before table e.id) id free)) (entries_before table id) (front_free table id) (front_others table id)
+
+take_removed : (xs : List Entry) (i : ℕ) → take i (remove xs i) ≡ take i xs
+take_removed [] zero = refl
+take_removed [] (suc i) = refl
+take_removed (x ∷ xs) zero = refl
+take_removed (x ∷ xs) (suc i) = ap (λ ys. x ∷ ys) (take_removed xs i)
+
+front_is : (table : List Entry) (id : ClaimId) (i : ℕ) → IsDistinct same_id (ids table) → position (is_its id) table ≡ Some i → take i (entries_without table id) ≡ entries_before table id
+front_is table id i distinct at =
+    let here = located table id i at in
+    let there : is_some (entry_of table id) ≡ true = ap is_some here.found in
+    let same : position_or_len (is_its id) table ≡ i = same_Some (position_or_len (is_its id) table) i (sym (own_index id table there) ∙ at) in
+    ap (take i) (sym (taken_out table id i distinct at)) ∙ (take_removed table i ∙ ap (λ k. take k table) (sym same))
+
+all_behind : (P : Entry → Type 0) (xs : List Entry) (i : ℕ) → All P xs → All P (drop i xs)
+all_behind P xs zero all = all
+all_behind P [] (suc i) all = All-nil P
+all_behind P (x ∷ xs) (suc i) all = all_behind P xs i (All-tail P x xs all)
+
+-- when a claim leaves, those before it and those that didn't wait for it stay right
+pub weighing_left : (table : List Entry) (id : ClaimId) (i : ℕ) → IsDistinct same_id (ids table) → position (is_its id) table ≡ Some i → (blockers : List (Option ClaimId)) (cells : List CellSeen)
+    → blockers ≡ map (blocker_at table) (entries_without table id) → ((p : ℕ) → seats_at cells p ≡ seats_by (is_held_in table) (entries_without table id) p) → IsWeighing (Behind id) (entries_without table id) blockers cells i
+weighing_left table id i distinct at blockers cells were seats = record {
+  old = blocker_at table;
+  were = were;
+  seats = seats;
+  done = subst (λ (xs : List Entry). All (λ (e : Entry). blocker_at table e ≡ blocker_at (entries_without table id) e) xs) (sym (front_is table id i distinct at)) (front_stays table id);
+  left = all_behind (λ (e : Entry). is_taken (Behind id) (blocker_at table e) ≡ false → blocker_at table e ≡ blocker_at (entries_without table id) e) (entries_without table id) i
+      (all_filtered id (λ (e : Entry). is_taken (Behind id) (blocker_at table e) ≡ false → blocker_at table e ≡ blocker_at (entries_without table id) e) (λ e h. still_waits table id e h) table);
+}
 
 -- where a claim isn't there, the line without it is the line
 pub none_out : (table : List Entry) (id : ClaimId) → position (is_its id) table ≡ None → entries_without table id ≡ table

@@ -20,3 +20,4 @@ pub mod Seats
 pub mod Stale
 pub mod Blockers
 mod Taken
+mod Ends

@@ -15,7 +15,7 @@ module _ (id : ClaimId) where
   abbrev pub is_its_seat : Seat → Bool
   is_its_seat s = same_id s.id id
 
-  shorter : (seats : List Seat) → length (seats_without id seats) ≤ length seats
+  pub shorter : (seats : List Seat) → length (seats_without id seats) ≤ length seats
   shorter [] = omega arith
   shorter (s ∷ seats) = by_test (same_id s.id id) (shorter seats)
     where

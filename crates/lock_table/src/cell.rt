@@ -1,5 +1,5 @@
 //! The queue of one place, counted.
-ghost use Rattle.std.specs.Prelude.{◌≡◌, ◌+◌, ◌<◌, ◌≤◌, [], ◌∷◌, ◌++◌, true, false, length, position, vec_capacity, OnOk, OnErr};
+ghost use Rattle.std.specs.Prelude.{◌≡◌, suc, ◌+◌, ◌<◌, ◌≤◌, [], ◌∷◌, ◌++◌, true, false, length, position, vec_capacity, OnOk, OnErr};
 ghost use Rattle.vault_model.specs.Claims.{same_id};
 ghost use Rattle.vault_model.specs.Limits.{most_claims};
 ghost use Rattle.lock_modes.specs.Groups.{group_of, with_one, size, count_of};
@@ -88,6 +88,22 @@ fn index_of(seats: &[Seat], id: ClaimId) -> Option<usize>
     seats.iter().position(|seat| is_same(seat.id, id))
 }
 
+// Where the one seat of a claim stands, looked for from the end: claims that end together leave from
+// the last to the first.
+fn index_from_end(seats: &[Seat], id: ClaimId) -> Option<usize>
+    requires one { length seats.now ≡ suc (length (seats_without id seats.now)) }
+    ensures { result ≡ position (λ (s : Seat). same_id s.id id) seats.now }
+{
+    let mut index = seats.len();
+    while index > 0 {
+        index -= 1;
+        if is_same(seats[index].id, id) {
+            return Some(index);
+        }
+    }
+    None
+}
+
 impl<A: Allocator> Cell<A> {
     /// No seats.
     pub(crate) fn new(alloc: A) -> Cell<A>
@@ -144,7 +160,7 @@ impl<A: Allocator> Cell<A> {
     {
         self.all.remove(mode);
         self.held = without(self.held, is_held.then_some(mode));
-        let index = index_of(&self.queue, id).unwrap();
+        let index = index_from_end(&self.queue, id).unwrap();
         let _ = self.queue.remove(index);
     }
 

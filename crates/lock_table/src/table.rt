@@ -5,7 +5,7 @@ ghost use Rattle.std.specs.Option.{option_map, option_copied, option_and_then};
 ghost use Rattle.vault_model.specs.Claims.{same_id, standing_by};
 ghost use Rattle.vault_model.specs.Limits.{most_claims};
 ghost use Rattle.lock_table.specs.declared.entry.Entry.{Entry};
-ghost use Rattle.lock_table.specs.Queues.{AreQueues, AreSeated, AreStale, IsWeighing, IsHeldAs, held_by, is_taken, blocker_at, blockers_of, seats_at, room_at, seats_by, queue_of, group_in, held_group_in};
+ghost use Rattle.lock_table.specs.Queues.{AreQueues, AreSeated, IsWeighing, IsHeldAs, held_by, is_taken, blocker_at, blockers_of, seats_at, room_at, seats_by, queue_of, group_in, held_group_in};
 ghost use Rattle.lock_table.specs.Tables.{IsTable, first_in_way, entry_of, entries_before, entries_without, blocker_in, standing_in, is_held_in, held_in_way, extension_by, put_first, extended_by, locks_cover, held_over_in};
 
 use crate::again::Again;
@@ -133,20 +133,21 @@ fn weigh_next<A: Allocator>(
     weigh_at(entries, blockers, cells, index);
 }
 
-// Weighs those again that have to be, one after another.
+// Weighs those again that have to be, one after another, from a position on.
 fn weigh_again<A: Allocator>(
     entries: &[Kept<A>],
     blockers: &mut Vec<Option<ClaimId>, A>,
     cells: &mut Vec<Cell<A>, A>,
     again: Again,
+    from: usize,
 )
     requires table { IsTable entries.now }
-    requires stale { AreStale again entries.now blockers.old.items cells.old.items }
+    requires weighing { IsWeighing again entries.now blockers.old.items cells.old.items from }
     ensures blockers { blockers.new.items ≡ blockers_of entries.now }
     ensures queues { (p : ℕ) → seats_at cells.new.items p ≡ queue_of entries.now p }
     ensures room { (p : ℕ) → room_at cells.old.items p ≤ room_at cells.new.items p }
 {
-    for index in 0..entries.len() {
+    for index in from..entries.len() {
         weigh_next(entries, blockers, cells, again, index);
     }
 }
@@ -199,7 +200,7 @@ fn take_away<A: Allocator>(
     leave(entries, blockers, cells, index);
     let _ = entries.remove(index);
     let _ = blockers.remove(index);
-    weigh_again(entries, blockers, cells, Again::Behind(id));
+    weigh_again(entries, blockers, cells, Again::Behind(id), index);
 }
 
 fn put_first<A: Allocator + Copy>(
@@ -229,7 +230,7 @@ fn put_first<A: Allocator + Copy>(
     cells::put_first(cells, id, &locks);
     move_first(entries, index, kept);
     move_first(blockers, index, None);
-    weigh_again(entries, blockers, cells, again);
+    weigh_again(entries, blockers, cells, again, 0);
     Ok(())
 }
 
@@ -354,8 +355,8 @@ impl<A: Allocator> Table<A> {
 
     /// Takes a claim out of the table. Where it has none of this id, nothing changes.
     ///
-    /// It looks through the queues of the claim's places and once along the line, and weighs those
-    /// again that waited for this claim.
+    /// It looks through the queues of the claim's places, each from its end, and along the line behind
+    /// the claim, and weighs those again that waited for it.
     pub fn release(&mut self, id: ClaimId)
         ensures { self.new ≡ entries_without self.old id }
     {

@@ -5,10 +5,11 @@ use Rattle.std.specs.List.{remove}
 use Rattle.lock_table.specs.declared.entry.Entry.{Entry}
 use Rattle.lock_table.specs.Locks.{mode_at}
 use Rattle.lock_table.specs.Tables.{IsTable, put_first, entries_without, is_held_in}
-use Rattle.lock_table.specs.Queues.{AreQueues, AreStale, seats_at, room_at, seat_of, queue_of, blockers_of, blocker_at}
+use Rattle.lock_table.specs.Queues.{AreQueues, IsWeighing, seats_at, room_at, seat_of, queue_of, blockers_of, blocker_at}
 use Rattle.lock_table.proofs.Removals.{is_its, own_index}
 use Rattle.lock_table.proofs.TablesKept.{table_extended}
 use Rattle.lock_table.proofs.Blockers.{leave_law, taken_out, taken_beside, stale_first}
+use Rattle.lock_table.proofs.Stale.{weigh_start}
 use Rattle.lock_table.proofs.Queuing.{located, seats_count, seats_bound, seats_fewer, one_less, room_left, first_room, put_count, same_length, apart_first}
 use Rattle.lock_table.proofs.table.put_first.Goals as goal
 
@@ -76,8 +77,8 @@ weigh_again-requires-clause-table g c =
     let kept : IsTable (put_first table c.args.id c.args.locks) = table_extended table c.args.id c.args.locks c.requires.table (same_length table c.args.id c.args.locks c.requires.table.distinct c.requires.there) in
     subst (λ (t : List Entry). IsTable t) (sym (c.deref-4.ensures.value ∙ done)) kept
 
-pub weigh_again-requires-clause-stale : goal.weigh_again-requires-clause-stale
-weigh_again-requires-clause-stale g c =
+pub weigh_again-requires-clause-weighing : goal.weigh_again-requires-clause-weighing
+weigh_again-requires-clause-weighing g c =
     let table = c.args.entries.now.items in
     let at : position (is_its c.args.id) table ≡ Some c.unwrap-index.result = ap (position (is_its c.args.id)) (sym c.deref.ensures.value) ∙ (sym c.index_of.ensures ∙ c.unwrap-index.ensures) in
     let made : c.in_ok-kept.kept ≡ record { id = c.args.id; locks = c.args.locks } = search rules in
@@ -85,9 +86,9 @@ weigh_again-requires-clause-stale g c =
     let kept : IsTable (put_first table c.args.id c.args.locks) = table_extended table c.args.id c.args.locks c.requires.table (same_length table c.args.id c.args.locks c.requires.table.distinct c.requires.there) in
     let left = leave_law table c.deref-2.result.now c.leave.new.cells.items c.args.id c.unwrap-index.result c.deref-2.ensures.value at c.leave.ensures.seats in
     let beside = c.move_first-2.ensures ∙ ap (λ xs. None ∷ xs) (taken_beside table c.args.blockers.now.items c.args.id c.unwrap-index.result c.requires.table.distinct at c.requires.blockers) in
-    subst (λ (t : List Entry). AreStale c.args.again t c.move_first-2.new.items.items c.put_first.new.cells.items) (sym (c.deref-4.ensures.value ∙ done))
-    (stale_first c.args.again table c.args.id c.args.locks c.move_first-2.new.items.items c.put_first.new.cells.items beside
-    (λ p. c.put_first.ensures.seats p ∙ ap (λ xs. seat_of true c.args.id (mode_at c.args.locks p) ++ xs) (left p)) c.requires.enough)
+    subst (λ (t : List Entry). IsWeighing c.args.again t c.move_first-2.new.items.items c.put_first.new.cells.items 0) (sym (c.deref-4.ensures.value ∙ done))
+    (weigh_start c.args.again (put_first table c.args.id c.args.locks) c.move_first-2.new.items.items c.put_first.new.cells.items (stale_first c.args.again table c.args.id c.args.locks c.move_first-2.new.items.items c.put_first.new.cells.items beside
+    (λ p. c.put_first.ensures.seats p ∙ ap (λ xs. seat_of true c.args.id (mode_at c.args.locks p) ++ xs) (left p)) c.requires.enough))
 
 pub returns-clause-done : goal.returns-clause-done
 returns-clause-done g c =

@@ -4,9 +4,9 @@ use Rattle.std.proofs.lemmas.List.{length-map}
 use Rattle.lock_table.specs.declared.entry.Entry.{Entry}
 use Rattle.lock_table.specs.declared.again.Again.TheVariants.{Behind}
 use Rattle.lock_table.specs.Tables.{IsTable, entries_without, is_held_in}
-use Rattle.lock_table.specs.Queues.{AreQueues, AreStale, queue_of, blockers_of, blocker_at}
+use Rattle.lock_table.specs.Queues.{AreQueues, IsWeighing, queue_of, blockers_of, blocker_at}
 use Rattle.lock_table.proofs.TablesKept.{table_without}
-use Rattle.lock_table.proofs.Blockers.{leave_law, taken_out, taken_beside, stale_left}
+use Rattle.lock_table.proofs.Blockers.{leave_law, taken_out, taken_beside, weighing_left}
 use Rattle.lock_table.proofs.Queuing.{located, seats_fewer, apart_without}
 use Rattle.lock_table.proofs.table.take_away.Goals as goal
 
@@ -42,13 +42,14 @@ weigh_again-requires-clause-table g c =
     let done : c.remove.new.self.items ≡ entries_without table c.args.id = c.remove.ensures.items ∙ taken_out table c.args.id c.args.index c.requires.table.distinct c.requires.there in
     subst (λ (t : List Entry). IsTable t) (sym (c.deref-3.ensures.value ∙ done)) (table_without table c.args.id c.requires.table)
 
-pub weigh_again-requires-clause-stale : goal.weigh_again-requires-clause-stale
-weigh_again-requires-clause-stale g c =
+pub weigh_again-requires-clause-weighing : goal.weigh_again-requires-clause-weighing
+weigh_again-requires-clause-weighing g c =
     let table = c.args.entries.now.items in
     let done : c.remove.new.self.items ≡ entries_without table c.args.id = c.remove.ensures.items ∙ taken_out table c.args.id c.args.index c.requires.table.distinct c.requires.there in
     let beside = c.remove-2.ensures.items ∙ taken_beside table c.args.blockers.now.items c.args.id c.args.index c.requires.table.distinct c.requires.there c.requires.blockers in
     let left = leave_law table c.deref.result.now c.leave.new.cells.items c.args.id c.args.index c.deref.ensures.value c.requires.there c.leave.ensures.seats in
-    subst (λ (t : List Entry). AreStale (Behind c.args.id) t c.remove-2.new.self.items c.leave.new.cells.items) (sym (c.deref-3.ensures.value ∙ done)) (stale_left table c.args.id c.remove-2.new.self.items c.leave.new.cells.items beside left)
+    subst (λ (t : List Entry). IsWeighing (Behind c.args.id) t c.remove-2.new.self.items c.leave.new.cells.items c.args.index) (sym (c.deref-3.ensures.value ∙ done))
+    (weighing_left table c.args.id c.args.index c.requires.table.distinct c.requires.there c.remove-2.new.self.items c.leave.new.cells.items beside left)
 
 pub returns-clause-done : goal.returns-clause-done
 returns-clause-done g c = c.remove.ensures.items ∙ taken_out c.args.entries.now.items c.args.id c.args.index c.requires.table.distinct c.requires.there

@@ -1,13 +1,13 @@
 use Rattle.std.specs.Prelude.{length}
 use Rattle.std.proofs.Common.{ap, ◌∙◌, arith}
 use Rattle.std.proofs.lemmas.List.{length-map}
-use Rattle.lock_table.proofs.Stale.{weigh_start, done_blockers, done_queues}
+use Rattle.lock_table.proofs.Stale.{done_blockers, done_queues}
 use Rattle.lock_table.proofs.table.weigh_again.Goals as goal
 
 pub loop-index-init : goal.loop-index-init
 loop-index-init g c = record {
-  weighing = weigh_start c.args.again c.args.entries.now c.args.blockers.now.items c.args.cells.now.items c.requires.stale;
-  many = ap length c.requires.stale.were ∙ length-map c.args.entries.now c.requires.stale.old;
+  weighing = c.requires.weighing;
+  many = ap length c.requires.weighing.were ∙ length-map c.args.entries.now c.requires.weighing.old;
   room = λ p. omega arith;
 }
 
