@@ -13,7 +13,7 @@ use Rattle.vault_model.specs.Tree.{depth, is_part, child, is_full, children_of}
 use Rattle.vault_model.specs.Limits.{greatest_depth}
 use Rattle.vault_model.proofs.Walks.{Rises}
 use Rattle.vault_model.proofs.Growth.{slice_get-push_old, slice_get-push_new, IsTree-push}
-use Rattle.design_tree.specs.Index.{IsIndexed, IsKept, with_child}
+use Rattle.design_tree.specs.Index.{IsIndexed, IsSoundTree, with_child}
 use Rattle.design_tree.proofs.Children.{children_of-push, children_of-past}
 
 slice_get-set_same : {X : Type 0} (xs : List X) (i : ℕ) (y : X) → i < length xs → slice_get (slice_set xs i y) i ≡ Some y
@@ -69,8 +69,8 @@ module _ (tree : List Place) (x : Place) (lists : List (List ℕ)) where
           ap (slice_get (with_child lists x.parent (length tree + 1))) (sym same) ∙ at_new ∙ ap (λ n. Some (children_of (tree ++ x ∷ []) n)) same
 
   -- what a tree keeps, it keeps with a place more
-  pub IsKept-push : IsKept tree lists → x.parent ≤ length tree → is_part tree x.parent ≡ false → child tree x.parent x.name ≡ None → is_full tree x.parent ≡ false → IsKept (tree ++ x ∷ []) (with_child lists x.parent (length tree + 1))
-  IsKept-push kept there kind fresh room = record {
+  pub IsSoundTree-push : IsSoundTree tree lists → x.parent ≤ length tree → is_part tree x.parent ≡ false → child tree x.parent x.name ≡ None → is_full tree x.parent ≡ false → IsSoundTree (tree ++ x ∷ []) (with_child lists x.parent (length tree + 1))
+  IsSoundTree-push kept there kind fresh room = record {
     tree_is = let low : depth tree x.parent < greatest_depth = grind (arith, nat_tests, kind) in IsTree-push tree x kept.tree_is there low kind fresh room;
     indexed = IsIndexed-push kept.tree_is.parents there kept.indexed;
   }

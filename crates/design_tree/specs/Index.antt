@@ -17,7 +17,7 @@ pub record IsIndexed (tree : List Place) (lists : List (List ℕ)) : Type 0 wher
   pub each : (p : ℕ) → p ≤ length tree → slice_get lists p ≡ Some (children_of tree p)
 
 -- what a tree keeps of its places and of the index behind them
-pub record IsKept (tree : List Place) (lists : List (List ℕ)) : Type 0 where
+pub record IsSoundTree (tree : List Place) (lists : List (List ℕ)) : Type 0 where
   -- invariant 1 of src/lib.rt, and then those of the index
   pub tree_is : IsTree tree
   pub indexed : IsIndexed tree lists

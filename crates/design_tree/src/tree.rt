@@ -25,13 +25,13 @@ pub struct Tree<A: Allocator = Global> {
 impl<A: Allocator> Model for Tree<A> {
     ghost use Rattle.std.specs.Prelude.{List, map};
     ghost use Rattle.vault_model.specs.declared.place.Place.{Place};
-    ghost use Rattle.design_tree.specs.Index.{IsKept};
+    ghost use Rattle.design_tree.specs.Index.{IsSoundTree};
 
     ghost Value = { List Place };
 
     ghost view = { λ t. t.places.items };
 
-    ghost invariant = { λ t. IsKept t.places.items (map (λ v. v.items) t.children.items) };
+    ghost invariant = { λ t. IsSoundTree t.places.items (map (λ v. v.items) t.children.items) };
 }
 
 /// Why a place was not made.

@@ -5,16 +5,16 @@ use Rattle.vault_store.specs.declared.refused.Refused.{Refused}
 use Rattle.vault_store.specs.declared.opening.OpenError.{OpenError}
 use Rattle.vault_store.specs.Files.{AreRead}
 use Rattle.vault_store.specs.State.{at_rest}
-use Rattle.vault_store.specs.Seen.{Seen as StoreSeen, first_of, second_of, settled_reading}
-use Rattle.group_commit.specs.Seen.{Seen}
+use Rattle.vault_store.specs.Seen.{StoreSeen, first_of, second_of, settled_reading}
+use Rattle.group_commit.specs.Seen.{VaultSeen}
 use Rattle.group_commit.specs.Opened.{IsBegun, IsNotBegun, IsHandedOver}
 
-module _ {D : Type 0} (opened : Result (StoreSeen D × Vault) (Refused D OpenError)) (life : ℕ) (result : Result (Seen D) (Refused D OpenError)) (over : IsHandedOver opened life result) where
+module _ {D : Type 0} (opened : Result (StoreSeen D × Vault) (Refused D OpenError)) (life : ℕ) (result : Result (VaultSeen D) (Refused D OpenError)) (over : IsHandedOver opened life result) where
   -- what follows of a vault from what is said of the store that was opened
-  pub begun : (P : StoreSeen D → Vault → Type 0) (Q : Seen D → Type 0) → IfOk opened (λ o. P o.0 o.1) → ((store : StoreSeen D) (book : Vault) (new : Seen D) → P store book → IsBegun store book life new → Q new) → IfOk result Q
+  pub begun : (P : StoreSeen D → Vault → Type 0) (Q : VaultSeen D → Type 0) → IfOk opened (λ o. P o.0 o.1) → ((store : StoreSeen D) (book : Vault) (new : VaultSeen D) → P store book → IsBegun store book life new → Q new) → IfOk result Q
   begun P Q is turn = by_cases opened result over is
     where
-      by_cases : (o : Result (StoreSeen D × Vault) (Refused D OpenError)) (r : Result (Seen D) (Refused D OpenError)) → IsHandedOver o life r → IfOk o (λ x. P x.0 x.1) → IfOk r Q
+      by_cases : (o : Result (StoreSeen D × Vault) (Refused D OpenError)) (r : Result (VaultSeen D) (Refused D OpenError)) → IsHandedOver o life r → IfOk o (λ x. P x.0 x.1) → IfOk r Q
       by_cases (Ok o) (Ok new) h p = turn o.0 o.1 new p h
       by_cases (Ok o) (Err refused) h p = tt
       by_cases (Err refused) (Ok new) h p = absurd (cc)
@@ -24,10 +24,10 @@ module _ {D : Type 0} (opened : Result (StoreSeen D × Vault) (Refused D OpenErr
   pub not_begun : (P : StoreSeen D → Vault → Type 0) (R : Refused D OpenError → Type 0) → IfOk opened (λ o. P o.0 o.1) → IfErr opened R → ((store : StoreSeen D) (book : Vault) (refused : Refused D OpenError) → P store book → IsNotBegun store refused → R refused) → IfErr result R
   not_begun P R is refused turn = by_cases opened result over is refused
     where
-      by_cases : (o : Result (StoreSeen D × Vault) (Refused D OpenError)) (r : Result (Seen D) (Refused D OpenError)) → IsHandedOver o life r → IfOk o (λ x. P x.0 x.1) → IfErr o R → IfErr r R
+      by_cases : (o : Result (StoreSeen D × Vault) (Refused D OpenError)) (r : Result (VaultSeen D) (Refused D OpenError)) → IsHandedOver o life r → IfOk o (λ x. P x.0 x.1) → IfErr o R → IfErr r R
       by_cases (Ok o) (Ok new) h p q = tt
       by_cases (Ok o) (Err s) h p q = turn o.0 o.1 s p h
-      by_cases (Err s) r h p q = subst (λ (x : Result (Seen D) (Refused D OpenError)). IfErr x R) (sym h) q
+      by_cases (Err s) r h p q = subst (λ (x : Result (VaultSeen D) (Refused D OpenError)). IfErr x R) (sym h) q
 
 -- what holds of the store's devices holds of those that are handed back
 pub wanted : {D : Type 0} (store : StoreSeen D) (refused : Refused D OpenError) (P : D → D → Type 0) → IsNotBegun store refused → P (first_of store) (second_of store) → P refused.first refused.second
@@ -39,6 +39,6 @@ turned (Ok x) P Q is turn = tt
 turned (Err r) P Q is turn = turn r is
 
 -- the files are read as the vault that begins over them
-pub read_over : {D : Type 0} (x y : List ℕ) (store : StoreSeen D) (book : Vault) (new : Seen D) (life : ℕ) → AreRead x y (settled_reading store (at_rest book)) → IsBegun store book life new
-    → AreRead x y (record { vault = new.view.base; generation = new.store.generation; tail = new.store.tail; journal = new.store.journal })
-read_over x y store book new life read is = subst (AreRead x y) (λ i. record { vault = (sym is.view_is i).base; generation = (sym is.store_is i).generation; tail = (sym is.store_is i).tail; journal = (sym is.store_is i).journal }) read
+pub read_over : {D : Type 0} (x y : List ℕ) (store : StoreSeen D) (book : Vault) (new : VaultSeen D) (life : ℕ) → AreRead x y (settled_reading store (at_rest book)) → IsBegun store book life new
+    → AreRead x y (record { vault = new.view.base; generation = new.store.generation; tail = new.store.tail; journal_length = new.store.journal_length })
+read_over x y store book new life read is = subst (AreRead x y) (λ i. record { vault = (sym is.view_is i).base; generation = (sym is.store_is i).generation; tail = (sym is.store_is i).tail; journal_length = (sym is.store_is i).journal_length }) read

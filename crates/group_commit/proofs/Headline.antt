@@ -18,7 +18,7 @@ use Rattle.group_commit.specs.World.{World, new_world, history, vault_at}
 use Rattle.group_commit.specs.Runs.{Event, run, IsRun}
 use Rattle.group_commit.specs.View.{View, view_of}
 use Rattle.group_commit.specs.Laws.{AreApart}
-use Rattle.group_commit.specs.Seen.{Seen, snapshot_length}
+use Rattle.group_commit.specs.Seen.{VaultSeen, snapshot_length}
 use Rattle.group_commit.specs.Pasts.{IsPast}
 use Rattle.group_commit.specs.Positions.{HasTold}
 use Rattle.group_commit.specs.Ticket.{Told as Receipt, entry_in}
@@ -77,9 +77,9 @@ length-history : (w : World) → length (history w) ≡ length w.earlier + lengt
 length-history w = length-append w.earlier (members w.life) ∙ ap (λ n. length w.earlier + n) (length-map w.life (λ (k : Kept). Given k.entry))
 
 module _ {D : Type 0} (disk : D → Disk) (law : CrashLeavesWhatIsKept disk) (one_gate : OneGateIsOpened disk) (one_vault : OneVault) (right : NothingIsWrong) where
-  module _ (now : Seen D) (past : List (Seen D)) (p : IsPast disk now past) (one : IsOneRun disk now past p) where
+  module _ (now : VaultSeen D) (past : List (VaultSeen D)) (p : IsPast disk now past) (one : IsOneRun disk now past p) where
     -- what was told at some point of the past stands settled in its history
-    stands_told : (n place : ℕ) (seen : Seen D) (kept : Kept) → slice_get (now ∷ past) n ≡ Some seen → slice_get seen.view.kept place ≡ Some kept → kept.mark ≡ Told
+    stands_told : (n place : ℕ) (seen : VaultSeen D) (kept : Kept) → slice_get (now ∷ past) n ≡ Some seen → slice_get seen.view.kept place ≡ Some kept → kept.mark ≡ Told
         → StandsSettled (world_after one.events) (life_begins one n + (seen.view.retired + place)) kept.entry
     stands_told n place seen kept at there told =
         let q = until_first disk now past p one.events one.calls n in
@@ -112,15 +112,15 @@ module _ {D : Type 0} (disk : D → Disk) (law : CrashLeavesWhatIsKept disk) (on
         }
 
     -- where the entry of a receipt stands
-    abbrev pub place_of : ℕ → Seen D → Receipt → ℕ
+    abbrev pub place_of : ℕ → VaultSeen D → Receipt → ℕ
     place_of n seen told = life_begins one n + (seen.view.retired + (told.position - seen.view.retired))
 
-    entry_found : (n : ℕ) (seen : Seen D) (told : Receipt) → slice_get (now ∷ past) n ≡ Some seen → HasTold seen.view told → (open_gate : Bool) (x y : List ℕ) (r : IsRecovered one open_gate x y)
+    entry_found : (n : ℕ) (seen : VaultSeen D) (told : Receipt) → slice_get (now ∷ past) n ≡ Some seen → HasTold seen.view told → (open_gate : Bool) (x y : List ℕ) (r : IsRecovered one open_gate x y)
         → slice_get (take r.cut (history_of one)) (place_of n seen told) ≡ Some (Given (entry_in told))
     entry_found n seen told at has open_gate x y r = r.told n (told.position - seen.view.retired) seen has.kept at has.stands has.mark ∙ ap (λ (e : Entry). Some (Given e)) has.is
 
   -- the headline
-  pub kept_through : (now : Seen D) (past : List (Seen D)) (p : IsPast disk now past) → IsKeptThrough disk now past p
+  pub kept_through : (now : VaultSeen D) (past : List (VaultSeen D)) (p : IsPast disk now past) → IsKeptThrough disk now past p
   kept_through now past p =
       let one = one_run disk law one_gate one_vault now past p in
       record {
@@ -131,7 +131,7 @@ module _ {D : Type 0} (disk : D → Disk) (law : CrashLeavesWhatIsKept disk) (on
       }
 
   -- a receipt is found again
-  pub found_again : (now : Seen D) → ReceiptsAreFoundAgain disk now
+  pub found_again : (now : VaultSeen D) → ReceiptsAreFoundAgain disk now
   found_again now past p n seen told at has =
       let kept = kept_through now past p in
       record {

@@ -5,17 +5,17 @@ use Rattle.vault_device.specs.Disk.{Disk}
 use Rattle.vault_device.specs.declared.device.Fault.{Fault as DeviceFault}
 use Rattle.vault_store.specs.declared.phase.Advanced.{Advanced as Pumped}
 use Rattle.group_commit.specs.World.{Pump, Fault, Tell}
-use Rattle.group_commit.specs.Seen.{Seen}
-use Rattle.group_commit.specs.Ticket.{Claim, Told}
+use Rattle.group_commit.specs.Seen.{VaultSeen}
+use Rattle.group_commit.specs.Ticket.{TicketSeen, Told}
 use Rattle.group_commit.specs.Promises.{MomentsStand}
 use Rattle.group_commit.specs.Pasts.{StopsInside, IsNext}
 use Rattle.group_commit.proofs.Tickets.{IsTelling}
 use Rattle.group_commit.proofs.Pumps.{IsPump}
 
-pub telling_is_next : {D : Type 0} {disk : D → Disk} {old new : Seen D} {claim : Claim} {receipt : Told} → IsTelling old new claim receipt → IsNext disk old new
-telling_is_next {claim = claim} t = inl (inr (Tell claim.position, record { allowed = t.1; made = ap (λ (s : Seen _). s.view) t.2; life = ap (λ (s : Seen _). s.life) t.2 }))
+pub telling_is_next : {D : Type 0} {disk : D → Disk} {old new : VaultSeen D} {claim : TicketSeen} {receipt : Told} → IsTelling old new claim receipt → IsNext disk old new
+telling_is_next {claim = claim} t = inl (inr (Tell claim.position, record { allowed = t.1; made = ap (λ (s : VaultSeen _). s.view) t.2; life = ap (λ (s : VaultSeen _). s.life) t.2 }))
 
-pub pump_is_next : {D : Type 0} {disk : D → Disk} {old new : Seen D} {result : Result Pumped DeviceFault} → IsPump disk old new result → IsNext disk old new
+pub pump_is_next : {D : Type 0} {disk : D → Disk} {old new : VaultSeen D} {result : Result Pumped DeviceFault} → IsPump disk old new result → IsNext disk old new
 pump_is_next {D} {disk} {old} {new} {result} p = by_broken old.view.broken refl
   where
     by_result : (r : Result Pumped DeviceFault) → old.view.broken ≡ false → IsPump disk old new r → IsNext disk old new
@@ -26,8 +26,8 @@ pump_is_next {D} {disk} {old} {new} {result} p = by_broken old.view.broken refl
     by_broken true e = inl (inl (p.broken e).1)
     by_broken false e = by_result result e p
 
-pub stops_inside : {D : Type 0} {disk : D → Disk} {old : Seen D} (new : Seen D) → old.view.broken ≡ false → MomentsStand disk old new → StopsInside disk old new
+pub stops_inside : {D : Type 0} {disk : D → Disk} {old : VaultSeen D} (new : VaultSeen D) → old.view.broken ≡ false → MomentsStand disk old new → StopsInside disk old new
 stops_inside new whole moments = λ x y honest left. record { other = new; whole = whole; honest = honest; moments = moments; left = left }
 
-pub pump_stops : {D : Type 0} {disk : D → Disk} {old new : Seen D} {result : Result Pumped DeviceFault} → IsPump disk old new result → old.view.broken ≡ false → StopsInside disk old new
+pub pump_stops : {D : Type 0} {disk : D → Disk} {old new : VaultSeen D} {result : Result Pumped DeviceFault} → IsPump disk old new result → old.view.broken ≡ false → StopsInside disk old new
 pump_stops {new = new} p whole = stops_inside new whole (p.moments whole)

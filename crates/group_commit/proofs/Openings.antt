@@ -6,7 +6,7 @@ use Rattle.vault_device.proofs.Moments.{stands_now}
 use Rattle.vault_store.specs.Laws.{AreHonest}
 use Rattle.vault_store.specs.Opening.{IsHandedOn}
 use Rattle.vault_store.specs.Seen.{first_of, second_of}
-use Rattle.group_commit.specs.Seen.{Seen}
+use Rattle.group_commit.specs.Seen.{VaultSeen}
 use Rattle.group_commit.specs.Pasts.{StopsInside, AreLeft, StopsInOpening}
 
 -- what a crash leaves behind an opening is what one before it may have left
@@ -25,7 +25,7 @@ stops_in_opening disk first second first_new second_new one other lawful lawful_
 }
 
 -- a vault's own devices
-pub own_devices : {D : Type 0} (disk : D → Disk) (seen : Seen D) (first second : D) → AreHonest disk seen.store → first ≡ first_of seen.store → second ≡ second_of seen.store → AreLeft disk seen first second
+pub own_devices : {D : Type 0} (disk : D → Disk) (seen : VaultSeen D) (first second : D) → AreHonest disk seen.store → first ≡ first_of seen.store → second ≡ second_of seen.store → AreLeft disk seen first second
 own_devices disk seen first second honest one other = record {
   first_honest = subst (λ (d : _). IsTrue (disk d).honest) (sym one) honest.first;
   second_honest = subst (λ (d : _). IsTrue (disk d).honest) (sym other) honest.second;
@@ -33,7 +33,7 @@ own_devices disk seen first second honest one other = record {
 }
 
 -- its devices behind a pump that was under way
-pub pumped_devices : {D : Type 0} (disk : D → Disk) (old new : Seen D) (first second : D) → AreHonest disk old.store → AreHonest disk new.store → first ≡ first_of new.store → second ≡ second_of new.store → StopsInside disk old new
+pub pumped_devices : {D : Type 0} (disk : D → Disk) (old new : VaultSeen D) (first second : D) → AreHonest disk old.store → AreHonest disk new.store → first ≡ first_of new.store → second ≡ second_of new.store → StopsInside disk old new
     → ((x : List ℕ) → (disk (first_of new.store)).IsImage x → (disk (first_of new.store)).WasImage (disk (first_of old.store)).moment x)
     → ((y : List ℕ) → (disk (second_of new.store)).IsImage y → (disk (second_of new.store)).WasImage (disk (second_of old.store)).moment y) → AreLeft disk old first second
 pumped_devices disk old new first second honest honest_new one other stops was was_other = record {

@@ -11,10 +11,10 @@ use Rattle.vault_store.specs.Files.{StandFor}
 use Rattle.vault_store.specs.Phases.{is_idle, is_opening, may_open}
 use Rattle.vault_store.specs.Seen.{settled_reading, sealed_reading, IsLeftInside}
 use Rattle.vault_store.specs.Laws.{CrashLeavesWhatIsKept, OneGateIsOpened, OneVault}
-use Rattle.group_commit.specs.World.{World, new_world, Act, Pump, Gate}
+use Rattle.group_commit.specs.World.{World, new_world, Act, Pump, GateLeft}
 use Rattle.group_commit.specs.Runs.{Event, Within, Crash, happened, run, IsRun}
 use Rattle.group_commit.specs.View.{View, view_of, opened_view, view_at, ViewAllows, view_acted, MayLeave}
-use Rattle.group_commit.specs.Seen.{Seen, snapshot_length, state_of}
+use Rattle.group_commit.specs.Seen.{VaultSeen, snapshot_length, state_of}
 use Rattle.group_commit.specs.Promises.{IsCrash}
 use Rattle.group_commit.specs.Pasts.{IsOfAVault, IsStopInside, IsStop, IsOpenedOn, IsNext, IsPast}
 use Rattle.group_commit.specs.Recovered.{world_after, AreOfStop, AreOfNext, AreOfPast, events_until, IsOneRun}
@@ -44,10 +44,10 @@ abbrev IsAct : Act → List Event → Type 0
 IsAct act events = events ≡ Within act ∷ []
 
 abbrev IsACrash : List Event → Type 0
-IsACrash events = (gate : Gate) × (events ≡ Crash gate ∷ [])
+IsACrash events = (gate : GateLeft) × (events ≡ Crash gate ∷ [])
 
 abbrev IsAtMostAPump : List Event → Type 0
-IsAtMostAPump events = (gate : Gate) × ((events ≡ Crash gate ∷ []) ⊎ (events ≡ Within Pump ∷ Crash gate ∷ []))
+IsAtMostAPump events = (gate : GateLeft) × ((events ≡ Crash gate ∷ []) ⊎ (events ≡ Within Pump ∷ Crash gate ∷ []))
 
 stays_so : (w : World) (view : View) → view_of w ≡ view → Leads w view IsNoEvent
 stays_so w view e = record { more = []; is_run = tt; shows = e; are = refl }
@@ -119,7 +119,7 @@ pub record IsFoundIn (open_gate : Bool) (v : View) (x y : List ℕ) : Type 0 whe
   pub found : IsFound open_gate v left
   pub stands : StandFor x y left
 
-found_inside : {D : Type 0} (seen : Seen D) (x y : List ℕ) → IsLeftInside seen.store (state_of seen.view) x y → IsFoundIn (may_open seen.view.phase) seen.view x y
+found_inside : {D : Type 0} (seen : VaultSeen D) (x y : List ℕ) → IsLeftInside seen.store (state_of seen.view) x y → IsFoundIn (may_open seen.view.phase) seen.view x y
 found_inside seen x y left = elim left [
   | inl read ↦ record { left = (state_of seen.view).settled; found = inl refl; stands = (settled_reading seen.store (state_of seen.view), read, refl) }
   | inr opened ↦ record {
@@ -131,22 +131,22 @@ found_inside seen x y left = elim left [
 
 module _ {D : Type 0} (disk : D → Disk) (law : CrashLeavesWhatIsKept disk) (one_gate : OneGateIsOpened disk) (one_vault : OneVault) where
   -- a stop between two calls
-  pub found_between : (seen : Seen D) (x y : List ℕ) → IsOfAVault disk seen → IsCrash disk seen x y → IsFoundIn (is_opening seen.view.phase) seen.view x y
+  pub found_between : (seen : VaultSeen D) (x y : List ℕ) → IsOfAVault disk seen → IsCrash disk seen x y → IsFoundIn (is_opening seen.view.phase) seen.view x y
   found_between seen x y is crash =
       let left = (images_stand disk seen law one_gate is.stands).stands x y crash in
       record { left = left.0; found = left.1; stands = left.2 }
 
   -- a stop inside a pump
-  pub found_by_stop : (seen : Seen D) (x y : List ℕ) → IsStopInside disk seen x y → IsFoundIn (may_open seen.view.phase) seen.view x y
+  pub found_by_stop : (seen : VaultSeen D) (x y : List ℕ) → IsStopInside disk seen x y → IsFoundIn (may_open seen.view.phase) seen.view x y
   found_by_stop seen x y stop = found_inside seen x y (stop.moments x y stop.honest stop.left)
 
   -- what is opened on files that stand for a vault
-  pub opened_as : (x y : List ℕ) (left : Vault) (new : Seen D) → StandFor x y left → IsOpenedOn x y new → opened_view left ≡ new.view
+  pub opened_as : (x y : List ℕ) (left : Vault) (new : VaultSeen D) → StandFor x y left → IsOpenedOn x y new → opened_view left ≡ new.view
   opened_as x y left new stands opened =
       ap opened_view (one_vault x y left new.view.base stands (_, opened.read, refl)) ∙ sym opened.begins
 
-  next_leads : (old new : Seen D) (next : IsNext disk old new) → IsOfAVault disk old → (w : World) → IsSound w → view_of w ≡ old.view → Leads w new.view (AreOfNext next)
-  next_leads old new (inl (inl same)) is w s e = stays_so w new.view (e ∙ ap (λ (x : Seen D). x.view) (sym same))
+  next_leads : (old new : VaultSeen D) (next : IsNext disk old new) → IsOfAVault disk old → (w : World) → IsSound w → view_of w ≡ old.view → Leads w new.view (AreOfNext next)
+  next_leads old new (inl (inl same)) is w s e = stays_so w new.view (e ∙ ap (λ (x : VaultSeen D). x.view) (sym same))
   next_leads old new (inl (inr made)) is w s e = subst (λ (v : View). Leads w v (IsAct made.0)) (sym made.1.made) (acts_so w old.view made.0 s e made.1.allowed)
   next_leads old new (inr reopened) is w s e = by_stop reopened.left refl
     where
@@ -160,43 +160,43 @@ module _ {D : Type 0} (disk : D → Disk) (law : CrashLeavesWhatIsKept disk) (on
           subst (λ (stop : IsStop disk old reopened.first reopened.second). Leads w new.view (AreOfStop stop)) same
           (subst (λ (v : View). Leads w v IsAtMostAPump) (opened_as reopened.first reopened.second f.left new f.stands reopened.opened) (found_so w old.view f.left s e stop.whole f.found))
 
-  pub of_a_vault : (now : Seen D) (past : List (Seen D)) → IsPast disk now past → IsOfAVault disk now
+  pub of_a_vault : (now : VaultSeen D) (past : List (VaultSeen D)) → IsPast disk now past → IsOfAVault disk now
   of_a_vault now [] p = p.0
   of_a_vault now (old ∷ past) p = p.0
 
-  begun : (now : Seen D) (p : IsPast disk now []) → IsOneRun disk now [] p
+  begun : (now : VaultSeen D) (p : IsPast disk now []) → IsOneRun disk now [] p
   begun now p = record { events = []; is_run = tt; calls = refl; shown = shown }
     where
-      shown : (n : ℕ) (seen : Seen D) → slice_get (now ∷ []) n ≡ Some seen → view_of (world_after (events_until disk now [] p [] refl n)) ≡ seen.view
-      shown zero seen at = sym p.1 ∙ ap (λ (x : Seen D). x.view) (same_Some now seen at)
+      shown : (n : ℕ) (seen : VaultSeen D) → slice_get (now ∷ []) n ≡ Some seen → view_of (world_after (events_until disk now [] p [] refl n)) ≡ seen.view
+      shown zero seen at = sym p.1 ∙ ap (λ (x : VaultSeen D). x.view) (same_Some now seen at)
       shown (suc n) seen at = absurd (none_there seen at)
 
-  module _ (now old : Seen D) (past : List (Seen D)) (p : IsPast disk now (old ∷ past)) (one : IsOneRun disk old past p.2) (leads : Leads (world_after one.events) now.view (AreOfNext p.1)) where
+  module _ (now old : VaultSeen D) (past : List (VaultSeen D)) (p : IsPast disk now (old ∷ past)) (one : IsOneRun disk old past p.2) (leads : Leads (world_after one.events) now.view (AreOfNext p.1)) where
     reaches_on : view_of (world_after (one.events ++ leads.more)) ≡ now.view
     reaches_on = ap view_of (run-append snapshot_length new_world one.events leads.more) ∙ leads.shows
 
     abbrev calls_on : AreOfPast disk now (old ∷ past) p (one.events ++ leads.more)
     calls_on = record { before = one.events; last = leads.more; whole = refl; happened_before = one.calls; of_next = leads.are }
 
-    shown_on : (n : ℕ) (seen : Seen D) → slice_get (now ∷ old ∷ past) n ≡ Some seen → view_of (world_after (events_until disk now (old ∷ past) p (one.events ++ leads.more) calls_on n)) ≡ seen.view
-    shown_on zero seen at = reaches_on ∙ ap (λ (x : Seen D). x.view) (same_Some now seen at)
+    shown_on : (n : ℕ) (seen : VaultSeen D) → slice_get (now ∷ old ∷ past) n ≡ Some seen → view_of (world_after (events_until disk now (old ∷ past) p (one.events ++ leads.more) calls_on n)) ≡ seen.view
+    shown_on zero seen at = reaches_on ∙ ap (λ (x : VaultSeen D). x.view) (same_Some now seen at)
     shown_on (suc n) seen at = one.shown n seen at
 
     goes_on : IsOneRun disk now (old ∷ past) p
     goes_on = record { events = one.events ++ leads.more; is_run = both_parts new_world one.events leads.more one.is_run leads.is_run; calls = calls_on; shown = shown_on }
 
-  pub reaches : (now : Seen D) (past : List (Seen D)) (p : IsPast disk now past) (one : IsOneRun disk now past p) → view_of (world_after one.events) ≡ now.view
+  pub reaches : (now : VaultSeen D) (past : List (VaultSeen D)) (p : IsPast disk now past) (one : IsOneRun disk now past p) → view_of (world_after one.events) ≡ now.view
   reaches now past p one = one.shown 0 now refl
 
   -- each past is one run
-  pub one_run : (now : Seen D) (past : List (Seen D)) (p : IsPast disk now past) → IsOneRun disk now past p
+  pub one_run : (now : VaultSeen D) (past : List (VaultSeen D)) (p : IsPast disk now past) → IsOneRun disk now past p
   one_run now [] p = begun now p
   one_run now (old ∷ past) p =
       let one = one_run old past p.2 in
       goes_on now old past p one (next_leads old now p.1 (of_a_vault old past p.2) (world_after one.events) (after_run snapshot_length one.events one.is_run) (reaches old past p.2 one))
 
 -- what happened until something was seen is the first part of all
-pub until_first : {D : Type 0} (disk : D → Disk) (now : Seen D) (past : List (Seen D)) (p : IsPast disk now past) (events : List Event) (are : AreOfPast disk now past p events) (n : ℕ)
+pub until_first : {D : Type 0} (disk : D → Disk) (now : VaultSeen D) (past : List (VaultSeen D)) (p : IsPast disk now past) (events : List Event) (are : AreOfPast disk now past p events) (n : ℕ)
     → (rest : List Event) × (events_until disk now past p events are n ++ rest ≡ events)
 until_first disk now past p events are zero = ([], append-nil events)
 until_first disk now [] p events are (suc n) = (events, refl)

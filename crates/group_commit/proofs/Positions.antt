@@ -8,7 +8,7 @@ use Rattle.group_commit.specs.Entries.{Entry, Kept, opened, with_mark}
 use Rattle.group_commit.specs.History.{entry_of}
 use Rattle.group_commit.specs.World.{Stage, Pump, Fault, StartSnapshot, Tell, Forget, Retire}
 use Rattle.group_commit.specs.View.{View, length_of, book_of}
-use Rattle.group_commit.specs.Ticket.{claim_of, told_for}
+use Rattle.group_commit.specs.Ticket.{ticket_of, told_for}
 use Rattle.group_commit.specs.Positions.{HasEntry, StagedAtItsPosition, PositionsStay, ReceiptsAreOfTheirEntries, HasTold, ReceiptsAreTold}
 use Rattle.group_commit.proofs.Stays.{get_front}
 use Rattle.group_commit.proofs.Prefixes.{get_behind}
@@ -71,7 +71,7 @@ staged_at v session command =
 
 pub receipts_are_of : ReceiptsAreOfTheirEntries
 receipts_are_of v life position entry told h r =
-    r.receipt ∙ ap (told_for (claim_of life position entry)) (ap (λ (k : Kept). k.entry.reply) (same_Some r.kept h.kept (sym r.stands ∙ h.stands)) ∙ ap (λ (e : Entry). e.reply) h.is)
+    r.receipt ∙ ap (told_for (ticket_of life position entry)) (ap (λ (k : Kept). k.entry.reply) (same_Some r.kept h.kept (sym r.stands ∙ h.stands)) ∙ ap (λ (e : Entry). e.reply) h.is)
 
 -- a list whose entry at a place was marked
 marked_at : (mark : Mark) (entries : List Kept) (place : ℕ) (kept : Kept) → slice_get entries place ≡ Some kept → slice_get (with_mark mark entries place) place ≡ Some (record kept { mark = mark })
@@ -81,7 +81,7 @@ marked_at mark (x ∷ xs) (suc place) kept e = marked_at mark xs place kept e
 
 pub receipts_are_told : ReceiptsAreTold
 receipts_are_told v life position entry told h r =
-    let same : told ≡ told_for (claim_of life position entry) entry.reply = receipts_are_of v life position entry told h r in
-    let here : HasTold (record v { kept = with_mark marks.Told v.kept (position - v.retired); told = v.told + 1 }) (told_for (claim_of life position entry) entry.reply) =
+    let same : told ≡ told_for (ticket_of life position entry) entry.reply = receipts_are_of v life position entry told h r in
+    let here : HasTold (record v { kept = with_mark marks.Told v.kept (position - v.retired); told = v.told + 1 }) (told_for (ticket_of life position entry) entry.reply) =
     record { kept = record h.kept { mark = marks.Told }; not_retired = h.not_retired; stands = marked_at marks.Told v.kept (position - v.retired) h.kept h.stands; is = h.is; mark = refl } in
     subst (HasTold (record v { kept = with_mark marks.Told v.kept (position - v.retired); told = v.told + 1 })) (sym same) here

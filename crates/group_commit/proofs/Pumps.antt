@@ -15,15 +15,15 @@ use Rattle.vault_store.specs.Files.{header, frame_extra}
 use Rattle.vault_store.specs.Step.{IsStep, IsAtMostOneCall, MayBeLeft, renews as store_renews, gained as store_gained, AreNumbers as AreStoreNumbers}
 use Rattle.vault_store.specs.Phases.{Waiting, DeviceCall, NoCall, Write, Sync, NoMore, TheSealed, All, Row, row, rests, ends, seals, is_idle, is_snapshot, settled_by, after_fault}
 use Rattle.vault_store.specs.State.{StoreState, waiting_in, row_of, advanced, failed}
-use Rattle.vault_store.specs.Seen.{Seen as StoreSeen, other, first_of, second_of, Keeps, IsLeftInside}
+use Rattle.vault_store.specs.Seen.{StoreSeen, other, first_of, second_of, Keeps, IsLeftInside}
 use Rattle.vault_store.proofs.Asides.{length-behind}
 use Rattle.group_commit.specs.Entries.{Kept}
 use Rattle.group_commit.specs.History.{effects}
 use Rattle.group_commit.specs.Phases.{waiting, InOrder}
 use Rattle.group_commit.specs.World.{Pump, Fault}
 use Rattle.group_commit.specs.View.{View, length_of, view_at, view_row, ViewAllows, view_acted}
-use Rattle.group_commit.specs.Seen.{Seen, snapshot_length, effects_from, effects_between, state_of, IsSoundView}
-use Rattle.group_commit.specs.Inside.{IsKept}
+use Rattle.group_commit.specs.Seen.{VaultSeen, snapshot_length, effects_from, effects_between, state_of, IsSoundView}
+use Rattle.group_commit.specs.Inside.{IsSoundVault}
 use Rattle.group_commit.specs.Calls.{renews, gained, behind_snapshot, AreNumbers}
 use Rattle.group_commit.specs.Promises.{MomentsStand}
 use Rattle.group_commit.proofs.States.{state_pumped, state_failed}
@@ -163,8 +163,8 @@ pub row_still : (v : View) → (vault_row v).call ≡ NoCall → (row_of (state_
 row_still v e = ⊎_elim (λ idle. (vault_idle v idle).still e) (λ busy. absurd ((vault_under_way v busy).calls e)) (by_idle v)
 
 -- a vault whose store made the step, with the settled and the sealed length of its row
-module _ {D : Type 0} (disk : D → Disk) (seen : Seen D) (book : Vault) (k : IsKept disk seen book) (store : StoreSeen D) where
-  abbrev after_step : ℕ → ℕ → Bool → Seen D
+module _ {D : Type 0} (disk : D → Disk) (seen : VaultSeen D) (book : Vault) (k : IsSoundVault disk seen book) (store : StoreSeen D) where
+  abbrev after_step : ℕ → ℕ → Bool → VaultSeen D
   after_step settled sealed broken = record { view = record seen.view { settled = settled; sealed = sealed; phase = store.phase; broken = broken }; life = seen.life; store = store }
 
   pub pumped_view : (settled sealed : ℕ) → seen.view.broken ≡ false → Keeps disk store (advanced (state_of seen.view))
@@ -176,9 +176,9 @@ module _ {D : Type 0} (disk : D → Disk) (seen : Seen D) (book : Vault) (k : Is
 
   pub pumped_kept : (settled sealed : ℕ) → seen.view.broken ≡ false → Keeps disk store (advanced (state_of seen.view))
       → settled ≡ (view_acted snapshot_length seen.view Pump).settled → sealed ≡ (view_acted snapshot_length seen.view Pump).sealed
-      → IsKept disk (after_step settled sealed seen.view.broken) book
+      → IsSoundVault disk (after_step settled sealed seen.view.broken) book
   pumped_kept settled sealed whole keeps d e =
-      subst (λ (v : View). IsKept disk (record { view = v; life = seen.life; store = store }) book) (sym (pumped_view settled sealed whole keeps d e))
+      subst (λ (v : View). IsSoundVault disk (record { view = v; life = seen.life; store = store }) book) (sym (pumped_view settled sealed whole keeps d e))
       (record { book_is = k.book_is; sound = pumped_sound seen.view k.sound; fits = k.fits; stands = subst (Keeps disk store) (sym (state_pumped seen.view k.sound whole)) keeps })
 
   pub failed_view : (sealed : ℕ) → Keeps disk store (failed (row_of (state_of seen.view)) (state_of seen.view)) → sealed ≡ (view_acted snapshot_length seen.view Fault).sealed
@@ -188,9 +188,9 @@ module _ {D : Type 0} (disk : D → Disk) (seen : Seen D) (book : Vault) (k : Is
       λ i. record seen.view { sealed = e i; phase = p i; broken = true }
 
   pub failed_kept : (sealed : ℕ) → Keeps disk store (failed (row_of (state_of seen.view)) (state_of seen.view)) → sealed ≡ (view_acted snapshot_length seen.view Fault).sealed
-      → IsKept disk (after_step seen.view.settled sealed true) book
+      → IsSoundVault disk (after_step seen.view.settled sealed true) book
   failed_kept sealed keeps e =
-      subst (λ (v : View). IsKept disk (record { view = v; life = seen.life; store = store }) book) (sym (failed_view sealed keeps e))
+      subst (λ (v : View). IsSoundVault disk (record { view = v; life = seen.life; store = store }) book) (sym (failed_view sealed keeps e))
       (record { book_is = k.book_is; sound = failed_sound seen.view k.sound; fits = k.fits; stands = subst (Keeps disk store) (sym (state_failed seen.view)) keeps })
 
 after_same : {A : Type 0} (call : DeviceCall) (x : A) → after_fault call x x ≡ x
@@ -199,7 +199,7 @@ after_same Write x = refl
 after_same Sync x = refl
 
 -- what a pump did: all that it promises
-pub record IsPump {D : Type 0} (disk : D → Disk) (old new : Seen D) (result : Result Pumped DeviceFault) : Type 0 where
+pub record IsPump {D : Type 0} (disk : D → Disk) (old new : VaultSeen D) (result : Result Pumped DeviceFault) : Type 0 where
   pub broken : old.view.broken ≡ true → (result ≡ Ok answers.Broken) × (new ≡ old)
   pub answer : old.view.broken ≡ false → IfOk result (λ answer. answer ≡ (vault_row old.view).answer)
   pub pumped : old.view.broken ≡ false → OnOk result (new.view ≡ view_acted snapshot_length old.view Pump)
@@ -238,11 +238,11 @@ snapshot_is_busy SnapOpening e = refl
 clash : {b : Bool} → b ≡ false → b ≡ true → {P : Type 0} → P
 clash e f = let x : false ≡ true = sym e ∙ f in absurd (cc)
 
-module _ {D : Type 0} (disk : D → Disk) (seen : Seen D) (book : Vault) (k : IsKept disk seen book) (store : StoreSeen D) (whole : seen.view.broken ≡ false) where
+module _ {D : Type 0} (disk : D → Disk) (seen : VaultSeen D) (book : Vault) (k : IsSoundVault disk seen book) (store : StoreSeen D) (whole : seen.view.broken ≡ false) where
   abbrev Made : Result Pumped DeviceFault → Type 0
   Made result = IsStoreStep disk seen.store store (state_of seen.view) result
 
-  abbrev after_pump : ℕ → ℕ → Seen D
+  abbrev after_pump : ℕ → ℕ → VaultSeen D
   after_pump settled sealed = after_step disk seen book k store settled sealed seen.view.broken
 
   answered : (answer : Pumped) → Made (Ok answer) → (row_of (state_of seen.view)).answer ≡ answer
@@ -275,10 +275,10 @@ module _ {D : Type 0} (disk : D → Disk) (seen : Seen D) (book : Vault) (k : Is
         made.numbers.tail
         ∙ chosen (store_renews seen.store result) (renews seen.view answer) (length seen.store.rest) (seen.store.tail + store_gained seen.store result) (behind_snapshot seen.view) (seen.store.tail + gained seen.view answer)
         alike.renewed (λ e. rest_is (alike.under e)) (λ e. ap (λ n. seen.store.tail + n) (alike.gains e));
-    journal =
-        made.numbers.journal
-        ∙ chosen (store_renews seen.store result) (renews seen.view answer) 0 (seen.store.journal + store_gained seen.store result) 0 (seen.store.journal + gained seen.view answer)
-        alike.renewed (λ e. refl) (λ e. ap (λ n. seen.store.journal + n) (alike.gains e));
+    journal_length =
+        made.numbers.journal_length
+        ∙ chosen (store_renews seen.store result) (renews seen.view answer) 0 (seen.store.journal_length + store_gained seen.store result) 0 (seen.store.journal_length + gained seen.view answer)
+        alike.renewed (λ e. refl) (λ e. ap (λ n. seen.store.journal_length + n) (alike.gains e));
     buffer = buffer_is result made;
   }
 
@@ -331,7 +331,7 @@ module _ {D : Type 0} (disk : D → Disk) (seen : Seen D) (book : Vault) (k : Is
       let r = row_settles_all seen.view k.sound (answered answers.Idle made) some in
       ok_pump (length_of seen.view) seen.view.sealed answers.Idle answers.Settled made (row_is_settled (ends NoCall All) r) (row_is_sealed (ends NoCall All) r) (row_answers (ends NoCall All) r) (λ _. made.rests (inl refl)) (all_at_once (idle_phase (answered answers.Idle made)))
 
-  pub settled_all_kept : Made (Ok answers.Idle) → seen.view.settled ≢ length_of seen.view → IsKept disk (after_pump (length_of seen.view) seen.view.sealed) book
+  pub settled_all_kept : Made (Ok answers.Idle) → seen.view.settled ≢ length_of seen.view → IsSoundVault disk (after_pump (length_of seen.view) seen.view.sealed) book
   settled_all_kept made some =
       let r = row_settles_all seen.view k.sound (answered answers.Idle made) some in
       pumped_kept disk seen book k store (length_of seen.view) seen.view.sealed whole made.step.1 (row_is_settled (ends NoCall All) r) (row_is_sealed (ends NoCall All) r)
@@ -356,7 +356,7 @@ module _ {D : Type 0} (disk : D → Disk) (seen : Seen D) (book : Vault) (k : Is
       let r = row_settles seen.view (answered answers.Settled made) in
       ok_pump seen.view.sealed seen.view.sealed answers.Settled answers.Settled made (last_settled r) (unsealed r.2) (sym r.3) (λ e. absurd ((vault_under_way seen.view r.0).calls e)) (last_of r.0)
 
-  pub settled_sealed_kept : Made (Ok answers.Settled) → IsKept disk (after_pump seen.view.sealed seen.view.sealed) book
+  pub settled_sealed_kept : Made (Ok answers.Settled) → IsSoundVault disk (after_pump seen.view.sealed seen.view.sealed) book
   settled_sealed_kept made =
       let r = row_settles seen.view (answered answers.Settled made) in
       pumped_kept disk seen book k store seen.view.sealed seen.view.sealed whole made.step.1 (last_settled r) (unsealed r.2)
@@ -396,7 +396,7 @@ module _ {D : Type 0} (disk : D → Disk) (seen : Seen D) (book : Vault) (k : Is
       let m = has_moved (answered answers.Moved made) in
       ok_pump seen.view.settled sealed answers.Moved answers.Moved made m.settled (is ∙ m.sealed) m.answer (λ e. absurd (m.calls e)) (record { renewed = refl; under = λ e. clash refl e; gains = λ _. refl })
 
-  pub moved_kept : (sealed : ℕ) → Made (Ok answers.Moved) → sealed ≡ sealed_next → IsKept disk (after_pump seen.view.settled sealed) book
+  pub moved_kept : (sealed : ℕ) → Made (Ok answers.Moved) → sealed ≡ sealed_next → IsSoundVault disk (after_pump seen.view.settled sealed) book
   moved_kept sealed made is =
       let m = has_moved (answered answers.Moved made) in
       pumped_kept disk seen book k store seen.view.settled sealed whole made.step.1 m.settled (is ∙ m.sealed)
@@ -430,7 +430,7 @@ module _ {D : Type 0} (disk : D → Disk) (seen : Seen D) (book : Vault) (k : Is
         moments = λ _ x y honest left. made.moments x y honest.first honest.second left;
       }
 
-  pub fault_kept : (sealed : ℕ) (why : DeviceFault) → Made (Err why) → sealed ≡ sealed_next → IsKept disk (after_step disk seen book k store seen.view.settled sealed true) book
+  pub fault_kept : (sealed : ℕ) (why : DeviceFault) → Made (Err why) → sealed ≡ sealed_next → IsSoundVault disk (after_step disk seen book k store seen.view.settled sealed true) book
   fault_kept sealed why made is = let f = failed_sealed made.step.1 in failed_kept disk seen book k store sealed made.step.2 (is ∙ f.0)
 
   -- a store whose vault isn't broken doesn't say that it is

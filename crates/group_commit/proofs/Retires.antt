@@ -9,8 +9,8 @@ use Rattle.group_commit.specs.Entries.{Kept, mark_at, told_in, is_told}
 use Rattle.group_commit.specs.History.{Given, replay, outcome_of, members, effects}
 use Rattle.group_commit.specs.World.{Retire}
 use Rattle.group_commit.specs.View.{View, view_at, view_acted}
-use Rattle.group_commit.specs.Seen.{Seen, snapshot_length, framed, effects_between, effects_from, state_of, IsSoundView}
-use Rattle.group_commit.specs.Inside.{IsKept}
+use Rattle.group_commit.specs.Seen.{VaultSeen, snapshot_length, framed, effects_between, effects_from, state_of, IsSoundView}
+use Rattle.group_commit.specs.Inside.{IsSoundVault}
 use Rattle.group_commit.specs.declared.answers.Retired.TheVariants as answers
 use Rattle.group_commit.specs.Calls.{IsRetired}
 use Rattle.group_commit.specs.Pasts.{IsNext}
@@ -73,20 +73,20 @@ pub gone_one : (base : Vault) (gone : List Kept) (x : Kept) → replay base (mem
 gone_one base gone x = ap (replay base) (members-append gone (x ∷ [])) ∙ replay-append base (members gone) (members (x ∷ []))
 
 -- a vault whose oldest entry is let go
-abbrev pub retired : {D : Type 0} → Seen D → Vault → List Kept → Seen D
+abbrev pub retired : {D : Type 0} → VaultSeen D → Vault → List Kept → VaultSeen D
 retired seen base kept = record seen { view = record seen.view { base = base; kept = kept; retired = seen.view.retired + 1 } }
 
 -- not all is settled that is retired
-pub settled_more : {D : Type 0} (disk : D → Disk) (seen : Seen D) (book : Vault) → IsKept disk seen book → seen.view.retired ≢ seen.view.settled → seen.view.retired < seen.view.settled
+pub settled_more : {D : Type 0} (disk : D → Disk) (seen : VaultSeen D) (book : Vault) → IsSoundVault disk seen book → seen.view.retired ≢ seen.view.settled → seen.view.retired < seen.view.settled
 settled_more disk seen book k h = let o : seen.view.retired ≤ seen.view.settled = k.sound.order.retired_settled in omega (arith, h, o)
 
-module _ {D : Type 0} (disk : D → Disk) (seen : Seen D) (book : Vault) (k : IsKept disk seen book) (x : Kept) (rest : List Kept) (first : seen.view.kept ≡ x ∷ rest) (base : Vault) (next : base ≡ (outcome_of seen.view.base x.entry).vault) (settled : seen.view.retired < seen.view.settled) where
-  here : IsKept disk (record seen { view = beginning seen.view x rest }) book
-  here = subst (λ (l : List Kept). IsKept disk (record seen { view = record seen.view { kept = l } }) book) first k
+module _ {D : Type 0} (disk : D → Disk) (seen : VaultSeen D) (book : Vault) (k : IsSoundVault disk seen book) (x : Kept) (rest : List Kept) (first : seen.view.kept ≡ x ∷ rest) (base : Vault) (next : base ≡ (outcome_of seen.view.base x.entry).vault) (settled : seen.view.retired < seen.view.settled) where
+  here : IsSoundVault disk (record seen { view = beginning seen.view x rest }) book
+  here = subst (λ (l : List Kept). IsSoundVault disk (record seen { view = record seen.view { kept = l } }) book) first k
 
-  pub retired_kept : IsKept disk (retired seen base rest) book
+  pub retired_kept : IsSoundVault disk (retired seen base rest) book
   retired_kept =
-      subst (λ (b : Vault). IsKept disk (retired seen b rest) book) (sym next)
+      subst (λ (b : Vault). IsSoundVault disk (retired seen b rest) book) (sym next)
       (record {
         book_is = here.book_is;
         sound = retired_sound seen.view x rest here.sound settled;

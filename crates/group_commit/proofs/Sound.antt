@@ -10,7 +10,7 @@ use Rattle.group_commit.specs.declared.mark.Mark.{Mark}
 use Rattle.group_commit.specs.declared.mark.Mark.TheVariants.{Open, Told, Forgotten}
 use Rattle.group_commit.specs.Entries.{Kept, opened, mark_at, with_mark}
 use Rattle.group_commit.specs.History.{Member, Given, Restart, replay, IsLegal, entry_of, members}
-use Rattle.group_commit.specs.World.{World, new_world, history, history_to, vault_of, Act, Stage, Pump, Fault, StartSnapshot, Tell, Forget, Retire, Allows, acted, Gate, kept_by, crashed}
+use Rattle.group_commit.specs.World.{World, new_world, history, history_to, vault_of, Act, Stage, Pump, Fault, StartSnapshot, Tell, Forget, Retire, Allows, acted, GateLeft, kept_by, crashed}
 use Rattle.group_commit.specs.Runs.{Event, Within, Crash, AllowsEvent, happened, run, IsRun}
 use Rattle.group_commit.proofs.Folds.{replay-append, legal_append, legal_front, members-append, members_rest}
 use Rattle.group_commit.proofs.Marks.{members-with_mark, length-with_mark, mark_same, mark_other, mark_below, mark_front, told_before}
@@ -106,7 +106,7 @@ act_sound snapshot w Retire a s = record {
   busy = s.busy;
 }
 
-pub crash_sound : (w : World) (gate : Gate) → IsSound w → IsSound (crashed w gate)
+pub crash_sound : (w : World) (gate : GateLeft) → IsSound w → IsSound (crashed w gate)
 crash_sound w gate s = record {
   legal =
       subst (IsLegal new_vault) (sym (append-nil _))

@@ -5,17 +5,17 @@ use Rattle.vault_device.specs.Disk.{Disk}
 use Rattle.vault_store.specs.Snapshot.{HasSnapshot}
 use Rattle.vault_store.specs.Laws.{NotedIsSpelled}
 use Rattle.vault_store.specs.State.{started}
-use Rattle.vault_store.specs.Seen.{Seen as StoreSeen, Keeps, MayStart as MayStartStore, started_seen}
+use Rattle.vault_store.specs.Seen.{StoreSeen, Keeps, MayStart as MayStartStore, started_seen}
 use Rattle.group_commit.specs.World.{StartSnapshot}
 use Rattle.group_commit.specs.View.{View, length_of, view_acted}
-use Rattle.group_commit.specs.Seen.{Seen, snapshot_length, state_of}
+use Rattle.group_commit.specs.Seen.{VaultSeen, snapshot_length, state_of}
 use Rattle.group_commit.specs.Calls.{MayStart}
-use Rattle.group_commit.specs.Inside.{IsKept}
+use Rattle.group_commit.specs.Inside.{IsSoundVault}
 use Rattle.group_commit.specs.Pasts.{IsNext}
 use Rattle.group_commit.proofs.States.{state_started, book_well_formed}
 use Rattle.group_commit.proofs.SoundViews.{started_sound}
 
-module _ {D : Type 0} (disk : D → Disk) (seen : Seen D) (book : Vault) (k : IsKept disk seen book) where
+module _ {D : Type 0} (disk : D → Disk) (seen : VaultSeen D) (book : Vault) (k : IsSoundVault disk seen book) where
   pub book_is_vault : IsVault book
   book_is_vault = subst IsVault (sym k.book_is) (book_well_formed seen.view k.sound)
 
@@ -29,7 +29,7 @@ module _ {D : Type 0} (disk : D → Disk) (seen : Seen D) (book : Vault) (k : Is
   pub store_may_start : MayStart seen → MayStartStore seen.store
   store_may_start may = record { idle = k.stands.phase ∙ may.allowed.1; whole = k.stands.broken ∙ may.allowed.0; fits = may.fits }
 
-  abbrev pub after_start : StoreSeen D → ℕ → Seen D
+  abbrev pub after_start : StoreSeen D → ℕ → VaultSeen D
   after_start store sealed = record { view = record seen.view { sealed = sealed; phase = store.phase }; life = seen.life; store = store }
 
   pub started_view : (store : StoreSeen D) (sealed : ℕ) → store ≡ started_seen seen.store (durable book) → sealed ≡ length_of seen.view
@@ -39,9 +39,9 @@ module _ {D : Type 0} (disk : D → Disk) (seen : Seen D) (book : Vault) (k : Is
       λ i. record seen.view { sealed = n i; phase = p i }
 
   pub started_kept : (store : StoreSeen D) (sealed : ℕ) → store ≡ started_seen seen.store (durable book) → sealed ≡ length_of seen.view → MayStartStore seen.store
-      → Keeps disk store (started (state_of seen.view)) → IsKept disk (after_start store sealed) book
+      → Keeps disk store (started (state_of seen.view)) → IsSoundVault disk (after_start store sealed) book
   started_kept store sealed is n may keeps =
-      subst (λ (v : View). IsKept disk (record { view = v; life = seen.life; store = store }) book) (sym (started_view store sealed is n))
+      subst (λ (v : View). IsSoundVault disk (record { view = v; life = seen.life; store = store }) book) (sym (started_view store sealed is n))
       (record {
         book_is = k.book_is;
         sound = started_sound seen.view k.sound;

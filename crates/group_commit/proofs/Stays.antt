@@ -7,7 +7,7 @@ use Rattle.group_commit.specs.declared.mark.Mark.TheVariants.{Told, Forgotten}
 use Rattle.group_commit.specs.Entries.{Entry, Kept, opened}
 use Rattle.group_commit.specs.History.{Given, Restart, entry_of, members}
 use Rattle.vault_store.specs.Phases.{is_opening}
-use Rattle.group_commit.specs.World.{World, history, history_to, vault_of, Act, Stage, Pump, Fault, StartSnapshot, Tell, Forget, Retire, acted, Gate, StaysClosed, IsOpen, kept_by, crashed}
+use Rattle.group_commit.specs.World.{World, history, history_to, vault_of, Act, Stage, Pump, Fault, StartSnapshot, Tell, Forget, Retire, acted, GateLeft, StaysClosed, IsOpen, kept_by, crashed}
 use Rattle.group_commit.specs.Runs.{Event, Within, Crash, run, IsRun}
 use Rattle.group_commit.proofs.Folds.{members-append, members_rest}
 use Rattle.group_commit.proofs.Marks.{members-with_mark}
@@ -25,7 +25,7 @@ get_cut (z ∷ xs) ys zero x h e = e
 get_cut (z ∷ xs) ys (suc k) x h e = get_cut xs ys k x (omega arith) e
 
 -- a crash keeps what is settled, and no more than there is
-pub keeps_settled : (w : World) (gate : Gate) → IsSound w → w.settled ≤ kept_by w gate
+pub keeps_settled : (w : World) (gate : GateLeft) → IsSound w → w.settled ≤ kept_by w gate
 keeps_settled w StaysClosed s = omega arith
 keeps_settled w IsOpen s = by_phase (is_opening w.phase) refl
   where
@@ -33,7 +33,7 @@ keeps_settled w IsOpen s = by_phase (is_opening w.phase) refl
     by_phase true e = s.order.sealing (opening_is_busy w.phase e)
     by_phase false e = omega arith
 
-pub keeps_at_most_all : (w : World) (gate : Gate) → IsSound w → kept_by w gate ≤ length w.life
+pub keeps_at_most_all : (w : World) (gate : GateLeft) → IsSound w → kept_by w gate ≤ length w.life
 keeps_at_most_all w StaysClosed s = s.order.settled_all
 keeps_at_most_all w IsOpen s = by_phase (is_opening w.phase)
   where
@@ -66,7 +66,7 @@ stays_act snapshot w (Tell position) place entry s t = record { stands = subst (
 stays_act snapshot w (Forget position) place entry s t = record { stands = subst (λ l. slice_get (w.earlier ++ l) place ≡ Some (Given entry)) (sym (members-with_mark Forgotten w.life position)) t.stands; below = t.below }
 stays_act snapshot w Retire place entry s t = record { stands = t.stands; below = t.below }
 
-pub stays_crash : (w : World) (gate : Gate) (place : ℕ) (entry : Entry) → IsSound w → StandsSettled w place entry → StandsSettled (crashed w gate) place entry
+pub stays_crash : (w : World) (gate : GateLeft) (place : ℕ) (entry : Entry) → IsSound w → StandsSettled w place entry → StandsSettled (crashed w gate) place entry
 stays_crash w gate place entry s t =
     let n : ℕ = kept_by w gate in
     let front = history_to w n in

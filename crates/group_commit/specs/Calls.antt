@@ -10,7 +10,7 @@ use Rattle.vault_store.specs.declared.phase.Advanced.{Advanced as Pumped}
 use Rattle.vault_store.specs.declared.phase.Advanced.TheVariants as answers
 use Rattle.vault_store.specs.Files.{header, frame_extra}
 use Rattle.vault_store.specs.Phases.{is_idle, is_snapshot}
-use Rattle.vault_store.specs.Seen.{Seen as StoreSeen, other, has_room}
+use Rattle.vault_store.specs.Seen.{StoreSeen, other, has_room}
 use Rattle.group_commit.specs.declared.answers.Redeemed.{Redeemed}
 use Rattle.group_commit.specs.declared.answers.Redeemed.TheVariants as redeemed
 use Rattle.group_commit.specs.declared.answers.Forgotten.{Forgotten}
@@ -20,15 +20,15 @@ use Rattle.group_commit.specs.declared.answers.Retired.TheVariants as retired
 use Rattle.group_commit.specs.Entries.{Kept}
 use Rattle.group_commit.specs.World.{StartSnapshot, Tell, Forget, Retire}
 use Rattle.group_commit.specs.View.{View, length_of, view_at, ViewAllows, view_acted}
-use Rattle.group_commit.specs.Ticket.{Claim, Told, told_for}
-use Rattle.group_commit.specs.Seen.{Seen, snapshot_length, most_kept, effects_between}
+use Rattle.group_commit.specs.Ticket.{TicketSeen, Told, told_for}
+use Rattle.group_commit.specs.Seen.{VaultSeen, snapshot_length, most_kept, effects_between}
 
 -- no more entries are taken: the most are kept, the open buffer or the active file has no room, or no position is left
-abbrev pub IsBusy : {D : Type 0} → Seen D → Type 0
+abbrev pub IsBusy : {D : Type 0} → VaultSeen D → Type 0
 IsBusy seen = (most_kept ≤ length seen.view.kept) ⊎ (has_room seen.store ≡ false) ⊎ (length_of seen.view ≡ 2 ^ 64 - 1)
 
 -- why a command wasn't staged, the first of these that applies
-abbrev pub IsReason : {D : Type 0} → Seen D → Outside → Type 0
+abbrev pub IsReason : {D : Type 0} → VaultSeen D → Outside → Type 0
 IsReason seen outsides.BadLine = ⊥
 IsReason seen outsides.Broken = seen.view.broken ≡ true
 IsReason seen outsides.Busy = (seen.view.broken ≡ false) × IsBusy seen
@@ -64,30 +64,30 @@ generation_after v result generation = if renews v result then generation + 1 el
 -- The active file and its numbers after a pump: the last one of a commit moves the tail gate behind the frame; the last one of a
 -- snapshot exchanges the files, and the tail gate then stands behind the snapshot; the first one of a commit empties the buffer, also
 -- where its device call fails; no other changes them.
-pub record AreNumbers {D : Type 0} (old new : Seen D) (result : Result Pumped DeviceFault) : Type 0 where
+pub record AreNumbers {D : Type 0} (old new : VaultSeen D) (result : Result Pumped DeviceFault) : Type 0 where
   pub which : new.store.which ≡ (if renews old.view result then other old.store.which else old.store.which)
   pub generation : new.store.generation ≡ generation_after old.view result old.store.generation
   pub tail : new.store.tail ≡ tail_after old.view result old.store.tail
-  pub journal : new.store.journal ≡ (if renews old.view result then 0 else old.store.journal + gained old.view result)
+  pub journal_length : new.store.journal_length ≡ (if renews old.view result then 0 else old.store.journal_length + gained old.view result)
   pub buffer : new.store.buffer ≡ (if is_idle old.view.phase && not old.view.broken then [] else old.store.buffer)
 
 -- whether a snapshot may be begun: nothing is under way, no device call failed, and there is a next generation
-pub record MayStart {D : Type 0} (seen : Seen D) : Type 0 where
+pub record MayStart {D : Type 0} (seen : VaultSeen D) : Type 0 where
   pub allowed : ViewAllows snapshot_length seen.view StartSnapshot
   pub fits : seen.store.generation + 1 < 2 ^ 64
 
 -- a ticket names an open entry of this life
-abbrev pub NamesOpen : {D : Type 0} → Seen D → Claim → Type 0
+abbrev pub NamesOpen : {D : Type 0} → VaultSeen D → TicketSeen → Type 0
 NamesOpen seen claim = (claim.life ≡ seen.life) × ViewAllows snapshot_length seen.view (Forget claim.position)
 
 -- the receipt of the entry at a ticket's position
-pub record IsReceiptOf (claim : Claim) (v : View) (told : Told) : Type 0 where
+pub record IsReceiptOf (claim : TicketSeen) (v : View) (told : Told) : Type 0 where
   pub kept : Kept
   pub stands : slice_get v.kept (claim.position - v.retired) ≡ Some kept
   pub receipt : told ≡ told_for claim kept.entry.reply
 
 -- What redeeming a ticket did: the reply of a settled entry was told; or the ticket came back, and nothing changed.
-abbrev pub IsRedeemed : {D A : Type 0} → Seen D → Seen D → Claim → Redeemed A → Type 0
+abbrev pub IsRedeemed : {D A : Type 0} → VaultSeen D → VaultSeen D → TicketSeen → Redeemed A → Type 0
 IsRedeemed old new claim (redeemed.Told receipt) =
     (claim.life ≡ old.life)
     × ViewAllows snapshot_length old.view (Tell claim.position)
@@ -101,14 +101,14 @@ IsRedeemed old new claim (redeemed.Stranger back) = (back ≡ claim) × (new ≡
 IsRedeemed old new claim (redeemed.NoMemory back) = (back ≡ claim) × (new ≡ old) × NamesOpen old claim × (claim.position < old.view.settled)
 
 -- What forgetting a ticket did: the open entry that it names was closed; or it names none, and nothing changed.
-abbrev pub IsForgotten : {D : Type 0} → Seen D → Seen D → Claim → Forgotten → Type 0
+abbrev pub IsForgotten : {D : Type 0} → VaultSeen D → VaultSeen D → TicketSeen → Forgotten → Type 0
 IsForgotten old new claim forgotten.Here =
     NamesOpen old claim × (new ≡ record old { view = view_acted snapshot_length old.view (Forget claim.position) })
 IsForgotten old new claim forgotten.Stranger = (new ≡ old) × (NamesOpen old claim → ⊥)
 
 -- What retiring did: the oldest kept entry, which is settled and whose ticket isn't out, went into the base; or it is no such entry, and
 -- nothing changed.
-abbrev pub IsRetired : {D : Type 0} → Seen D → Seen D → Retired → Type 0
+abbrev pub IsRetired : {D : Type 0} → VaultSeen D → VaultSeen D → Retired → Type 0
 IsRetired old new retired.One =
     ViewAllows snapshot_length old.view Retire × (new ≡ record old { view = view_acted snapshot_length old.view Retire })
 IsRetired old new retired.Nothing = (new ≡ old) × (ViewAllows snapshot_length old.view Retire → ⊥)

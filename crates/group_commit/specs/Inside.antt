@@ -6,10 +6,10 @@ use Rattle.vault_store.specs.Seen.{Keeps}
 use Rattle.group_commit.specs.declared.vault.Vault.TheInside.{Inside}
 use Rattle.group_commit.specs.History.{replay, members}
 use Rattle.group_commit.specs.View.{length_of, book_of}
-use Rattle.group_commit.specs.Seen.{Seen, IsSoundView, state_of}
+use Rattle.group_commit.specs.Seen.{VaultSeen, IsSoundView, state_of}
 
 -- what contracts see of the fields
-abbrev pub seen_of : {D A : Type 0} → Inside D A → Seen D
+abbrev pub seen_of : {D A : Type 0} → Inside D A → VaultSeen D
 seen_of v = record {
   view = record {
     base = replay v.base.value (members v.bygone.items);
@@ -26,7 +26,7 @@ seen_of v = record {
 }
 
 -- the book is the vault after the kept entries, the view is sound, and the store keeps what the view says
-pub record IsKept {D : Type 0} (disk : D → Disk) (seen : Seen D) (book : Vault) : Type 0 where
+pub record IsSoundVault {D : Type 0} (disk : D → Disk) (seen : VaultSeen D) (book : Vault) : Type 0 where
   -- invariant 1 of src/lib.rt
   pub book_is : book ≡ book_of seen.view
   -- invariants 2 to 5

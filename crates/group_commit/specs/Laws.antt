@@ -13,7 +13,7 @@ use Rattle.vault_store.specs.Files.{applied}
 use Rattle.group_commit.specs.History.{Given, replay, IsLegal, effects}
 use Rattle.vault_store.specs.Phases.{is_opening, is_idle}
 use Rattle.group_commit.specs.Phases.{InOrder}
-use Rattle.group_commit.specs.World.{World, new_world, history, vault_at, Act, row_of, Allows, acted, Gate, kept_by, crashed, recovered}
+use Rattle.group_commit.specs.World.{World, new_world, history, vault_at, Act, row_of, Allows, acted, GateLeft, kept_by, crashed, recovered}
 use Rattle.group_commit.specs.Runs.{Event, run, IsRun}
 use Rattle.group_commit.specs.View.{View, view_of, opened_view, view_row, ViewAllows, view_acted, MayLeave}
 
@@ -36,7 +36,8 @@ ActsAreOfTheView = AfterEveryRun (λ snapshot w. (act : Act) → ActsAsItsView s
 -- the new world is seen as the new vault, opened; the world after a crash as what recovery gives, opened
 abbrev pub CrashesOpen : Type 0
 CrashesOpen =
-    (view_of new_world ≡ opened_view new_vault) × ((w : World) (gate : Gate) → view_of (crashed w gate) ≡ opened_view (recovered w gate))
+    (view_of new_world ≡ opened_view new_vault)
+    × ((w : World) (gate : GateLeft) → view_of (crashed w gate) ≡ opened_view (recovered w gate))
 
 -- the history is legal from the new vault
 abbrev pub HistoryIsLegal : Type 0
@@ -88,7 +89,7 @@ PrefixesAreGuarded = AfterEveryRun (λ snapshot w. (n : ℕ) → IsGuarded (repl
 -- What recovery gives is the durable vault after one prefix of the history: up to the settled entries or, where a gate was being
 -- opened and is found open, up to the sealed ones. That prefix has every told entry; the long claims stand in their order, and
 -- the short ones are gone.
-pub record IsPrefix (w : World) (gate : Gate) : Type 0 where
+pub record IsPrefix (w : World) (gate : GateLeft) : Type 0 where
   pub cut : (kept_by w gate ≡ w.settled) ⊎ (IsTrue (is_opening w.phase) × (kept_by w gate ≡ w.sealed))
   pub prefix : recovered w gate ≡ durable (replay new_vault (take (length w.earlier + kept_by w gate) (history w)))
   pub told : (position : ℕ) → mark_at w.life position ≡ Some Told → position < kept_by w gate
@@ -96,11 +97,11 @@ pub record IsPrefix (w : World) (gate : Gate) : Type 0 where
 
 -- recovery gives one prefix after every run
 abbrev pub RecoveryGivesAPrefix : Type 0
-RecoveryGivesAPrefix = AfterEveryRun (λ snapshot w. (gate : Gate) → IsPrefix w gate)
+RecoveryGivesAPrefix = AfterEveryRun (λ snapshot w. (gate : GateLeft) → IsPrefix w gate)
 
 -- what a crash may leave, by the view, is what recovery gives, by the world
 abbrev pub LeftIsRecovered : Type 0
-LeftIsRecovered = AfterEveryRun (λ snapshot w. (left : Vault) → MayLeave (view_of w) left → (gate : Gate) × (left ≡ recovered w gate))
+LeftIsRecovered = AfterEveryRun (λ snapshot w. (left : Vault) → MayLeave (view_of w) left → (gate : GateLeft) × (left ≡ recovered w gate))
 
 -- the effects of the entries from one point of the present life to a later one, made on the durable vault there, give the durable
 -- vault at the later one: what the frames of a journal hold

@@ -8,15 +8,15 @@ use Rattle.vault_store.specs.Create.{IsNotMade, ShowTheSame}
 use Rattle.vault_store.specs.declared.refused.Refused.{Refused}
 use Rattle.vault_store.specs.declared.opening.OpenError.{OpenError}
 use Rattle.vault_store.specs.declared.opening.OpenError.TheVariants as open_errors
-use Rattle.vault_store.specs.Seen.{Seen as StoreSeen, first_of, second_of}
+use Rattle.vault_store.specs.Seen.{StoreSeen, first_of, second_of}
 use Rattle.group_commit.specs.View.{opened_view}
-use Rattle.group_commit.specs.Seen.{Seen}
+use Rattle.group_commit.specs.Seen.{VaultSeen}
 
 -- the numbers of an active file: its generation, its tail gate, and how many bytes of frames it has; nothing waits in the buffer
-pub record Begins {D : Type 0} (store : StoreSeen D) (generation tail journal : ℕ) : Type 0 where
+pub record Begins {D : Type 0} (store : StoreSeen D) (generation tail journal_length : ℕ) : Type 0 where
   pub generation_is : store.generation ≡ generation
   pub tail_is : store.tail ≡ tail
-  pub journal_is : store.journal ≡ journal
+  pub journal_is : store.journal_length ≡ journal_length
   pub buffer_is : store.buffer ≡ []
 
 -- Why no vault was made. Memory is asked for before a file is looked at, and once more behind that.
@@ -27,7 +27,7 @@ IsNotCreated first second first_new second_new NoMemory =
     IsTrue first.honest → IsTrue second.honest → ShowTheSame first second first_new second_new
 
 -- a vault that begins over a store and its book
-pub record IsBegun {D : Type 0} (store : StoreSeen D) (book : Vault) (life : ℕ) (new : Seen D) : Type 0 where
+pub record IsBegun {D : Type 0} (store : StoreSeen D) (book : Vault) (life : ℕ) (new : VaultSeen D) : Type 0 where
   pub view_is : new.view ≡ opened_view book
   pub store_is : new.store ≡ store
   pub life_is : new.life ≡ life
@@ -39,7 +39,7 @@ pub record IsNotBegun {D : Type 0} (store : StoreSeen D) (refused : Refused D Op
   pub second_is : refused.second ≡ second_of store
 
 -- What becomes of an opening of a store: its refusal is handed on as it is; else a vault begins over the store, or memory was wanted for that.
-abbrev pub IsHandedOver : {D : Type 0} → Result (StoreSeen D × Vault) (Refused D OpenError) → ℕ → Result (Seen D) (Refused D OpenError)
+abbrev pub IsHandedOver : {D : Type 0} → Result (StoreSeen D × Vault) (Refused D OpenError) → ℕ → Result (VaultSeen D) (Refused D OpenError)
     → Type 0
 IsHandedOver (Err refused) life result = result ≡ Err refused
 IsHandedOver (Ok opened) life (Ok new) = IsBegun opened.0 opened.1 life new

@@ -6,7 +6,7 @@ use Rattle.group_commit.specs.Entries.{Entry, Kept}
 use Rattle.group_commit.specs.History.{entry_of}
 use Rattle.group_commit.specs.World.{Act, Stage, Tell}
 use Rattle.group_commit.specs.View.{View, length_of, book_of, view_acted}
-use Rattle.group_commit.specs.Ticket.{Told, claim_of, told_for, entry_in}
+use Rattle.group_commit.specs.Ticket.{Told, ticket_of, told_for, entry_in}
 use Rattle.group_commit.specs.Seen.{snapshot_length}
 use Rattle.group_commit.specs.Calls.{IsReceiptOf}
 
@@ -30,7 +30,7 @@ PositionsStay = (v : View) (act : Act) (position : ℕ) (entry : Entry) → HasE
 -- so the receipt for its ticket is this entry's, with its reply
 abbrev pub ReceiptsAreOfTheirEntries : Type 0
 ReceiptsAreOfTheirEntries = (v : View) (life position : ℕ) (entry : Entry) (told : Told) → HasEntry v position entry
-    → IsReceiptOf (claim_of life position entry) v told → told ≡ told_for (claim_of life position entry) entry.reply
+    → IsReceiptOf (ticket_of life position entry) v told → told ≡ told_for (ticket_of life position entry) entry.reply
 
 -- the entry of this receipt is kept, at its position of the life, and was told
 pub record HasTold (v : View) (told : Told) : Type 0 where
@@ -44,5 +44,5 @@ pub record HasTold (v : View) (told : Told) : Type 0 where
 abbrev pub ReceiptsAreTold : Type 0
 ReceiptsAreTold =
     (v : View) (life position : ℕ) (entry : Entry) (told : Told) → HasEntry v position entry
-    → IsReceiptOf (claim_of life position entry) v told
+    → IsReceiptOf (ticket_of life position entry) v told
     → HasTold (view_acted snapshot_length v (Tell position)) told

@@ -12,12 +12,12 @@ use Rattle.vault_store.specs.Phases.{is_opening, may_open}
 use Rattle.group_commit.specs.declared.mark.Mark.TheVariants.{Told}
 use Rattle.group_commit.specs.Entries.{Kept}
 use Rattle.group_commit.specs.History.{Member, Given, replay, IsLegal}
-use Rattle.group_commit.specs.World.{World, new_world, history, Pump, Gate}
+use Rattle.group_commit.specs.World.{World, new_world, history, Pump, GateLeft}
 use Rattle.group_commit.specs.Runs.{Event, Within, Crash, run, IsRun}
 use Rattle.group_commit.specs.View.{view_of, opened_view}
 use Rattle.group_commit.specs.Ticket.{Told as Receipt, entry_in}
 use Rattle.group_commit.specs.Laws.{AreApart, IsGuarded}
-use Rattle.group_commit.specs.Seen.{Seen, snapshot_length}
+use Rattle.group_commit.specs.Seen.{VaultSeen, snapshot_length}
 use Rattle.group_commit.specs.Promises.{IsCrash}
 use Rattle.group_commit.specs.Positions.{HasTold}
 use Rattle.group_commit.specs.Pasts.{IsStopInside, IsStop, IsOpenedOn, IsNext, IsPast}
@@ -27,18 +27,18 @@ abbrev pub world_after : List Event → World
 world_after events = run snapshot_length new_world events
 
 -- the events of a stop: a crash, and before it at most the pump under way where the machine stopped inside one
-abbrev pub AreOfStop : {D : Type 0} → {disk : D → Disk} → {seen : Seen D} → {x y : List ℕ} → IsStop disk seen x y → List Event → Type 0
-AreOfStop (inl between) events = (gate : Gate) × (events ≡ Crash gate ∷ [])
-AreOfStop (inr inside) events = (gate : Gate) × ((events ≡ Crash gate ∷ []) ⊎ (events ≡ Within Pump ∷ Crash gate ∷ []))
+abbrev pub AreOfStop : {D : Type 0} → {disk : D → Disk} → {seen : VaultSeen D} → {x y : List ℕ} → IsStop disk seen x y → List Event → Type 0
+AreOfStop (inl between) events = (gate : GateLeft) × (events ≡ Crash gate ∷ [])
+AreOfStop (inr inside) events = (gate : GateLeft) × ((events ≡ Crash gate ∷ []) ⊎ (events ≡ Within Pump ∷ Crash gate ∷ []))
 
 -- the events of what came next: none where a call changed nothing, its one act, or those of the stop
-abbrev pub AreOfNext : {D : Type 0} → {disk : D → Disk} → {old new : Seen D} → IsNext disk old new → List Event → Type 0
+abbrev pub AreOfNext : {D : Type 0} → {disk : D → Disk} → {old new : VaultSeen D} → IsNext disk old new → List Event → Type 0
 AreOfNext (inl (inl same)) events = events ≡ []
 AreOfNext (inl (inr made)) events = events ≡ Within made.0 ∷ []
 AreOfNext (inr reopened) events = AreOfStop reopened.left events
 
 -- events that happened before, and behind them those of what came next
-pub record GoOn {D : Type 0} {disk : D → Disk} {old new : Seen D} (next : IsNext disk old new) (HappenedBefore : List Event → Type 0)
+pub record GoOn {D : Type 0} {disk : D → Disk} {old new : VaultSeen D} (next : IsNext disk old new) (HappenedBefore : List Event → Type 0)
     (events : List Event) : Type 0 where
   pub before : List Event
   pub last : List Event
@@ -47,46 +47,47 @@ pub record GoOn {D : Type 0} {disk : D → Disk} {old new : Seen D} (next : IsNe
   pub of_next : AreOfNext next last
 
 -- The events of a past, call by call: none before the new vault was seen, and then those of each that came next.
-abbrev pub AreOfPast : {D : Type 0} → (disk : D → Disk) → (now : Seen D) → (past : List (Seen D)) → IsPast disk now past → List Event
-    → Type 0
+abbrev pub AreOfPast : {D : Type 0} → (disk : D → Disk) → (now : VaultSeen D) → (past : List (VaultSeen D)) → IsPast disk now past
+    → List Event → Type 0
 AreOfPast disk now [] is events = events ≡ []
 AreOfPast disk now (old ∷ past) is events = GoOn is.1 (AreOfPast disk old past is.2) events
 
 -- those of them that had happened when the nth was seen, the latest first
-abbrev pub events_until : {D : Type 0} → (disk : D → Disk) → (now : Seen D) → (past : List (Seen D)) → (is : IsPast disk now past)
+abbrev pub events_until : {D : Type 0} → (disk : D → Disk) → (now : VaultSeen D) → (past : List (VaultSeen D)) → (is : IsPast disk now past)
     → (events : List Event) → AreOfPast disk now past is events → ℕ → List Event
 events_until disk now past is events are zero = events
 events_until disk now [] is events are (suc n) = []
 events_until disk now (old ∷ past) is events are (suc n) = events_until disk old past is.2 are.before are.happened_before n
 
 -- One run of events is the whole past of a vault, over all its lives.
-pub record IsOneRun {D : Type 0} (disk : D → Disk) (now : Seen D) (past : List (Seen D)) (is : IsPast disk now past) : Type 0 where
+pub record IsOneRun {D : Type 0} (disk : D → Disk) (now : VaultSeen D) (past : List (VaultSeen D))
+    (is : IsPast disk now past) : Type 0 where
   pub events : List Event
   pub is_run : IsRun snapshot_length new_world events
   -- between two that were seen, one behind the other, nothing else happened than what led from the one to the other
   pub calls : AreOfPast disk now past is events
   -- each that was seen, the latest first, is the view of the world as it was then
-  pub shown : (n : ℕ) (seen : Seen D) → slice_get (now ∷ past) n ≡ Some seen
+  pub shown : (n : ℕ) (seen : VaultSeen D) → slice_get (now ∷ past) n ≡ Some seen
       → view_of (world_after (events_until disk now past is events calls n)) ≡ seen.view
 
 -- the single history of a past
-abbrev pub history_of : {D : Type 0} → {disk : D → Disk} → {now : Seen D} → {past : List (Seen D)} → {is : IsPast disk now past}
+abbrev pub history_of : {D : Type 0} → {disk : D → Disk} → {now : VaultSeen D} → {past : List (VaultSeen D)} → {is : IsPast disk now past}
     → IsOneRun disk now past is → List Member
 history_of one = history (world_after one.events)
 
 -- where in it the life begins in which the nth was seen
-abbrev pub life_begins : {D : Type 0} → {disk : D → Disk} → {now : Seen D} → {past : List (Seen D)} → {is : IsPast disk now past}
+abbrev pub life_begins : {D : Type 0} → {disk : D → Disk} → {now : VaultSeen D} → {past : List (VaultSeen D)} → {is : IsPast disk now past}
     → IsOneRun disk now past is → ℕ → ℕ
 life_begins {D} {disk} {now} {past} {is} one n = length (world_after (events_until disk now past is one.events one.calls n)).earlier
 
 -- These files stand for a vault, opening finds nothing wrong with them, and recovery gives it: the durable vault after one prefix of the
 -- single history, up to the settled entries or, where a gate may be open, up to the sealed ones.
-pub record IsRecovered {D : Type 0} {disk : D → Disk} {now : Seen D} {past : List (Seen D)} {is : IsPast disk now past}
+pub record IsRecovered {D : Type 0} {disk : D → Disk} {now : VaultSeen D} {past : List (VaultSeen D)} {is : IsPast disk now past}
     (one : IsOneRun disk now past is) (open_gate : Bool) (x y : List ℕ) : Type 0 where
   pub vault : Vault
   pub stands : StandFor x y vault
   pub sound : (why : OpenError) → IsFound why → IsNotOpened x y why → ⊥
-  pub recovery : (new : Seen D) → IsOpenedOn x y new → new.view ≡ opened_view vault
+  pub recovery : (new : VaultSeen D) → IsOpenedOn x y new → new.view ≡ opened_view vault
   pub cut : ℕ
   pub choice :
       let w : World = world_after one.events in
@@ -94,7 +95,7 @@ pub record IsRecovered {D : Type 0} {disk : D → Disk} {now : Seen D} {past : L
   pub within : cut ≤ length (history_of one)
   pub prefix : vault ≡ durable (replay new_vault (take cut (history_of one)))
   -- whatever was told at any point of the past stands in that prefix, at its place, with its reply
-  pub told : (n place : ℕ) (seen : Seen D) (kept : Kept) (at : slice_get (now ∷ past) n ≡ Some seen)
+  pub told : (n place : ℕ) (seen : VaultSeen D) (kept : Kept) (at : slice_get (now ∷ past) n ≡ Some seen)
       → slice_get seen.view.kept place ≡ Some kept → kept.mark ≡ Told
       → slice_get (take cut (history_of one)) (life_begins one n + (seen.view.retired + place)) ≡ Some (Given kept.entry)
   -- its long claims stand in their order, and short ones are gone
@@ -106,19 +107,20 @@ pub record IsRecovered {D : Type 0} {disk : D → Disk} {now : Seen D} {past : L
 
 -- The headline, for one past of a vault: one run of events is this past, with a legal history, and wherever the machine stops now,
 -- between two calls or inside a pump, recovery gives one prefix of it.
-pub record IsKeptThrough {D : Type 0} (disk : D → Disk) (now : Seen D) (past : List (Seen D)) (is : IsPast disk now past) : Type 0 where
+pub record IsKeptThrough {D : Type 0} (disk : D → Disk) (now : VaultSeen D) (past : List (VaultSeen D))
+    (is : IsPast disk now past) : Type 0 where
   pub one : IsOneRun disk now past is
   pub legal : IsLegal new_vault (history_of one)
   pub between : (x y : List ℕ) → IsCrash disk now x y → IsRecovered one (is_opening now.view.phase) x y
   pub inside : (x y : List ℕ) → IsStopInside disk now x y → IsRecovered one (may_open now.view.phase) x y
 
 -- it holds for each past
-abbrev pub EachPastIsKept : {D : Type 0} → (D → Disk) → Seen D → Type 0
-EachPastIsKept {D} disk now = (past : List (Seen D)) (is : IsPast disk now past) → IsKeptThrough disk now past is
+abbrev pub EachPastIsKept : {D : Type 0} → (D → Disk) → VaultSeen D → Type 0
+EachPastIsKept {D} disk now = (past : List (VaultSeen D)) (is : IsPast disk now past) → IsKeptThrough disk now past is
 
 -- A receipt is found again, over this past: wherever the machine stops now, its entry stands at one place of the prefix that recovery
 -- gives, with its session, its number, its command and its reply.
-pub record IsFoundAgain {D : Type 0} (disk : D → Disk) (now : Seen D) (past : List (Seen D)) (is : IsPast disk now past)
+pub record IsFoundAgain {D : Type 0} (disk : D → Disk) (now : VaultSeen D) (past : List (VaultSeen D)) (is : IsPast disk now past)
     (told : Receipt) : Type 0 where
   pub kept : IsKeptThrough disk now past is
   pub place : ℕ
@@ -128,7 +130,7 @@ pub record IsFoundAgain {D : Type 0} (disk : D → Disk) (now : Seen D) (past : 
       → slice_get (take (kept.inside x y stop).cut (history_of kept.one)) place ≡ Some (Given (entry_in told))
 
 -- so is each receipt whose entry was seen told at any point of a past
-abbrev pub ReceiptsAreFoundAgain : {D : Type 0} → (D → Disk) → Seen D → Type 0
+abbrev pub ReceiptsAreFoundAgain : {D : Type 0} → (D → Disk) → VaultSeen D → Type 0
 ReceiptsAreFoundAgain {D} disk now =
-    (past : List (Seen D)) (is : IsPast disk now past) (n : ℕ) (seen : Seen D) (told : Receipt) → slice_get (now ∷ past) n ≡ Some seen
-    → HasTold seen.view told → IsFoundAgain disk now past is told
+    (past : List (VaultSeen D)) (is : IsPast disk now past) (n : ℕ) (seen : VaultSeen D) (told : Receipt)
+    → slice_get (now ∷ past) n ≡ Some seen → HasTold seen.view told → IsFoundAgain disk now past is told

@@ -1,12 +1,12 @@
 -- Runs: any order of acts and crashes, each allowed where it stands. This project's own.
 use Rattle.std.specs.Prelude.{ℕ, List, [], ◌∷◌}
 use Rattle.vault_model.specs.Vault.{Vault}
-use Rattle.group_commit.specs.World.{World, Act, Gate, Allows, acted, crashed}
+use Rattle.group_commit.specs.World.{World, Act, GateLeft, Allows, acted, crashed}
 
 -- an act of the present life, or a crash with the restart behind it
 pub data Event : Type 0 where
   Within : (act : Act) → Event
-  Crash : (gate : Gate) → Event
+  Crash : (gate : GateLeft) → Event
 
 -- where an event is allowed: an act where it is, and a crash everywhere
 abbrev pub AllowsEvent : (Vault → ℕ) → World → Event → Type 0

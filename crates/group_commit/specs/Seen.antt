@@ -5,7 +5,7 @@ use Rattle.vault_model.specs.Vault.{Vault, IsVault, CountsBelow, durable}
 use Rattle.vault_store.specs.Snapshot.{snapshot_of}
 use Rattle.vault_store.specs.Phases.{is_idle}
 use Rattle.vault_store.specs.State.{StoreState}
-use Rattle.vault_store.specs.Seen.{Seen as StoreSeen}
+use Rattle.vault_store.specs.Seen.{StoreSeen}
 use Rattle.group_commit.specs.declared.mark.Mark.TheVariants.{Told}
 use Rattle.group_commit.specs.Entries.{mark_at, told_in}
 use Rattle.group_commit.specs.History.{IsLegal, members, effects}
@@ -14,7 +14,7 @@ use Rattle.group_commit.specs.View.{View, length_of, view_at, book_of}
 use Rattle.group_commit.specs.declared.window.TheConstants.{MOST_KEPT}
 
 -- the view of the present life, the life's number, and the store beneath, which has both devices and the numbers of the active file
-pub record Seen (D : Type 0) : Type 0 where
+pub record VaultSeen (D : Type 0) : Type 0 where
   pub view : View
   pub life : ℕ
   pub store : StoreSeen D

@@ -5,7 +5,7 @@ use Rattle.vault_model.specs.Said.{Command, Reply}
 use Rattle.group_commit.specs.Entries.{Entry}
 
 -- the life and the position of an entry, and its session, number and command
-pub record Claim : Type 0 where
+pub record TicketSeen : Type 0 where
   pub life : ℕ
   pub position : ℕ
   pub session : ℕ
@@ -21,12 +21,12 @@ pub record Told : Type 0 where
   pub reply : Reply
 
 -- the ticket of an entry
-abbrev pub claim_of : ℕ → ℕ → Entry → Claim
-claim_of life position entry =
+abbrev pub ticket_of : ℕ → ℕ → Entry → TicketSeen
+ticket_of life position entry =
     record { life = life; position = position; session = entry.session; number = entry.number; command = entry.command }
 
 -- the receipt for a ticket, with this reply
-abbrev pub told_for : Claim → Reply → Told
+abbrev pub told_for : TicketSeen → Reply → Told
 told_for claim reply =
     record { position = claim.position; session = claim.session; number = claim.number; command = claim.command; reply = reply }
 

@@ -96,18 +96,18 @@ acted snapshot w (Forget position) = record w { life = with_mark Forgotten w.lif
 acted snapshot w Retire = record w { retired = w.retired + 1 }
 
 -- where a gate is being opened, a crash leaves it closed or open
-pub data Gate : Type 0 where
-  StaysClosed : Gate
-  IsOpen : Gate
+pub data GateLeft : Type 0 where
+  StaysClosed : GateLeft
+  IsOpen : GateLeft
 
 -- how many entries of the present life a crash keeps: the settled ones, or the sealed ones where a gate was being opened and
 -- is found open
-abbrev pub kept_by : World → Gate → ℕ
+abbrev pub kept_by : World → GateLeft → ℕ
 kept_by w StaysClosed = w.settled
 kept_by w IsOpen = if is_opening w.phase then w.sealed else w.settled
 
 -- the world after a crash and a restart: a new life behind the entries that are kept
-abbrev pub crashed : World → Gate → World
+abbrev pub crashed : World → GateLeft → World
 crashed w gate = record {
   earlier = history_to w (kept_by w gate) ++ Restart ∷ [];
   life = [];
@@ -119,5 +119,5 @@ crashed w gate = record {
 }
 
 -- what recovery gives: the durable vault after the entries that are kept
-abbrev pub recovered : World → Gate → Vault
+abbrev pub recovered : World → GateLeft → Vault
 recovered w gate = durable (vault_at w (kept_by w gate))

@@ -7,7 +7,7 @@ ghost use Rattle.vault_store.specs.Opening.{IsNotOpened, IsHandedOn, AreLeftSett
 ghost use Rattle.vault_store.specs.State.{at_rest};
 ghost use Rattle.vault_store.specs.Seen.{first_of, second_of, Keeps};
 ghost use Rattle.group_commit.specs.View.{opened_view};
-ghost use Rattle.group_commit.specs.Seen.{Seen};
+ghost use Rattle.group_commit.specs.Seen.{VaultSeen};
 ghost use Rattle.group_commit.specs.Opened.{IsHandedOver};
 ghost use Rattle.group_commit.specs.Pasts.{IsStop, IsNext, StopsInOpening};
 
@@ -58,10 +58,10 @@ impl<D: Device, A: Allocator + Copy> Vault<D, A> {
               vault = vault.view.base;
               generation = vault.store.generation;
               tail = vault.store.tail;
-              journal = vault.store.journal;
+              journal_length = vault.store.journal_length;
             })) }
         ensures next { IsTrue (D.disk first).honest → IsTrue (D.disk second).honest
-            → IfOk result (λ vault. (old : Seen D) → IsStop D.disk old (D.disk first).shown (D.disk second).shown
+            → IfOk result (λ vault. (old : VaultSeen D) → IsStop D.disk old (D.disk first).shown (D.disk second).shown
             → IsNext D.disk old vault) }
         ensures stops { IfOk result (λ vault. StopsInOpening D.disk first second (first_of vault.store) (second_of vault.store)) }
         ensures handed_on { IfOk result

@@ -3,7 +3,7 @@ ghost use Rattle.std.specs.Prelude.{◌≡◌, List, [], ◌∷◌};
 ghost use Rattle.vault_model.specs.Vault.{new_vault};
 ghost use Rattle.vault_store.specs.Seen.{Keeps};
 ghost use Rattle.group_commit.specs.View.{opened_view};
-ghost use Rattle.group_commit.specs.Seen.{Seen, IsSoundView, state_of};
+ghost use Rattle.group_commit.specs.Seen.{VaultSeen, IsSoundView, state_of};
 ghost use Rattle.group_commit.specs.Promises.{ImagesStand, RecoveryGivesOnePrefix};
 ghost use Rattle.group_commit.specs.Pasts.{IsNext, IsPast};
 ghost use Rattle.group_commit.specs.Recovered.{EachPastIsKept, ReceiptsAreFoundAgain};
@@ -27,7 +27,7 @@ pub fn a_vault_keeps_its_history<D: Device, A: Allocator>(vault: &Vault<D, A>)
 /// makes its calls one after another, and opens it again where the machine stopped, has its past.
 pub fn a_past_goes_on<D: Device, A: Allocator>(vault: &Vault<D, A>)
     ensures begins { vault.now.view ≡ opened_view new_vault → IsPast D.disk vault.now [] }
-    ensures goes_on { (old : Seen D) (past : List (Seen D)) → IsPast D.disk old past → IsNext D.disk old vault.now
+    ensures goes_on { (old : VaultSeen D) (past : List (VaultSeen D)) → IsPast D.disk old past → IsNext D.disk old vault.now
         → IsPast D.disk vault.now (old ∷ past) }
 {
     a_vault_keeps_its_history(vault);

@@ -4,7 +4,7 @@ ghost use Rattle.vault_model.specs.Step.{step};
 ghost use Rattle.group_commit.specs.History.{entry_of};
 ghost use Rattle.group_commit.specs.World.{Stage};
 ghost use Rattle.group_commit.specs.View.{length_of, book_of, ViewAllows, view_acted};
-ghost use Rattle.group_commit.specs.Ticket.{claim_of};
+ghost use Rattle.group_commit.specs.Ticket.{ticket_of};
 ghost use Rattle.group_commit.specs.Seen.{snapshot_length};
 ghost use Rattle.group_commit.specs.Calls.{IsBusy, IsReason, noted};
 ghost use Rattle.group_commit.specs.Pasts.{IsNext};
@@ -32,7 +32,7 @@ impl<D: Device, A: Allocator + Copy> Vault<D, A> {
         ensures noted { OnOk result (self.new.store ≡ noted (step (book_of self.old.view) session command).effect self.old.store) }
         ensures life { self.new.life ≡ self.old.life }
         ensures ticket { IfOk result
-            (λ ticket. ticket ≡ claim_of self.old.life (length_of self.old.view) (entry_of (book_of self.old.view) session command)) }
+            (λ ticket. ticket ≡ ticket_of self.old.life (length_of self.old.view) (entry_of (book_of self.old.view) session command)) }
         ensures refused { OnErr result (self.new ≡ self.old) }
         ensures handed_back { IfErr result (λ refusal. refusal.1 ≡ command) }
         ensures reason { IfErr result (λ refusal. IsReason self.old refusal.0) }

@@ -1,6 +1,6 @@
 //! Tickets and receipts.
 ghost use Rattle.std.specs.Prelude.{◌≡◌};
-ghost use Rattle.group_commit.specs.Ticket.{claim_of, told_for};
+ghost use Rattle.group_commit.specs.Ticket.{ticket_of, told_for};
 
 use crate::entry::Entry;
 use std::alloc::{Allocator, Global};
@@ -16,16 +16,16 @@ pub struct Ticket<A: Allocator = Global> {
 }
 
 impl<A: Allocator> Model for Ticket<A> {
-    ghost use Rattle.group_commit.specs.Ticket.{Claim, claim_of};
+    ghost use Rattle.group_commit.specs.Ticket.{TicketSeen, ticket_of};
 
-    ghost Value = { Claim };
+    ghost Value = { TicketSeen };
 
-    ghost view = { λ t. claim_of t.life t.position t.entry.value.entry };
+    ghost view = { λ t. ticket_of t.life t.position t.entry.value.entry };
 }
 
 impl<A: Allocator> Ticket<A> {
     pub(crate) fn issue(life: u64, position: u64, entry: &Entry<A>) -> Ticket<A>
-        ensures { result ≡ claim_of life position entry.now.entry }
+        ensures { result ≡ ticket_of life position entry.now.entry }
     {
         Ticket {
             life,

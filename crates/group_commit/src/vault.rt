@@ -41,15 +41,15 @@ pub struct Vault<D: Device, A: Allocator = Global> {
 }
 
 impl<D: Device, A: Allocator> Model for Vault<D, A> {
-    ghost use Rattle.group_commit.specs.Seen.{Seen};
+    ghost use Rattle.group_commit.specs.Seen.{VaultSeen};
 
-    ghost Value = { Seen D };
+    ghost Value = { VaultSeen D };
 
-    ghost use Rattle.group_commit.specs.Inside.{seen_of, IsKept};
+    ghost use Rattle.group_commit.specs.Inside.{seen_of, IsSoundVault};
 
     ghost view = { seen_of };
 
-    ghost invariant = { λ v. IsKept D.disk (seen_of v) v.book };
+    ghost invariant = { λ v. IsSoundVault D.disk (seen_of v) v.book };
 }
 
 impl<D: Device, A: Allocator + Copy> Vault<D, A> {

@@ -6,7 +6,7 @@ use Rattle.std.proofs.lemmas.Bool.Decides.{nat_tests}
 use Rattle.vault_model.specs.Shelf.{Draft, shelved_all, drafts_weight, weight, is_shelvable}
 use Rattle.vault_model.proofs.Overlaps.{and_both}
 use Rattle.vault_model.proofs.Shelves.{are_short, have_room, shelvable-is, shelf_stays, weight-shelved_all}
-use Rattle.part_versions.specs.Kept.{IsKept}
+use Rattle.part_versions.specs.Kept.{IsSoundShelf}
 use Rattle.vault_model.specs.Limits.{most_versions, most_weight}
 use Rattle.vault_model.proofs.Lists.{and_never}
 use Rattle.part_versions.specs.Rooms.{weight_with, count_of}
@@ -30,19 +30,19 @@ from_some true m n e = (refl, cc)
 from_some false m n e = cc
 
 -- no weight: the drafts may not be shelved
-pub refused_by_weight : (shelf : List (List (List ℕ))) (drafts : List Draft) (known : ℕ) → IsKept shelf known → None ≡ weight_with known drafts → is_shelvable shelf drafts ≡ false
+pub refused_by_weight : (shelf : List (List (List ℕ))) (drafts : List Draft) (known : ℕ) → IsSoundShelf shelf known → None ≡ weight_with known drafts → is_shelvable shelf drafts ≡ false
 refused_by_weight shelf drafts known kept e =
     let P : ℕ → Type 0 = λ n. None ≡ weight_with n drafts in
     let none = from_none (are_short drafts && nat_le (weight shelf + drafts_weight drafts) most_weight) (weight shelf + drafts_weight drafts) (subst P kept.weighed e) in
     shelvable-is shelf drafts kept.shelf_is.few ∙ ap (λ t. t && have_room shelf drafts) none
 
 -- nor where there is no room
-pub refused_by_room : (shelf : List (List (List ℕ))) (drafts : List Draft) (known : ℕ) → IsKept shelf known → have_room shelf drafts ≡ false → is_shelvable shelf drafts ≡ false
+pub refused_by_room : (shelf : List (List (List ℕ))) (drafts : List Draft) (known : ℕ) → IsSoundShelf shelf known → have_room shelf drafts ≡ false → is_shelvable shelf drafts ≡ false
 refused_by_room shelf drafts known kept e =
     shelvable-is shelf drafts kept.shelf_is.few ∙ ap (λ t. are_short drafts && nat_le (weight shelf + drafts_weight drafts) most_weight && t) e ∙ and_never (are_short drafts && nat_le (weight shelf + drafts_weight drafts) most_weight)
 
 -- else they may, and the weight is the shelf's
-pub allowed : (shelf : List (List (List ℕ))) (drafts : List Draft) (known sum : ℕ) → IsKept shelf known → Some sum ≡ weight_with known drafts → have_room shelf drafts ≡ true
+pub allowed : (shelf : List (List (List ℕ))) (drafts : List Draft) (known sum : ℕ) → IsSoundShelf shelf known → Some sum ≡ weight_with known drafts → have_room shelf drafts ≡ true
     → (is_shelvable shelf drafts ≡ true) × (sum ≡ weight shelf + drafts_weight drafts)
 allowed shelf drafts known sum kept e room =
     let P : ℕ → Type 0 = λ n. Some sum ≡ weight_with n drafts in
@@ -50,7 +50,7 @@ allowed shelf drafts known sum kept e room =
     (shelvable-is shelf drafts kept.shelf_is.few ∙ ap (λ t. t && have_room shelf drafts) some.0 ∙ room, some.1)
 
 -- and it isn't too much
-pub not_too_heavy : (shelf : List (List (List ℕ))) (drafts : List Draft) (known sum : ℕ) → IsKept shelf known → Some sum ≡ weight_with known drafts → weight shelf + drafts_weight drafts ≤ most_weight
+pub not_too_heavy : (shelf : List (List (List ℕ))) (drafts : List Draft) (known sum : ℕ) → IsSoundShelf shelf known → Some sum ≡ weight_with known drafts → weight shelf + drafts_weight drafts ≤ most_weight
 not_too_heavy shelf drafts known sum kept e =
     let P : ℕ → Type 0 = λ n. Some sum ≡ weight_with n drafts in
     let some = from_some (are_short drafts && nat_le (weight shelf + drafts_weight drafts) most_weight) sum (weight shelf + drafts_weight drafts) (subst P kept.weighed e) in
@@ -58,10 +58,10 @@ not_too_heavy shelf drafts known sum kept e =
     grind (arith, nat_tests)
 
 -- what is known after all of them are appended
-pub kept_after : (shelf after : List (List (List ℕ))) (drafts given : List Draft) (known sum : ℕ) → IsKept shelf known → Some sum ≡ weight_with known drafts → have_room shelf drafts ≡ true → after ≡ shelved_all shelf given → given ≡ drafts → IsKept after sum
+pub kept_after : (shelf after : List (List (List ℕ))) (drafts given : List Draft) (known sum : ℕ) → IsSoundShelf shelf known → Some sum ≡ weight_with known drafts → have_room shelf drafts ≡ true → after ≡ shelved_all shelf given → given ≡ drafts → IsSoundShelf after sum
 kept_after shelf after drafts given known sum kept e room same is =
     let fits = allowed shelf drafts known sum kept e room in
-    let P : List (List (List ℕ)) → Type 0 = λ s. IsKept s sum in
+    let P : List (List (List ℕ)) → Type 0 = λ s. IsSoundShelf s sum in
     subst P (sym (same ∙ ap (shelved_all shelf) is)) (record {
       shelf_is = shelf_stays shelf drafts kept.shelf_is fits.0;
       weighed = fits.1 ∙ sym (weight-shelved_all shelf drafts);

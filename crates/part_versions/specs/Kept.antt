@@ -3,7 +3,7 @@ use Rattle.std.specs.Prelude.{◌≡◌, ℕ, List}
 use Rattle.vault_model.specs.Shelf.{weight, IsShelf}
 
 -- the shelf is well formed, and its weight is known
-pub record IsKept (shelf : List (List (List ℕ))) (weight_known : ℕ) : Type 0 where
+pub record IsSoundShelf (shelf : List (List (List ℕ))) (weight_known : ℕ) : Type 0 where
   -- invariants 1 and 2 of src/lib.rt
   pub shelf_is : IsShelf shelf
   pub weighed : weight_known ≡ weight shelf

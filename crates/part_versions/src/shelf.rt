@@ -21,13 +21,13 @@ pub struct Shelf<A: Allocator = Global> {
 
 impl<A: Allocator> Model for Shelf<A> {
     ghost use Rattle.std.specs.Prelude.{ℕ, List};
-    ghost use Rattle.part_versions.specs.Kept.{IsKept};
+    ghost use Rattle.part_versions.specs.Kept.{IsSoundShelf};
 
     ghost Value = { List (List (List ℕ)) };
 
     ghost view = { λ s. s.parts.items };
 
-    ghost invariant = { λ s. IsKept s.parts.items s.weight };
+    ghost invariant = { λ s. IsSoundShelf s.parts.items s.weight };
 }
 
 /// Why drafts were not appended, with the very drafts given back.

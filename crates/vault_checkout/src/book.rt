@@ -51,11 +51,11 @@ impl<A: Allocator> Model for Book<A> {
 
     ghost Value = { Vault };
 
-    ghost use Rattle.vault_checkout.specs.Seen.{vault_of, IsKept};
+    ghost use Rattle.vault_checkout.specs.Seen.{vault_of, IsSoundBook};
 
     ghost view = { vault_of };
 
-    ghost invariant = { IsKept };
+    ghost invariant = { IsSoundBook };
 }
 
 pub(crate) fn reply_of<A: Allocator>(id: ClaimId, standing: Standing) -> ReplyIn<A>

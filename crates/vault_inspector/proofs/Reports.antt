@@ -30,7 +30,7 @@ read_behind old mid g state vault reads honest read head =
 
 -- a whole file with a right head is read
 holds : (file : List ℕ) (g : ℕ) (vault : Vault) (frames tail : ℕ) → HasCurrentHead g file → (whole : IsWhole g file vault frames tail)
-    → Holds file (record { vault = vault; generation = g; tail = tail; journal = length (frames_bytes whole.list) })
+    → Holds file (record { vault = vault; generation = g; tail = tail; journal_length = length (frames_bytes whole.list) })
 holds file g vault frames tail head whole = record {
   front = front;
   is_front = record {

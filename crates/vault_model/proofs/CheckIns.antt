@@ -21,7 +21,7 @@ use Rattle.vault_model.specs.Shelf.{Draft, versions_of, weight, drafts_weight, i
 use Rattle.vault_model.specs.Drafts.{SavedDraft, comes_before, drafts_of, IsOrdered}
 use Rattle.vault_model.specs.Vault.{Vault, IsDraft, IsVault, session_of, weight_of}
 use Rattle.vault_model.specs.Changes.{with_versions}
-use Rattle.vault_model.specs.Step.{Outcome, ◌>>=◌, chained, refuse_if, usable, check_in, at_door, in_session, decide, told, step}
+use Rattle.vault_model.specs.Step.{Outcome, ◌>>=◌, chained, refuse_if, usable, check_in, at_door, in_session, decide, outcome_of, step}
 use Rattle.vault_model.specs.Laws.{CheckInKeepsTheWeight, CheckInIsRefusedForFullParts}
 use Rattle.vault_model.proofs.Overlaps.{and_both, eq_from}
 use Rattle.vault_model.proofs.Shelves.{are_short, have_room, few_at, le_true, true_le, shelvable-is, weight-shelved_all}
@@ -75,7 +75,7 @@ pub check_in_keeps_the_weight : CheckInKeepsTheWeight
 unfolding step
 check_in_keeps_the_weight v n number = by_decision (decide v n (commands.CheckIn number)) (decide_weighs v n number)
   where
-    by_decision : (r : Result Outcome Refusal) → weighs v r → weight_of (told n v r).vault ≡ weight_of v
+    by_decision : (r : Result Outcome Refusal) → weighs v r → weight_of (outcome_of n v r).vault ≡ weight_of v
     by_decision (Ok outcome) same = by_count (λ (w : Vault). weight_of w ≡ weight_of v) n outcome.vault same same
     by_decision (Err refusal) same = by_count (λ (w : Vault). weight_of w ≡ weight_of v) n v refl refl
 

@@ -23,7 +23,7 @@ use Rattle.vault_model.specs.Shelf.{is_shelvable}
 use Rattle.vault_model.specs.Drafts.{new_draft, drafts_of}
 use Rattle.vault_model.specs.Vault.{Vault, AreThere, session_of, counted, counted_in}
 use Rattle.vault_model.specs.Changes.{with_session, gone, with_place, with_check_out, with_hold, with_items, with_content, with_versions, without_check_out, without_hold}
-use Rattle.vault_model.specs.Step.{Outcome, ◌>>=◌, chained, refuse_if, refuse_by, is_owned_by, placed, usable, join, make, check_out, extension, extend, abandon, hold, release, state, list, may_save, save, check_in, fetch, count, at_door, in_session, decide, told, step}
+use Rattle.vault_model.specs.Step.{Outcome, ◌>>=◌, chained, refuse_if, refuse_by, is_owned_by, placed, usable, join, make, check_out, extension, extend, abandon, hold, release, state, list, may_save, save, check_in, fetch, count, at_door, in_session, decide, outcome_of, step}
 use Rattle.vault_model.proofs.Overlaps.{neither}
 use Rattle.vault_model.proofs.Growth.{find_place_there}
 use Rattle.vault_model.proofs.Kept.{length-placed, session_stands}
@@ -231,6 +231,6 @@ pub by_transition : (P : Option Effect → Vault → Type 0) (v : Vault) (n : �
 unfolding step Decided
 by_transition P v n command each = by_decision (decide v n command) (decide_is v n command)
   where
-    by_decision : (decision : Result Outcome Refusal) → Decided v decision → P (told n v decision).effect (told n v decision).vault
+    by_decision : (decision : Result Outcome Refusal) → Decided v decision → P (outcome_of n v decision).effect (outcome_of n v decision).vault
     by_decision (Ok outcome) change = each outcome.effect outcome.vault change
     by_decision (Err refusal) change = each None v answered

@@ -300,11 +300,11 @@ unfoldable pub decide : Vault → ℕ → Command → Result Outcome Refusal
 decide v number command =
     if number == 0 then at_door v command else (ok_or (session_of v.sessions number) NoSession >>= λ session. in_session v session command)
 
--- what a session is told, with its command counted: a refusal changes nothing else
-abbrev pub told : ℕ → Vault → Result Outcome Refusal → Outcome
-told number v (Ok outcome) = record outcome { vault = counted number outcome.vault }
-told number v (Err refusal) = record { reply = replies.Refused refusal; vault = counted number v; effect = None }
+-- what a session is answered, with its command counted: a refusal changes nothing else
+abbrev pub outcome_of : ℕ → Vault → Result Outcome Refusal → Outcome
+outcome_of number v (Ok outcome) = record outcome { vault = counted number outcome.vault }
+outcome_of number v (Err refusal) = record { reply = replies.Refused refusal; vault = counted number v; effect = None }
 
 -- The step of the vault at a session's command.
 unfoldable pub step : Vault → ℕ → Command → Outcome
-step v number command = told number v (decide v number command)
+step v number command = outcome_of number v (decide v number command)

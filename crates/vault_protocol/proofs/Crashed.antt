@@ -9,7 +9,7 @@ use Rattle.vault_store.specs.declared.phase.Phase.{Phase}
 use Rattle.vault_store.specs.Files.{header, frame_extra}
 use Rattle.vault_store.specs.Phases.{is_idle, is_snapshot, is_opening}
 use Rattle.group_commit.specs.View.{View, opened_view, view_at}
-use Rattle.group_commit.specs.Seen.{Seen, snapshot_length}
+use Rattle.group_commit.specs.Seen.{VaultSeen, snapshot_length}
 use Rattle.group_commit.specs.Calls.{behind_snapshot, gained, generation_after, tail_after}
 use Rattle.vault_device.specs.Picks.{gives_one}
 use Rattle.vault_protocol.specs.Talk.{Line, Talk, Said, none_each, said, crashed}
@@ -22,7 +22,7 @@ use Rattle.vault_protocol.proofs.Staging.{talk_of}
 abbrev pub found_open : Pick → View → Bool
 found_open pick v = gives_one pick && is_opening v.phase
 
-pub crashed_talk : {D : Type 0} (old lost next : Seen D) (sessions asked : List ℕ) (lines none : List Line) (now : Talk) (pick : Pick)
+pub crashed_talk : {D : Type 0} (old lost next : VaultSeen D) (sessions asked : List ℕ) (lines none : List Line) (now : Talk) (pick : Pick)
     → talk_of old sessions asked lines ≡ now
     → AreLost old lost
     → next.view ≡ opened_view (durable (view_at lost.view (cond (found_open pick lost.view) lost.view.sealed lost.view.settled)))
@@ -69,7 +69,7 @@ crashed_talk old lost next sessions asked lines none now pick is h view buffer g
     path = λ i. record { view = views i; buffer = ap length buffer i; generation = generations i; tail = tails i; sessions = none_each; asked = none_each; lines = empty i }
 
 -- what is printed: the texts that are known
-pub crashed_text : {D : Type 0} (old : Seen D) (sessions asked : List ℕ) (lines : List Line) (now : Talk) (pick : Pick) → talk_of old sessions asked lines ≡ now
+pub crashed_text : {D : Type 0} (old : VaultSeen D) (sessions asked : List ℕ) (lines : List Line) (now : Talk) (pick : Pick) → talk_of old sessions asked lines ≡ now
     → known_texts lines ≡ (said (crashed pick now)).text
 crashed_text old sessions asked lines now pick is =
     subst (λ (t : Talk). known_texts lines ≡ (said (crashed pick t)).text) is (sym (ap (λ (s : Said). s.text) (known_said (crashed pick (talk_of old sessions asked lines)) lines)))

@@ -7,11 +7,11 @@ use Rattle.group_commit.specs.declared.mark.Mark.TheVariants.{Forgotten as Gone}
 use Rattle.group_commit.specs.declared.answers.Forgotten.{Forgotten}
 use Rattle.group_commit.specs.declared.answers.Forgotten.TheVariants as answers
 use Rattle.group_commit.specs.Calls.{IsForgotten}
-use Rattle.group_commit.specs.Ticket.{Claim}
+use Rattle.group_commit.specs.Ticket.{TicketSeen}
 use Rattle.group_commit.specs.Entries.{Entry, Kept, with_mark}
 use Rattle.group_commit.specs.History.{Given, outcome_of, members, replay, effects}
 use Rattle.group_commit.specs.View.{View, view_at}
-use Rattle.group_commit.specs.Seen.{Seen, effects_between}
+use Rattle.group_commit.specs.Seen.{VaultSeen, effects_between}
 use Rattle.vault_protocol.specs.Saying.{AreLost}
 
 -- the entries, without marks
@@ -68,11 +68,11 @@ effects_between_same v kept from to e =
     ∙ effects_same (view_at v from) (take (to - from) (drop (from - v.retired) kept)) (take (to - from) (drop (from - v.retired) v.kept))
     (taken_same (to - from) (drop (from - v.retired) kept) (drop (from - v.retired) v.kept) (dropped_same (from - v.retired) kept v.kept e))
 
-pub lost_none : {D : Type 0} (seen : Seen D) → AreLost seen seen
+pub lost_none : {D : Type 0} (seen : VaultSeen D) → AreLost seen seen
 lost_none seen = record { store = refl; view = refl; entries = refl }
 
 -- one more ticket was given up
-pub lost_more : {D : Type 0} (old seen next : Seen D) (claim : Claim) (answer : Forgotten) → AreLost old seen → IsForgotten seen next claim answer → AreLost old next
+pub lost_more : {D : Type 0} (old seen next : VaultSeen D) (claim : TicketSeen) (answer : Forgotten) → AreLost old seen → IsForgotten seen next claim answer → AreLost old next
 lost_more old seen next claim answers.Here h f = subst (AreLost old) (sym f.1) (record {
   store = h.store;
   view = ap (λ (v : View). record v { kept = with_mark Gone seen.view.kept (claim.position - seen.view.retired) }) h.view;
@@ -80,7 +80,7 @@ lost_more old seen next claim answers.Here h f = subst (AreLost old) (sym f.1) (
 })
 lost_more old seen next claim answers.Stranger h f = subst (AreLost old) (sym f.0) h
 
-pub lost_then : {D : Type 0} (old seen next : Seen D) → AreLost old seen → AreLost seen next → AreLost old next
+pub lost_then : {D : Type 0} (old seen next : VaultSeen D) → AreLost old seen → AreLost seen next → AreLost old next
 lost_then old seen next h f = record {
   store = f.store ∙ h.store;
   view = f.view ∙ ap (λ (v : View). record v { kept = next.view.kept }) h.view;

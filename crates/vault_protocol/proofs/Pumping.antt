@@ -12,7 +12,7 @@ use Rattle.vault_store.specs.Phases.{is_idle}
 use Rattle.vault_store.specs.Seen.{started_seen}
 use Rattle.group_commit.specs.World.{Pump, StartSnapshot}
 use Rattle.group_commit.specs.View.{book_of, view_row, view_acted}
-use Rattle.group_commit.specs.Seen.{Seen, snapshot_length}
+use Rattle.group_commit.specs.Seen.{VaultSeen, snapshot_length}
 use Rattle.group_commit.specs.Calls.{AreNumbers, MayStart, generation_after, tail_after}
 use Rattle.group_commit.proofs.Pumps.{idle_is}
 use Rattle.vault_protocol.specs.Talk.{Line, Talk, pumped, may_start, started}
@@ -27,7 +27,7 @@ emptied true buffer = refl
 emptied false buffer = refl
 
 -- a pump that was answered, by a vault that no device call had failed of
-pub pumped_talk : {D : Type 0} (old new : Seen D) (answer : Pumped) (sessions asked : List ℕ) (lines : List Line) (now : Talk)
+pub pumped_talk : {D : Type 0} (old new : VaultSeen D) (answer : Pumped) (sessions asked : List ℕ) (lines : List Line) (now : Talk)
     → talk_of old sessions asked lines ≡ now
     → answer ≢ answers.Broken
     → (old.view.broken ≡ true → ◌≡◌ {A = Result Pumped Fault} (Ok answer) (Ok answers.Broken))
@@ -49,7 +49,7 @@ pumped_talk old new answer sessions asked lines now is answered broken row view 
     })
 
 -- The start of a snapshot, by a vault that no device call had failed of.
-module _ {D E : Type 0} (old new : Seen D) (answer : Started) (sessions asked : List ℕ) (lines : List Line) (now : Talk)
+module _ {D E : Type 0} (old new : VaultSeen D) (answer : Started) (sessions asked : List ℕ) (lines : List Line) (now : Talk)
     (is : talk_of old sessions asked lines ≡ now) (whole : old.view.broken ≡ false)
     (view : ◌≡◌ {A = Result Started E} (Ok answer) (Ok starts.Yes) → new.view ≡ view_acted snapshot_length old.view StartSnapshot)
     (store : ◌≡◌ {A = Result Started E} (Ok answer) (Ok starts.Yes) → new.store ≡ started_seen old.store (durable (book_of old.view)))
@@ -81,7 +81,7 @@ module _ {D E : Type 0} (old new : Seen D) (answer : Started) (sessions asked : 
   at_not_now e =
       let rests : ◌≡◌ {A = Result Started E} (Ok answer) (Ok starts.NotNow) = ap Ok e in
       let stays : may_start before ≡ false = refuted (may_start before) (λ able. may_not rests (has_to able)) in
-      ap (λ (s : Seen D). talk_of s sessions asked lines) (same rests)
+      ap (λ (s : VaultSeen D). talk_of s sessions asked lines) (same rests)
       ∙ sym (ap (λ b. cond b (record before { view = view_acted snapshot_length old.view StartSnapshot; buffer = 0 }) before) stays)
 
   pub started_talk : talk_of new sessions asked lines ≡ started now

@@ -14,7 +14,7 @@ use Rattle.vault_store.specs.Phases.{is_snapshot, is_opening}
 use Rattle.vault_store.specs.Seen.{of_file, first_of, second_of, Keeps, settled_reading, counted_reading, sealed_reading, gate_at, gated, IsByGate, IsLeftWhile}
 use Rattle.vault_store.specs.Laws.{AreHonest, OneReading}
 use Rattle.group_commit.specs.View.{view_at}
-use Rattle.group_commit.specs.Seen.{Seen, snapshot_length, state_of, effects_between}
+use Rattle.group_commit.specs.Seen.{VaultSeen, snapshot_length, state_of, effects_between}
 use Rattle.group_commit.specs.Calls.{behind_snapshot, gained, generation_after, tail_after}
 use Rattle.group_commit.specs.Promises.{ImagesStand}
 use Rattle.group_commit.proofs.Order.{opening_is_busy}
@@ -22,7 +22,7 @@ use Rattle.vault_device.specs.Picks.{gives_one}
 use Rattle.vault_device.proofs.Picks.{picks_decide}
 
 -- what a stop leaves, where the gate that is being opened is found open, and where it isn't
-pub record IsReopened (seen : Seen MemDisk) (opened : Bool) (base : Vault) (generation tail : ℕ) : Type 0 where
+pub record IsReopened (seen : VaultSeen MemDisk) (opened : Bool) (base : Vault) (generation tail : ℕ) : Type 0 where
   pub base_is : base ≡ durable (view_at seen.view (cond opened seen.view.sealed seen.view.settled))
   pub generation_is : generation ≡ cond opened (generation_after seen.view (Ok Settled) seen.store.generation) seen.store.generation
   pub tail_is : tail ≡ cond opened (tail_after seen.view (Ok Settled) seen.store.tail) seen.store.tail
@@ -38,11 +38,11 @@ picked_one : (pick : Pick) (b : Bool) (active spare : MemDisk) (x y : List ℕ) 
 picked_one pick true active spare x y is also = also
 picked_one pick false active spare x y is also = is
 
-module _ (seen : Seen MemDisk) (pick : Pick) (x y : List ℕ) (base : Vault) (generation tail journal : ℕ)
+module _ (seen : VaultSeen MemDisk) (pick : Pick) (x y : List ℕ) (base : Vault) (generation tail journal_length : ℕ)
     (keeps : Keeps disk_of seen.store (state_of seen.view)) (stand : ImagesStand disk_of seen) (one : OneReading) (whole : seen.view.broken ≡ false)
     (is : x ≡ picked pick (content_of (first_of seen.store).history)) (also : y ≡ picked pick (content_of (second_of seen.store).history))
     (image : (disk_of (first_of seen.store)).IsImage x) (other : (disk_of (second_of seen.store)).IsImage y)
-    (read : AreRead x y (record { vault = base; generation = generation; tail = tail; journal = journal })) where
+    (read : AreRead x y (record { vault = base; generation = generation; tail = tail; journal_length = journal_length })) where
   honest : AreHonest disk_of seen.store
   honest = record { first = refl; second = refl }
 

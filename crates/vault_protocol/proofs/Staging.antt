@@ -7,17 +7,17 @@ use Rattle.vault_model.specs.Said.{Command, Effect}
 use Rattle.vault_model.specs.Step.{step}
 use Rattle.vault_model.proofs.Lists.{refuted, and_never}
 use Rattle.vault_journal.specs.Spelling.{record_of}
-use Rattle.vault_store.specs.Seen.{Seen as StoreSeen, has_room, most_noted, last_tail}
+use Rattle.vault_store.specs.Seen.{StoreSeen, has_room, most_noted, last_tail}
 use Rattle.group_commit.specs.World.{Stage}
 use Rattle.group_commit.specs.View.{View, length_of, book_of, view_acted}
 use Rattle.group_commit.specs.Entries.{opened}
 use Rattle.group_commit.specs.History.{entry_of}
-use Rattle.group_commit.specs.Seen.{Seen, snapshot_length, most_kept}
+use Rattle.group_commit.specs.Seen.{VaultSeen, snapshot_length, most_kept}
 use Rattle.group_commit.specs.Calls.{IsBusy, noted}
 use Rattle.vault_protocol.specs.Talk.{Line, Awaited, Talk, is_full, noted_length, staged}
 
 -- what contracts see of a runner
-abbrev pub talk_of : {D : Type 0} → Seen D → List ℕ → List ℕ → List Line → Talk
+abbrev pub talk_of : {D : Type 0} → VaultSeen D → List ℕ → List ℕ → List Line → Talk
 talk_of seen sessions asked lines = record { view = seen.view; buffer = length seen.store.buffer; generation = seen.store.generation; tail = seen.store.tail; sessions = sessions; asked = asked; lines = lines }
 
 noted_size : {D : Type 0} (effect : Option Effect) (store : StoreSeen D) → length (noted effect store).buffer ≡ length store.buffer + noted_length effect
@@ -36,7 +36,7 @@ one_longer : (v : View) (session : ℕ) (command : Command) → length_of (view_
 one_longer v session command = omega (arith, length-append v.kept (opened (entry_of (book_of v) session command) ∷ []))
 
 -- a vault that isn't busy isn't full
-pub not_full : {D : Type 0} (seen : Seen D) (sessions asked : List ℕ) (lines : List Line) → (IsBusy seen → ⊥) → is_full (talk_of seen sessions asked lines) ≡ false
+pub not_full : {D : Type 0} (seen : VaultSeen D) (sessions asked : List ℕ) (lines : List Line) → (IsBusy seen → ⊥) → is_full (talk_of seen sessions asked lines) ≡ false
 not_full seen sessions asked lines h =
     let kept : nat_le most_kept (length seen.view.kept) ≡ false = refuted _ (λ t. h (inl (leb-true _ _ t))) in
     let last : (length_of seen.view == 2 ^ 64 - 1) ≡ false = refuted _ (λ t. h (inr (inr (eqb-true _ _ t)))) in
@@ -49,7 +49,7 @@ not_full seen sessions asked lines h =
     ∙ ap (λ b. b || nat_le last_tail seen.store.tail) buffer ∙ tail
 
 -- a busy one is
-pub busy_is_full : {D : Type 0} (seen : Seen D) (sessions asked : List ℕ) (lines : List Line) → IsBusy seen → is_full (talk_of seen sessions asked lines) ≡ true
+pub busy_is_full : {D : Type 0} (seen : VaultSeen D) (sessions asked : List ℕ) (lines : List Line) → IsBusy seen → is_full (talk_of seen sessions asked lines) ≡ true
 busy_is_full seen sessions asked lines busy = by_test (is_full (talk_of seen sessions asked lines)) refl
   where
     none : is_full (talk_of seen sessions asked lines) ≡ false → ⊥
@@ -74,7 +74,7 @@ busy_is_full seen sessions asked lines busy = by_test (is_full (talk_of seen ses
     by_test true e = e
     by_test false e = absurd (none e)
 
-pub staged_talk : {D : Type 0} (old new : Seen D) (sessions asked : List ℕ) (lines more : List Line) (now refused : Talk) (connection session place len : ℕ) (command : Command)
+pub staged_talk : {D : Type 0} (old new : VaultSeen D) (sessions asked : List ℕ) (lines more : List Line) (now refused : Talk) (connection session place len : ℕ) (command : Command)
     → talk_of old sessions asked lines ≡ now
     → (IsBusy old → ⊥)
     → session ≡ slice_index sessions (connection - 1)

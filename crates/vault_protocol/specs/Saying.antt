@@ -1,7 +1,7 @@
 -- How lines are printed one by one. This project's own.
 use Rattle.std.specs.Prelude.{◌≡◌, ℕ, nat_lt, Bool, true, false, List, [], ◌∷◌, ◌++◌, map}
 use Rattle.group_commit.specs.Entries.{Kept}
-use Rattle.group_commit.specs.Seen.{Seen}
+use Rattle.group_commit.specs.Seen.{VaultSeen}
 use Rattle.vault_protocol.specs.Talk.{Line, Known, Awaited, Talk, Said, told, told_text, reply_at}
 
 -- whether the first of these lines may be printed: its text is known, or its entry is settled
@@ -30,7 +30,7 @@ known_texts (Known text ∷ lines) = text ++ known_texts lines
 known_texts (Awaited connection position ∷ lines) = known_texts lines
 
 -- tickets were given up: the same vault, but for the marks of entries
-pub record AreLost {D : Type 0} (old new : Seen D) : Type 0 where
+pub record AreLost {D : Type 0} (old new : VaultSeen D) : Type 0 where
   pub store : new.store ≡ old.store
   pub view : new.view ≡ record old.view { kept = new.view.kept }
   pub entries : map (λ (kept : Kept). kept.entry) new.view.kept ≡ map (λ (kept : Kept). kept.entry) old.view.kept

@@ -5,7 +5,7 @@ use Rattle.vault_device.specs.declared.history.Pick.{Pick}
 use Rattle.vault_store.specs.declared.phase.Phase.TheVariants.{Idle}
 use Rattle.group_commit.specs.declared.mark.Mark.TheVariants.{Told}
 use Rattle.group_commit.specs.Entries.{Kept}
-use Rattle.group_commit.specs.World.{new_world, Act, Gate, StaysClosed, IsOpen}
+use Rattle.group_commit.specs.World.{new_world, Act, GateLeft, StaysClosed, IsOpen}
 use Rattle.group_commit.specs.Runs.{Event, Within, Crash, run, IsRun}
 use Rattle.group_commit.specs.View.{View, view_of, length_of}
 use Rattle.group_commit.specs.Seen.{snapshot_length}
@@ -63,7 +63,7 @@ RunsGoOn =
     → GoesOnTo events (reached_by (lines ++ more)).view × GoesOnTo events (ended_by (lines ++ more)).view
 
 -- how a stop with this pick finds a gate that is being opened
-abbrev pub gate_of : Pick → Gate
+abbrev pub gate_of : Pick → GateLeft
 gate_of pick = if gives_one pick then IsOpen else StaysClosed
 
 -- a line that stops the devices is one crash, with the gate of its pick

@@ -6,10 +6,10 @@ use Rattle.vault_store.specs.declared.phase.Advanced.{Advanced as Pumped}
 use Rattle.vault_store.specs.declared.phase.Advanced.TheVariants as answers
 use Rattle.group_commit.specs.World.{Pump, Fault}
 use Rattle.group_commit.specs.View.{View, length_of, view_row, ViewAllows, view_acted}
-use Rattle.group_commit.specs.Seen.{Seen, snapshot_length}
+use Rattle.group_commit.specs.Seen.{VaultSeen, snapshot_length}
 
 -- a broken vault stays as it is; else the row of the phase table was made, or its device call failed and broke the vault
-pub record IsPumped {D : Type 0} (old : Seen D) (result : Result Pumped DeviceFault) (new : Seen D) : Type 0 where
+pub record IsPumped {D : Type 0} (old : VaultSeen D) (result : Result Pumped DeviceFault) (new : VaultSeen D) : Type 0 where
   pub broken : old.view.broken ≡ true → (result ≡ Ok answers.Broken) × (new ≡ old)
   pub answer : old.view.broken ≡ false → IfOk result (λ answer. answer ≡ (view_row snapshot_length old.view).answer)
   pub pumped : old.view.broken ≡ false → OnOk result (new.view ≡ view_acted snapshot_length old.view Pump)

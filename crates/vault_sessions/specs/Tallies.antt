@@ -2,19 +2,19 @@
 use Rattle.std.specs.Prelude.{◌≡◌, ◌+◌}
 use Rattle.group_commit.specs.declared.answers.Redeemed.{Redeemed}
 use Rattle.group_commit.specs.declared.answers.Redeemed.TheVariants as redeemed
-use Rattle.group_commit.specs.Ticket.{Claim, Told}
+use Rattle.group_commit.specs.Ticket.{TicketSeen, Told}
 use Rattle.group_commit.specs.View.{View, length_of}
 use Rattle.vault_sessions.specs.declared.tally.Totals.{Totals}
 
 -- a receipt is of the entry that a ticket names
-pub record IsReceiptFor (claim : Claim) (told : Told) : Type 0 where
+pub record IsReceiptFor (claim : TicketSeen) (told : Told) : Type 0 where
   pub position : told.position ≡ claim.position
   pub session : told.session ≡ claim.session
   pub number : told.number ≡ claim.number
   pub command : told.command ≡ claim.command
 
 -- the receipt is for the ticket, or the ticket came back
-abbrev pub IsOfTicket : {A : Type 0} → Claim → Redeemed A → Type 0
+abbrev pub IsOfTicket : {A : Type 0} → TicketSeen → Redeemed A → Type 0
 IsOfTicket claim (redeemed.Told receipt) = IsReceiptFor claim receipt
 IsOfTicket claim (redeemed.NotYet back) = back ≡ claim
 IsOfTicket claim (redeemed.Stranger back) = back ≡ claim

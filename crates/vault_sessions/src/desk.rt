@@ -6,7 +6,7 @@ ghost use Rattle.vault_store.specs.Seen.{wants_snapshot};
 ghost use Rattle.group_commit.specs.World.{Stage, StartSnapshot};
 ghost use Rattle.group_commit.specs.View.{length_of, book_of, view_acted};
 ghost use Rattle.group_commit.specs.Seen.{snapshot_length};
-ghost use Rattle.group_commit.specs.Ticket.{claim_of};
+ghost use Rattle.group_commit.specs.Ticket.{ticket_of};
 ghost use Rattle.group_commit.specs.Calls.{IsReason, IsRedeemed, IsForgotten, IsRetired, MayStart};
 ghost use Rattle.group_commit.specs.Pasts.{IsNext};
 ghost use Rattle.vault_sessions.specs.Tallies.{IsOfTicket, CountsRedeem};
@@ -19,7 +19,7 @@ use crate::tally::{Share, Tally};
 use group_commit::{Forgotten, Phase, Pumped, Redeemed, Retired, Started, Ticket, Vault};
 use std::alloc::{Allocator, Global};
 use std::marker::Model;
-use std::sync::ledger::Book;
+use std::sync::ledger::Book as LedgerBook;
 use vault_device::{Device, Fault};
 use vault_model::{CommandIn, NoMemory, Outside};
 
@@ -30,9 +30,9 @@ pub struct Desk<D: Device, S: Tally, T: Tally, A: Allocator = Global> {
     /// The vault that all workers share.
     pub(crate) vault: Vault<D, A>,
     /// The book of the tally of staged commands.
-    pub(crate) staged: Book<S>,
+    pub(crate) staged: LedgerBook<S>,
     /// The book of the tally of told entries.
-    pub(crate) told: Book<T>,
+    pub(crate) told: LedgerBook<T>,
     /// The share that counts what there was when the desk was opened.
     pub(crate) opening: Share<S, T>,
     /// Whether the flusher is to end once all is settled.
@@ -66,7 +66,7 @@ impl<D: Device, S: Tally, T: Tally, A: Allocator + Copy> Desk<D, S, T, A> {
         ensures staged { OnOk result (self.new.vault.view ≡ view_acted snapshot_length self.old.vault.view (Stage session command)) }
         ensures counted { OnOk result (share.new ≡ record share.old { staged = share.old.staged + 1 }) }
         ensures ticket { IfOk result
-            (λ ticket. ticket ≡ claim_of self.old.vault.life (length_of self.old.vault.view)
+            (λ ticket. ticket ≡ ticket_of self.old.vault.life (length_of self.old.vault.view)
             (entry_of (book_of self.old.vault.view) session command)) }
         ensures asked { IfOk result (λ ticket. (ticket.session ≡ session) × (ticket.command ≡ command)) }
         ensures refused { OnErr result ((self.new ≡ self.old) × (share.new ≡ share.old)) }

@@ -224,9 +224,7 @@ impl<D: Device, S: Tally, T: Tally, A: Allocator + Copy, G: Gate, H: Wait> Worke
             Ok(ticket) => {
                 let wakes = desk.wakes_flusher(may_change);
                 drop(desk);
-                if wakes {
-                    shared.work.notify_one();
-                }
+                self.wake(wakes);
                 Ok(ticket)
             }
             Err((outside, _command)) => {
@@ -262,6 +260,13 @@ impl<D: Device, S: Tally, T: Tally, A: Allocator + Copy, G: Gate, H: Wait> Worke
         Waited::Unknown(ticket)
     }
 
+    // Wakes the flusher, if it is to be woken.
+    fn wake(&self, wakes: bool) {
+        if wakes {
+            self.shared.work.notify_one();
+        }
+    }
+
     // Spends a ticket without its reply.
     fn forget(&self, ticket: Ticket<A>) {
         let shared = self.shared;
@@ -288,9 +293,7 @@ impl<D: Device, S: Tally, T: Tally, A: Allocator + Copy, G: Gate, H: Wait> Worke
                 Ok(ticket) => {
                     let wakes = desk.wakes_flusher(false);
                     drop(desk);
-                    if wakes {
-                        shared.work.notify_one();
-                    }
+                    self.wake(wakes);
                     return Some(ticket);
                 }
                 Err((Outside::Busy, _command)) => {

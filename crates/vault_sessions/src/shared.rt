@@ -8,7 +8,7 @@ use crate::tally::{Share, Tally, Totals};
 use group_commit::Vault;
 use std::alloc::{AllocError, Allocator, Global};
 use std::marker::Model;
-use std::sync::ledger::{Blank, Book, Share as Part};
+use std::sync::ledger::{Blank, Book as LedgerBook, Share as Part};
 use std::sync::{Condvar, Mutex, Wait};
 use vault_device::Device;
 
@@ -174,8 +174,8 @@ fn merge<D: Device, S: Tally, T: Tally, A: Allocator + Copy>(
 
 // What all shares count. With the opening share they have all that the books have.
 fn add_up<S: Tally, T: Tally, A: Allocator>(
-    mut staged: Book<S>,
-    mut told: Book<T>,
+    mut staged: LedgerBook<S>,
+    mut told: LedgerBook<T>,
     opening: Share<S, T>,
     mut shares: Vec<Share<S, T>, A>,
 ) -> Totals

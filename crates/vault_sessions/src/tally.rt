@@ -2,7 +2,7 @@
 ghost use Rattle.std.specs.Prelude.{◌≡◌, ℕ, ◌+◌, ◌≤◌};
 
 use std::marker::{Brand, Model};
-use std::sync::ledger::{Book, Ledger, Share as Part};
+use std::sync::ledger::{Book as LedgerBook, Ledger, Share as Part};
 
 /// A ledger that counts for one `Shared`.
 pub trait Tally: Ledger {
@@ -62,8 +62,8 @@ impl<S: Tally, T: Tally> Share<S, T> {
     pub(crate) fn audit_beside(
         &mut self,
         other: &mut Share<S, T>,
-        staged: &mut Book<S>,
-        told: &mut Book<T>,
+        staged: &mut LedgerBook<S>,
+        told: &mut LedgerBook<T>,
     )
         ensures same { (self.new ≡ self.old) × (other.new ≡ other.old) }
         ensures books { (staged.new.total ≡ staged.old.total) × (told.new.total ≡ told.old.total) }
@@ -81,7 +81,12 @@ impl<S: Tally, T: Tally> Share<S, T> {
 }
 
 // What two parts have lies within the book.
-fn audit_both<L: Ledger>(book: &mut Book<L>, mine: &mut Part<L>, other: &mut Part<L>, amount: u64)
+fn audit_both<L: Ledger>(
+    book: &mut LedgerBook<L>,
+    mine: &mut Part<L>,
+    other: &mut Part<L>,
+    amount: u64,
+)
     requires parts { (mine.old.parts ≡ 1) × (other.old.parts ≡ 1) }
     requires amount { other.old.amount ≡ amount }
     ensures book { book.new.total ≡ book.old.total }

@@ -18,7 +18,7 @@ use Rattle.vault_store.specs.Phases.{is_idle, is_snapshot, may_open}
 use Rattle.vault_store.specs.State.{StoreState}
 use Rattle.vault_store.specs.OnDisk.{IsEither, IsOnDisk}
 use Rattle.vault_store.specs.Spares.{IsSpareOn}
-use Rattle.vault_store.specs.Seen.{Seen, of_file, other, first_of, second_of, Keeps, IsLeftInside}
+use Rattle.vault_store.specs.Seen.{StoreSeen, of_file, other, first_of, second_of, Keeps, IsLeftInside}
 use Rattle.vault_store.specs.Step.{renews, gained, IsAtMostOneCall, IsStep, AreNumbers, MayBeLeft, IsAdvance}
 use Rattle.vault_store.proofs.Asides.{aside_of}
 use Rattle.vault_store.proofs.Disks.{to_written, to_bodied, to_gated, to_idle, behind_ends, opening_either}
@@ -51,7 +51,7 @@ none_called first second result never = record {
 }
 
 -- what is left between steps may be left inside one
-inside_in : {D : Type 0} (store : Seen D) (s : StoreState) (p : Phase) (x y : List ℕ) → IsLeftHere store (record s { phase = p }) x y → IsLeftInside store (record s { phase = p }) x y
+inside_in : {D : Type 0} (store : StoreSeen D) (s : StoreState) (p : Phase) (x y : List ℕ) → IsLeftHere store (record s { phase = p }) x y → IsLeftInside store (record s { phase = p }) x y
 inside_in store s Opening x y was = elim (cases_eq (get_or x store.tail 0) 1) [ inl is ↦ inr (refl, was.opened is) | inr other ↦ inl (was.shut other) ]
 inside_in store s SnapOpening x y was = elim (cases_eq (get_or y 0 0) 1) [ inl is ↦ inr (refl, was.opened is) | inr other ↦ inl (was.shut other) ]
 inside_in store s Idle x y was = inl was
@@ -64,7 +64,7 @@ inside_in store s Filled x y was = inl was
 inside_in store s Ready x y was = inl was
 
 -- a step that makes no call leaves what was left before
-pub unmoved : {D : Type 0} (disk : D → Disk) (store : Seen D) → (IsTrue (disk store.active).honest → IsLawful (disk store.active)) → (IsTrue (disk store.spare).honest → IsLawful (disk store.spare))
+pub unmoved : {D : Type 0} (disk : D → Disk) (store : StoreSeen D) → (IsTrue (disk store.active).honest → IsLawful (disk store.active)) → (IsTrue (disk store.spare).honest → IsLawful (disk store.spare))
     → (s : StoreState) (x y : List ℕ) → Keeps disk store s → IsTrue (disk (first_of store)).honest → IsTrue (disk (second_of store)).honest
     → MayBeLeft (disk (first_of store)) (disk (second_of store)) (disk (first_of store)) (disk (second_of store)) x y → IsLeftInside store s x y
 unmoved disk store lawful lawful_spare s x y keeps =
@@ -72,7 +72,7 @@ unmoved disk store lawful lawful_spare s x y keeps =
     (λ v w one two may. inside_in store s s.phase v w (left disk store s keeps one two v w ((lawful one).only_now v may.0) ((lawful_spare two).only_now w may.1))) x y
 
 -- what a stop inside a step that makes this of the active device leaves is read
-abbrev pub AreMoments : {D : Type 0} → (D → Disk) → Seen D → D → StoreState → List ℕ → List ℕ → Type 0
+abbrev pub AreMoments : {D : Type 0} → (D → Disk) → StoreSeen D → D → StoreState → List ℕ → List ℕ → Type 0
 AreMoments disk old active s x y =
     IsTrue (disk (first_of old)).honest → IsTrue (disk (second_of old)).honest → MayBeLeft (disk (first_of old)) (disk (second_of old)) (disk (of_file old.which active old.spare)) (disk (of_file old.which old.spare active)) x y → IsLeftInside old s x y
 
@@ -83,7 +83,7 @@ LeavesFront old new tail p = (front records x : List ℕ) → length front ≡ t
 abbrev pub LeavesEither : Disk → Disk → ℕ → Phase → Type 0
 LeavesEither old new tail p = (front records x : List ℕ) → length front ≡ tail → IsOnDisk old p false front records → new.WasImage old.moment x → IsEither front records x
 
-module _ {D : Type 0} (disk : D → Disk) (old : Seen D) (active : D) (p : Phase) (is : old.phase ≡ p) (unbroken : old.broken ≡ false) (lawful_spare : IsTrue (disk old.spare).honest → IsLawful (disk old.spare)) where
+module _ {D : Type 0} (disk : D → Disk) (old : StoreSeen D) (active : D) (p : Phase) (is : old.phase ≡ p) (unbroken : old.broken ≡ false) (lawful_spare : IsTrue (disk old.spare).honest → IsLawful (disk old.spare)) where
   -- a state that the store keeps, as one in the phase
   pub in_phase : (s : StoreState) → Keeps disk old s → record s { phase = p; broken = false } ≡ s
   in_phase s keeps = at_phase s p (sym keeps.phase ∙ is) (sym keeps.broken ∙ unbroken)
@@ -123,7 +123,7 @@ module _ {D : Type 0} (disk : D → Disk) (old : Seen D) (active : D) (p : Phase
     which = ap (λ (b : Bool). cond b (other old.which) old.which) (sym still);
     generation = ap (λ (b : Bool). cond b (old.generation + 1) old.generation) (sym still);
     tail = let same : old.tail ≡ old.tail + gained old result = omega (arith, none) in same ∙ ap (λ (b : Bool). cond b (length old.rest) (old.tail + gained old result)) (sym still);
-    journal = let same : old.journal ≡ old.journal + gained old result = omega (arith, none) in same ∙ ap (λ (b : Bool). cond b 0 (old.journal + gained old result)) (sym still);
+    journal_length = let same : old.journal_length ≡ old.journal_length + gained old result = omega (arith, none) in same ∙ ap (λ (b : Bool). cond b 0 (old.journal_length + gained old result)) (sym still);
     buffer = ap (λ (b : Bool). cond (b && not old.broken) [] old.buffer) (sym (ap is_idle is ∙ busy));
   }
 
@@ -148,7 +148,7 @@ moved_on answer not_idle not_broken = elim [ inl is ↦ not_idle cc | inr is ↦
 pub failed_on : (fault : Fault) → (◌≡◌ {A = Result Advanced Fault} (Err fault) (Ok answers.Idle)) ⊎ (◌≡◌ {A = Result Advanced Fault} (Err fault) (Ok answers.Broken)) → ⊥
 failed_on fault = elim [ inl is ↦ cc | inr is ↦ cc ]
 
-module _ {D : Type 0} (disk : D → Disk) (old : Seen D) (active : D) (unbroken : old.broken ≡ false) (lawful : IsTrue (disk old.active).honest → IsLawful (disk old.active)) (lawful_spare : IsTrue (disk old.spare).honest → IsLawful (disk old.spare)) where
+module _ {D : Type 0} (disk : D → Disk) (old : StoreSeen D) (active : D) (unbroken : old.broken ≡ false) (lawful : IsTrue (disk old.active).honest → IsLawful (disk old.active)) (lawful_spare : IsTrue (disk old.spare).honest → IsLawful (disk old.spare)) where
   -- the moves of the rows
 
   pub settles_body : IsTrue (disk old.active).honest → IsSync {E = Fault} (Ok tt) (disk old.active) (disk active) → IsMove (disk old.active) (disk active) old.tail old.sealed Written Bodied false
@@ -231,19 +231,19 @@ module _ {D : Type 0} (disk : D → Disk) (old : Seen D) (active : D) (unbroken 
   settles_gate honest sync front records stands on = to_idle (disk old.active) (disk active) front records on (lawful honest) sync
 
   -- the gate is settled, and the frame belongs to the file
-  pub gate_settled : (tail journal : ℕ) → tail ≡ old.tail + (old.sealed + 5) → journal ≡ old.journal + (old.sealed + 5) → old.phase ≡ Opening → IsOneCall {A = Unit {0}} {E = Fault} (disk old.active) (disk active) (Ok tt)
+  pub gate_settled : (tail journal_length : ℕ) → tail ≡ old.tail + (old.sealed + 5) → journal_length ≡ old.journal_length + (old.sealed + 5) → old.phase ≡ Opening → IsOneCall {A = Unit {0}} {E = Fault} (disk old.active) (disk active) (Ok tt)
       → (IsTrue (disk old.active).honest → IsSync {E = Fault} (Ok tt) (disk old.active) (disk active)) → (IsTrue (disk old.active).honest → LeavesSince (disk old.active) (disk active) (disk old.active).IsImage)
-      → IsAdvance disk old (record old { active = active; tail = tail; journal = journal; sealed = 0; phase = Idle }) (Ok answers.Settled)
-  gate_settled tail journal tail_is journal_is is call sync moments =
-      subst (λ (b : Bool). IsAdvance disk old (record old { active = active; tail = tail; journal = journal; sealed = 0; phase = Idle; broken = b }) (Ok answers.Settled)) (sym unbroken) (record {
+      → IsAdvance disk old (record old { active = active; tail = tail; journal_length = journal_length; sealed = 0; phase = Idle }) (Ok answers.Settled)
+  gate_settled tail journal_length tail_is journal_is is call sync moments =
+      subst (λ (b : Bool). IsAdvance disk old (record old { active = active; tail = tail; journal_length = journal_length; sealed = 0; phase = Idle; broken = b }) (Ok answers.Settled)) (sym unbroken) (record {
         step = λ s keeps.
-            subst (λ (t : StoreState). IsStep disk old (record old { active = active; tail = tail; journal = journal; sealed = 0; phase = Idle; broken = false }) (Ok answers.Settled) t) (in_phase disk old active Opening is unbroken lawful_spare s keeps)
-            (refl, settled_kept disk old active call.same_honesty s tail journal tail_is journal_is (λ honest. settles_gate honest (sync honest)) (keeps_in disk old active Opening is unbroken lawful_spare s keeps));
+            subst (λ (t : StoreState). IsStep disk old (record old { active = active; tail = tail; journal_length = journal_length; sealed = 0; phase = Idle; broken = false }) (Ok answers.Settled) t) (in_phase disk old active Opening is unbroken lawful_spare s keeps)
+            (refl, settled_kept disk old active call.same_honesty s tail journal_length tail_is journal_is (λ honest. settles_gate honest (sync honest)) (keeps_in disk old active Opening is unbroken lawful_spare s keeps));
         numbers = record {
           which = ap (λ (p : Phase). cond (is_snapshot p) (other old.which) old.which) (sym is);
           generation = ap (λ (p : Phase). cond (is_snapshot p) (old.generation + 1) old.generation) (sym is);
           tail = let same : tail ≡ old.tail + (5 + old.sealed) = omega (arith, tail_is) in same ∙ ap (λ (p : Phase). cond (is_snapshot p) (length old.rest) (old.tail + (5 + old.sealed))) (sym is);
-          journal = let same : journal ≡ old.journal + (5 + old.sealed) = omega (arith, journal_is) in same ∙ ap (λ (p : Phase). cond (is_snapshot p) 0 (old.journal + (5 + old.sealed))) (sym is);
+          journal_length = let same : journal_length ≡ old.journal_length + (5 + old.sealed) = omega (arith, journal_is) in same ∙ ap (λ (p : Phase). cond (is_snapshot p) 0 (old.journal_length + (5 + old.sealed))) (sym is);
           buffer = ap (λ (b : Bool). cond (b && not old.broken) [] old.buffer) (sym (ap is_idle is));
         };
         rests = λ idle. absurd (moved_on answers.Settled (λ e. cc) (λ e. cc) idle);
@@ -266,7 +266,7 @@ module _ {D : Type 0} (disk : D → Disk) (old : Seen D) (active : D) (unbroken 
   body_inside : (IsTrue (disk old.active).honest → LeavesSince (disk old.active) (disk active) (IsBehind old.tail (disk old.active))) → IsTrue (disk old.active).honest → LeavesFront (disk old.active) (disk active) old.tail Idle
   body_inside moments honest front records x stands on was = behind_ends (disk old.active) front x on (subst (λ (n : ℕ). IsBehind n (disk old.active) x) (sym stands) ((moments honest).each x was))
 
-  abbrev sealed_seen : Bool → Seen D
+  abbrev sealed_seen : Bool → StoreSeen D
   sealed_seen broken = record old { active = active; buffer = []; sealed = length old.buffer; phase = Written; broken = broken }
 
   -- a state with effects in its buffer
@@ -288,7 +288,7 @@ module _ {D : Type 0} (disk : D → Disk) (old : Seen D) (active : D) (unbroken 
     which = ap (λ (b : Bool). cond b (other old.which) old.which) (sym still);
     generation = ap (λ (b : Bool). cond b (old.generation + 1) old.generation) (sym still);
     tail = let same : old.tail ≡ old.tail + gained old result = omega (arith, none) in same ∙ ap (λ (b : Bool). cond b (length old.rest) (old.tail + gained old result)) (sym still);
-    journal = let same : old.journal ≡ old.journal + gained old result = omega (arith, none) in same ∙ ap (λ (b : Bool). cond b 0 (old.journal + gained old result)) (sym still);
+    journal_length = let same : old.journal_length ≡ old.journal_length + gained old result = omega (arith, none) in same ∙ ap (λ (b : Bool). cond b 0 (old.journal_length + gained old result)) (sym still);
     buffer = ap (λ (b : Bool). cond b [] old.buffer) (sym (ap (λ (q : Phase). is_idle q && not old.broken) is ∙ ap (λ (b : Bool). not b) unbroken));
   }
 
@@ -334,7 +334,7 @@ no_effects : (effects : List Effect) (bytes : List ℕ) → AreRecordsOf effects
 no_effects [] bytes records none = refl
 no_effects (effect ∷ rest) bytes records none = absurd (omega (arith, none, ap length records.whole, length-append (record_of effect) (records_of rest), some_bytes effect))
 
-module _ {D : Type 0} (disk : D → Disk) (store : Seen D) (is : store.phase ≡ Idle) (unbroken : store.broken ≡ false) (none : length store.buffer ≡ 0) where
+module _ {D : Type 0} (disk : D → Disk) (store : StoreSeen D) (is : store.phase ≡ Idle) (unbroken : store.broken ≡ false) (none : length store.buffer ≡ 0) where
   rest_step : (s : StoreState) (buffer : List Effect) → buffer ≡ [] → Keeps disk store (record s { phase = Idle; broken = false; buffer = buffer }) → IsStep disk store store (Ok answers.Idle) (record s { phase = Idle; broken = false; buffer = buffer })
   rest_step s [] empty keeps = (refl, keeps)
   rest_step s (e ∷ es) empty keeps = absurd (cc)
@@ -345,7 +345,7 @@ module _ {D : Type 0} (disk : D → Disk) (store : Seen D) (is : store.phase ≡
     step = λ s keeps.
         subst (λ (t : StoreState). IsStep disk store store (Ok answers.Idle) t) (in_phase disk store store.active Idle is unbroken lawful_spare s keeps)
         (rest_step s s.buffer (no_effects s.buffer store.buffer keeps.buffer none) (keeps_in disk store store.active Idle is unbroken lawful_spare s keeps));
-    numbers = record { which = refl; generation = refl; tail = omega arith; journal = omega arith; buffer = still };
+    numbers = record { which = refl; generation = refl; tail = omega arith; journal_length = omega arith; buffer = still };
     rests = λ idle. refl;
     calls = none_called (disk (first_of store)) (disk (second_of store)) (Ok answers.Idle) (λ err. absurd (search rules));
     moments = unmoved disk store lawful lawful_spare;

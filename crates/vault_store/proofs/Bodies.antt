@@ -62,8 +62,8 @@ module _ (old one two : Disk) (first : AreReads old one) (second : AreReads one 
             none = here.none;
           })
 
-  pub contents_read : (v : Vault) (count tail journal : ℕ) → journal ≡ tail - end → AreAllRead two len end base v count tail → AreContents old v count tail journal
-  contents_read v count tail journal is all = record {
+  pub contents_read : (v : Vault) (count tail journal_length : ℕ) → journal_length ≡ tail - end → AreAllRead two len end base v count tail → AreContents old v count tail journal_length
+  contents_read v count tail journal_length is all = record {
     base = base;
     list = all.frames.frames;
     spelled = read.spelled;
@@ -91,7 +91,7 @@ snapshot_wrong old one three first result why quiet refused is =
     (why_behind old one three (IsSnapshotFault one.shown) (IsFaultBehindHead old.shown) first quiet (λ at honest fault generation head. inl (subst (λ (file : List ℕ). IsSnapshotFault file at) (first.read honest).shown fault)) why refused)
 
 -- what stands behind a right head is a whole file
-module _ (disk : Disk) (v : Vault) (frames tail journal generation : ℕ) (contents : AreContents disk v frames tail journal) (honest : IsTrue disk.honest) (head : HasCurrentHead generation disk.shown) where
+module _ (disk : Disk) (v : Vault) (frames tail journal_length generation : ℕ) (contents : AreContents disk v frames tail journal_length) (honest : IsTrue disk.honest) (head : HasCurrentHead generation disk.shown) where
   abbrev front : List ℕ
   front = (current_head generation ++ snapshot_bytes contents.base) ++ frames_bytes contents.list
 
@@ -121,7 +121,7 @@ module _ (disk : Disk) (v : Vault) (frames tail journal generation : ℕ) (conte
     closed = contents.closed honest;
   }
 
-  pub holds_read : Holds disk.shown (record { vault = v; generation = generation; tail = tail; journal = journal })
+  pub holds_read : Holds disk.shown (record { vault = v; generation = generation; tail = tail; journal_length = journal_length })
   holds_read = record {
     front = front;
     is_front = record {

@@ -18,8 +18,8 @@ use Rattle.vault_store.specs.Phases.{is_idle, is_snapshot}
 use Rattle.vault_store.specs.State.{StoreState, started}
 use Rattle.vault_store.specs.OnDisk.{IsIdle}
 use Rattle.vault_store.specs.Spares.{IsAside, IsSpareIn, IsSpareOn}
-use Rattle.vault_store.specs.Seen.{Seen, of_file, other, first_of, second_of, Keeps, IsRenewal, settled_reading, started_seen}
-use Rattle.vault_store.specs.Sound.{IsReached, IsRest, IsActive, IsSound}
+use Rattle.vault_store.specs.Seen.{StoreSeen, of_file, other, first_of, second_of, Keeps, IsRenewal, settled_reading, started_seen}
+use Rattle.vault_store.specs.Sound.{IsReached, IsRest, IsActive, IsSoundStore}
 use Rattle.vault_store.specs.Step.{IsAtMostOneCall, IsStep, MayBeLeft, IsAdvance}
 use Rattle.vault_store.proofs.Advances.{moved_on}
 use Rattle.vault_store.proofs.Asides.{torn_spare, renewed_front, length-behind}
@@ -36,12 +36,12 @@ exchanged First one two = refl
 exchanged Second one two = refl
 
 -- what is noted has a spelling
-pub noted_spelled : {D : Type 0} (disk : D → Disk) (store : Seen D) (s : StoreState) → Keeps disk store s → HasSnapshot s.noted
+pub noted_spelled : {D : Type 0} (disk : D → Disk) (store : StoreSeen D) (s : StoreState) → Keeps disk store s → HasSnapshot s.noted
 noted_spelled disk store s keeps = spelled_stays s.sealed s.noted s.buffer (spelled_stays s.settled s.sealed s.sealing keeps.spelled keeps.sealing keeps.sealed) keeps.buffer.each keeps.noted
 
-module _ {D : Type 0} (disk : D → Disk) (old : Seen D) (v : Vault) (is : old.phase ≡ Idle) (unbroken : old.broken ≡ false) (fits : old.generation + 1 < 2 ^ 64) where
+module _ {D : Type 0} (disk : D → Disk) (old : StoreSeen D) (v : Vault) (is : old.phase ≡ Idle) (unbroken : old.broken ≡ false) (fits : old.generation + 1 < 2 ^ 64) where
   -- a snapshot is begun
-  pub started_sound : HasSnapshot v → IsSound disk old → IsSound disk (started_seen old v)
+  pub started_sound : HasSnapshot v → IsSoundStore disk old → IsSoundStore disk (started_seen old v)
   started_sound has sound = record {
     reached = record { front = mark ++ in_four version ++ in_eight (old.generation + 1) ++ snapshot_bytes v; ends = refl; fits = fits };
     sealed_fits = sound.sealed_fits;
@@ -86,10 +86,10 @@ module _ {D : Type 0} (disk : D → Disk) (old : Seen D) (v : Vault) (is : old.p
       same : record s { phase = Idle; broken = false } ≡ s
       same = λ i. record s { phase = (sym is ∙ keeps.phase) i; broken = (sym unbroken ∙ keeps.broken) i }
 
-module _ {D : Type 0} (disk : D → Disk) (old : Seen D) (spare : D) (unbroken : old.broken ≡ false) (is : old.phase ≡ SnapOpening) (lawful : IsTrue (disk old.active).honest → IsLawful (disk old.active)) (lawful_spare : IsTrue (disk old.spare).honest → IsLawful (disk old.spare))
+module _ {D : Type 0} (disk : D → Disk) (old : StoreSeen D) (spare : D) (unbroken : old.broken ≡ false) (is : old.phase ≡ SnapOpening) (lawful : IsTrue (disk old.active).honest → IsLawful (disk old.active)) (lawful_spare : IsTrue (disk old.spare).honest → IsLawful (disk old.spare))
     (call : IsOneCall {A = Unit {0}} {E = Fault} (disk old.spare) (disk spare) (Ok tt)) (sync : IsTrue (disk old.spare).honest → IsSync {E = Fault} (Ok tt) (disk old.spare) (disk spare)) where
   -- the files exchanged
-  abbrev pub exchanged_seen : Bool → Seen D
+  abbrev pub exchanged_seen : Bool → StoreSeen D
   exchanged_seen broken = record {
     active = spare;
     spare = old.active;
@@ -98,7 +98,7 @@ module _ {D : Type 0} (disk : D → Disk) (old : Seen D) (spare : D) (unbroken :
     sealed = 0;
     generation = old.generation + 1;
     tail = length old.rest;
-    journal = 0;
+    journal_length = 0;
     phase = Idle;
     broken = broken;
     shut = false;
@@ -108,7 +108,7 @@ module _ {D : Type 0} (disk : D → Disk) (old : Seen D) (spare : D) (unbroken :
   was_honest : IsTrue (disk spare).honest → IsTrue (disk old.spare).honest
   was_honest honest = subst IsTrue call.same_honesty honest
 
-  pub exchanged_sound : IsSound disk old → IsSound disk (exchanged_seen false)
+  pub exchanged_sound : IsSoundStore disk old → IsSoundStore disk (exchanged_seen false)
   exchanged_sound sound = record {
     reached = tt;
     sealed_fits = omega arith;
@@ -167,7 +167,7 @@ module _ {D : Type 0} (disk : D → Disk) (old : Seen D) (spare : D) (unbroken :
         let files = keeps.files two (was_honest one) in record {
           front = current_head (old.generation + 1) ++ snapshot_bytes s.sealed;
           is_front =
-              subst (λ (n : ℕ). IsFront (current_head (old.generation + 1) ++ snapshot_bytes s.sealed) (record { vault = s.sealed; generation = old.generation + 1; tail = n; journal = 0 })) (sym (ap length renewal.bytes ∙ length-behind (old.generation + 1) s.sealed))
+              subst (λ (n : ℕ). IsFront (current_head (old.generation + 1) ++ snapshot_bytes s.sealed) (record { vault = s.sealed; generation = old.generation + 1; tail = n; journal_length = 0 })) (sym (ap length renewal.bytes ∙ length-behind (old.generation + 1) s.sealed))
               (renewed_front (old.generation + 1) s.sealed renewal.spelled (omega arith) renewal.fits);
           active =
               to_active (disk old.spare) (disk spare) old.rest (current_head (old.generation + 1) ++ snapshot_bytes s.sealed) (ap (λ (l : List ℕ). 1 ∷ l) (sym renewal.bytes)) (lawful_spare (was_honest one)) files.spare (sync (was_honest one));
@@ -189,7 +189,7 @@ module _ {D : Type 0} (disk : D → Disk) (old : Seen D) (spare : D) (unbroken :
           which = ap (λ (p : Phase). cond (is_snapshot p) (other old.which) old.which) (sym is);
           generation = ap (λ (p : Phase). cond (is_snapshot p) (old.generation + 1) old.generation) (sym is);
           tail = ap (λ (p : Phase). cond (is_snapshot p) (length old.rest) (old.tail + (5 + old.sealed))) (sym is);
-          journal = ap (λ (p : Phase). cond (is_snapshot p) 0 (old.journal + (5 + old.sealed))) (sym is);
+          journal_length = ap (λ (p : Phase). cond (is_snapshot p) 0 (old.journal_length + (5 + old.sealed))) (sym is);
           buffer = ap (λ (b : Bool). cond (b && not old.broken) [] old.buffer) (sym (ap is_idle is));
         };
         rests = λ idle. absurd (moved_on answers.Settled (λ e. cc) (λ e. cc) idle);

@@ -63,10 +63,10 @@ pub length-frame : (records : List ℕ) → length (frame_bytes records) ≡ fra
 length-frame records = omega (arith, length-append (1 ∷ in_four (length records)) records)
 
 -- a front with one more frame
-pub longer_front : (front : List ℕ) (r : Reading) (effects : List Effect) (next : Vault) (tail journal : ℕ) → IsFront front r → IsFrame effects → applied r.vault effects ≡ Some next
-    → tail ≡ r.tail + (frame_extra + length (records_of effects)) → journal ≡ r.journal + (frame_extra + length (records_of effects))
-    → IsFront (front ++ frame_of effects) (record { vault = next; generation = r.generation; tail = tail; journal = journal })
-longer_front front r effects next tail journal is_front frame e tail_is journal_is = record {
+pub longer_front : (front : List ℕ) (r : Reading) (effects : List Effect) (next : Vault) (tail journal_length : ℕ) → IsFront front r → IsFrame effects → applied r.vault effects ≡ Some next
+    → tail ≡ r.tail + (frame_extra + length (records_of effects)) → journal_length ≡ r.journal_length + (frame_extra + length (records_of effects))
+    → IsFront (front ++ frame_of effects) (record { vault = next; generation = r.generation; tail = tail; journal_length = journal_length })
+longer_front front r effects next tail journal_length is_front frame e tail_is journal_is = record {
   base = is_front.base;
   frames = is_front.frames ++ effects ∷ [];
   spelled = is_front.spelled;

@@ -12,12 +12,12 @@ use Rattle.vault_store.specs.Files.{most_records, frame_bytes, IsFrame, IsSpare,
 use Rattle.vault_store.specs.Phases.{is_idle, is_snapshot}
 use Rattle.vault_store.specs.State.{StoreState, with_effect}
 use Rattle.vault_store.specs.OnDisk.{IsOnDisk}
-use Rattle.vault_store.specs.Seen.{Seen, Keeps, settled_reading}
+use Rattle.vault_store.specs.Seen.{StoreSeen, Keeps, settled_reading}
 use Rattle.vault_store.proofs.Asides.{still_aside}
 use Rattle.vault_store.proofs.Named.{spelled_stays}
 use Rattle.vault_store.proofs.Frames.{applied_more, records_more, longer_front}
 
-pub note_kept : {D : Type 0} (disk : D → Disk) (store : Seen D) (s : StoreState) (effect : Effect) (next : Vault) → HasRecord effect → Keeps disk store s → after s.noted effect ≡ Some next
+pub note_kept : {D : Type 0} (disk : D → Disk) (store : StoreSeen D) (s : StoreState) (effect : Effect) (next : Vault) → HasRecord effect → Keeps disk store s → after s.noted effect ≡ Some next
     → Keeps disk (record store { buffer = store.buffer ++ record_of effect }) (with_effect s effect next)
 note_kept disk store s effect next has keeps e = record {
   phase = keeps.phase;
@@ -39,7 +39,7 @@ note_kept disk store s effect next has keeps e = record {
 abbrev pub IsMove : Disk → Disk → ℕ → ℕ → Phase → Phase → Bool → Type 0
 IsMove old new tail sealed p q broken = (front records : List ℕ) → length front ≡ tail → length records ≡ sealed → IsOnDisk old p false front records → IsOnDisk new q broken front records
 
-module _ {D : Type 0} (disk : D → Disk) (old : Seen D) (active : D) (same : (disk active).honest ≡ (disk old.active).honest) where
+module _ {D : Type 0} (disk : D → Disk) (old : StoreSeen D) (active : D) (same : (disk active).honest ≡ (disk old.active).honest) where
   honest_before : IsTrue (disk active).honest → IsTrue (disk old.active).honest
   honest_before honest = subst IsTrue same honest
 
@@ -103,12 +103,12 @@ module _ {D : Type 0} (disk : D → Disk) (old : Seen D) (active : D) (same : (d
       settled_is = let e = subst (λ (l : List Effect). applied s.settled l ≡ Some s.sealed) (keeps.none refl) keeps.sealed in cc
 
   -- the last step of a commit
-  pub settled_kept : (s : StoreState) (tail journal : ℕ) → tail ≡ old.tail + (old.sealed + 5) → journal ≡ old.journal + (old.sealed + 5)
+  pub settled_kept : (s : StoreState) (tail journal_length : ℕ) → tail ≡ old.tail + (old.sealed + 5) → journal_length ≡ old.journal_length + (old.sealed + 5)
       → (IsTrue (disk old.active).honest → (front records : List ℕ) → length front ≡ old.tail → IsOnDisk (disk old.active) Opening false front records → IsOnDisk (disk active) Idle false (front ++ frame_bytes records) [])
       → Keeps disk old (record s { phase = Opening; broken = false })
-      → Keeps disk (record old { active = active; tail = tail; journal = journal; sealed = 0; phase = Idle; broken = false })
+      → Keeps disk (record old { active = active; tail = tail; journal_length = journal_length; sealed = 0; phase = Idle; broken = false })
       (record { settled = s.sealed; sealed = s.sealed; noted = s.noted; sealing = []; buffer = s.buffer; phase = Idle; broken = false })
-  settled_kept s tail journal tail_is journal_is move keeps = record {
+  settled_kept s tail journal_length tail_is journal_is move keeps = record {
     phase = refl;
     broken = refl;
     spelled = spelled_stays s.settled s.sealed s.sealing keeps.spelled keeps.sealing keeps.sealed;
@@ -124,7 +124,7 @@ module _ {D : Type 0} (disk : D → Disk) (old : Seen D) (active : D) (same : (d
     files = λ one two.
         let files = keeps.files (honest_before one) two in record {
           front = files.front ++ frame_bytes (records_of s.sealing);
-          is_front = longer_front files.front (settled_reading old s) s.sealing s.sealed tail journal files.is_front frame keeps.sealed (omega (arith, tail_is, keeps.sealed_bytes)) (omega (arith, journal_is, keeps.sealed_bytes));
+          is_front = longer_front files.front (settled_reading old s) s.sealing s.sealed tail journal_length files.is_front frame keeps.sealed (omega (arith, tail_is, keeps.sealed_bytes)) (omega (arith, journal_is, keeps.sealed_bytes));
           active = move (honest_before one) files.front (records_of s.sealing) (sym files.is_front.tail_is) files.active;
           spare = still_aside (IsSpare old.generation) (disk old.spare) old.shut old.rest Opening Idle false refl refl files.spare;
         };

@@ -10,7 +10,7 @@ use Rattle.vault_store.specs.Phases.{is_idle, is_snapshot, is_opening, may_open}
 use Rattle.vault_store.specs.State.{StoreState}
 use Rattle.vault_store.specs.OnDisk.{IsEither, LeavesInPhase, IsOnDisk}
 use Rattle.vault_store.specs.Spares.{HasFirst, LeavesSpareIn}
-use Rattle.vault_store.specs.Seen.{Seen, Keeps, IsRenewal, settled_reading, counted_reading, sealed_reading, gate_at, gated, IsByGate, IsLeftWhile, IsLeftInside}
+use Rattle.vault_store.specs.Seen.{StoreSeen, Keeps, IsRenewal, settled_reading, counted_reading, sealed_reading, gate_at, gated, IsByGate, IsLeftWhile, IsLeftInside}
 use Rattle.vault_store.specs.Laws.{AreHonest, CrashLeavesWhatIsKept, IsOneGate, OneGateIsOpened}
 use Rattle.vault_store.proofs.Asides.{closed_spare, spare_leaves, file_opened, renewed_front}
 use Rattle.vault_store.proofs.Frames.{longer_front}
@@ -21,7 +21,7 @@ use Rattle.vault_store.proofs.Rights.{holds_head}
 pub reads_front : (front x y : List ℕ) (r : Reading) → IsFront front r → EndsBehind front x → IsSpare r.generation y → AreRead x y r
 reads_front front x y r is_front ends spare = inl (record { front = front; is_front = is_front; ends = ends }, spare)
 
-module _ {D : Type 0} (disk : D → Disk) (store : Seen D) (s : StoreState) (keeps : Keeps disk store s) (front : List ℕ) (is_front : IsFront front (settled_reading store s)) where
+module _ {D : Type 0} (disk : D → Disk) (store : StoreSeen D) (s : StoreState) (keeps : Keeps disk store s) (front : List ℕ) (is_front : IsFront front (settled_reading store s)) where
   -- with the frame's gate open, or not
   pub reads_either : (x y : List ℕ) → is_idle s.phase ≡ false → is_snapshot s.phase ≡ false → IsEither front (records_of s.sealing) x → IsSpare store.generation y → IsByGate store.tail (settled_reading store s) (counted_reading false store s) x x y
   reads_either x y busy commit either spare = record {
@@ -34,7 +34,7 @@ module _ {D : Type 0} (disk : D → Disk) (store : Seen D) (s : StoreState) (kee
 
       longer : IsFront (front ++ frame_bytes (records_of s.sealing)) (counted_reading false store s)
       longer =
-          longer_front front (settled_reading store s) s.sealing s.sealed (store.tail + 5 + store.sealed) (store.journal + 5 + store.sealed) is_front
+          longer_front front (settled_reading store s) s.sealing s.sealed (store.tail + 5 + store.sealed) (store.journal_length + 5 + store.sealed) is_front
           (record { some = keeps.under_way busy commit; each = keeps.sealing; few = keeps.few commit }) keeps.sealed (omega (arith, size)) (omega (arith, size))
 
   -- with the head gate of the spare open, or not
@@ -91,11 +91,11 @@ leaves_in disk Ready false front records on = λ x image. subst (EndsBehind fron
 leaves_in disk SnapOpening false front records on = λ x image. subst (EndsBehind front) (sym (on.settled.only x image)) on.ends
 
 -- what is left, where the first of two files is the active one's
-abbrev pub IsLeftHere : {D : Type 0} → Seen D → StoreState → List ℕ → List ℕ → Type 0
+abbrev pub IsLeftHere : {D : Type 0} → StoreSeen D → StoreState → List ℕ → List ℕ → Type 0
 IsLeftHere store s x y = IsLeftWhile (is_opening s.phase) (gate_at store s.phase) (settled_reading store s) (sealed_reading store s) (gated s.phase x y) x y
 
 -- what is left in each phase
-left_in : {D : Type 0} (disk : D → Disk) (store : Seen D) (s : StoreState) (p : Phase) → Keeps disk store (record s { phase = p }) → (front x y : List ℕ) → IsFront front (settled_reading store s)
+left_in : {D : Type 0} (disk : D → Disk) (store : StoreSeen D) (s : StoreState) (p : Phase) → Keeps disk store (record s { phase = p }) → (front x y : List ℕ) → IsFront front (settled_reading store s)
     → LeavesInPhase (disk store.active) p front (records_of s.sealing) → (disk store.active).IsImage x → LeavesSpareIn (IsSpare store.generation) (disk store.spare) p store.rest → (disk store.spare).IsImage y → IsLeftHere store (record s { phase = p }) x y
 left_in disk store s Idle keeps front x y is_front leaves image spare other = reads_front front x y (settled_reading store s) is_front (leaves x image) (spare y other)
 left_in disk store s Written keeps front x y is_front leaves image spare other = reads_front front x y (settled_reading store s) is_front (leaves x image) (spare y other)
@@ -109,7 +109,7 @@ left_in disk store s Opening keeps front x y is_front leaves image spare other =
 left_in disk store s SnapOpening keeps front x y is_front leaves image spare other = reads_renewed disk store (record s { phase = SnapOpening }) keeps front is_front x y refl (leaves x image) (spare y other)
 
 -- What a crash leaves of a store.
-pub left : {D : Type 0} (disk : D → Disk) (store : Seen D) (s : StoreState) → Keeps disk store s → IsTrue (disk store.active).honest → IsTrue (disk store.spare).honest
+pub left : {D : Type 0} (disk : D → Disk) (store : StoreSeen D) (s : StoreState) → Keeps disk store s → IsTrue (disk store.active).honest → IsTrue (disk store.spare).honest
     → (x y : List ℕ) → (disk store.active).IsImage x → (disk store.spare).IsImage y → IsLeftHere store s x y
 left disk store s keeps one two x y image other =
     let files = keeps.files one two in
@@ -117,7 +117,7 @@ left disk store s keeps one two x y image other =
     (spare_leaves (IsSpare store.generation) (disk store.spare) store.shut store.rest (closed_spare store.generation) s.phase s.broken files.spare) other
 
 -- while a gate is being opened, it alone is unsettled
-gated_in : {D : Type 0} (disk : D → Disk) (store : Seen D) (s : StoreState) (p : Phase) → is_opening p ≡ true → Keeps disk store (record s { phase = p; broken = false }) → AreHonest disk store → IsOneGate (disk (gated p store.active store.spare)) (gate_at store p)
+gated_in : {D : Type 0} (disk : D → Disk) (store : StoreSeen D) (s : StoreState) (p : Phase) → is_opening p ≡ true → Keeps disk store (record s { phase = p; broken = false }) → AreHonest disk store → IsOneGate (disk (gated p store.active store.spare)) (gate_at store p)
 gated_in disk store s Opening is keeps honest =
     let both = both_honest disk store.which store.active store.spare honest.first honest.second in
     let files = keeps.files both.0 both.1 in

@@ -96,7 +96,7 @@ module _ (x : List ℕ) (r q : Reading) (one : Holds x r) (two : Holds x q) wher
 
   -- where the snapshot is of one vault, the readings are one
   pub same_reading : one.is_front.base ≡ two.is_front.base → r ≡ q
-  same_reading base_is = λ i. record { vault = vaults i; generation = heads.0 i; tail = tails i; journal = journals i }
+  same_reading base_is = λ i. record { vault = vaults i; generation = heads.0 i; tail = tails i; journal_length = journals i }
     where
       fronts : one.front ≡ two.front
       fronts =
@@ -111,5 +111,5 @@ module _ (x : List ℕ) (r q : Reading) (one : Holds x r) (two : Holds x q) wher
       tails : r.tail ≡ q.tail
       tails = one.is_front.tail_is ∙ ap length fronts ∙ sym two.is_front.tail_is
 
-      journals : r.journal ≡ q.journal
+      journals : r.journal_length ≡ q.journal_length
       journals = one.is_front.journal_is ∙ ap (λ (fs : List (List Effect)). length (frames_bytes fs)) same_frames ∙ sym two.is_front.journal_is

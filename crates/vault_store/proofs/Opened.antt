@@ -19,8 +19,8 @@ use Rattle.vault_store.specs.Spares.{IsAside}
 use Rattle.vault_store.specs.Opening.{IsNewer, IsNotOpened, IsHandedOn, AreSettled}
 use Rattle.vault_store.specs.Read.{AreReads, AreContents, IsFaultBehindHead, IsWhyNot, IsNewerIn}
 use Rattle.vault_store.specs.State.{at_rest}
-use Rattle.vault_store.specs.Seen.{Seen, of_file, Keeps}
-use Rattle.vault_store.specs.Sound.{IsSound}
+use Rattle.vault_store.specs.Seen.{StoreSeen, of_file, Keeps}
+use Rattle.vault_store.specs.Sound.{IsSoundStore}
 use Rattle.vault_store.proofs.Asides.{torn_spare}
 use Rattle.vault_store.proofs.Behind.{quiet_then}
 use Rattle.vault_store.proofs.Bodies.{holds_read}
@@ -102,17 +102,17 @@ module _ {D : Type 0} (disk : D → Disk) (which : File) (first second one two a
   opened_refused Device is honest other = tt
   opened_refused NoMemory is honest other = tt
 
-  module _ (v : Vault) (frames tail journal : ℕ) (contents : AreContents (disk active) v frames tail journal) (shut : Bool) where
-    abbrev pub opened_seen : Seen D
-    opened_seen = record { active = active_new; spare = spare; which = which; buffer = []; sealed = 0; generation = g; tail = tail; journal = journal; phase = Idle; broken = false; shut = shut; rest = [] }
+  module _ (v : Vault) (frames tail journal_length : ℕ) (contents : AreContents (disk active) v frames tail journal_length) (shut : Bool) where
+    abbrev pub opened_seen : StoreSeen D
+    opened_seen = record { active = active_new; spare = spare; which = which; buffer = []; sealed = 0; generation = g; tail = tail; journal_length = journal_length; phase = Idle; broken = false; shut = shut; rest = [] }
 
     abbrev reading : Reading
-    reading = record { vault = v; generation = g; tail = tail; journal = journal }
+    reading = record { vault = v; generation = g; tail = tail; journal_length = journal_length }
 
     active_holds : IsTrue (disk first).honest → IsTrue (disk second).honest → Holds (disk active).shown reading
     active_holds honest other =
         let newer = found honest other in
-        holds_read (disk active) v frames tail journal g contents (active_honest honest other) (subst (HasCurrentHead g) (sym (active_shown honest other)) newer.0)
+        holds_read (disk active) v frames tail journal_length g contents (active_honest honest other) (subst (HasCurrentHead g) (sym (active_shown honest other)) newer.0)
 
     -- the files are read so
     pub opened_read : IsTrue (disk first).honest → IsTrue (disk second).honest → AreRead (disk first).shown (disk second).shown reading
@@ -153,7 +153,7 @@ module _ {D : Type 0} (disk : D → Disk) (which : File) (first second one two a
         torn = λ e y. torn y (λ closed. false≢true (sym e ∙ (spare_head other).1 closed));
       }
 
-      pub opened_sound : IsSound disk opened_seen
+      pub opened_sound : IsSoundStore disk opened_seen
       opened_sound = record {
         reached = tt;
         sealed_fits = omega arith;

@@ -5,7 +5,7 @@ use Rattle.vault_store.specs.declared.opening.File.{File}
 use Rattle.vault_store.specs.declared.opening.File.TheVariants.{First, Second}
 use Rattle.vault_store.specs.Files.{Reading, AreRead}
 use Rattle.vault_store.specs.State.{StoreState}
-use Rattle.vault_store.specs.Seen.{Seen, of_file, IsLeftWhile, IsLeftInside}
+use Rattle.vault_store.specs.Seen.{StoreSeen, of_file, IsLeftWhile, IsLeftInside}
 use Rattle.vault_store.specs.Step.{IsAtMostOneCall, MayBeLeft}
 
 pub read_exchanged : (x y : List ℕ) (r : Reading) → AreRead x y r → AreRead y x r
@@ -15,7 +15,7 @@ pub while_exchanged : (opens : Bool) (gate : ℕ) (settled sealed : Reading) (ac
 while_exchanged true gate settled sealed active x y left = record { opened = λ is. read_exchanged x y sealed (left.opened is); shut = λ is. read_exchanged x y settled (left.shut is) }
 while_exchanged false gate settled sealed active x y left = read_exchanged x y settled left
 
-pub inside_exchanged : {D : Type 0} (store : Seen D) (s : StoreState) (x y : List ℕ) → IsLeftInside store s x y → IsLeftInside store s y x
+pub inside_exchanged : {D : Type 0} (store : StoreSeen D) (s : StoreState) (x y : List ℕ) → IsLeftInside store s x y → IsLeftInside store s y x
 inside_exchanged store s x y left = elim left [ inl was ↦ inl (read_exchanged x y _ was) | inr opened ↦ inr (opened.0, read_exchanged x y _ opened.1) ]
 
 -- both devices are honest, in whichever place

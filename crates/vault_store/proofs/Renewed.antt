@@ -16,8 +16,8 @@ use Rattle.vault_store.specs.Files.{header, IsSpare}
 use Rattle.vault_store.specs.Phases.{is_idle, is_snapshot, may_open, most_piece, piece_size, behind_piece}
 use Rattle.vault_store.specs.State.{StoreState}
 use Rattle.vault_store.specs.Spares.{ClosedMayStand, HasFirst, IsAside, IsFilling, IsSpareIn, IsSpareOn}
-use Rattle.vault_store.specs.Seen.{Seen, of_file, other, first_of, second_of, Keeps, IsLeftInside}
-use Rattle.vault_store.specs.Sound.{IsReached, IsBounded, IsActive, IsSound}
+use Rattle.vault_store.specs.Seen.{StoreSeen, of_file, other, first_of, second_of, Keeps, IsLeftInside}
+use Rattle.vault_store.specs.Sound.{IsReached, IsBounded, IsActive, IsSoundStore}
 use Rattle.vault_store.specs.Step.{renews, gained, IsAtMostOneCall, IsStep, AreNumbers, MayBeLeft, IsAdvance}
 use Rattle.vault_store.proofs.Advances.{at_phase, moved_on, failed_on, none_called}
 use Rattle.vault_store.proofs.Asides.{closed_spare, spare_leaves, length-behind}
@@ -55,7 +55,7 @@ IsSpareMove MayStand old new p q broken shut rest = IsSpareIn MayStand old p shu
 abbrev pub IsAnyMove : Disk → Disk → Phase → Phase → Bool → Bool → List ℕ → Type 1
 IsAnyMove old new p q broken shut rest = (MayStand : List ℕ → Type 0) → ClosedMayStand MayStand → IsSpareMove MayStand old new p q broken shut rest
 
-module _ {D : Type 0} (disk : D → Disk) (old : Seen D) (spare : D) (same : (disk spare).honest ≡ (disk old.spare).honest) where
+module _ {D : Type 0} (disk : D → Disk) (old : StoreSeen D) (spare : D) (same : (disk spare).honest ≡ (disk old.spare).honest) where
   was_honest : IsTrue (disk spare).honest → IsTrue (disk old.spare).honest
   was_honest honest = subst IsTrue same honest
 
@@ -83,8 +83,8 @@ module _ {D : Type 0} (disk : D → Disk) (old : Seen D) (spare : D) (same : (di
         };
   }
 
-  pub spare_sound : IsSound disk old → old.broken ≡ false → (p q : Phase) (broken : Bool) → old.phase ≡ p → is_snapshot p ≡ true → is_snapshot q ≡ true → IsReached q old.generation old.rest
-      → (IsTrue (disk old.spare).honest → IsSpareMove (λ x. Unit {0}) (disk old.spare) (disk spare) p q broken old.shut old.rest) → IsSound disk (record old { spare = spare; phase = q; broken = broken })
+  pub spare_sound : IsSoundStore disk old → old.broken ≡ false → (p q : Phase) (broken : Bool) → old.phase ≡ p → is_snapshot p ≡ true → is_snapshot q ≡ true → IsReached q old.generation old.rest
+      → (IsTrue (disk old.spare).honest → IsSpareMove (λ x. Unit {0}) (disk old.spare) (disk spare) p q broken old.shut old.rest) → IsSoundStore disk (record old { spare = spare; phase = q; broken = broken })
   spare_sound sound unbroken p q broken is of_p of_q reached move = record {
     reached = reached;
     sealed_fits = sound.sealed_fits;
@@ -107,11 +107,11 @@ module _ {D : Type 0} (disk : D → Disk) (old : Seen D) (spare : D) (same : (di
   }
 
 -- what a stop inside a step that makes this of the spare's device leaves is read
-abbrev pub AreSpareMoments : {D : Type 0} → (D → Disk) → Seen D → D → StoreState → List ℕ → List ℕ → Type 0
+abbrev pub AreSpareMoments : {D : Type 0} → (D → Disk) → StoreSeen D → D → StoreState → List ℕ → List ℕ → Type 0
 AreSpareMoments disk old spare s x y =
     IsTrue (disk (first_of old)).honest → IsTrue (disk (second_of old)).honest → MayBeLeft (disk (first_of old)) (disk (second_of old)) (disk (of_file old.which old.active spare)) (disk (of_file old.which spare old.active)) x y → IsLeftInside old s x y
 
-module _ {D : Type 0} (disk : D → Disk) (old : Seen D) (spare : D) (p : Phase) (is : old.phase ≡ p) (of_p : is_snapshot p ≡ true) (unbroken : old.broken ≡ false) (lawful : IsTrue (disk old.active).honest → IsLawful (disk old.active)) where
+module _ {D : Type 0} (disk : D → Disk) (old : StoreSeen D) (spare : D) (p : Phase) (is : old.phase ≡ p) (of_p : is_snapshot p ≡ true) (unbroken : old.broken ≡ false) (lawful : IsTrue (disk old.active).honest → IsLawful (disk old.active)) where
   pub snap_phase : (s : StoreState) → Keeps disk old s → record s { phase = p; broken = false } ≡ s
   snap_phase s keeps = at_phase s p (sym keeps.phase ∙ is) (sym keeps.broken ∙ unbroken)
 
@@ -148,7 +148,7 @@ module _ {D : Type 0} (disk : D → Disk) (old : Seen D) (spare : D) (p : Phase)
     which = ap (λ (b : Bool). cond b (other old.which) old.which) (sym still);
     generation = ap (λ (b : Bool). cond b (old.generation + 1) old.generation) (sym still);
     tail = let same : old.tail ≡ old.tail + gained old result = omega (arith, none) in same ∙ ap (λ (b : Bool). cond b (length old.rest) (old.tail + gained old result)) (sym still);
-    journal = let same : old.journal ≡ old.journal + gained old result = omega (arith, none) in same ∙ ap (λ (b : Bool). cond b 0 (old.journal + gained old result)) (sym still);
+    journal_length = let same : old.journal_length ≡ old.journal_length + gained old result = omega (arith, none) in same ∙ ap (λ (b : Bool). cond b 0 (old.journal_length + gained old result)) (sym still);
     buffer = ap (λ (b : Bool). cond (b && not old.broken) [] old.buffer) (sym (ap is_idle is ∙ snapshot_busy p of_p));
   }
 
@@ -166,11 +166,11 @@ module _ {D : Type 0} (disk : D → Disk) (old : Seen D) (spare : D) (p : Phase)
     moments = moments;
   }
 
-pub stays_shut : {D : Type 0} (disk : D → Disk) (old : Seen D) → old.shut ≡ true → (MayStand : List ℕ → Type 0) → IsSpareMove MayStand (disk old.spare) (disk old.spare) Start Closing false old.shut old.rest
+pub stays_shut : {D : Type 0} (disk : D → Disk) (old : StoreSeen D) → old.shut ≡ true → (MayStand : List ℕ → Type 0) → IsSpareMove MayStand (disk old.spare) (disk old.spare) Start Closing false old.shut old.rest
 stays_shut disk old shut MayStand aside = still_shut MayStand (disk old.spare) (disk old.spare) (subst (IsAside MayStand (disk old.spare)) shut aside)
 
 -- one step of each row that isn't the last
-module _ {D : Type 0} (disk : D → Disk) (old : Seen D) (spare : D) (unbroken : old.broken ≡ false) (lawful : IsTrue (disk old.active).honest → IsLawful (disk old.active)) (lawful_spare : IsTrue (disk old.spare).honest → IsLawful (disk old.spare)) where
+module _ {D : Type 0} (disk : D → Disk) (old : StoreSeen D) (spare : D) (unbroken : old.broken ≡ false) (lawful : IsTrue (disk old.active).honest → IsLawful (disk old.active)) (lawful_spare : IsTrue (disk old.spare).honest → IsLawful (disk old.spare)) where
   -- the old phase and a new one, the answer Moved, or a fault
   moved : (p q : Phase) → old.phase ≡ p → is_snapshot p ≡ true
       → IsAtMostOneCall {E = Fault} (disk old.active) (disk old.spare) (disk old.active) (disk spare) (Ok answers.Moved)
@@ -362,7 +362,7 @@ piece_reached generation rest left reached = by_test (nat_le left most_piece)
     by_test false = (reached.0, omega (arith, reached.1))
 
 -- the head gate is closed already, and no call is made
-pub head_shut : {D : Type 0} (disk : D → Disk) (old : Seen D) → old.broken ≡ false → old.phase ≡ Start → old.shut ≡ true → (IsTrue (disk old.active).honest → IsLawful (disk old.active)) → (IsTrue (disk old.spare).honest → IsLawful (disk old.spare))
+pub head_shut : {D : Type 0} (disk : D → Disk) (old : StoreSeen D) → old.broken ≡ false → old.phase ≡ Start → old.shut ≡ true → (IsTrue (disk old.active).honest → IsLawful (disk old.active)) → (IsTrue (disk old.spare).honest → IsLawful (disk old.spare))
     → IsAdvance disk old (record old { phase = Closing }) (Ok answers.Moved)
 head_shut disk old unbroken is shut lawful lawful_spare =
     subst (λ (b : Bool). IsAdvance disk old (record old { phase = Closing; broken = b }) (Ok answers.Moved)) (sym unbroken)

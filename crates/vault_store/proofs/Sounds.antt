@@ -10,8 +10,8 @@ use Rattle.vault_store.specs.Files.{frame_bytes}
 use Rattle.vault_store.specs.Phases.{is_idle, is_snapshot}
 use Rattle.vault_store.specs.OnDisk.{IsOnDisk}
 use Rattle.vault_store.specs.Spares.{IsSpareIn, IsSpareOn}
-use Rattle.vault_store.specs.Seen.{Seen, has_room, most_noted, last_tail}
-use Rattle.vault_store.specs.Sound.{IsReached, IsBusy, IsBounded, IsActive, IsSound}
+use Rattle.vault_store.specs.Seen.{StoreSeen, has_room, most_noted, last_tail}
+use Rattle.vault_store.specs.Sound.{IsReached, IsBusy, IsBounded, IsActive, IsSoundStore}
 use Rattle.vault_store.proofs.Asides.{still_aside}
 use Rattle.vault_store.proofs.Kept.{IsMove}
 use Rattle.vault_store.proofs.Frames.{length-frame}
@@ -53,7 +53,7 @@ bounded_more Filled n m tail below bounded = tt
 bounded_more Ready n m tail below bounded = tt
 bounded_more SnapOpening n m tail below bounded = tt
 
-pub note_sound : {D : Type 0} (disk : D → Disk) (store : Seen D) (bytes : List ℕ) → store.tail < last_tail → IsSound disk store → IsSound disk (record store { buffer = bytes })
+pub note_sound : {D : Type 0} (disk : D → Disk) (store : StoreSeen D) (bytes : List ℕ) → store.tail < last_tail → IsSoundStore disk store → IsSoundStore disk (record store { buffer = bytes })
 note_sound disk store bytes below sound = record {
   reached = sound.reached;
   sealed_fits = sound.sealed_fits;
@@ -64,7 +64,7 @@ note_sound disk store bytes below sound = record {
   spare = sound.spare;
 }
 
-module _ {D : Type 0} (disk : D → Disk) (old : Seen D) (active : D) (same : (disk active).honest ≡ (disk old.active).honest) (sound : IsSound disk old) (unbroken : old.broken ≡ false) where
+module _ {D : Type 0} (disk : D → Disk) (old : StoreSeen D) (active : D) (same : (disk active).honest ≡ (disk old.active).honest) (sound : IsSoundStore disk old) (unbroken : old.broken ≡ false) where
   -- what is on the active disk before the step
   before : (p : Phase) → old.phase ≡ p → IsTrue (disk active).honest → IsActive (disk old.active) old.tail old.sealed p false
   before p is honest = subst (λ (q : Phase). IsActive (disk old.active) old.tail old.sealed q false) is (subst (λ (b : Bool). IsActive (disk old.active) old.tail old.sealed old.phase b) unbroken (sound.active (subst IsTrue same honest)))
@@ -76,7 +76,7 @@ module _ {D : Type 0} (disk : D → Disk) (old : Seen D) (active : D) (same : (d
 
   -- a step that changes the phase alone
   pub phase_sound : (p q : Phase) (broken : Bool) → old.phase ≡ p → is_idle p ≡ false → is_idle q ≡ false → is_snapshot p ≡ false → is_snapshot q ≡ false → IsReached q old.generation old.rest → (IsTrue (disk old.active).honest → IsMove (disk old.active) (disk active) old.tail old.sealed p q broken)
-      → IsSound disk (record old { active = active; phase = q; broken = broken })
+      → IsSoundStore disk (record old { active = active; phase = q; broken = broken })
   phase_sound p q broken is busy still of_p of_q reached move = record {
     reached = reached;
     sealed_fits = sound.sealed_fits;
@@ -97,7 +97,7 @@ module _ {D : Type 0} (disk : D → Disk) (old : Seen D) (active : D) (same : (d
   -- the first step of a commit
   pub sealed_sound : (broken : Bool) → old.phase ≡ Idle → 0 < length old.buffer → length old.buffer + 5 ≤ frame_room
       → (IsTrue (disk old.active).honest → (front : List ℕ) → length front ≡ old.tail → IsOnDisk (disk old.active) Idle false front [] → IsOnDisk (disk active) Written broken front old.buffer)
-      → IsSound disk (record old { active = active; buffer = []; sealed = length old.buffer; phase = Written; broken = broken })
+      → IsSoundStore disk (record old { active = active; buffer = []; sealed = length old.buffer; phase = Written; broken = broken })
   sealed_sound broken is some room move = record {
     reached = tt;
     sealed_fits = room;
@@ -116,10 +116,10 @@ module _ {D : Type 0} (disk : D → Disk) (old : Seen D) (active : D) (same : (d
   }
 
   -- the last step of a commit
-  pub settled_sound : (tail journal : ℕ) → tail ≡ old.tail + (old.sealed + 5) → journal ≡ old.journal + (old.sealed + 5) → old.phase ≡ Opening
+  pub settled_sound : (tail journal_length : ℕ) → tail ≡ old.tail + (old.sealed + 5) → journal_length ≡ old.journal_length + (old.sealed + 5) → old.phase ≡ Opening
       → (IsTrue (disk old.active).honest → (front records : List ℕ) → length front ≡ old.tail → IsOnDisk (disk old.active) Opening false front records → IsOnDisk (disk active) Idle false (front ++ frame_bytes records) [])
-      → IsSound disk (record old { active = active; tail = tail; journal = journal; sealed = 0; phase = Idle; broken = false })
-  settled_sound tail journal tail_is journal_is is move = record {
+      → IsSoundStore disk (record old { active = active; tail = tail; journal_length = journal_length; sealed = 0; phase = Idle; broken = false })
+  settled_sound tail journal_length tail_is journal_is is move = record {
     reached = tt;
     sealed_fits = omega arith;
     bounded = λ some.
@@ -140,5 +140,5 @@ module _ {D : Type 0} (disk : D → Disk) (old : Seen D) (active : D) (same : (d
   }
 
 -- what the test of room says
-pub room_is : {D : Type 0} (store : Seen D) → IsTrue (has_room store) → (length store.buffer ≤ most_noted) × (store.tail < last_tail)
+pub room_is : {D : Type 0} (store : StoreSeen D) → IsTrue (has_room store) → (length store.buffer ≤ most_noted) × (store.tail < last_tail)
 room_is store room = (grind (arith, nat_tests), grind (arith, nat_tests))

@@ -85,7 +85,7 @@ pub record Reading : Type 0 where
   pub vault : Vault
   pub generation : ℕ
   pub tail : ℕ
-  pub journal : ℕ
+  pub journal_length : ℕ
 
 -- these bytes are an open file's up to its tail gate: the head, a snapshot and frames, which lead to the reading
 pub record IsFront (front : List ℕ) (reading : Reading) : Type 0 where
@@ -98,7 +98,7 @@ pub record IsFront (front : List ℕ) (reading : Reading) : Type 0 where
   pub bytes : front ≡ (current_head reading.generation ++ snapshot_bytes base) ++ frames_bytes frames
   pub leads : after_frames base frames ≡ Some reading.vault
   pub tail_is : reading.tail ≡ length front
-  pub journal_is : reading.journal ≡ length (frames_bytes frames)
+  pub journal_is : reading.journal_length ≡ length (frames_bytes frames)
 
 -- a file begins with these bytes, and a closed gate stands behind them; anything may stand behind that
 pub record EndsBehind (front file : List ℕ) : Type 0 where

@@ -9,16 +9,16 @@ use Rattle.vault_store.specs.Files.{Reading, AreRead, StandFor}
 use Rattle.vault_store.specs.Opening.{IsNotOpened, IsFound}
 use Rattle.vault_store.specs.Phases.{is_opening}
 use Rattle.vault_store.specs.State.{StoreState}
-use Rattle.vault_store.specs.Seen.{Seen, first_of, second_of, gate_at, gated, Keeps, IsLeft}
+use Rattle.vault_store.specs.Seen.{StoreSeen, first_of, second_of, gate_at, gated, Keeps, IsLeft}
 
 -- the devices of both files of a store are honest
-pub record AreHonest {D : Type 0} (disk : D → Disk) (store : Seen D) : Type 0 where
+pub record AreHonest {D : Type 0} (disk : D → Disk) (store : StoreSeen D) : Type 0 where
   pub first : IsTrue (disk (first_of store)).honest
   pub second : IsTrue (disk (second_of store)).honest
 
 -- what a crash may leave of a store's files is read as what it keeps
 abbrev pub CrashLeavesWhatIsKept : {D : Type 0} → (D → Disk) → Type 0
-CrashLeavesWhatIsKept {D} disk = (store : Seen D) (s : StoreState) (x y : List ℕ) → Keeps disk store s → AreHonest disk store
+CrashLeavesWhatIsKept {D} disk = (store : StoreSeen D) (s : StoreState) (x y : List ℕ) → Keeps disk store s → AreHonest disk store
     → (disk (first_of store)).IsImage x → (disk (second_of store)).IsImage y → IsLeft store s x y
 
 -- one byte of a file may differ from what a read gives; a read gives 1 there, and what was settled isn't 1
@@ -29,12 +29,12 @@ pub record IsOneGate (disk : Disk) (gate : ℕ) : Type 0 where
 
 -- while a gate is being opened, and before a device call failed, it is such a byte of its file
 abbrev pub OneGateIsOpened : {D : Type 0} → (D → Disk) → Type 0
-OneGateIsOpened {D} disk = (store : Seen D) (s : StoreState) → Keeps disk store s → AreHonest disk store → is_opening s.phase ≡ true
+OneGateIsOpened {D} disk = (store : StoreSeen D) (s : StoreState) → Keeps disk store s → AreHonest disk store → is_opening s.phase ≡ true
     → s.broken ≡ false → IsOneGate (disk (gated s.phase store.active store.spare)) (gate_at store s.phase)
 
 -- what is noted has a spelling
 abbrev pub NotedIsSpelled : {D : Type 0} → (D → Disk) → Type 0
-NotedIsSpelled {D} disk = (store : Seen D) (s : StoreState) → Keeps disk store s → HasSnapshot s.noted
+NotedIsSpelled {D} disk = (store : StoreSeen D) (s : StoreState) → Keeps disk store s → HasSnapshot s.noted
 
 -- four bytes can count a spelling
 abbrev pub SnapshotsAreShort : Type 0

@@ -116,15 +116,15 @@ pub record IsFrameWrong (from : ℕ) (old : Vault) (file : List ℕ) (at : ℕ) 
 
 -- what a file has behind its head: a snapshot, and so many frames that lead from its vault to the other, with so many bytes; a closed
 -- gate behind them
-pub record AreContents (disk : Disk) (vault : Vault) (frames tail journal : ℕ) : Type 0 where
+pub record AreContents (disk : Disk) (vault : Vault) (frames tail journal_length : ℕ) : Type 0 where
   pub base : Vault
   pub list : List (List Effect)
   pub spelled : HasSnapshot base
   pub each : AllByRecursion IsFrame list
   pub leads : after_frames base list ≡ Some vault
   pub frames_are : frames ≡ length list
-  pub journal_is : journal ≡ length (frames_bytes list)
-  pub tail_is : tail ≡ header + length (snapshot_of base) + journal
+  pub journal_is : journal_length ≡ length (frames_bytes list)
+  pub tail_is : tail ≡ header + length (snapshot_of base) + journal_length
   pub bytes : IsTrue disk.honest → take tail disk.shown ≡ (take head_length disk.shown ++ snapshot_bytes base) ++ frames_bytes list
   pub closed : IsTrue disk.honest → IsClosed tail disk.shown
 

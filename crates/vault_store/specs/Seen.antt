@@ -21,7 +21,7 @@ use Rattle.vault_store.specs.Spares.{IsSpareOn}
 -- how many bytes the records of the frame under way have; of the active file its generation, where its tail gate stands, and how many
 -- bytes its frames have; the phase; whether a device call failed; whether the spare file's head gate is known to be closed; and the
 -- bytes that a snapshot writes behind it
-pub record Seen (D : Type 0) : Type 0 where
+pub record StoreSeen (D : Type 0) : Type 0 where
   pub active : D
   pub spare : D
   pub which : File
@@ -29,7 +29,7 @@ pub record Seen (D : Type 0) : Type 0 where
   pub sealed : ℕ
   pub generation : ℕ
   pub tail : ℕ
-  pub journal : ℕ
+  pub journal_length : ℕ
   pub phase : Phase
   pub broken : Bool
   pub shut : Bool
@@ -47,11 +47,11 @@ other First = Second
 other Second = First
 
 -- the device of the first file, active or spare
-abbrev pub first_of : {D : Type 0} → Seen D → D
+abbrev pub first_of : {D : Type 0} → StoreSeen D → D
 first_of store = of_file store.which store.active store.spare
 
 -- the device of the second file
-abbrev pub second_of : {D : Type 0} → Seen D → D
+abbrev pub second_of : {D : Type 0} → StoreSeen D → D
 second_of store = of_file store.which store.spare store.active
 
 -- the most bytes of records in the buffer where there is room for any other record
@@ -63,29 +63,30 @@ abbrev pub last_tail : ℕ
 last_tail = 2 ^ 62
 
 -- whether there is room for any record
-abbrev pub has_room : {D : Type 0} → Seen D → Bool
+abbrev pub has_room : {D : Type 0} → StoreSeen D → Bool
 has_room store = nat_le (length store.buffer) most_noted && nat_lt store.tail last_tail
 
 -- what opening reads while the frame or the snapshot under way doesn't count
-abbrev pub settled_reading : {D : Type 0} → Seen D → StoreState → Reading
-settled_reading store s = record { vault = s.settled; generation = store.generation; tail = store.tail; journal = store.journal }
+abbrev pub settled_reading : {D : Type 0} → StoreSeen D → StoreState → Reading
+settled_reading store s =
+    record { vault = s.settled; generation = store.generation; tail = store.tail; journal_length = store.journal_length }
 
 -- what it reads once a snapshot counts, or else a frame
-abbrev pub counted_reading : {D : Type 0} → Bool → Seen D → StoreState → Reading
+abbrev pub counted_reading : {D : Type 0} → Bool → StoreSeen D → StoreState → Reading
 counted_reading renews store s = record {
   vault = s.sealed;
   generation = if renews then store.generation + 1 else store.generation;
   tail = if renews then header + length (snapshot_of s.sealed) else store.tail + frame_extra + store.sealed;
-  journal = if renews then 0 else store.journal + frame_extra + store.sealed;
+  journal_length = if renews then 0 else store.journal_length + frame_extra + store.sealed;
 }
 
 -- what it reads once all that is under way counts
-abbrev pub sealed_reading : {D : Type 0} → Seen D → StoreState → Reading
+abbrev pub sealed_reading : {D : Type 0} → StoreSeen D → StoreState → Reading
 sealed_reading store s = counted_reading (is_snapshot s.phase) store s
 
 -- The gate that a phase opens: the active file's tail gate or, of a snapshot, the spare's head gate. Where it stands, and of the
 -- active one and its spare the one that it stands in.
-abbrev pub gate_at : {D : Type 0} → Seen D → Phase → ℕ
+abbrev pub gate_at : {D : Type 0} → StoreSeen D → Phase → ℕ
 gate_at store phase = if is_snapshot phase then 0 else store.tail
 
 abbrev pub gated : {A : Type 0} → Phase → A → A → A
@@ -111,17 +112,17 @@ abbrev pub long_journal : ℕ
 long_journal = 1048576
 
 -- whether one is, now
-abbrev pub wants_snapshot : {D : Type 0} → Seen D → Bool
-wants_snapshot store = is_idle store.phase && nat_le long_journal store.journal
+abbrev pub wants_snapshot : {D : Type 0} → StoreSeen D → Bool
+wants_snapshot store = is_idle store.phase && nat_le long_journal store.journal_length
 
 -- whether a snapshot may be begun: nothing is under way, no device call failed, and there is a next generation
-pub record MayStart {D : Type 0} (store : Seen D) : Type 0 where
+pub record MayStart {D : Type 0} (store : StoreSeen D) : Type 0 where
   pub idle : store.phase ≡ Idle
   pub whole : store.broken ≡ false
   pub fits : store.generation + 1 < 2 ^ 64
 
 -- a snapshot of this vault is begun
-abbrev pub started_seen : {D : Type 0} → Seen D → Vault → Seen D
+abbrev pub started_seen : {D : Type 0} → StoreSeen D → Vault → StoreSeen D
 started_seen store v = record store { buffer = []; phase = Start; rest = behind_gate (store.generation + 1) v }
 
 -- how many bytes of records the frame under way has; a snapshot writes none
@@ -129,7 +130,7 @@ abbrev pub framed_bytes : StoreState → ℕ
 framed_bytes s = if is_snapshot s.phase then 0 else length (records_of s.sealing)
 
 -- A store keeps a settled vault, a sealed one and the one after all effects.
-pub record Keeps {D : Type 0} (disk : D → Disk) (store : Seen D) (s : StoreState) : Type 0 where
+pub record Keeps {D : Type 0} (disk : D → Disk) (store : StoreSeen D) (s : StoreState) : Type 0 where
   pub phase : store.phase ≡ s.phase
   pub broken : store.broken ≡ s.broken
   pub spelled : HasSnapshot s.settled
@@ -160,12 +161,12 @@ IsLeftWhile false gate settled sealed file first second = AreRead first second s
 
 -- What two files that a crash leaves are read as: the settled vault or, while a gate is being opened, the sealed one exactly where
 -- that gate is 1.
-abbrev pub IsLeft : {D : Type 0} → Seen D → StoreState → List ℕ → List ℕ → Type 0
+abbrev pub IsLeft : {D : Type 0} → StoreSeen D → StoreState → List ℕ → List ℕ → Type 0
 IsLeft store s first second =
     IsLeftWhile (is_opening s.phase) (gate_at store s.phase) (settled_reading store s) (sealed_reading store s)
     (gated s.phase (of_file store.which first second) (of_file store.which second first)) first second
 
 -- what two files that a stop inside a step leaves are read as: the settled vault, or the sealed one where a gate may be opened
-abbrev pub IsLeftInside : {D : Type 0} → Seen D → StoreState → List ℕ → List ℕ → Type 0
+abbrev pub IsLeftInside : {D : Type 0} → StoreSeen D → StoreState → List ℕ → List ℕ → Type 0
 IsLeftInside store s first second =
     AreRead first second (settled_reading store s) ⊎ (IsTrue (may_open s.phase) × AreRead first second (sealed_reading store s))

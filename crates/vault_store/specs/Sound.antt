@@ -7,7 +7,7 @@ use Rattle.vault_store.specs.declared.phase.Phase.TheVariants.{Idle, Written, Bo
 use Rattle.vault_store.specs.Files.{frame_extra}
 use Rattle.vault_store.specs.OnDisk.{IsOnDisk}
 use Rattle.vault_store.specs.Spares.{IsSpareOn}
-use Rattle.vault_store.specs.Seen.{Seen, last_tail}
+use Rattle.vault_store.specs.Seen.{StoreSeen, last_tail}
 
 -- what a snapshot writes ends with a closed tail gate, and there is a next generation
 pub record IsRest (generation : ℕ) (rest : List ℕ) : Type 0 where
@@ -47,12 +47,12 @@ pub record IsActive (disk : Disk) (tail sealed : ℕ) (phase : Phase) (broken : 
   pub on_disk : IsOnDisk disk phase broken front records
 
 -- what every store keeps
-pub record IsSound {D : Type 0} (disk : D → Disk) (store : Seen D) : Type 0 where
+pub record IsSoundStore {D : Type 0} (disk : D → Disk) (store : StoreSeen D) : Type 0 where
   -- invariants 1 to 7 of src/lib.rt, in this order
   pub reached : IsReached store.phase store.generation store.rest
   pub sealed_fits : store.sealed + frame_extra ≤ frame_room
   pub bounded : IsBounded store.phase (length store.buffer) store.tail
-  pub inside : store.journal ≤ store.tail
+  pub inside : store.journal_length ≤ store.tail
   pub short : length store.rest < 2 ^ 33
   pub active : IsTrue (disk store.active).honest → IsActive (disk store.active) store.tail store.sealed store.phase store.broken
   pub spare : IsTrue (disk store.spare).honest → IsSpareOn (λ x. Unit {0}) (disk store.spare) store.phase store.broken store.shut store.rest

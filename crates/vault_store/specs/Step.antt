@@ -8,7 +8,7 @@ use Rattle.vault_store.specs.Files.{frame_extra}
 use Rattle.vault_store.specs.Calls.{HasCause}
 use Rattle.vault_store.specs.Phases.{NoCall, is_idle, is_snapshot}
 use Rattle.vault_store.specs.State.{StoreState, row_of, answer_of, advanced, failed}
-use Rattle.vault_store.specs.Seen.{Seen, other, first_of, second_of, Keeps, IsLeftInside}
+use Rattle.vault_store.specs.Seen.{StoreSeen, other, first_of, second_of, Keeps, IsLeftInside}
 
 -- what at most one call of the two devices leaves of their counts and of their honesty
 pub record IsAtMostOneCall {A E : Type 0} (first second first_new second_new : Disk) (result : Result A E) : Type 0 where
@@ -19,28 +19,28 @@ pub record IsAtMostOneCall {A E : Type 0} (first second first_new second_new : D
   pub cause : IsErr result → HasCause first first_new ⊎ HasCause second second_new
 
 -- a step that ended well, or failed
-abbrev pub IsStep : {D : Type 0} → (D → Disk) → Seen D → Seen D → Result Advanced Fault → StoreState → Type 0
+abbrev pub IsStep : {D : Type 0} → (D → Disk) → StoreSeen D → StoreSeen D → Result Advanced Fault → StoreState → Type 0
 IsStep disk old new (Ok answer) s = (answer ≡ answer_of s) × Keeps disk new (advanced s)
 IsStep disk old new (Err fault) s = (s.broken ≡ false) × ((row_of s).call ≢ NoCall) × Keeps disk new (failed (row_of s) s)
 
 -- whether a step makes the spare the active file: the last one of a snapshot does
-abbrev pub renews : {D : Type 0} → Seen D → Result Advanced Fault → Bool
+abbrev pub renews : {D : Type 0} → StoreSeen D → Result Advanced Fault → Bool
 renews old (Ok answers.Settled) = is_snapshot old.phase
 renews old _ = false
 
 -- how many bytes of frames a step adds: the whole frame under way, where the step settles it
-abbrev pub gained : {D : Type 0} → Seen D → Result Advanced Fault → ℕ
+abbrev pub gained : {D : Type 0} → StoreSeen D → Result Advanced Fault → ℕ
 gained old (Ok answers.Settled) = frame_extra + old.sealed
 gained old _ = 0
 
 -- The active file and its numbers after a step: the last one of a commit moves the tail gate behind the frame; the last one of a
 -- snapshot exchanges the files, and the tail gate then stands behind the snapshot; the first one of a commit empties the buffer,
 -- also where its device call fails; no other changes them.
-pub record AreNumbers {D : Type 0} (old new : Seen D) (result : Result Advanced Fault) : Type 0 where
+pub record AreNumbers {D : Type 0} (old new : StoreSeen D) (result : Result Advanced Fault) : Type 0 where
   pub which : new.which ≡ (if renews old result then other old.which else old.which)
   pub generation : new.generation ≡ (if renews old result then old.generation + 1 else old.generation)
   pub tail : new.tail ≡ (if renews old result then length old.rest else old.tail + gained old result)
-  pub journal : new.journal ≡ (if renews old result then 0 else old.journal + gained old result)
+  pub journal_length : new.journal_length ≡ (if renews old result then 0 else old.journal_length + gained old result)
   pub buffer : new.buffer ≡ (if is_idle old.phase && not old.broken then [] else old.buffer)
 
 -- what a stop inside a step may leave of two devices
@@ -48,7 +48,7 @@ abbrev pub MayBeLeft : Disk → Disk → Disk → Disk → List ℕ → List ℕ
 MayBeLeft first second first_new second_new x y = first_new.WasImage first.moment x × second_new.WasImage second.moment y
 
 -- what one step does: to what is kept, to the numbers, to the devices' counts, and what a stop inside it leaves
-pub record IsAdvance {D : Type 0} (disk : D → Disk) (old new : Seen D) (result : Result Advanced Fault) : Type 0 where
+pub record IsAdvance {D : Type 0} (disk : D → Disk) (old new : StoreSeen D) (result : Result Advanced Fault) : Type 0 where
   pub step : (s : StoreState) → Keeps disk old s → IsStep disk old new result s
   pub numbers : AreNumbers old new result
   pub rests : (result ≡ Ok answers.Idle) ⊎ (result ≡ Ok answers.Broken) → new ≡ old

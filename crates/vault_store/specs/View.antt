@@ -2,9 +2,9 @@
 use Rattle.std.specs.Prelude.{[]}
 use Rattle.std.specs.Option.{option_map_or}
 use Rattle.vault_store.specs.declared.store.Store.TheInside.{Inside}
-use Rattle.vault_store.specs.Seen.{Seen}
+use Rattle.vault_store.specs.Seen.{StoreSeen}
 
-abbrev pub seen_of : {D A : Type 0} → Inside D A → Seen D
+abbrev pub seen_of : {D A : Type 0} → Inside D A → StoreSeen D
 seen_of store = record {
   active = store.active;
   spare = store.spare;
@@ -13,7 +13,7 @@ seen_of store = record {
   sealed = store.sealed;
   generation = store.generation;
   tail = store.tail;
-  journal = store.journal;
+  journal_length = store.journal_length;
   phase = store.phase;
   broken = store.broken;
   shut = store.spare_shut;

@@ -104,7 +104,7 @@ pub struct Contents<A: Allocator> {
     /// Where the tail gate stands.
     pub tail: u64,
     /// How many bytes the frames have.
-    pub journal: u64,
+    pub journal_length: u64,
 }
 
 /// Reads what stands in a file behind its head.
@@ -114,7 +114,7 @@ pub fn read_contents<D: Device, A: Allocator + Copy>(
 ) -> Result<Contents<A>, ReadError>
     ensures reads { AreReads (D.disk device.old) (D.disk device.new) }
     ensures contents { IfOk result
-        (λ contents. AreContents (D.disk device.old) contents.book contents.frames contents.tail contents.journal) }
+        (λ contents. AreContents (D.disk device.old) contents.book contents.frames contents.tail contents.journal_length) }
     ensures refused { IfErr result
         (λ why. IsWhy (D.disk device.old) (D.disk device.new) (IsFaultBehindHead (D.disk device.old).shown) why) }
     ensures quiet { OnOk result (IsQuiet (D.disk device.old) (D.disk device.new)) }
@@ -129,7 +129,7 @@ pub fn read_contents<D: Device, A: Allocator + Copy>(
         book,
         frames: frames.count,
         tail: frames.tail,
-        journal: frames.tail - end,
+        journal_length: frames.tail - end,
     })
 }
 
@@ -154,7 +154,7 @@ pub fn read_body<D: Device, A: Allocator + Copy>(
                 book,
                 frames,
                 tail,
-                journal: _,
+                journal_length: _,
             } = contents;
             Ok(Body::Whole(book, frames, tail))
         }

@@ -80,7 +80,7 @@ impl<D: Device, A: Allocator> Store<D, A> {
             Ok(()) => {
                 let frame = self.sealed + FRAME_EXTRA;
                 self.tail += frame;
-                self.journal += frame;
+                self.journal_length += frame;
                 self.sealed = 0;
                 self.phase = Phase::Idle;
                 Ok(Advanced::Settled)

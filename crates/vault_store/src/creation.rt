@@ -127,7 +127,7 @@ impl<D: Device, A: Allocator> Store<D, A> {
     /// Ten device calls.
     pub fn create(alloc: A, first: D, second: D) -> Result<Store<D, A>, Refused<D, CreateError>>
         ensures kept { IfOk result (λ store. Keeps D.disk store (at_rest new_vault)) }
-        ensures numbers { IfOk result (λ store. (store.generation ≡ 1) × (store.tail ≡ 34) × (store.journal ≡ 0)) }
+        ensures numbers { IfOk result (λ store. (store.generation ≡ 1) × (store.tail ≡ 34) × (store.journal_length ≡ 0)) }
         ensures file { IsTrue (D.disk first).honest → IfOk result (λ store. IsFilled (D.disk first) (D.disk (first_of store)) new_file) }
         ensures empty { IsTrue (D.disk second).honest → IfOk result (λ store. IsFilled (D.disk second) (D.disk (second_of store)) []) }
         ensures called { IfOk result
@@ -155,7 +155,7 @@ impl<D: Device, A: Allocator> Store<D, A> {
                 sealed: 0,
                 generation: 1,
                 tail: NEW_TAIL,
-                journal: 0,
+                journal_length: 0,
                 phase: Phase::Idle,
                 broken: false,
                 spare_shut: false,

@@ -9,7 +9,7 @@ use vault_device::{Device, Fault};
 /// How many bytes stand before the snapshot.
 pub const HEADER: u64 = 24;
 
-const MARK: [u8; 7] = *b"LLVAULT";
+const MAGIC: [u8; 7] = *b"LLVAULT";
 
 const VERSION: [u8; 4] = [0, 0, 0, 1];
 
@@ -40,7 +40,7 @@ fn head_in(bytes: &[u8; 24]) -> Head
     if bytes[0] != 1 {
         return Head::Closed;
     }
-    if bytes[1..8] != MARK[..] {
+    if bytes[1..8] != MAGIC[..] {
         return Head::Damaged(1);
     }
     if bytes[8..12] != VERSION[..] {

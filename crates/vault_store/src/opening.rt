@@ -198,7 +198,7 @@ fn read_active<D: Device, A: Allocator + Copy>(
     active: &mut D,
 ) -> Result<(Contents<A>, Frame<A>), OpenError>
     ensures reads { AreReads (D.disk active.old) (D.disk active.new) }
-    ensures contents { IfOk result (λ read. AreContents (D.disk active.old) read.0.book read.0.frames read.0.tail read.0.journal) }
+    ensures contents { IfOk result (λ read. AreContents (D.disk active.old) read.0.book read.0.frames read.0.tail read.0.journal_length) }
     ensures frame { IfOk result (λ read. read.1 ≡ []) }
     ensures refused { IfErr result
         (λ why. IsWhyNot (D.disk active.old) (D.disk active.new) which (IsFaultBehindHead (D.disk active.old).shown) why) }
@@ -275,7 +275,7 @@ impl<D: Device, A: Allocator + Copy> Store<D, A> {
                     book,
                     frames: _,
                     tail,
-                    journal,
+                    journal_length,
                 } = contents;
                 let store = Store {
                     active,
@@ -285,7 +285,7 @@ impl<D: Device, A: Allocator + Copy> Store<D, A> {
                     sealed: 0,
                     generation,
                     tail,
-                    journal,
+                    journal_length,
                     phase: Phase::Idle,
                     broken: false,
                     spare_shut,

@@ -182,7 +182,7 @@ impl<D: Device, A: Allocator> Store<D, A> {
                 self.sealed = 0;
                 self.generation += 1;
                 self.tail = bytes_of(&self.rest).len() as u64;
-                self.journal = 0;
+                self.journal_length = 0;
                 self.phase = Phase::Idle;
                 self.spare_shut = false;
                 self.rest = None;

@@ -29,7 +29,7 @@ impl<D: Device, A: Allocator> Store<D, A> {
     pub fn wants_snapshot(&self) -> bool
         ensures { result ≡ wants_snapshot self.now }
     {
-        self.phase == Phase::Idle && self.journal >= LONG_JOURNAL
+        self.phase == Phase::Idle && self.journal_length >= LONG_JOURNAL
     }
 
     /// Begins a snapshot of what a restart would leave of this book, which has made all that was noted. No device call. It takes

@@ -38,7 +38,7 @@ pub struct Store<D: Device, A: Allocator = Global> {
     /// Where the active file's tail gate stands: the offset at which the next frame begins.
     pub(crate) tail: u64,
     /// How many bytes of frames the active file has.
-    pub(crate) journal: u64,
+    pub(crate) journal_length: u64,
     /// Which step of a commit or of a snapshot comes next.
     pub(crate) phase: Phase,
     /// Whether a device call failed. None is made then.
@@ -50,16 +50,16 @@ pub struct Store<D: Device, A: Allocator = Global> {
 }
 
 impl<D: Device, A: Allocator> Model for Store<D, A> {
-    ghost use Rattle.vault_store.specs.Seen.{Seen};
+    ghost use Rattle.vault_store.specs.Seen.{StoreSeen};
 
-    ghost Value = { Seen D };
+    ghost Value = { StoreSeen D };
 
     ghost use Rattle.vault_store.specs.View.{seen_of};
-    ghost use Rattle.vault_store.specs.Sound.{IsSound};
+    ghost use Rattle.vault_store.specs.Sound.{IsSoundStore};
 
     ghost view = { seen_of };
 
-    ghost invariant = { λ store. IsSound D.disk (seen_of store) };
+    ghost invariant = { λ store. IsSoundStore D.disk (seen_of store) };
 }
 
 impl<D: Device, A: Allocator> Store<D, A> {
@@ -72,9 +72,9 @@ impl<D: Device, A: Allocator> Store<D, A> {
 
     /// How many bytes of frames the active file has.
     pub fn journal_len(&self) -> u64
-        ensures { result ≡ self.now.journal }
+        ensures { result ≡ self.now.journal_length }
     {
-        self.journal
+        self.journal_length
     }
 
     /// The devices of the first file and of the second. What was noted and isn't settled is lost.
@@ -90,7 +90,7 @@ impl<D: Device, A: Allocator> Store<D, A> {
             sealed: _,
             generation: _,
             tail: _,
-            journal: _,
+            journal_length: _,
             phase: _,
             broken: _,
             spare_shut: _,

@@ -1,6 +1,6 @@
 //! Making a vault in two files.
 
-use crate::fault::Fault;
+use crate::failure::Failure;
 use crate::files::lock;
 use std::fs::{self, File, OpenOptions};
 use std::io::ErrorKind;
@@ -15,16 +15,16 @@ struct Opened {
 }
 
 /// Opens a file, or makes it where it is missing.
-fn open_or_make(rt: &HostRuntime, path: &str) -> Result<Opened, Fault> {
+fn open_or_make(rt: &HostRuntime, path: &str) -> Result<Opened, Failure> {
     let mut options = OpenOptions::new();
     options.read(true).write(true);
     match options.open(rt, path) {
         Ok(file) => Ok(Opened { file, made: false }),
         Err(error) if error.kind() == ErrorKind::NotFound => match File::create_new(rt, path) {
             Ok(file) => Ok(Opened { file, made: true }),
-            Err(_) => Err(Fault::Device),
+            Err(_) => Err(Failure::Device),
         },
-        Err(_) => Err(Fault::Device),
+        Err(_) => Err(Failure::Device),
     }
 }
 
@@ -36,23 +36,23 @@ fn take_back(rt: &HostRuntime, path: &str, made: bool) {
 }
 
 /// Opens a file and locks it. One that another program has by now isn't taken away, whoever made it.
-fn locked(rt: &HostRuntime, path: &str) -> Result<Opened, Fault> {
+fn locked(rt: &HostRuntime, path: &str) -> Result<Opened, Failure> {
     let opened = open_or_make(rt, path)?;
     match lock(&opened.file) {
         Ok(()) => Ok(opened),
-        Err(fault) => Err(fault),
+        Err(failure) => Err(failure),
     }
 }
 
 /// Makes a vault in the files of these two paths, which are made where they are missing. Where that is refused, no file is
 /// changed, and those made for it are taken away again.
-pub(crate) fn create_files(rt: &HostRuntime, first: &str, second: &str) -> Result<(), Fault> {
+pub(crate) fn create_files(rt: &HostRuntime, first: &str, second: &str) -> Result<(), Failure> {
     let a = locked(rt, first)?;
     let b = match locked(rt, second) {
         Ok(b) => b,
-        Err(fault) => {
+        Err(failure) => {
             take_back(rt, first, a.made);
-            return Err(fault);
+            return Err(failure);
         }
     };
     let (made_first, made_second) = (a.made, b.made);
@@ -65,13 +65,13 @@ pub(crate) fn create_files(rt: &HostRuntime, first: &str, second: &str) -> Resul
         Err(refused) => {
             take_back(rt, first, made_first);
             take_back(rt, second, made_second);
-            Err(Fault::from(refused.why))
+            Err(Failure::from(refused.why))
         }
     }
 }
 
 /// Makes a vault in the files of these two paths, and says so on standard output.
-pub(crate) fn create(rt: &HostRuntime, first: &str, second: &str) -> Result<(), Fault> {
+pub(crate) fn create(rt: &HostRuntime, first: &str, second: &str) -> Result<(), Failure> {
     create_files(rt, first, second)?;
-    println!(rt; "created").or(Err(Fault::Write))
+    println!(rt; "created").or(Err(Failure::Write))
 }

@@ -1,6 +1,6 @@
 //! How many descriptors the program may have, and needs.
 
-use crate::fault::Fault;
+use crate::failure::Failure;
 use libc::types::rlimit;
 
 /// What the program has open beside its connections: the standard streams, what stands in for them, two files and the listener,
@@ -26,17 +26,17 @@ fn limit() -> Option<u64> {
 }
 
 /// Refuses so many workers where so few descriptors may be had.
-pub(crate) fn check(workers: u32, limit: u64) -> Result<(), Fault> {
+pub(crate) fn check(workers: u32, limit: u64) -> Result<(), Failure> {
     let needed = needed(workers);
     if needed <= limit {
         Ok(())
     } else {
-        Err(Fault::Descriptors { needed, limit })
+        Err(Failure::Descriptors { needed, limit })
     }
 }
 
 /// Refuses so many workers where the system's limit is lower than what they need.
-pub(crate) fn check_limit(workers: u32) -> Result<(), Fault> {
+pub(crate) fn check_limit(workers: u32) -> Result<(), Failure> {
     match limit() {
         Some(limit) => check(workers, limit),
         None => Ok(()),

@@ -1,6 +1,6 @@
 //! Reporting on two files.
 
-use crate::fault::Fault;
+use crate::failure::Failure;
 use std::fs::{File, TryLockError};
 use std::io::{self, BufWriter, Write};
 use vault_device::FileDevice;
@@ -15,8 +15,8 @@ pub(crate) struct Inspection {
 }
 
 /// Opens a file for reading alone.
-fn opened(rt: &HostRuntime, path: &str) -> Result<File, Fault> {
-    File::open(rt, path).or(Err(Fault::Device))
+fn opened(rt: &HostRuntime, path: &str) -> Result<File, Failure> {
+    File::open(rt, path).or(Err(Failure::Device))
 }
 
 /// Whether another program has the file for writing. Where none has, none gets it while this one is open.
@@ -25,7 +25,11 @@ fn is_in_use(file: &File) -> bool {
 }
 
 /// Reads the files of these two paths.
-pub(crate) fn read_files(rt: &HostRuntime, first: &str, second: &str) -> Result<Inspection, Fault> {
+pub(crate) fn read_files(
+    rt: &HostRuntime,
+    first: &str,
+    second: &str,
+) -> Result<Inspection, Failure> {
     let a = opened(rt, first)?;
     let b = opened(rt, second)?;
     let in_use = is_in_use(&a) || is_in_use(&b);
@@ -35,14 +39,14 @@ pub(crate) fn read_files(rt: &HostRuntime, first: &str, second: &str) -> Result<
 }
 
 /// Prints a report on the files of these two paths on standard output. Where a server has them, it says so on standard error.
-pub(crate) fn inspect(rt: &HostRuntime, first: &str, second: &str) -> Result<(), Fault> {
+pub(crate) fn inspect(rt: &HostRuntime, first: &str, second: &str) -> Result<(), Failure> {
     let Inspection { report, in_use } = read_files(rt, first, second)?;
     if in_use {
         let _ = eprintln!(rt; "vault in use: a server may have written while the files were read");
     }
     let Ok(mut writer) = BufWriter::new(rt.alloc(), io::writer(rt)) else {
-        return Err(Fault::NoMemory);
+        return Err(Failure::NoMemory);
     };
     print(&report, &mut writer)?;
-    writer.flush().or(Err(Fault::Write))
+    writer.flush().or(Err(Failure::Write))
 }

@@ -3,8 +3,8 @@
 //! Promises: it is safe and, but for `serve`, total. Each subcommand is one call of a crate beneath.
 //! Stands on: vault_device, vault_store, group_commit, vault_protocol, vault_inspector, vault_sessions. Must not know:
 //! anything that a contract should say; it is kept thin.
-//! Only tested: the stored run of a script; what the words ask for; the text of each fault; `create`, `inspect` and the order
-//! of faults of `serve` on real files; by `tools/try-program`, behind the gate, statuses, signals, closed streams and odd
+//! Only tested: the stored run of a script; what the words ask for; the text of each failure; `create`, `inspect` and the order
+//! of failures of `serve` on real files; by `tools/try-program`, behind the gate, statuses, signals, closed streams and odd
 //! clients.
 //! Neither: texts of help and usage; what standard input and output are.
 //! Start at: command_line.rt, then the file of a subcommand.
@@ -13,7 +13,7 @@
 mod command_line;
 mod creating;
 mod descriptors;
-mod fault;
+mod failure;
 mod files;
 mod inspecting;
 mod scripting;
@@ -24,7 +24,7 @@ mod tests;
 
 use crate::command_line::{Task, task_of};
 use crate::creating::create;
-use crate::fault::Fault;
+use crate::failure::Failure;
 use crate::inspecting::inspect;
 use crate::scripting::script;
 use crate::serving::serve;
@@ -33,7 +33,7 @@ use clap::error::ErrorKind;
 use std::process::ExitCode;
 use std::{env, io};
 
-/// The status after a fault.
+/// The status after a failure.
 const FAULT: u8 = 1;
 
 /// The status where the command line is refused.
@@ -49,18 +49,18 @@ fn words(rt: &HostRuntime) -> io::Result<Vec<String>> {
 }
 
 /// Says in one line what went wrong.
-fn told(rt: &HostRuntime, fault: Fault) -> ExitCode {
-    let _ = eprintln!(rt; "{fault}");
+fn told(rt: &HostRuntime, failure: Failure) -> ExitCode {
+    let _ = eprintln!(rt; "{failure}");
     ExitCode::from(FAULT)
 }
 
 /// Shows the help, or what is wrong with the command line.
 fn shown(rt: &HostRuntime, error: &clap::Error) -> ExitCode {
     if error.kind() == ErrorKind::OutOfMemory {
-        return told(rt, Fault::NoMemory);
+        return told(rt, Failure::NoMemory);
     }
     if error.print(rt).is_err() {
-        return told(rt, Fault::Write);
+        return told(rt, Failure::Write);
     }
     if error.use_stderr() {
         ExitCode::from(REFUSED)
@@ -72,7 +72,7 @@ fn shown(rt: &HostRuntime, error: &clap::Error) -> ExitCode {
 /// Says that the command line can't be read.
 fn unread(rt: &HostRuntime, error: &io::Error) -> ExitCode {
     if error.kind() == io::ErrorKind::OutOfMemory {
-        return told(rt, Fault::NoMemory);
+        return told(rt, Failure::NoMemory);
     }
     let _ = eprintln!(rt; "error: an argument is no text");
     ExitCode::from(REFUSED)
@@ -82,7 +82,7 @@ fn main(rt: HostRuntime) -> ExitCode {
     // Before anything is opened, so that no file of a vault is taken for a stream.
     let _streams = match take_streams(&rt) {
         Ok(streams) => streams,
-        Err(fault) => return told(&rt, fault),
+        Err(failure) => return told(&rt, failure),
     };
     let words = match words(&rt) {
         Ok(words) => words,
@@ -100,6 +100,6 @@ fn main(rt: HostRuntime) -> ExitCode {
     };
     match done {
         Ok(()) => ExitCode::SUCCESS,
-        Err(fault) => told(&rt, fault),
+        Err(failure) => told(&rt, failure),
     }
 }

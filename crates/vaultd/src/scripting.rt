@@ -1,16 +1,16 @@
 //! Running a script.
 
-use crate::fault::Fault;
+use crate::failure::Failure;
 use std::io::{self, BufWriter, Write};
 use vault_protocol::run_script;
 
 /// Runs a script from standard input, and writes its output.
-pub(crate) fn script(rt: &HostRuntime) -> Result<(), Fault> {
+pub(crate) fn script(rt: &HostRuntime) -> Result<(), Failure> {
     let Ok(mut writer) = BufWriter::new(rt.alloc(), io::writer(rt)) else {
-        return Err(Fault::NoMemory);
+        return Err(Failure::NoMemory);
     };
     let end = run_script(rt.alloc(), &mut rt.reader(), &mut writer);
     let flushed = writer.flush();
     end?;
-    flushed.or(Err(Fault::Write))
+    flushed.or(Err(Failure::Write))
 }

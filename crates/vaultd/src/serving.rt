@@ -1,7 +1,7 @@
 //! Serving a vault over TCP.
 
 use crate::descriptors::check_limit;
-use crate::fault::Fault;
+use crate::failure::Failure;
 use crate::files::open_locked;
 use group_commit::Vault;
 use std::fs::File;
@@ -42,18 +42,18 @@ pub(crate) fn serve<
         + Wait
         + Clock
         + Sync,
->(rt: &R, serving: &Serving<'_>) -> Result<(), Fault> {
+>(rt: &R, serving: &Serving<'_>) -> Result<(), Failure> {
     check_limit(serving.workers)?;
     let first = FileDevice::over(open_locked(rt, serving.first)?);
     let second = FileDevice::over(open_locked(rt, serving.second)?);
     let vault = match Vault::open(rt.alloc(), first, second, LIFE) {
         Ok(vault) => vault,
-        Err(refused) => return Err(Fault::from(refused.why)),
+        Err(refused) => return Err(Failure::from(refused.why)),
     };
     let Ok(listener) = TcpListener::bind(rt, serving.address) else {
-        return Err(Fault::Read);
+        return Err(Failure::Read);
     };
-    println!(rt; "listening").or(Err(Fault::Write))?;
+    println!(rt; "listening").or(Err(Failure::Write))?;
     let terms = Terms {
         workers: serving.workers.clamp(1, 64) as usize,
         connections: serving.connections,
@@ -63,7 +63,7 @@ pub(crate) fn serve<
     };
     let (vault, _) = run_server_on(rt, rt.alloc(), listener, vault, &terms, &OpenGate)?;
     if vault.is_broken() {
-        return Err(Fault::Device);
+        return Err(Failure::Device);
     }
     Ok(())
 }

@@ -1,7 +1,7 @@
 //! The past of a vault, as calls make it, and its receipts found again.
 ghost use Rattle.std.specs.Prelude.{◌≡◌, List, [], ◌∷◌, length, IsTrue, IfSome, OnSome};
 ghost use Rattle.vault_device.specs.MemDevice.{MemDisk, disk_of};
-ghost use Rattle.group_commit.specs.Seen.{Seen};
+ghost use Rattle.group_commit.specs.Seen.{VaultSeen};
 ghost use Rattle.group_commit.specs.Positions.{HasTold};
 ghost use Rattle.group_commit.specs.Pasts.{AreLeft, IsPast};
 ghost use Rattle.group_commit.specs.Recovered.{IsFoundAgain};
@@ -14,8 +14,8 @@ use vault_model::CommandIn;
 
 // The receipt of a command without an effect, which is staged, settled and told.
 fn told(vault: &mut Vault<MemDevice>, command: CommandIn<Global>) -> Option<Receipt>
-    ensures past { (past : List (Seen MemDisk)) → IsPast disk_of vault.old past
-        → OnSome result ((staged : Seen MemDisk) × (pumped : Seen MemDisk)
+    ensures past { (past : List (VaultSeen MemDisk)) → IsPast disk_of vault.old past
+        → OnSome result ((staged : VaultSeen MemDisk) × (pumped : VaultSeen MemDisk)
         × IsPast disk_of vault.new (pumped ∷ staged ∷ vault.old ∷ past)) }
     ensures receipt { IfSome result (λ receipt. HasTold vault.new.view receipt) }
 {
@@ -45,7 +45,7 @@ fn told(vault: &mut Vault<MemDevice>, command: CommandIn<Global>) -> Option<Rece
 
 // The vault of the next life, in the files that a stop left.
 fn opened(alloc: Global, first: MemDevice, second: MemDevice) -> Option<Vault<MemDevice>>
-    ensures { (old : Seen MemDisk) (past : List (Seen MemDisk)) → AreLeft disk_of old first second → IsPast disk_of old past
+    ensures { (old : VaultSeen MemDisk) (past : List (VaultSeen MemDisk)) → AreLeft disk_of old first second → IsPast disk_of old past
         → IfSome result (λ next. IsPast disk_of next (old ∷ past)) }
 {
     match Vault::open(alloc, first, second, 2) {
@@ -59,7 +59,7 @@ fn opened(alloc: Global, first: MemDevice, second: MemDevice) -> Option<Vault<Me
 
 // What a crash of both leaves.
 fn crashed(first: MemDevice, second: MemDevice, pick: Pick) -> (MemDevice, MemDevice)
-    ensures { (old : Seen MemDisk) → AreLeft disk_of old first second → AreLeft disk_of old result.0 result.1 }
+    ensures { (old : VaultSeen MemDisk) → AreLeft disk_of old first second → AreLeft disk_of old result.0 result.1 }
 {
     let mut first = first;
     let mut second = second;
@@ -70,7 +70,7 @@ fn crashed(first: MemDevice, second: MemDevice, pick: Pick) -> (MemDevice, MemDe
 
 // The vault of the next life, after its machine stopped between two calls.
 fn stopped(alloc: Global, vault: Vault<MemDevice>, pick: Pick) -> Option<Vault<MemDevice>>
-    ensures { (past : List (Seen MemDisk)) → IsPast disk_of vault past → IfSome result (λ next. IsPast disk_of next (vault ∷ past)) }
+    ensures { (past : List (VaultSeen MemDisk)) → IsPast disk_of vault past → IfSome result (λ next. IsPast disk_of next (vault ∷ past)) }
 {
     let (first, second) = vault.into_devices();
     let (first, second) = crashed(first, second, pick);
@@ -79,7 +79,7 @@ fn stopped(alloc: Global, vault: Vault<MemDevice>, pick: Pick) -> Option<Vault<M
 
 // The same, after it stopped inside a pump.
 fn stopped_in_a_pump(alloc: Global, vault: Vault<MemDevice>, pick: Pick) -> Option<Vault<MemDevice>>
-    ensures { (past : List (Seen MemDisk)) → IsPast disk_of vault past → IfSome result (λ next. IsPast disk_of next (vault ∷ past)) }
+    ensures { (past : List (VaultSeen MemDisk)) → IsPast disk_of vault past → IfSome result (λ next. IsPast disk_of next (vault ∷ past)) }
 {
     let mut vault = vault;
     if vault.is_broken() {
@@ -99,7 +99,7 @@ fn stopped_in_an_opening(
     pick: Pick,
     call: u64,
 ) -> Option<Vault<MemDevice>>
-    ensures { (past : List (Seen MemDisk)) → IsPast disk_of vault past → IfSome result (λ next. IsPast disk_of next (vault ∷ past)) }
+    ensures { (past : List (VaultSeen MemDisk)) → IsPast disk_of vault past → IfSome result (λ next. IsPast disk_of next (vault ∷ past)) }
 {
     let (mut first, second) = vault.into_devices();
     first.fail_at(call);
@@ -128,7 +128,7 @@ fn begun(
     second: MemDevice,
     command: CommandIn<Global>,
 ) -> Option<(Vault<MemDevice>, Receipt)>
-    ensures { IfSome result (λ begun. (past : List (Seen MemDisk)) × IsPast disk_of begun.0 past × (length past ≡ 3)
+    ensures { IfSome result (λ begun. (past : List (VaultSeen MemDisk)) × IsPast disk_of begun.0 past × (length past ≡ 3)
         × HasTold begun.0.view begun.1) }
 {
     let Ok(mut vault) = Vault::create(alloc, first, second, 1) else {
@@ -150,7 +150,7 @@ pub fn two_lives(
     command: CommandIn<Global>,
     pick: Pick,
 ) -> Option<(Vault<MemDevice>, Receipt)>
-    ensures { IfSome result (λ found. (past : List (Seen MemDisk)) × (is : IsPast disk_of found.0 past) × (length past ≡ 4)
+    ensures { IfSome result (λ found. (past : List (VaultSeen MemDisk)) × (is : IsPast disk_of found.0 past) × (length past ≡ 4)
         × IsFoundAgain disk_of found.0 past is found.1) }
 {
     let (vault, receipt) = begun(alloc, first, second, command)?;
@@ -164,8 +164,8 @@ pub fn two_lives(
 
 // A place's making is staged, its ticket given up, and its commit begun: two of its steps are done.
 fn under_way(vault: &mut Vault<MemDevice>, command: CommandIn<Global>) -> bool
-    ensures { (past : List (Seen MemDisk)) → IsPast disk_of vault.old past → IsTrue result → (staged given_up written : Seen MemDisk)
-        × IsPast disk_of vault.new (written ∷ given_up ∷ staged ∷ vault.old ∷ past) }
+    ensures { (past : List (VaultSeen MemDisk)) → IsPast disk_of vault.old past → IsTrue result
+        → (staged given_up written : VaultSeen MemDisk) × IsPast disk_of vault.new (written ∷ given_up ∷ staged ∷ vault.old ∷ past) }
 {
     let Ok(ticket) = vault.stage(1, command) else {
         return false;
@@ -189,7 +189,7 @@ pub fn inside_a_pump(
     next: CommandIn<Global>,
     pick: Pick,
 ) -> Option<(Vault<MemDevice>, Receipt)>
-    ensures { IfSome result (λ found. (past : List (Seen MemDisk)) × (is : IsPast disk_of found.0 past) × (length past ≡ 8)
+    ensures { IfSome result (λ found. (past : List (VaultSeen MemDisk)) × (is : IsPast disk_of found.0 past) × (length past ≡ 8)
         × IsFoundAgain disk_of found.0 past is found.1) }
 {
     let (mut vault, receipt) = begun(alloc, first, second, command)?;
@@ -215,7 +215,7 @@ pub fn inside_an_opening(
     pick: Pick,
     call: u64,
 ) -> Option<(Vault<MemDevice>, Receipt)>
-    ensures { IfSome result (λ found. (past : List (Seen MemDisk)) × (is : IsPast disk_of found.0 past) × (length past ≡ 4)
+    ensures { IfSome result (λ found. (past : List (VaultSeen MemDisk)) × (is : IsPast disk_of found.0 past) × (length past ≡ 4)
         × IsFoundAgain disk_of found.0 past is found.1) }
 {
     let (vault, receipt) = begun(alloc, first, second, command)?;
@@ -236,7 +236,7 @@ pub fn three_lives(
     other: CommandIn<Global>,
     pick: Pick,
 ) -> Option<(Vault<MemDevice>, Receipt, Receipt)>
-    ensures { IfSome result (λ found. (past : List (Seen MemDisk)) × (is : IsPast disk_of found.0 past) × (length past ≡ 8)
+    ensures { IfSome result (λ found. (past : List (VaultSeen MemDisk)) × (is : IsPast disk_of found.0 past) × (length past ≡ 8)
         × IsFoundAgain disk_of found.0 past is found.1 × IsFoundAgain disk_of found.0 past is found.2) }
 {
     let (vault, early) = begun(alloc, first, second, one)?;

@@ -1,10 +1,10 @@
 //! What each fault is told as.
 
-use crate::fault::Fault;
+use crate::failure::Failure;
 use std::alloc::Global;
 
 // Whether a fault is told so.
-fn told(alloc: Global, fault: Fault, text: &str) -> bool {
+fn told(alloc: Global, fault: Failure, text: &str) -> bool {
     match format!(in alloc; "{fault}") {
         Ok(told) => told.as_str() == text,
         Err(_) => false,
@@ -15,20 +15,20 @@ fn told(alloc: Global, fault: Fault, text: &str) -> bool {
 fn each_fault_has_its_line(rt: HostRuntime) {
     let alloc = rt.alloc();
     for (fault, text) in [
-        (Fault::Exists, "vault exists"),
-        (Fault::InUse, "vault in use"),
-        (Fault::NoVault, "no vault"),
-        (Fault::FirstDamaged(34), "file a damaged at 34"),
-        (Fault::SecondDamaged(12), "file b damaged at 12"),
-        (Fault::Device, "device fault"),
-        (Fault::NoMemory, "want of memory"),
-        (Fault::Read, "read fault"),
-        (Fault::Write, "write fault"),
-        (Fault::TooLong, "script too long"),
+        (Failure::Exists, "vault exists"),
+        (Failure::InUse, "vault in use"),
+        (Failure::NoVault, "no vault"),
+        (Failure::FirstDamaged(34), "file a damaged at 34"),
+        (Failure::SecondDamaged(12), "file b damaged at 12"),
+        (Failure::Device, "device fault"),
+        (Failure::NoMemory, "want of memory"),
+        (Failure::Read, "read fault"),
+        (Failure::Write, "write fault"),
+        (Failure::TooLong, "script too long"),
     ] {
         assert!(rt; told(alloc, fault, text));
     }
-    let fault = Fault::Descriptors {
+    let fault = Failure::Descriptors {
         needed: 138,
         limit: 40,
     };

@@ -1,7 +1,7 @@
 //! Creation, serving and inspection of real files: what is made, and which fault comes first.
 
 use crate::creating::create_files;
-use crate::fault::Fault;
+use crate::failure::Failure;
 use crate::files::open_locked;
 use crate::inspecting::{Inspection, read_files};
 use crate::serving::{Serving, serve};
@@ -69,7 +69,7 @@ fn unserved<
         + Wait
         + Clock
         + Sync,
->(rt: &R, first: &str, second: &str, address: &str, workers: u32) -> Option<Fault> {
+>(rt: &R, first: &str, second: &str, address: &str, workers: u32) -> Option<Failure> {
     let serving = Serving {
         first,
         second,
@@ -89,7 +89,10 @@ fn created_and_inspected(rt: HostRuntime) {
     assert!(rt; are_new(&rt, first, second));
     assert!(rt; tells(&rt, first, second, NEW_TEXT, false));
     assert!(rt; are_new(&rt, first, second));
-    assert_eq!(rt; create_files(&rt, first, second).err(), Some(Fault::Exists));
+    assert_eq!(rt;
+        create_files(&rt, first, second).err(),
+        Some(Failure::Exists)
+    );
     assert!(rt; are_new(&rt, first, second));
     clear(&rt, &[first, second]);
 }
@@ -100,16 +103,19 @@ fn a_refused_creation_leaves_nothing(rt: HostRuntime) {
     let (first, second) = ("refused.a", "refused.b");
     clear(&rt, &[first, second]);
     assert!(rt; put(&rt, second, b"x"));
-    assert_eq!(rt; create_files(&rt, first, second).err(), Some(Fault::Exists));
+    assert_eq!(rt;
+        create_files(&rt, first, second).err(),
+        Some(Failure::Exists)
+    );
     assert!(rt; fs::read(&rt, first).is_err() && has(&rt, second, b"x"));
     let nowhere = create_files(&rt, first, "no_folder/refused.b").err();
-    assert_eq!(rt; nowhere, Some(Fault::Device));
+    assert_eq!(rt; nowhere, Some(Failure::Device));
     assert!(rt; fs::read(&rt, first).is_err());
     assert!(rt; put(&rt, second, b""));
     assert!(rt; create_files(&rt, first, second).is_ok());
     assert!(rt; tells(&rt, first, second, NEW_TEXT, false));
     clear(&rt, &[first]);
-    assert_eq!(rt; read_files(&rt, first, second).err(), Some(Fault::Device));
+    assert_eq!(rt; read_files(&rt, first, second).err(), Some(Failure::Device));
     clear(&rt, &[second]);
 }
 
@@ -121,9 +127,12 @@ fn files_in_use_are_left_alone(rt: HostRuntime) {
     assert!(rt; create_files(&rt, first, second).is_ok());
     for path in [first, second] {
         let held = open_locked(&rt, path).expect(&rt, "a lock");
-        assert_eq!(rt; create_files(&rt, first, second).err(), Some(Fault::InUse));
+        assert_eq!(rt;
+            create_files(&rt, first, second).err(),
+            Some(Failure::InUse)
+        );
         let served = unserved(&rt, first, second, "127.0.0.1:0", 1);
-        assert_eq!(rt; served, Some(Fault::InUse));
+        assert_eq!(rt; served, Some(Failure::InUse));
         assert!(rt; tells(&rt, first, second, NEW_TEXT, true));
         assert!(rt; are_new(&rt, first, second));
         drop(held);
@@ -136,11 +145,11 @@ fn files_in_use_are_left_alone(rt: HostRuntime) {
 fn one_file_is_not_two(rt: HostRuntime) {
     let path = "twice.a";
     clear(&rt, &[path]);
-    assert_eq!(rt; create_files(&rt, path, path).err(), Some(Fault::InUse));
+    assert_eq!(rt; create_files(&rt, path, path).err(), Some(Failure::InUse));
     assert!(rt; fs::read(&rt, path).is_err());
     assert!(rt; put(&rt, path, NEW));
     let served = unserved(&rt, path, path, "127.0.0.1:0", 1);
-    assert_eq!(rt; served, Some(Fault::InUse));
+    assert_eq!(rt; served, Some(Failure::InUse));
     assert!(rt; has(&rt, path, NEW));
     clear(&rt, &[path]);
 }
@@ -153,15 +162,24 @@ fn faults_of_serving_in_their_order(rt: HostRuntime) {
     let bad = "no address";
     assert!(rt; put(&rt, first, NEW));
     let held = open_locked(&rt, first).expect(&rt, "a lock");
-    assert_eq!(rt; unserved(&rt, nowhere, first, bad, 1), Some(Fault::Device));
-    assert_eq!(rt; unserved(&rt, first, nowhere, bad, 1), Some(Fault::InUse));
+    assert_eq!(rt;
+        unserved(&rt, nowhere, first, bad, 1),
+        Some(Failure::Device)
+    );
+    assert_eq!(rt; unserved(&rt, first, nowhere, bad, 1), Some(Failure::InUse));
     drop(held);
-    assert_eq!(rt; unserved(&rt, first, nowhere, bad, 1), Some(Fault::Device));
+    assert_eq!(rt;
+        unserved(&rt, first, nowhere, bad, 1),
+        Some(Failure::Device)
+    );
     assert!(rt; put(&rt, second, b""));
-    assert_eq!(rt; unserved(&rt, second, first, bad, 1), Some(Fault::Read));
-    assert_eq!(rt; unserved(&rt, first, second, bad, 1), Some(Fault::Read));
+    assert_eq!(rt; unserved(&rt, second, first, bad, 1), Some(Failure::Read));
+    assert_eq!(rt; unserved(&rt, first, second, bad, 1), Some(Failure::Read));
     assert!(rt; put(&rt, first, b""));
-    assert_eq!(rt; unserved(&rt, first, second, bad, 1), Some(Fault::NoVault));
+    assert_eq!(rt;
+        unserved(&rt, first, second, bad, 1),
+        Some(Failure::NoVault)
+    );
     clear(&rt, &[first, second]);
 }
 
@@ -172,9 +190,9 @@ fn damage_is_named(rt: HostRuntime) {
     clear(&rt, &[first, second]);
     assert!(rt; put(&rt, first, &NEW[..34]) && put(&rt, second, b""));
     let served = unserved(&rt, first, second, "127.0.0.1:0", 1);
-    assert_eq!(rt; served, Some(Fault::FirstDamaged(20)));
+    assert_eq!(rt; served, Some(Failure::FirstDamaged(20)));
     let served = unserved(&rt, second, first, "127.0.0.1:0", 1);
-    assert_eq!(rt; served, Some(Fault::SecondDamaged(20)));
+    assert_eq!(rt; served, Some(Failure::SecondDamaged(20)));
     let text = b"file a: damaged at 20\nfile b: closed\nno vault\n";
     assert!(rt; tells(&rt, first, second, text, false));
     assert!(rt; has(&rt, first, &NEW[..34]) && has(&rt, second, b""));

@@ -2,7 +2,7 @@
 
 use crate::command_line::{Task, task_of};
 use crate::descriptors::check;
-use crate::fault::Fault;
+use crate::failure::Failure;
 use crate::serving::Serving;
 use clap::error::ErrorKind;
 use std::alloc::Global;
@@ -142,7 +142,7 @@ fn help_and_version_are_told(rt: HostRuntime) {
 #[test]
 fn too_many_workers_for_the_descriptors(rt: HostRuntime) {
     assert_eq!(rt; check(64, 138), Ok(()));
-    let wanted = Fault::Descriptors {
+    let wanted = Failure::Descriptors {
         needed: 138,
         limit: 137,
     };

@@ -4,8 +4,8 @@ use Rattle.group_commit.specs.Entries.{Entry}
 use Rattle.group_commit.specs.History.{entry_of}
 use Rattle.group_commit.specs.World.{Stage, Pump, Tell}
 use Rattle.group_commit.specs.View.{View, length_of, book_of, view_acted}
-use Rattle.group_commit.specs.Ticket.{Claim, claim_of}
-use Rattle.group_commit.specs.Seen.{Seen, snapshot_length}
+use Rattle.group_commit.specs.Ticket.{TicketSeen, ticket_of}
+use Rattle.group_commit.specs.Seen.{VaultSeen, snapshot_length}
 use Rattle.group_commit.specs.Calls.{IsReceiptOf}
 use Rattle.group_commit.specs.Positions.{HasEntry, HasTold}
 use Rattle.group_commit.proofs.tests.past.told.Goals as goal
@@ -27,6 +27,6 @@ returns-in-Told-clause-receipt c =
     let here : HasEntry staged (length_of v) entry = subst (λ (w : View). HasEntry w (length_of v) entry) (sym c.in-Ok.ensures.staged) (laws.staged v 0 c.args.command) in
     let there : HasEntry pumped (length_of v) entry = subst (λ (w : View). HasEntry w (length_of v) entry) (sym (c.in-Ok-pump.ensures.pumped whole)) (laws.stay staged Pump (length_of v) entry here here.not_retired) in
     let told = c.in-Told.ensures.told in
-    let receipt : IsReceiptOf (claim_of c.args.vault.now.life (length_of v) entry) pumped c.in-Told.receipt = subst (λ (k : Claim). IsReceiptOf k pumped c.in-Told.receipt) c.in-Ok.ensures.ticket told.3 in
-    let seen : c.redeem-answer.new.self.view ≡ view_acted snapshot_length pumped (Tell (length_of v)) = ap (λ (s : Seen MemDisk). s.view) told.2 ∙ ap (λ (k : Claim). view_acted snapshot_length pumped (Tell k.position)) c.in-Ok.ensures.ticket in
+    let receipt : IsReceiptOf (ticket_of c.args.vault.now.life (length_of v) entry) pumped c.in-Told.receipt = subst (λ (k : TicketSeen). IsReceiptOf k pumped c.in-Told.receipt) c.in-Ok.ensures.ticket told.3 in
+    let seen : c.redeem-answer.new.self.view ≡ view_acted snapshot_length pumped (Tell (length_of v)) = ap (λ (s : VaultSeen MemDisk). s.view) told.2 ∙ ap (λ (k : TicketSeen). view_acted snapshot_length pumped (Tell k.position)) c.in-Ok.ensures.ticket in
     subst (λ (w : View). HasTold w c.in-Told.receipt) (sym seen) (laws.kept pumped c.args.vault.now.life (length_of v) entry c.in-Told.receipt there receipt)

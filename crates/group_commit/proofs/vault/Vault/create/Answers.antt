@@ -1,6 +1,6 @@
 use Rattle.std.proofs.Common.{sym, subst}
 use Rattle.vault_store.specs.Create.{StopsInCreation}
-use Rattle.vault_store.specs.Seen.{Seen as StoreSeen, first_of, second_of}
+use Rattle.vault_store.specs.Seen.{StoreSeen, first_of, second_of}
 use Rattle.group_commit.proofs.vault.Vault.create.Goals as goal
 
 pub returns-in-Ok-create-clause-stops : goal.returns-in-Ok-create-clause-stops

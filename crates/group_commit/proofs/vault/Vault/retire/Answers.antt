@@ -3,7 +3,7 @@ use Rattle.group_commit.specs.declared.mark.Mark.TheVariants.{Open}
 use Rattle.group_commit.specs.declared.answers.Retired.TheVariants as answers
 use Rattle.group_commit.specs.Entries.{Kept, mark_at}
 use Rattle.group_commit.specs.History.{replay, members}
-use Rattle.group_commit.specs.Seen.{Seen}
+use Rattle.group_commit.specs.Seen.{VaultSeen}
 use Rattle.group_commit.specs.Inside.{seen_of}
 use Rattle.group_commit.specs.Calls.{IsRetired}
 use Rattle.group_commit.specs.Pasts.{IsNext}
@@ -27,7 +27,7 @@ returns-clause-retired g c =
     let base = replay c.self.inside.base.value (members c.and-self-inside.result.items) in
     let next = ap (λ (l : List Kept). replay c.self.inside.base.value (members l)) c.and-self-inside.ensures ∙ gone_one c.self.inside.base.value c.self.inside.bygone.items c.pop-entry.result in
     let closed : mark_at seen.view.kept 0 ≢ Some Open = λ e. let clash : true ≡ false = sym (c.first_is_open.ensures.1 e) ∙ c.if-first_is_open.false in cc in
-    subst (λ (old : Seen _). IsRetired old (retired seen base c.pop-entry.new.self) answers.One) c.self.view_is
+    subst (λ (old : VaultSeen _). IsRetired old (retired seen base c.pop-entry.new.self) answers.One) c.self.view_is
     (retires disk seen c.self.inside.book k c.pop-entry.result c.pop-entry.new.self c.pop-entry.ensures base next (settled_more disk seen c.self.inside.book k c.if-self.false) closed)
 
 pub returns-clause-next : goal.returns-clause-next
@@ -38,5 +38,5 @@ returns-clause-next g c =
     let base = replay c.self.inside.base.value (members c.and-self-inside.result.items) in
     let next = ap (λ (l : List Kept). replay c.self.inside.base.value (members l)) c.and-self-inside.ensures ∙ gone_one c.self.inside.base.value c.self.inside.bygone.items c.pop-entry.result in
     let closed : mark_at seen.view.kept 0 ≢ Some Open = λ e. let clash : true ≡ false = sym (c.first_is_open.ensures.1 e) ∙ c.if-first_is_open.false in cc in
-    subst (λ (old : Seen _). IsNext disk old (retired seen base c.pop-entry.new.self)) c.self.view_is
+    subst (λ (old : VaultSeen _). IsNext disk old (retired seen base c.pop-entry.new.self)) c.self.view_is
     (retiring_is_next disk seen c.self.inside.book k c.pop-entry.result c.pop-entry.new.self c.pop-entry.ensures base next (settled_more disk seen c.self.inside.book k c.if-self.false) closed)

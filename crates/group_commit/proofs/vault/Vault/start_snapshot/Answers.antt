@@ -2,7 +2,7 @@ use Rattle.std.proofs.Common.{◌≡◌, ◌∙◌, ap, sym, subst}
 use Rattle.std.specs.Prelude.{Ok}
 use Rattle.vault_model.specs.Vault.{durable}
 use Rattle.group_commit.specs.View.{length_of}
-use Rattle.group_commit.specs.Seen.{Seen, state_of}
+use Rattle.group_commit.specs.Seen.{VaultSeen, state_of}
 use Rattle.group_commit.specs.Inside.{seen_of}
 use Rattle.group_commit.specs.Pasts.{IsNext}
 use Rattle.group_commit.proofs.Starts.{book_is_vault, book_is_spelled, started_kept, started_next}
@@ -20,7 +20,7 @@ invariant_of-self g c =
     let k = c.self.invariant in
     let e = c.in-Ok-Yes.ensures in
     let yes = ap Ok c.in-Ok-Yes.field-0-is in
-    let all : c.len-all.result ≡ length_of seen.view = c.len-all.ensures ∙ ap (λ (s : Seen _). length_of s.view) (sym c.self.view_is) in
+    let all : c.len-all.result ≡ length_of seen.view = c.len-all.ensures ∙ ap (λ (s : VaultSeen _). length_of s.view) (sym c.self.view_is) in
     started_kept g.D.Device.disk seen c.self.inside.book k c.start_snapshot.new.self c.len-all.result (e.yes yes) all (e.may yes)
     (e.kept (state_of seen.view) yes k.stands (sym (ap durable k.book_is)))
 
@@ -29,6 +29,6 @@ returns-in-Ok-Yes-clause-next g c =
     let seen = seen_of c.self.inside in
     let e = c.in-Ok-Yes.ensures in
     let yes = ap Ok c.in-Ok-Yes.field-0-is in
-    let all : c.len-all.result ≡ length_of seen.view = c.len-all.ensures ∙ ap (λ (s : Seen _). length_of s.view) (sym c.self.view_is) in
-    subst (λ (old : Seen _). IsNext g.D.Device.disk old (seen_of (record c.self.inside { store = c.start_snapshot.new.self; sealed = c.len-all.result }))) c.self.view_is
+    let all : c.len-all.result ≡ length_of seen.view = c.len-all.ensures ∙ ap (λ (s : VaultSeen _). length_of s.view) (sym c.self.view_is) in
+    subst (λ (old : VaultSeen _). IsNext g.D.Device.disk old (seen_of (record c.self.inside { store = c.start_snapshot.new.self; sealed = c.len-all.result }))) c.self.view_is
     (started_next g.D.Device.disk seen c.self.inside.book c.self.invariant c.start_snapshot.new.self c.len-all.result (e.yes yes) all (e.may yes))

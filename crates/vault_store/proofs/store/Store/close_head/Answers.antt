@@ -1,7 +1,7 @@
 use Rattle.std.proofs.Common.{◌∙◌, ap, subst, Ok, Err, true}
 use Rattle.vault_store.specs.declared.phase.Phase.TheVariants as phases
 use Rattle.vault_store.specs.declared.phase.Advanced.TheVariants as answers
-use Rattle.vault_store.specs.Seen.{Seen}
+use Rattle.vault_store.specs.Seen.{StoreSeen}
 use Rattle.vault_store.specs.View.{seen_of}
 use Rattle.vault_store.specs.Step.{IsAdvance}
 use Rattle.vault_store.proofs.Renewed.{head_closed, head_failed}
@@ -9,12 +9,12 @@ use Rattle.vault_store.proofs.store.Store.close_head.Goals as goal
 
 pub returns-in-Ok : goal.returns-in-Ok
 returns-in-Ok g c =
-    subst (λ (o : Seen g.row.D.Denot). IsAdvance g.D.Device.disk o (record (seen_of c.self.inside) { spare = c.write_shut-closed.new.device; phase = phases.Closing }) (Ok answers.Moved)) c.self.view_is
-    (head_closed g.D.Device.disk (seen_of c.self.inside) c.write_shut-closed.new.device (ap (λ (o : Seen g.row.D.Denot). o.broken) c.self.view_is ∙ c.requires.whole) (g.met.D.Device.lawful c.self.inside.active) (g.met.D.Device.lawful c.self.inside.spare)
-    (ap (λ (o : Seen g.row.D.Denot). o.phase) c.self.view_is ∙ c.requires.phase) c.if-self.false c.in-Ok.ensures.one_call c.in-Ok.ensures.write)
+    subst (λ (o : StoreSeen g.row.D.Denot). IsAdvance g.D.Device.disk o (record (seen_of c.self.inside) { spare = c.write_shut-closed.new.device; phase = phases.Closing }) (Ok answers.Moved)) c.self.view_is
+    (head_closed g.D.Device.disk (seen_of c.self.inside) c.write_shut-closed.new.device (ap (λ (o : StoreSeen g.row.D.Denot). o.broken) c.self.view_is ∙ c.requires.whole) (g.met.D.Device.lawful c.self.inside.active) (g.met.D.Device.lawful c.self.inside.spare)
+    (ap (λ (o : StoreSeen g.row.D.Denot). o.phase) c.self.view_is ∙ c.requires.phase) c.if-self.false c.in-Ok.ensures.one_call c.in-Ok.ensures.write)
 
 pub returns-in-Err : goal.returns-in-Err
 returns-in-Err g c =
-    subst (λ (o : Seen g.row.D.Denot). IsAdvance g.D.Device.disk o (record (seen_of c.self.inside) { spare = c.write_shut-closed.new.device; phase = phases.Closing; broken = true }) (Err c.in-Err.fault)) c.self.view_is
-    (head_failed g.D.Device.disk (seen_of c.self.inside) c.write_shut-closed.new.device (ap (λ (o : Seen g.row.D.Denot). o.broken) c.self.view_is ∙ c.requires.whole) (g.met.D.Device.lawful c.self.inside.active) (g.met.D.Device.lawful c.self.inside.spare)
-    c.in-Err.fault (ap (λ (o : Seen g.row.D.Denot). o.phase) c.self.view_is ∙ c.requires.phase) c.if-self.false c.in-Err.ensures.one_call c.in-Err.ensures.write)
+    subst (λ (o : StoreSeen g.row.D.Denot). IsAdvance g.D.Device.disk o (record (seen_of c.self.inside) { spare = c.write_shut-closed.new.device; phase = phases.Closing; broken = true }) (Err c.in-Err.fault)) c.self.view_is
+    (head_failed g.D.Device.disk (seen_of c.self.inside) c.write_shut-closed.new.device (ap (λ (o : StoreSeen g.row.D.Denot). o.broken) c.self.view_is ∙ c.requires.whole) (g.met.D.Device.lawful c.self.inside.active) (g.met.D.Device.lawful c.self.inside.spare)
+    c.in-Err.fault (ap (λ (o : StoreSeen g.row.D.Denot). o.phase) c.self.view_is ∙ c.requires.phase) c.if-self.false c.in-Err.ensures.one_call c.in-Err.ensures.write)

@@ -1,7 +1,7 @@
 use Rattle.std.proofs.Common.{◌∙◌, refl, sym, ap, subst, Ok, Err, Bool, true}
 use Rattle.vault_store.specs.declared.phase.Phase.TheVariants as phases
 use Rattle.vault_store.specs.declared.phase.Advanced.TheVariants as answers
-use Rattle.vault_store.specs.Seen.{Seen}
+use Rattle.vault_store.specs.Seen.{StoreSeen}
 use Rattle.vault_store.specs.View.{seen_of}
 use Rattle.vault_store.specs.Step.{IsAdvance}
 use Rattle.vault_store.proofs.Advances.{gate_opened, gate_left, opens_gate, gate_torn}
@@ -11,22 +11,22 @@ use Rattle.vault_store.proofs.store.Store.open_gate.Goals as goal
 
 pub invariant_of-self : goal.invariant_of-self
 invariant_of-self g c =
-    phase_sound g.D.Device.disk (seen_of c.self.inside) c.open_gate-opened.new.device c.open_gate-opened.ensures.one_call.same_honesty c.self.invariant (ap (λ (o : Seen g.row.D.Denot). o.broken) c.self.view_is ∙ c.requires.whole) phases.Bodied phases.Opening c.self.inside.broken (ap (λ (o : Seen g.row.D.Denot). o.phase) c.self.view_is ∙ c.requires.phase) refl refl refl refl tt
-    (λ honest. subst (λ (b : Bool). IsMove (g.D.Device.disk c.self.inside.active) (g.D.Device.disk c.open_gate-opened.new.device) c.self.inside.tail c.self.inside.sealed phases.Bodied phases.Opening b) (sym (ap (λ (o : Seen g.row.D.Denot). o.broken) c.self.view_is ∙ c.requires.whole)) (opens_gate g.D.Device.disk (seen_of c.self.inside) c.open_gate-opened.new.device (ap (λ (o : Seen g.row.D.Denot). o.broken) c.self.view_is ∙ c.requires.whole) (g.met.D.Device.lawful c.self.inside.active) (g.met.D.Device.lawful c.self.inside.spare) (c.in-Ok.ensures.write honest) (c.in-Ok.ensures.opened honest) (c.in-Ok.ensures.images honest) (c.in-Ok.ensures.read honest)))
+    phase_sound g.D.Device.disk (seen_of c.self.inside) c.open_gate-opened.new.device c.open_gate-opened.ensures.one_call.same_honesty c.self.invariant (ap (λ (o : StoreSeen g.row.D.Denot). o.broken) c.self.view_is ∙ c.requires.whole) phases.Bodied phases.Opening c.self.inside.broken (ap (λ (o : StoreSeen g.row.D.Denot). o.phase) c.self.view_is ∙ c.requires.phase) refl refl refl refl tt
+    (λ honest. subst (λ (b : Bool). IsMove (g.D.Device.disk c.self.inside.active) (g.D.Device.disk c.open_gate-opened.new.device) c.self.inside.tail c.self.inside.sealed phases.Bodied phases.Opening b) (sym (ap (λ (o : StoreSeen g.row.D.Denot). o.broken) c.self.view_is ∙ c.requires.whole)) (opens_gate g.D.Device.disk (seen_of c.self.inside) c.open_gate-opened.new.device (ap (λ (o : StoreSeen g.row.D.Denot). o.broken) c.self.view_is ∙ c.requires.whole) (g.met.D.Device.lawful c.self.inside.active) (g.met.D.Device.lawful c.self.inside.spare) (c.in-Ok.ensures.write honest) (c.in-Ok.ensures.opened honest) (c.in-Ok.ensures.images honest) (c.in-Ok.ensures.read honest)))
 
 pub invariant_of-self-in-Err : goal.invariant_of-self-in-Err
 invariant_of-self-in-Err g c =
-    phase_sound g.D.Device.disk (seen_of c.self.inside) c.open_gate-opened.new.device c.open_gate-opened.ensures.one_call.same_honesty c.self.invariant (ap (λ (o : Seen g.row.D.Denot). o.broken) c.self.view_is ∙ c.requires.whole) phases.Bodied phases.Opening true (ap (λ (o : Seen g.row.D.Denot). o.phase) c.self.view_is ∙ c.requires.phase) refl refl refl refl tt
-    (λ honest. gate_torn g.D.Device.disk (seen_of c.self.inside) c.open_gate-opened.new.device (ap (λ (o : Seen g.row.D.Denot). o.broken) c.self.view_is ∙ c.requires.whole) (g.met.D.Device.lawful c.self.inside.active) (g.met.D.Device.lawful c.self.inside.spare) (c.open_gate-opened.ensures.images honest))
+    phase_sound g.D.Device.disk (seen_of c.self.inside) c.open_gate-opened.new.device c.open_gate-opened.ensures.one_call.same_honesty c.self.invariant (ap (λ (o : StoreSeen g.row.D.Denot). o.broken) c.self.view_is ∙ c.requires.whole) phases.Bodied phases.Opening true (ap (λ (o : StoreSeen g.row.D.Denot). o.phase) c.self.view_is ∙ c.requires.phase) refl refl refl refl tt
+    (λ honest. gate_torn g.D.Device.disk (seen_of c.self.inside) c.open_gate-opened.new.device (ap (λ (o : StoreSeen g.row.D.Denot). o.broken) c.self.view_is ∙ c.requires.whole) (g.met.D.Device.lawful c.self.inside.active) (g.met.D.Device.lawful c.self.inside.spare) (c.open_gate-opened.ensures.images honest))
 
 pub returns-in-Ok : goal.returns-in-Ok
 returns-in-Ok g c =
-    subst (λ (o : Seen g.row.D.Denot). IsAdvance g.D.Device.disk o (record (seen_of c.self.inside) { active = c.open_gate-opened.new.device; phase = phases.Opening }) (Ok answers.Moved)) c.self.view_is
-    (gate_opened g.D.Device.disk (seen_of c.self.inside) c.open_gate-opened.new.device (ap (λ (o : Seen g.row.D.Denot). o.broken) c.self.view_is ∙ c.requires.whole) (g.met.D.Device.lawful c.self.inside.active) (g.met.D.Device.lawful c.self.inside.spare) (ap (λ (o : Seen g.row.D.Denot). o.phase) c.self.view_is ∙ c.requires.phase)
+    subst (λ (o : StoreSeen g.row.D.Denot). IsAdvance g.D.Device.disk o (record (seen_of c.self.inside) { active = c.open_gate-opened.new.device; phase = phases.Opening }) (Ok answers.Moved)) c.self.view_is
+    (gate_opened g.D.Device.disk (seen_of c.self.inside) c.open_gate-opened.new.device (ap (λ (o : StoreSeen g.row.D.Denot). o.broken) c.self.view_is ∙ c.requires.whole) (g.met.D.Device.lawful c.self.inside.active) (g.met.D.Device.lawful c.self.inside.spare) (ap (λ (o : StoreSeen g.row.D.Denot). o.phase) c.self.view_is ∙ c.requires.phase)
     c.in-Ok.ensures.one_call c.in-Ok.ensures.write c.in-Ok.ensures.opened c.in-Ok.ensures.images c.in-Ok.ensures.read c.in-Ok.ensures.moments)
 
 pub returns-in-Err : goal.returns-in-Err
 returns-in-Err g c =
-    subst (λ (o : Seen g.row.D.Denot). IsAdvance g.D.Device.disk o (record (seen_of c.self.inside) { active = c.open_gate-opened.new.device; phase = phases.Opening; broken = true }) (Err c.in-Err.fault)) c.self.view_is
-    (gate_left g.D.Device.disk (seen_of c.self.inside) c.open_gate-opened.new.device (ap (λ (o : Seen g.row.D.Denot). o.broken) c.self.view_is ∙ c.requires.whole) (g.met.D.Device.lawful c.self.inside.active) (g.met.D.Device.lawful c.self.inside.spare) c.in-Err.fault (ap (λ (o : Seen g.row.D.Denot). o.phase) c.self.view_is ∙ c.requires.phase)
+    subst (λ (o : StoreSeen g.row.D.Denot). IsAdvance g.D.Device.disk o (record (seen_of c.self.inside) { active = c.open_gate-opened.new.device; phase = phases.Opening; broken = true }) (Err c.in-Err.fault)) c.self.view_is
+    (gate_left g.D.Device.disk (seen_of c.self.inside) c.open_gate-opened.new.device (ap (λ (o : StoreSeen g.row.D.Denot). o.broken) c.self.view_is ∙ c.requires.whole) (g.met.D.Device.lawful c.self.inside.active) (g.met.D.Device.lawful c.self.inside.spare) c.in-Err.fault (ap (λ (o : StoreSeen g.row.D.Denot). o.phase) c.self.view_is ∙ c.requires.phase)
     c.in-Err.ensures.one_call c.in-Err.ensures.images c.in-Err.ensures.moments)

@@ -3,7 +3,7 @@ use Rattle.vault_model.specs.Vault.{durable}
 use Rattle.vault_store.specs.declared.phase.Phase.TheVariants.{Idle, Start}
 use Rattle.vault_store.specs.Files.{behind_gate}
 use Rattle.vault_store.specs.View.{seen_of}
-use Rattle.vault_store.specs.Sound.{IsSound}
+use Rattle.vault_store.specs.Sound.{IsSoundStore}
 use Rattle.vault_store.proofs.Exchanged.{started_sound}
 use Rattle.vault_store.proofs.store.Store.start_snapshot.Goals as goal
 
@@ -11,6 +11,6 @@ pub invariant_of-self : goal.invariant_of-self
 invariant_of-self g c =
     let is : c.self.inside.phase ≡ Idle = search rules in
     let fits : c.self.inside.generation + 1 < 2 ^ 64 = search rules in
-    subst (λ (l : List ℕ). IsSound g.D.Device.disk (record (seen_of c.self.inside) { buffer = c.clear.new.self; phase = Start; rest = l })) (sym c.in_ok-rest.ensures)
-    (subst (λ (l : List ℕ). IsSound g.D.Device.disk (record (seen_of c.self.inside) { buffer = l; phase = Start; rest = behind_gate (c.self.inside.generation + 1) (durable c.args.book.now) })) (sym c.clear.ensures)
+    subst (λ (l : List ℕ). IsSoundStore g.D.Device.disk (record (seen_of c.self.inside) { buffer = c.clear.new.self; phase = Start; rest = l })) (sym c.in_ok-rest.ensures)
+    (subst (λ (l : List ℕ). IsSoundStore g.D.Device.disk (record (seen_of c.self.inside) { buffer = l; phase = Start; rest = behind_gate (c.self.inside.generation + 1) (durable c.args.book.now) })) (sym c.clear.ensures)
     (started_sound g.D.Device.disk (seen_of c.self.inside) (durable c.args.book.now) is c.if-self.false fits c.requires.spelled c.self.invariant))

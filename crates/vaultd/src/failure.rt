@@ -9,7 +9,7 @@ use vault_store::{CreateError, File, OpenError};
 
 /// What went wrong, as it is said in one line.
 #[derive(Clone, Copy, Debug, PartialEq, Eq, Error)]
-pub(crate) enum Fault {
+pub(crate) enum Failure {
     /// A file that was to hold a new vault isn't empty.
     #[error("vault exists")]
     Exists,
@@ -45,73 +45,73 @@ pub(crate) enum Fault {
     TooLong,
 }
 
-impl From<AllocError> for Fault {
-    fn from(_error: AllocError) -> Fault {
-        Fault::NoMemory
+impl From<AllocError> for Failure {
+    fn from(_error: AllocError) -> Failure {
+        Failure::NoMemory
     }
 }
 
-impl From<ScriptError> for Fault {
-    fn from(error: ScriptError) -> Fault {
+impl From<ScriptError> for Failure {
+    fn from(error: ScriptError) -> Failure {
         match error {
-            ScriptError::Read => Fault::Read,
-            ScriptError::Write => Fault::Write,
-            ScriptError::TooLong => Fault::TooLong,
-            ScriptError::NoMemory => Fault::NoMemory,
+            ScriptError::Read => Failure::Read,
+            ScriptError::Write => Failure::Write,
+            ScriptError::TooLong => Failure::TooLong,
+            ScriptError::NoMemory => Failure::NoMemory,
         }
     }
 }
 
-impl From<CreateError> for Fault {
-    fn from(error: CreateError) -> Fault {
+impl From<CreateError> for Failure {
+    fn from(error: CreateError) -> Failure {
         match error {
-            CreateError::Exists => Fault::Exists,
-            CreateError::Device => Fault::Device,
-            CreateError::NoMemory => Fault::NoMemory,
+            CreateError::Exists => Failure::Exists,
+            CreateError::Device => Failure::Device,
+            CreateError::NoMemory => Failure::NoMemory,
         }
     }
 }
 
-impl From<OpenError> for Fault {
-    fn from(error: OpenError) -> Fault {
+impl From<OpenError> for Failure {
+    fn from(error: OpenError) -> Failure {
         match error {
-            OpenError::NoVault => Fault::NoVault,
+            OpenError::NoVault => Failure::NoVault,
             OpenError::Damaged {
                 file: File::First,
                 offset,
-            } => Fault::FirstDamaged(offset),
+            } => Failure::FirstDamaged(offset),
             OpenError::Damaged {
                 file: File::Second,
                 offset,
-            } => Fault::SecondDamaged(offset),
-            OpenError::Device => Fault::Device,
-            OpenError::NoMemory => Fault::NoMemory,
+            } => Failure::SecondDamaged(offset),
+            OpenError::Device => Failure::Device,
+            OpenError::NoMemory => Failure::NoMemory,
         }
     }
 }
 
-impl From<ServerError> for Fault {
-    fn from(error: ServerError) -> Fault {
+impl From<ServerError> for Failure {
+    fn from(error: ServerError) -> Failure {
         match error {
-            ServerError::Accept => Fault::Read,
-            ServerError::NoMemory => Fault::NoMemory,
+            ServerError::Accept => Failure::Read,
+            ServerError::NoMemory => Failure::NoMemory,
         }
     }
 }
 
-impl From<InspectError> for Fault {
-    fn from(error: InspectError) -> Fault {
+impl From<InspectError> for Failure {
+    fn from(error: InspectError) -> Failure {
         match error {
-            InspectError::Device => Fault::Device,
-            InspectError::NoMemory => Fault::NoMemory,
+            InspectError::Device => Failure::Device,
+            InspectError::NoMemory => Failure::NoMemory,
         }
     }
 }
 
-impl From<PrintError> for Fault {
-    fn from(error: PrintError) -> Fault {
+impl From<PrintError> for Failure {
+    fn from(error: PrintError) -> Failure {
         match error {
-            PrintError::Write => Fault::Write,
+            PrintError::Write => Failure::Write,
         }
     }
 }
