@@ -4,7 +4,7 @@ ghost use Rattle.std.specs.Option.{option_copied};
 ghost use Rattle.vault_model.specs.Vault.{Vault, IsVault, CountsBelow, session_of, one_more, counted, counted_in, new_vault, durable};
 ghost use Rattle.vault_model.specs.Claims.{claim_of, standing_of, is_held};
 ghost use Rattle.vault_model.specs.Drafts.{drafts_of};
-ghost use Rattle.vault_model.specs.Step.{usable, permitted, join, make, check_out, extend, abandon, hold, release, leave, asked, extension, is_designer, is_owned_by, decide, step};
+ghost use Rattle.vault_model.specs.Step.{usable, permitted, join, make, check_out, extend, abandon, hold, release, leave, asked, extension, is_designer, is_owned_by, in_session, decide, step};
 ghost use Rattle.vault_model.specs.declared.session.Session.{Session};
 ghost use Rattle.vault_model.specs.declared.claims.Standing.TheVariants as standings;
 ghost use Rattle.long_locks.specs.Lines.{IsGrownFrom};
@@ -433,23 +433,31 @@ impl<A: Allocator + Copy> Book<A> {
             return Err(Stop::Refused(Refusal::NoSession));
         };
         let session = *session;
+        self.in_session(&session, command)
+    }
+
+    fn in_session<B: Allocator>(&mut self, session: &Session, command: &CommandIn<B>) -> Result<Done<A>, Stop>
+        requires { is_some (session_of self.old.sessions session.now.number) ≡ true }
+        ensures told { Follows self.old result self.new (in_session self.old session.now command.now) }
+        ensures counts { (bound : ℕ) → CountsBelow bound self.old → CountsBelow bound self.new }
+    {
         match command {
             Command::Join(_) => Err(Stop::Refused(Refusal::Joined)),
-            Command::Make(path, claim) => self.make(&session, path, *claim),
+            Command::Make(path, claim) => self.make(session, path, *claim),
             Command::CheckOut(wanted) => self.check_out(session.name, wanted.as_slice()),
-            Command::Extend(id, wanted) => self.extend(&session, *id, wanted.as_slice()),
+            Command::Extend(id, wanted) => self.extend(session, *id, wanted.as_slice()),
             Command::Save(claim, path, content) => {
-                self.save(&session, *claim, path, content.as_slice())
+                self.save(session, *claim, path, content.as_slice())
             }
-            Command::CheckIn(claim) => self.check_in(&session, *claim),
+            Command::CheckIn(claim) => self.check_in(session, *claim),
             Command::Abandon(claim) => self.abandon(session.name, *claim),
-            Command::Hold(wanted) => self.hold(&session, wanted.as_slice()),
-            Command::Release(claim) => self.release(&session, *claim),
+            Command::Hold(wanted) => self.hold(session, wanted.as_slice()),
+            Command::Release(claim) => self.release(session, *claim),
             Command::State(id) => self.state(*id),
             Command::List(path) => self.list(path),
             Command::Fetch(path, version) => self.fetch(path, *version),
             Command::Count(path) => self.count_versions(path),
-            Command::Leave => Ok(self.leave(&session)),
+            Command::Leave => Ok(self.leave(session)),
         }
     }
 

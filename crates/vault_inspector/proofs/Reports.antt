@@ -9,7 +9,7 @@ use Rattle.vault_store.specs.declared.front.Head.{Head}
 use Rattle.vault_store.specs.declared.front.Head.TheVariants as heads
 use Rattle.vault_store.specs.declared.opening.File.TheVariants.{First, Second}
 use Rattle.vault_store.specs.declared.opening.OpenError.TheVariants as why
-use Rattle.vault_store.specs.Files.{snapshot_bytes, frames_bytes, Holds, IsSpare, current_head, HasCurrentHead}
+use Rattle.vault_store.specs.Files.{version, snapshot_bytes, frames_bytes, Holds, IsSpare, current_head, HasCurrentHead}
 use Rattle.vault_store.specs.Parts.{IsHead, IsWhole}
 use Rattle.vault_store.specs.Read.{AreReads}
 use Rattle.vault_inspector.specs.declared.report.FileState.{FileState}
@@ -29,8 +29,8 @@ read_behind old mid g state vault reads honest read head =
     (read (subst IsTrue (sym reads.called.same_honesty) honest) (subst (HasCurrentHead g) (sym shown) head))
 
 -- a whole file with a right head is read
-holds : (file : List ℕ) (g : ℕ) (vault : Vault) (frames tail : ℕ) → HasCurrentHead g file → (whole : IsWhole g file vault frames tail)
-    → Holds file (record { vault = vault; generation = g; tail = tail; journal_length = length (frames_bytes whole.list) })
+holds : (file : List ℕ) (g : ℕ) (vault : Vault) (frames tail : ℕ) → HasCurrentHead g file → (whole : IsWhole version g file vault frames tail)
+    → Holds version file (record { vault = vault; generation = g; tail = tail; journal_length = length (frames_bytes whole.list) })
 holds file g vault frames tail head whole = record {
   front = front;
   is_front = record {

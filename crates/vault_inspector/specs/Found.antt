@@ -6,6 +6,7 @@ use Rattle.vault_store.specs.declared.front.Head.TheVariants as heads
 use Rattle.vault_store.specs.declared.body.BodyError.{BodyError}
 use Rattle.vault_store.specs.declared.body.BodyError.TheVariants as body_errors
 use Rattle.vault_store.specs.Faults.{IsBodyFault}
+use Rattle.vault_store.specs.Files.{version}
 use Rattle.vault_store.specs.Parts.{IsWhole}
 use Rattle.vault_inspector.specs.declared.report.FileState.{FileState}
 use Rattle.vault_inspector.specs.declared.report.FileState.TheVariants.{Closed, Open, Older, Damaged}
@@ -53,6 +54,6 @@ found vault (Damaged offset) = None
 
 -- what an active file of this generation is read as: whole, with its vault, or with a fault and without one
 abbrev pub IsActiveRead : ℕ → List ℕ → FileState → Option Vault → Type 0
-IsActiveRead generation file (Open own frames tail) (Some vault) = (own ≡ generation) × IsWhole generation file vault frames tail
+IsActiveRead generation file (Open own frames tail) (Some vault) = (own ≡ generation) × IsWhole version generation file vault frames tail
 IsActiveRead generation file (Damaged offset) None = IsBodyFault file offset
 IsActiveRead generation file _ _ = ⊥

@@ -2,7 +2,7 @@
 use Rattle.std.specs.Prelude.{◌≡◌, ◌⊎◌, ℕ, ◌<◌, ◌≤◌, List, Option, None, Some}
 use Rattle.vault_model.specs.Vault.{Vault}
 use Rattle.vault_store.specs.declared.opening.OpenError.{OpenError}
-use Rattle.vault_store.specs.Files.{IsClosedFile, StandFor, HasCurrentHead}
+use Rattle.vault_store.specs.Files.{version, IsClosedFile, StandFor, HasCurrentHead}
 use Rattle.vault_store.specs.Faults.{IsDamagedHead, IsBodyFault}
 use Rattle.vault_store.specs.Opening.{IsFound, IsNotOpened}
 use Rattle.vault_store.specs.Parts.{IsWhole}
@@ -21,7 +21,7 @@ pub record IsSecondActive (first second : List ℕ) (generation : ℕ) : Type 0 
 
 -- a file is whole behind its head, with so many frames and its tail gate there
 abbrev pub IsWholeFile : ℕ → List ℕ → ℕ → ℕ → Type 0
-IsWholeFile generation file frames tail = (vault : Vault) × IsWhole generation file vault frames tail
+IsWholeFile generation file frames tail = (vault : Vault) × IsWhole version generation file vault frames tail
 
 -- a file's head is right, and the other's is right and of a greater generation
 abbrev pub IsOlder : ℕ → List ℕ → List ℕ → Type 0

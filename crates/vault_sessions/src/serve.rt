@@ -262,8 +262,9 @@ impl<D: Device, S: Tally, T: Tally, A: Allocator + Copy, G: Gate, H: Wait> Worke
 
     // Wakes the flusher, if it is to be woken.
     fn wake(&self, wakes: bool) {
+        let shared = self.shared;
         if wakes {
-            self.shared.work.notify_one();
+            shared.work.notify_one();
         }
     }
 

@@ -107,7 +107,7 @@ file_opened front rest file is has one = record {
 
 -- the front of a file that begins with a vault
 pub renewed_front : (generation : ℕ) (v : Vault) → HasSnapshot v → 1 ≤ generation → generation < 2 ^ 64
-    → IsFront (current_head generation ++ snapshot_bytes v) (record { vault = v; generation = generation; tail = header + length (snapshot_of v); journal_length = 0 })
+    → IsFront version (current_head generation ++ snapshot_bytes v) (record { vault = v; generation = generation; tail = header + length (snapshot_of v); journal_length = 0 })
 renewed_front generation v has given fits = record {
   base = v;
   frames = [];

@@ -10,7 +10,7 @@ use Rattle.vault_journal.specs.Gate.{IsClosed}
 use Rattle.vault_store.specs.declared.body.ReadError.{ReadError}
 use Rattle.vault_store.specs.Snapshot.{snapshot_of}
 use Rattle.vault_store.specs.Calls.{IsQuiet}
-use Rattle.vault_store.specs.Files.{header, head_length, snapshot_bytes, frames_bytes, Holds, current_head, HasCurrentHead}
+use Rattle.vault_store.specs.Files.{version, header, head_length, snapshot_bytes, frames_bytes, Holds, current_head, HasCurrentHead}
 use Rattle.vault_store.specs.Faults.{IsSnapshotFault}
 use Rattle.vault_store.specs.Parts.{IsWhole}
 use Rattle.vault_store.specs.Read.{AreReads, IsWhy, IsBaseRead, IsFrameWrong, AreAllRead, AreContents, IsFaultBehindHead}
@@ -108,7 +108,7 @@ module _ (disk : Disk) (v : Vault) (frames tail journal_length generation : ℕ)
   begins : take tail disk.shown ≡ front
   begins = contents.bytes honest ∙ ap (λ (l : List ℕ). (l ++ snapshot_bytes contents.base) ++ frames_bytes contents.list) head.head
 
-  pub whole_read : IsWhole generation disk.shown v frames tail
+  pub whole_read : IsWhole version generation disk.shown v frames tail
   whole_read = record {
     base = contents.base;
     list = contents.list;
@@ -121,7 +121,7 @@ module _ (disk : Disk) (v : Vault) (frames tail journal_length generation : ℕ)
     closed = contents.closed honest;
   }
 
-  pub holds_read : Holds disk.shown (record { vault = v; generation = generation; tail = tail; journal_length = journal_length })
+  pub holds_read : Holds version disk.shown (record { vault = v; generation = generation; tail = tail; journal_length = journal_length })
   holds_read = record {
     front = front;
     is_front = record {

@@ -10,7 +10,7 @@ use Rattle.vault_model.proofs.Lists.{and_then_some}
 use Rattle.vault_journal.specs.Spelling.{in_four, records_of}
 use Rattle.vault_journal.proofs.OneSpelling.{one_row}
 use Rattle.vault_store.specs.Snapshot.{snapshot_of, HasSnapshot}
-use Rattle.vault_store.specs.Files.{header, snapshot_bytes, frame_of, frames_bytes, IsFrame, applied, after_frames, Reading, Holds, IsSpare, current_head, HasCurrentHead}
+use Rattle.vault_store.specs.Files.{version, header, snapshot_bytes, frame_of, frames_bytes, IsFrame, applied, after_frames, Reading, Holds, IsSpare, current_head, HasCurrentHead}
 use Rattle.vault_store.specs.Faults.{snapshot_length, snapshot_in, IsSnapshotFault, IsFrameFault, IsBodyFault}
 use Rattle.vault_store.specs.declared.opening.File.TheVariants.{First, Second}
 use Rattle.vault_store.specs.declared.opening.OpenError.{OpenError}
@@ -97,7 +97,7 @@ module _ (x : List ℕ) (g : ℕ) (base : Vault) (rest : List ℕ) (spelled : Ha
   ]
 
 -- nothing is wrong with the body of a file that is read
-module _ (x : List ℕ) (r : Reading) (h : Holds x r) where
+module _ (x : List ℕ) (r : Reading) (h : Holds version x r) where
   abbrev rest : List ℕ
   rest = get_or x (length h.front) 0 ∷ drop (length h.front + 1) x
 
@@ -118,11 +118,11 @@ module _ (x : List ℕ) (r : Reading) (h : Holds x r) where
     | inr frame ↦ no_frame_fault at frame
   ]
 
-one_file : (x : List ℕ) (r q : Reading) → Holds x r → Holds x q → r ≡ q
+one_file : (x : List ℕ) (r q : Reading) → Holds version x r → Holds version x q → r ≡ q
 one_file x r q one two = same_reading x r q one two (snapshot_tells one.is_front.base two.is_front.base one.is_front.spelled two.is_front.spelled (snapshots x r q one two).0)
 
 -- the older of two readings is none
-not_older : (x y : List ℕ) (r q : Reading) → Holds x r → IsSpare r.generation y → Holds y q → IsSpare q.generation x → ⊥
+not_older : (x y : List ℕ) (r q : Reading) → Holds version x r → IsSpare r.generation y → Holds version y q → IsSpare q.generation x → ⊥
 not_older x y r q one spare other spare_too =
     absurd (omega (arith, spare_older x q.generation r.generation spare_too (holds_head x r one), spare_older y r.generation q.generation spare (holds_head y q other)))
 
@@ -139,7 +139,7 @@ pub one_spelling : OneSpelling
 one_spelling v w has_v has_w same = snapshot_tells v w has_v has_w same
 
 -- a file that is read, beside its spare
-module _ (x y : List ℕ) (r : Reading) (h : Holds x r) (spare : IsSpare r.generation y) where
+module _ (x y : List ℕ) (r : Reading) (h : Holds version x r) (spare : IsSpare r.generation y) where
   head : HasCurrentHead r.generation x
   head = holds_head x r h
 
@@ -150,7 +150,7 @@ module _ (x y : List ℕ) (r : Reading) (h : Holds x r) (spare : IsSpare r.gener
   not_same : (g : ℕ) → HasCurrentHead g x → HasCurrentHead g y → ⊥
   not_same g one other = absurd (omega (arith, spare_older y r.generation g spare other, one_generation x g r.generation one head))
 
-not_wrong_first : (first second : List ℕ) (r : Reading) (why : OpenError) → IsFound why → Holds first r → IsSpare r.generation second → IsNotOpened first second why → ⊥
+not_wrong_first : (first second : List ℕ) (r : Reading) (why : OpenError) → IsFound why → Holds version first r → IsSpare r.generation second → IsNotOpened first second why → ⊥
 not_wrong_first first second r NoVault found h spare is = not_both first is.0 (head_open first r.generation (holds_head first r h))
 not_wrong_first first second r (Damaged First at) found h spare is = elim is [
   | inl damaged ↦ head_right first r.generation at (holds_head first r h) damaged.1
@@ -164,7 +164,7 @@ not_wrong_first first second r (Damaged Second at) found h spare is = elim is [
 not_wrong_first first second r Device found h spare is = found
 not_wrong_first first second r NoMemory found h spare is = found
 
-not_wrong_second : (first second : List ℕ) (r : Reading) (why : OpenError) → IsFound why → Holds second r → IsSpare r.generation first → IsNotOpened first second why → ⊥
+not_wrong_second : (first second : List ℕ) (r : Reading) (why : OpenError) → IsFound why → Holds version second r → IsSpare r.generation first → IsNotOpened first second why → ⊥
 not_wrong_second first second r NoVault found h spare is = not_both second is.1 (head_open second r.generation (holds_head second r h))
 not_wrong_second first second r (Damaged First at) found h spare is = elim is [
   | inl damaged ↦ spare_right first r.generation at spare damaged

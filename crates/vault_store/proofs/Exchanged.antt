@@ -134,7 +134,7 @@ module _ {D : Type 0} (disk : D → Disk) (old : StoreSeen D) (spare : D) (unbro
       rest = subst (λ (p : Phase). IsReached p old.generation old.rest) is sound.reached
 
   -- the old file stands beside the new one
-  beside : (front : List ℕ) (s : StoreState) → IsFront front (settled_reading old s) → IsIdle (disk old.active) front → IsAside (IsSpare (old.generation + 1)) (disk old.active) false
+  beside : (front : List ℕ) (s : StoreState) → IsFront version front (settled_reading old s) → IsIdle (disk old.active) front → IsAside (IsSpare (old.generation + 1)) (disk old.active) false
   beside front s is_front idle = record {
     settled = idle.settled;
     stands = stands;
@@ -167,7 +167,7 @@ module _ {D : Type 0} (disk : D → Disk) (old : StoreSeen D) (spare : D) (unbro
         let files = keeps.files two (was_honest one) in record {
           front = current_head (old.generation + 1) ++ snapshot_bytes s.sealed;
           is_front =
-              subst (λ (n : ℕ). IsFront (current_head (old.generation + 1) ++ snapshot_bytes s.sealed) (record { vault = s.sealed; generation = old.generation + 1; tail = n; journal_length = 0 })) (sym (ap length renewal.bytes ∙ length-behind (old.generation + 1) s.sealed))
+              subst (λ (n : ℕ). IsFront version (current_head (old.generation + 1) ++ snapshot_bytes s.sealed) (record { vault = s.sealed; generation = old.generation + 1; tail = n; journal_length = 0 })) (sym (ap length renewal.bytes ∙ length-behind (old.generation + 1) s.sealed))
               (renewed_front (old.generation + 1) s.sealed renewal.spelled (omega arith) renewal.fits);
           active =
               to_active (disk old.spare) (disk spare) old.rest (current_head (old.generation + 1) ++ snapshot_bytes s.sealed) (ap (λ (l : List ℕ). 1 ∷ l) (sym renewal.bytes)) (lawful_spare (was_honest one)) files.spare (sync (was_honest one));

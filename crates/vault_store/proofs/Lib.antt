@@ -9,6 +9,7 @@ mod Placed
 pub mod Left
 mod Sounds
 mod Advances
+mod Failed
 mod Renewed
 mod Short
 mod Exchanged

@@ -11,7 +11,7 @@ use Rattle.vault_device.specs.Disk.{Disk, IsTorn}
 use Rattle.vault_store.specs.declared.opening.File.TheVariants.{First}
 use Rattle.vault_store.specs.declared.phase.Phase.TheVariants.{Idle}
 use Rattle.vault_store.specs.Snapshot.{HasSnapshot, designer_of}
-use Rattle.vault_store.specs.Files.{Reading, IsFront, EndsBehind, IsSpare}
+use Rattle.vault_store.specs.Files.{version, Reading, IsFront, EndsBehind, IsSpare}
 use Rattle.vault_store.specs.OnDisk.{IsIdle}
 use Rattle.vault_store.specs.Spares.{IsAside}
 use Rattle.vault_store.specs.State.{at_rest}
@@ -25,7 +25,7 @@ new_snapshot = record { well_formed = kept_new; durable = refl; places = All-nil
 abbrev pub new_reading : Reading
 new_reading = record { vault = new_vault; generation = 1; tail = 34; journal_length = 0 }
 
-pub new_is_front : IsFront new_front new_reading
+pub new_is_front : IsFront version new_front new_reading
 new_is_front = record {
   base = new_vault;
   frames = [];

@@ -51,7 +51,7 @@ one_frames (f ∷ fs) (h ∷ hs) x y s t are_fs are_hs shut_x shut_y same =
     ap (λ (g : List Effect). g ∷ fs) first ∙ ap (λ (gs : List (List Effect)). h ∷ gs) others
 
 -- a file from its head to its end
-pub holds_whole : (x : List ℕ) (r : Reading) (h : Holds x r)
+pub holds_whole : (x : List ℕ) (r : Reading) (h : Holds version x r)
     → x ≡ current_head r.generation ++ (in_four (length (snapshot_of h.is_front.base)) ++ (snapshot_of h.is_front.base ++ (frames_bytes h.is_front.frames ++ get_or x (length h.front) 0 ∷ drop (length h.front + 1) x)))
 holds_whole x r h =
     sym (take-append-drop (length h.front) x)
@@ -71,7 +71,7 @@ one_head v w g k a b fits_g fits_k same =
     one_spelled in_eight (λ n. n < 2 ^ 64) u64_at fields_are_spelled.in_eight g k a b fits_g fits_k behind
 
 -- two readings of one file
-module _ (x : List ℕ) (r q : Reading) (one : Holds x r) (two : Holds x q) where
+module _ (x : List ℕ) (r q : Reading) (one : Holds version x r) (two : Holds version x q) where
   abbrev pub rest_one : List ℕ
   rest_one = get_or x (length one.front) 0 ∷ drop (length one.front + 1) x
 

@@ -12,7 +12,7 @@ use Rattle.vault_store.specs.declared.phase.Phase.TheVariants.{Idle}
 use Rattle.vault_store.specs.declared.opening.File.{File}
 use Rattle.vault_store.specs.declared.opening.File.TheVariants.{First, Second}
 use Rattle.vault_store.specs.Calls.{IsQuiet, AreQuiet}
-use Rattle.vault_store.specs.Files.{Reading, Holds, EndsBehind, IsSpare, AreRead, HasCurrentHead}
+use Rattle.vault_store.specs.Files.{version, Reading, Holds, EndsBehind, IsSpare, AreRead, HasCurrentHead}
 use Rattle.vault_store.specs.Faults.{IsBodyFault}
 use Rattle.vault_store.specs.OnDisk.{IsSettled}
 use Rattle.vault_store.specs.Spares.{IsAside}
@@ -36,7 +36,7 @@ shut_placed disk First first second shut one other is of_first of_second honest 
 shut_placed disk Second first second shut one other is of_first of_second honest = subst (λ (b : Bool). (b ≡ true) ↔ IsClosed 0 (disk first).shown) (sym is) (of_first honest)
 
 -- two files are read so, whichever is the active one
-pub read_placed : (which : File) (first second : List ℕ) (r : Reading) → Holds (of_file which first second) r → IsSpare r.generation (of_file which second first) → AreRead first second r
+pub read_placed : (which : File) (first second : List ℕ) (r : Reading) → Holds version (of_file which first second) r → IsSpare r.generation (of_file which second first) → AreRead first second r
 read_placed First first second r holds spare = inl (holds, spare)
 read_placed Second first second r holds spare = inr (holds, spare)
 
@@ -109,14 +109,14 @@ module _ {D : Type 0} (disk : D → Disk) (which : File) (first second one two a
     abbrev reading : Reading
     reading = record { vault = v; generation = g; tail = tail; journal_length = journal_length }
 
-    active_holds : IsTrue (disk first).honest → IsTrue (disk second).honest → Holds (disk active).shown reading
+    active_holds : IsTrue (disk first).honest → IsTrue (disk second).honest → Holds version (disk active).shown reading
     active_holds honest other =
         let newer = found honest other in
         holds_read (disk active) v frames tail journal_length g contents (active_honest honest other) (subst (HasCurrentHead g) (sym (active_shown honest other)) newer.0)
 
     -- the files are read so
     pub opened_read : IsTrue (disk first).honest → IsTrue (disk second).honest → AreRead (disk first).shown (disk second).shown reading
-    opened_read honest other = let newer = found honest other in read_placed which (disk first).shown (disk second).shown reading (subst (λ (l : List ℕ). Holds l reading) (active_shown honest other) (active_holds honest other)) newer.1
+    opened_read honest other = let newer = found honest other in read_placed which (disk first).shown (disk second).shown reading (subst (λ (l : List ℕ). Holds version l reading) (active_shown honest other) (active_holds honest other)) newer.1
 
     module _ (settled_first : IsTrue (disk first).honest → IsSettled (disk one)) (settled_second : IsTrue (disk second).honest → IsSettled (disk two))
         (head : IsTrue (disk (of_file which second first)).honest → (shut ≡ true) ↔ IsClosed 0 (disk (of_file which second first)).shown) where

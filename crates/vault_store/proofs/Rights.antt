@@ -6,7 +6,7 @@ use Rattle.vault_journal.specs.Spelling.{in_four, in_eight}
 use Rattle.vault_journal.specs.Reading.{u64_at}
 use Rattle.vault_journal.proofs.OneSpelling.{fields_are_spelled}
 use Rattle.vault_store.specs.Snapshot.{snapshot_of, HasSnapshot}
-use Rattle.vault_store.specs.Files.{head_of, frames_bytes, Reading, Holds, IsClosedFile, HasHead, IsSpare, current_head, HasCurrentHead}
+use Rattle.vault_store.specs.Files.{version, head_of, frames_bytes, Reading, Holds, IsClosedFile, HasHead, IsSpare, current_head, HasCurrentHead}
 use Rattle.vault_store.specs.Faults.{mark_in, version_in, generation_in, IsOpenFile, IsHeadFault, IsDamagedHead}
 use Rattle.vault_store.proofs.Short.{spelled_short}
 use Rattle.vault_store.proofs.Spelled.{snapshot_tells}
@@ -52,7 +52,7 @@ spare_right x g at (inl closed) damaged = not_both x closed damaged.0
 spare_right x g at (inr (older, less, there)) damaged = head_right x older at there damaged.1
 
 -- a file that is read has a right head
-pub holds_head : (x : List ℕ) (r : Reading) → Holds x r → HasCurrentHead r.generation x
+pub holds_head : (x : List ℕ) (r : Reading) → Holds version x r → HasCurrentHead r.generation x
 holds_head x r h = record {
   long =
       omega (

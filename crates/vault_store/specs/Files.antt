@@ -87,15 +87,15 @@ pub record Reading : Type 0 where
   pub tail : ℕ
   pub journal_length : ℕ
 
--- these bytes are an open file's up to its tail gate: the head, a snapshot and frames, which lead to the reading
-pub record IsFront (front : List ℕ) (reading : Reading) : Type 0 where
+-- these bytes are an open file's of a version, up to its tail gate: the head, a snapshot and frames, which lead to the reading
+pub record IsFront (v : ℕ) (front : List ℕ) (reading : Reading) : Type 0 where
   pub base : Vault
   pub frames : List (List Effect)
   pub spelled : HasSnapshot base
   pub given : 1 ≤ reading.generation
   pub fits : reading.generation < 2 ^ 64
   pub each : AllByRecursion IsFrame frames
-  pub bytes : front ≡ (current_head reading.generation ++ snapshot_bytes base) ++ frames_bytes frames
+  pub bytes : front ≡ (head_of v reading.generation ++ snapshot_bytes base) ++ frames_bytes frames
   pub leads : after_frames base frames ≡ Some reading.vault
   pub tail_is : reading.tail ≡ length front
   pub journal_is : reading.journal_length ≡ length (frames_bytes frames)
@@ -105,10 +105,10 @@ pub record EndsBehind (front file : List ℕ) : Type 0 where
   pub begins : take (length front) file ≡ front
   pub closed : IsClosed (length front) file
 
--- a file is read as this
-pub record Holds (file : List ℕ) (reading : Reading) : Type 0 where
+-- a file of a version is read as this
+pub record Holds (v : ℕ) (file : List ℕ) (reading : Reading) : Type 0 where
   pub front : List ℕ
-  pub is_front : IsFront front reading
+  pub is_front : IsFront v front reading
   pub ends : EndsBehind front file
 
 -- a file that isn't there or isn't whole: it has no whole header, or its head gate is closed
@@ -133,7 +133,7 @@ IsSpare generation file = IsClosedFile file ⊎ ((older : ℕ) × (older < gener
 -- Two files are read as this: one of them is, and the other is its spare.
 abbrev pub AreRead : List ℕ → List ℕ → Reading → Type 0
 AreRead first second reading =
-    (Holds first reading × IsSpare reading.generation second) ⊎ (Holds second reading × IsSpare reading.generation first)
+    (Holds version first reading × IsSpare reading.generation second) ⊎ (Holds version second reading × IsSpare reading.generation first)
 
 -- Two files stand for a vault.
 abbrev pub StandFor : List ℕ → List ℕ → Vault → Type 0

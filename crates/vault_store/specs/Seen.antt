@@ -10,7 +10,7 @@ use Rattle.vault_store.specs.declared.opening.File.TheVariants.{First, Second}
 use Rattle.vault_store.specs.declared.phase.Phase.{Phase}
 use Rattle.vault_store.specs.declared.phase.Phase.TheVariants.{Idle, Start}
 use Rattle.vault_store.specs.Snapshot.{snapshot_of, HasSnapshot}
-use Rattle.vault_store.specs.Files.{header, most_records, frame_extra, applied, Reading, IsFront, IsSpare, AreRead, behind_gate}
+use Rattle.vault_store.specs.Files.{version, header, most_records, frame_extra, applied, Reading, IsFront, IsSpare, AreRead, behind_gate}
 use Rattle.vault_store.specs.Phases.{is_idle, is_snapshot, is_opening, may_open}
 use Rattle.vault_store.specs.State.{StoreState}
 use Rattle.vault_store.specs.OnDisk.{IsOnDisk}
@@ -97,7 +97,7 @@ pub record AreFiles (active_disk spare_disk : Disk) (settled : Reading) (phase :
     (rest : List ℕ) : Type 0 where
   -- the bytes up to the tail gate
   pub front : List ℕ
-  pub is_front : IsFront front settled
+  pub is_front : IsFront version front settled
   pub active : IsOnDisk active_disk phase broken front records
   pub spare : IsSpareOn (IsSpare settled.generation) spare_disk phase broken shut rest
 

@@ -4,7 +4,7 @@ ghost use Rattle.vault_store.specs.declared.body.BodyError.TheVariants.{Device a
 ghost use Rattle.vault_store.specs.declared.body.ReadError.TheVariants as errors;
 ghost use Rattle.vault_store.specs.Calls.{HasCause, IsQuiet};
 ghost use Rattle.vault_store.specs.Faults.{IsSnapshotFault};
-ghost use Rattle.vault_store.specs.Files.{header, HasCurrentHead};
+ghost use Rattle.vault_store.specs.Files.{version, header, HasCurrentHead};
 ghost use Rattle.vault_store.specs.Parts.{IsBody};
 ghost use Rattle.vault_store.specs.Read.{AreReads, IsWhy, IsBaseRead, AreContents, IsFaultBehindHead};
 
@@ -144,7 +144,7 @@ pub fn read_body<D: Device, A: Allocator + Copy>(
     ensures reads { AreReads (D.disk device.old) (D.disk device.new) }
     ensures body { IsTrue (D.disk device.old).honest
         → IfOk result (λ body. (generation : ℕ) → HasCurrentHead generation (D.disk device.old).shown
-        → IsBody generation (D.disk device.old).shown body) }
+        → IsBody version generation (D.disk device.old).shown body) }
     ensures cause { IfErr result (λ why. why ≡ DeviceFailed → HasCause (D.disk device.old) (D.disk device.new)) }
     ensures memory { IfErr result (λ why. why ≡ Wanted → IsQuiet (D.disk device.old) (D.disk device.new)) }
 {

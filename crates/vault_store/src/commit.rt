@@ -12,6 +12,15 @@ use std::alloc::Allocator;
 use vault_device::{Device, Fault};
 use vault_journal::{open_gate, settle_body, settle_gate, write_body};
 
+// Notes that a device call failed: none is made after it.
+pub(crate) fn broken_by(broken: &mut bool, fault: Fault) -> Result<Advanced, Fault>
+    ensures broken { broken.new ≡ true }
+    ensures told { result ≡ Err fault }
+{
+    *broken = true;
+    Err(fault)
+}
+
 impl<D: Device, A: Allocator> Store<D, A> {
     // Seals what was noted, and writes it behind the tail gate. Without effects there is nothing to do.
     fn seal(&mut self) -> Result<Advanced, Fault>
@@ -28,10 +37,7 @@ impl<D: Device, A: Allocator> Store<D, A> {
         self.phase = Phase::Written;
         match written {
             Ok(()) => Ok(Advanced::Moved),
-            Err(fault) => {
-                self.broken = true;
-                Err(fault)
-            }
+            Err(fault) => broken_by(&mut self.broken, fault),
         }
     }
 
@@ -46,10 +52,7 @@ impl<D: Device, A: Allocator> Store<D, A> {
                 self.phase = Phase::Bodied;
                 Ok(Advanced::Moved)
             }
-            Err(fault) => {
-                self.broken = true;
-                Err(fault)
-            }
+            Err(fault) => broken_by(&mut self.broken, fault),
         }
     }
 
@@ -63,10 +66,7 @@ impl<D: Device, A: Allocator> Store<D, A> {
         self.phase = Phase::Opening;
         match opened {
             Ok(()) => Ok(Advanced::Moved),
-            Err(fault) => {
-                self.broken = true;
-                Err(fault)
-            }
+            Err(fault) => broken_by(&mut self.broken, fault),
         }
     }
 
@@ -85,10 +85,7 @@ impl<D: Device, A: Allocator> Store<D, A> {
                 self.phase = Phase::Idle;
                 Ok(Advanced::Settled)
             }
-            Err(fault) => {
-                self.broken = true;
-                Err(fault)
-            }
+            Err(fault) => broken_by(&mut self.broken, fault),
         }
     }
 

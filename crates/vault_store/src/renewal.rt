@@ -7,6 +7,7 @@ ghost use Rattle.vault_store.specs.Phases.{piece_size, behind_piece};
 ghost use Rattle.vault_store.specs.Seen.{other};
 ghost use Rattle.vault_store.specs.Step.{IsAdvance};
 
+use crate::commit::broken_by;
 use crate::{Advanced, File, Phase, Store};
 use std::alloc::Allocator;
 use std::mem;
@@ -92,10 +93,7 @@ impl<D: Device, A: Allocator> Store<D, A> {
         self.phase = Phase::Closing;
         match closed {
             Ok(()) => Ok(Advanced::Moved),
-            Err(fault) => {
-                self.broken = true;
-                Err(fault)
-            }
+            Err(fault) => broken_by(&mut self.broken, fault),
         }
     }
 
@@ -110,10 +108,7 @@ impl<D: Device, A: Allocator> Store<D, A> {
                 self.phase = Phase::Writing(bytes_of(&self.rest).len() as u64);
                 Ok(Advanced::Moved)
             }
-            Err(fault) => {
-                self.broken = true;
-                Err(fault)
-            }
+            Err(fault) => broken_by(&mut self.broken, fault),
         }
     }
 
@@ -127,10 +122,7 @@ impl<D: Device, A: Allocator> Store<D, A> {
         self.phase = behind_piece(left);
         match written {
             Ok(()) => Ok(Advanced::Moved),
-            Err(fault) => {
-                self.broken = true;
-                Err(fault)
-            }
+            Err(fault) => broken_by(&mut self.broken, fault),
         }
     }
 
@@ -145,10 +137,7 @@ impl<D: Device, A: Allocator> Store<D, A> {
                 self.phase = Phase::Ready;
                 Ok(Advanced::Moved)
             }
-            Err(fault) => {
-                self.broken = true;
-                Err(fault)
-            }
+            Err(fault) => broken_by(&mut self.broken, fault),
         }
     }
 
@@ -162,10 +151,7 @@ impl<D: Device, A: Allocator> Store<D, A> {
         self.phase = Phase::SnapOpening;
         match opened {
             Ok(()) => Ok(Advanced::Moved),
-            Err(fault) => {
-                self.broken = true;
-                Err(fault)
-            }
+            Err(fault) => broken_by(&mut self.broken, fault),
         }
     }
 
@@ -188,10 +174,7 @@ impl<D: Device, A: Allocator> Store<D, A> {
                 self.rest = None;
                 Ok(Advanced::Settled)
             }
-            Err(fault) => {
-                self.broken = true;
-                Err(fault)
-            }
+            Err(fault) => broken_by(&mut self.broken, fault),
         }
     }
 }

@@ -7,6 +7,7 @@ use Rattle.vault_store.specs.Sound.{IsSoundStore}
 use Rattle.vault_store.specs.Step.{IsAdvance}
 use Rattle.vault_store.proofs.Advances.{nothing_to_do, body_behind, body_failed, writes_body, body_torn}
 use Rattle.vault_store.proofs.Sounds.{sealed_sound}
+use Rattle.vault_store.proofs.Failed.{failed_by}
 use Rattle.vault_store.proofs.store.Store.seal.Goals as goal
 
 pub returns-then-len-eq0 : goal.returns-then-len-eq0
@@ -24,10 +25,11 @@ invariant_of-self g c =
 
 pub invariant_of-self-in-Err : goal.invariant_of-self-in-Err
 invariant_of-self-in-Err g c =
-    subst (λ (n : ℕ). IsSoundStore g.D.Device.disk (record (seen_of c.self.inside) { active = c.write_body-written.new.device; buffer = c.clear.new.self; sealed = n; phase = phases.Written; broken = true })) (sym c.len-2.ensures.len)
-    (subst (λ (bytes : List ℕ). IsSoundStore g.D.Device.disk (record (seen_of c.self.inside) { active = c.write_body-written.new.device; buffer = bytes; sealed = length c.self.inside.frame; phase = phases.Written; broken = true })) (sym c.clear.ensures)
+    subst (λ (n : ℕ). IsSoundStore g.D.Device.disk (record (seen_of c.self.inside) { active = c.write_body-written.new.device; buffer = c.clear.new.self; sealed = n; phase = phases.Written; broken = c.broken_by.new.broken })) (sym c.len-2.ensures.len)
+    (subst (λ (bytes : List ℕ). IsSoundStore g.D.Device.disk (record (seen_of c.self.inside) { active = c.write_body-written.new.device; buffer = bytes; sealed = length c.self.inside.frame; phase = phases.Written; broken = c.broken_by.new.broken })) (sym c.clear.ensures)
+    (subst (λ (b : Bool). IsSoundStore g.D.Device.disk (record (seen_of c.self.inside) { active = c.write_body-written.new.device; buffer = []; sealed = length c.self.inside.frame; phase = phases.Written; broken = b })) (sym c.broken_by.ensures.broken)
     (sealed_sound g.D.Device.disk (seen_of c.self.inside) c.write_body-written.new.device c.write_body-written.ensures.one_call.same_honesty c.self.invariant (ap (λ (o : StoreSeen g.row.D.Denot). o.broken) c.self.view_is ∙ c.requires.whole) true (ap (λ (o : StoreSeen g.row.D.Denot). o.phase) c.self.view_is ∙ c.requires.phase) (omega (arith, c.len.ensures.len, c.if-len-eq0.false)) (omega (arith, c.len.ensures.len, c.len.ensures.room))
-    (λ honest. body_torn g.D.Device.disk (seen_of c.self.inside) c.write_body-written.new.device (ap (λ (o : StoreSeen g.row.D.Denot). o.broken) c.self.view_is ∙ c.requires.whole) (g.met.D.Device.lawful c.self.inside.active) (g.met.D.Device.lawful c.self.inside.spare) (c.in-Err.ensures.images honest))))
+    (λ honest. body_torn g.D.Device.disk (seen_of c.self.inside) c.write_body-written.new.device (ap (λ (o : StoreSeen g.row.D.Denot). o.broken) c.self.view_is ∙ c.requires.whole) (g.met.D.Device.lawful c.self.inside.active) (g.met.D.Device.lawful c.self.inside.spare) (c.in-Err.ensures.images honest)))))
 
 pub returns-in-Ok : goal.returns-in-Ok
 returns-in-Ok g c =
@@ -39,8 +41,9 @@ returns-in-Ok g c =
 
 pub returns-in-Err : goal.returns-in-Err
 returns-in-Err g c =
-    subst (λ (n : ℕ). IsAdvance g.D.Device.disk c.args.self.now (record (seen_of c.self.inside) { active = c.write_body-written.new.device; buffer = c.clear.new.self; sealed = n; phase = phases.Written; broken = true }) (Err c.in-Err.fault)) (sym c.len-2.ensures.len)
-    (subst (λ (bytes : List ℕ). IsAdvance g.D.Device.disk c.args.self.now (record (seen_of c.self.inside) { active = c.write_body-written.new.device; buffer = bytes; sealed = length c.self.inside.frame; phase = phases.Written; broken = true }) (Err c.in-Err.fault)) (sym c.clear.ensures)
+    subst (λ (n : ℕ). IsAdvance g.D.Device.disk c.args.self.now (record (seen_of c.self.inside) { active = c.write_body-written.new.device; buffer = c.clear.new.self; sealed = n; phase = phases.Written; broken = c.broken_by.new.broken }) c.broken_by.result) (sym c.len-2.ensures.len)
+    (subst (λ (bytes : List ℕ). IsAdvance g.D.Device.disk c.args.self.now (record (seen_of c.self.inside) { active = c.write_body-written.new.device; buffer = bytes; sealed = length c.self.inside.frame; phase = phases.Written; broken = c.broken_by.new.broken }) c.broken_by.result) (sym c.clear.ensures)
+    (failed_by g.D.Device.disk c.args.self.now (record (seen_of c.self.inside) { active = c.write_body-written.new.device; buffer = []; sealed = length c.self.inside.frame; phase = phases.Written; broken = true }) c.in-Err.fault c.broken_by.ensures.broken c.broken_by.ensures.told
     (subst (λ (o : StoreSeen g.row.D.Denot). IsAdvance g.D.Device.disk o (record (seen_of c.self.inside) { active = c.write_body-written.new.device; buffer = []; sealed = length c.self.inside.frame; phase = phases.Written; broken = true }) (Err c.in-Err.fault)) c.self.view_is
     (body_failed g.D.Device.disk (seen_of c.self.inside) c.write_body-written.new.device (ap (λ (o : StoreSeen g.row.D.Denot). o.broken) c.self.view_is ∙ c.requires.whole) (g.met.D.Device.lawful c.self.inside.active) (g.met.D.Device.lawful c.self.inside.spare) c.in-Err.fault (ap (λ (o : StoreSeen g.row.D.Denot). o.phase) c.self.view_is ∙ c.requires.phase) (omega (arith, c.len.ensures.len, c.if-len-eq0.false)) (omega (arith, c.len.ensures.len, c.len.ensures.room))
-    c.in-Err.ensures.one_call c.in-Err.ensures.images c.in-Err.ensures.moments)))
+    c.in-Err.ensures.one_call c.in-Err.ensures.images c.in-Err.ensures.moments))))

@@ -8,6 +8,7 @@ use Rattle.vault_store.specs.Sound.{IsSoundStore}
 use Rattle.vault_store.specs.Step.{IsAdvance}
 use Rattle.vault_store.proofs.Renewed.{head_unsettled}
 use Rattle.vault_store.proofs.Exchanged.{exchanged_sound, head_settled}
+use Rattle.vault_store.proofs.Failed.{failed_by}
 use Rattle.vault_store.proofs.store.Store.settle_head.Goals as goal
 
 pub invariant_of-self : goal.invariant_of-self
@@ -30,6 +31,7 @@ returns-in-Ok g c =
 
 pub returns-in-Err : goal.returns-in-Err
 returns-in-Err g c =
-    subst (λ (o : StoreSeen g.row.D.Denot). IsAdvance g.D.Device.disk o (record (seen_of c.self.inside) { spare = c.settle_gate.new.device; broken = true }) (Err c.in-Err.fault)) c.self.view_is
+    failed_by g.D.Device.disk c.args.self.now (record (seen_of c.self.inside) { spare = c.settle_gate.new.device; broken = true }) c.in-Err.fault c.broken_by.ensures.broken c.broken_by.ensures.told
+    (subst (λ (o : StoreSeen g.row.D.Denot). IsAdvance g.D.Device.disk o (record (seen_of c.self.inside) { spare = c.settle_gate.new.device; broken = true }) (Err c.in-Err.fault)) c.self.view_is
     (head_unsettled g.D.Device.disk (seen_of c.self.inside) c.settle_gate.new.device (ap (λ (o : StoreSeen g.row.D.Denot). o.broken) c.self.view_is ∙ c.requires.whole) (g.met.D.Device.lawful c.self.inside.active) (g.met.D.Device.lawful c.self.inside.spare)
-    c.in-Err.fault (ap (λ (o : StoreSeen g.row.D.Denot). o.phase) c.self.view_is ∙ c.requires.phase) c.in-Err.ensures.one_call c.in-Err.ensures.sync c.in-Err.ensures.moments)
+    c.in-Err.fault (ap (λ (o : StoreSeen g.row.D.Denot). o.phase) c.self.view_is ∙ c.requires.phase) c.in-Err.ensures.one_call c.in-Err.ensures.sync c.in-Err.ensures.moments))
