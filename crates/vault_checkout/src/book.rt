@@ -4,7 +4,7 @@ ghost use Rattle.std.specs.Option.{option_copied};
 ghost use Rattle.vault_model.specs.Vault.{Vault, IsVault, CountsBelow, session_of, one_more, counted, counted_in, new_vault, durable};
 ghost use Rattle.vault_model.specs.Claims.{claim_of, standing_of, is_held};
 ghost use Rattle.vault_model.specs.Drafts.{drafts_of};
-ghost use Rattle.vault_model.specs.Step.{usable, permitted, join, make, check_out, extend, abandon, hold, release, leave, asked, extension, is_designer, is_owned_by, in_session, decide, step};
+ghost use Rattle.vault_model.specs.Step.{usable, permitted, join, make, check_out, extend, abandon, asked, extension, is_designer, is_owned_by, in_session, decide, step};
 ghost use Rattle.vault_model.specs.declared.session.Session.{Session};
 ghost use Rattle.vault_model.specs.declared.claims.Standing.TheVariants as standings;
 ghost use Rattle.long_locks.specs.Lines.{IsGrownFrom};
@@ -76,7 +76,7 @@ fn is_designer(owner: &Owner, name: &Name) -> bool
     }
 }
 
-fn is_owned_by(owner: &Owner, session: &Session) -> bool
+pub(crate) fn is_owned_by(owner: &Owner, session: &Session) -> bool
     ensures { result ≡ is_owned_by session.now owner.now }
 {
     match owner {
@@ -101,7 +101,7 @@ fn find_session(sessions: &[Session], number: u32) -> Option<&Session>
     sessions.iter().find(|session| session.number == number)
 }
 
-fn drop_session<A: Allocator>(sessions: &mut Vec<Session, A>, number: u32)
+pub(crate) fn drop_session<A: Allocator>(sessions: &mut Vec<Session, A>, number: u32)
     ensures { sessions.new.items ≡ filter (λ (s : Session). not (s.number == number)) sessions.old.items }
 {
     sessions.retain(|session| session.number != number);
@@ -361,60 +361,6 @@ impl<A: Allocator + Copy> Book<A> {
             }),
             Ok(Extension::InTheWay(other)) => Err(Stop::Refused(Refusal::Overlaps(other))),
             Err(NoMemory) => Err(Stop::OutOfMemory),
-        }
-    }
-
-    #[tactic(auto, unfolding(vault_model::specs::Step::hold, vault_model::specs::Step::chained))]
-    fn hold(&mut self, session: &Session, wanted: &[PathItem]) -> Result<Done<A>, Stop>
-        requires { is_some (session_of self.old.sessions session.now.number) ≡ true }
-        ensures told { Follows self.old result self.new (hold self.old session.now wanted.now) }
-        ensures counts { (bound : ℕ) → CountsBelow bound self.old → CountsBelow bound self.new }
-    {
-        if wanted.is_empty() || wanted.len() > MOST_ITEMS {
-            return Err(Stop::Refused(Refusal::ItemCount));
-        }
-        let Some(items) = places_of(&self.tree, wanted) else {
-            return Err(Stop::Refused(Refusal::NoPlace));
-        };
-        if self.line.len() >= MOST_CLAIMS || self.line.last_short() == LAST_NUMBER {
-            return Err(Stop::Refused(Refusal::Limit));
-        }
-        let standing = self.line.ask_short(&self.tree, session.number, items)?;
-        Ok(Done {
-            reply: reply_of(ClaimId::Short(self.line.last_short()), standing),
-            effect: None,
-        })
-    }
-
-    #[tactic(auto, unfolding(vault_model::specs::Step::release, vault_model::specs::Step::chained))]
-    fn release(&mut self, session: &Session, number: u32) -> Result<Done<A>, Stop>
-        ensures told { Follows self.old result self.new (release self.old session.now number) }
-        ensures counts { (bound : ℕ) → CountsBelow bound self.old → CountsBelow bound self.new }
-    {
-        let id = ClaimId::Short(number);
-        let Some(claim) = self.line.get(id) else {
-            return Err(Stop::Refused(Refusal::NoClaim));
-        };
-        if !is_owned_by(&claim.owner, session) {
-            return Err(Stop::Refused(Refusal::NotYours));
-        }
-        self.drop_hold(number);
-        Ok(Done {
-            reply: Reply::Released,
-            effect: None,
-        })
-    }
-
-    fn leave(&mut self, session: &Session) -> Done<A>
-        ensures told { Follows self.old (Ok result) self.new (Ok (leave self.old session.now)) }
-        ensures counts { (bound : ℕ) → CountsBelow bound self.old → CountsBelow bound self.new }
-    {
-        self.line.drop_session(session.number);
-        grant_held(&mut self.check_outs, &self.line);
-        drop_session(&mut self.sessions, session.number);
-        Done {
-            reply: Reply::Left,
-            effect: None,
         }
     }
 

@@ -29,6 +29,7 @@ mod copy;
 mod done;
 mod drafting;
 mod from_parts;
+mod holding;
 mod parts;
 mod places;
 mod weights;

@@ -1,0 +1,70 @@
+//! Short locks: holds of a session, released one by one or as it leaves.
+ghost use Rattle.std.specs.Prelude.{◌≡◌, ℕ, Ok, is_some, true};
+ghost use Rattle.vault_model.specs.Vault.{CountsBelow, session_of};
+ghost use Rattle.vault_model.specs.Step.{hold, release, leave};
+ghost use Rattle.vault_checkout.specs.Done.{Follows};
+
+use crate::book::{Book, drop_session, is_owned_by, reply_of};
+use crate::check_outs::grant_held;
+use crate::done::{Done, Stop};
+use crate::places::places_of;
+use std::alloc::Allocator;
+use vault_model::{
+    ClaimId, LAST_NUMBER, MOST_CLAIMS, MOST_ITEMS, PathItem, Refusal, Reply, Session,
+};
+
+impl<A: Allocator + Copy> Book<A> {
+    #[tactic(auto, unfolding(vault_model::specs::Step::hold, vault_model::specs::Step::chained))]
+    pub(crate) fn hold(&mut self, session: &Session, wanted: &[PathItem]) -> Result<Done<A>, Stop>
+        requires { is_some (session_of self.old.sessions session.now.number) ≡ true }
+        ensures told { Follows self.old result self.new (hold self.old session.now wanted.now) }
+        ensures counts { (bound : ℕ) → CountsBelow bound self.old → CountsBelow bound self.new }
+    {
+        if wanted.is_empty() || wanted.len() > MOST_ITEMS {
+            return Err(Stop::Refused(Refusal::ItemCount));
+        }
+        let Some(items) = places_of(&self.tree, wanted) else {
+            return Err(Stop::Refused(Refusal::NoPlace));
+        };
+        if self.line.len() >= MOST_CLAIMS || self.line.last_short() == LAST_NUMBER {
+            return Err(Stop::Refused(Refusal::Limit));
+        }
+        let standing = self.line.ask_short(&self.tree, session.number, items)?;
+        Ok(Done {
+            reply: reply_of(ClaimId::Short(self.line.last_short()), standing),
+            effect: None,
+        })
+    }
+
+    #[tactic(auto, unfolding(vault_model::specs::Step::release, vault_model::specs::Step::chained))]
+    pub(crate) fn release(&mut self, session: &Session, number: u32) -> Result<Done<A>, Stop>
+        ensures told { Follows self.old result self.new (release self.old session.now number) }
+        ensures counts { (bound : ℕ) → CountsBelow bound self.old → CountsBelow bound self.new }
+    {
+        let id = ClaimId::Short(number);
+        let Some(claim) = self.line.get(id) else {
+            return Err(Stop::Refused(Refusal::NoClaim));
+        };
+        if !is_owned_by(&claim.owner, session) {
+            return Err(Stop::Refused(Refusal::NotYours));
+        }
+        self.drop_hold(number);
+        Ok(Done {
+            reply: Reply::Released,
+            effect: None,
+        })
+    }
+
+    pub(crate) fn leave(&mut self, session: &Session) -> Done<A>
+        ensures told { Follows self.old (Ok result) self.new (Ok (leave self.old session.now)) }
+        ensures counts { (bound : ℕ) → CountsBelow bound self.old → CountsBelow bound self.new }
+    {
+        self.line.drop_session(session.number);
+        grant_held(&mut self.check_outs, &self.line);
+        drop_session(&mut self.sessions, session.number);
+        Done {
+            reply: Reply::Left,
+            effect: None,
+        }
+    }
+}
