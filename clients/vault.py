@@ -12,23 +12,27 @@ import os
 import select
 import sys
 from pathlib import Path
-from typing import Any, Callable, Dict, List, Optional, Tuple
+from typing import Any, Callable, Dict, List, NoReturn, Optional, Tuple
 
-from vault_client import Client, Patience, place_word
+from vault_client import Client
+from vault_connection import Patience
 from vault_memory import Claim, state_folder, write_whole
-from vault_words import (CONTENT_BYTES, Lost, Misused, NotKnown, Refused, Standing, Unreachable, VaultError)
+from vault_words import (CONTENT_BYTES, Lost, Misused, NotKnown, Refused, Standing, Unreachable, VaultError, place_word)
 
 __all__ = ["Client", "Lost", "Misused", "NotKnown", "Refused", "Standing", "Unreachable", "VaultError", "main"]
 
 VERSION = "1"
 ASKED_WHILE_HOLDING_SECONDS = 30.0
+FIRST_PAUSE_SECONDS = 1.0
+LONGEST_PAUSE_SECONDS = 60.0
+KEPT_OPEN_SECONDS = 5.0
 
 Words = argparse.Namespace
 Told = Tuple[str, Dict[str, Any]]
 
 
 class Output:
-    """What the program says: sentences, or one JSON object; notices and progress go to standard error."""
+    """What the program says: sentences, or JSON objects, each on a line; notices and progress go to standard error."""
 
     def __init__(self, command: str, as_json: bool):
         self.command, self.as_json = command, as_json
@@ -47,10 +51,15 @@ class Output:
 
     def answer(self, sentence: str, fields: Dict[str, Any]) -> None:
         """Says what was done."""
+        self.say(True, sentence, fields)
+
+    def say(self, done: bool, sentence: str, fields: Dict[str, Any]) -> None:
+        """Says something on standard output, at once."""
         if self.as_json:
-            print(json.dumps({"command": self.command, "done": True, "sentence": sentence, **fields, "notices": self.notices}))
+            told = {"command": self.command, "done": done, "sentence": sentence, **fields, "notices": self.notices}
+            print(json.dumps(told), flush=True)
         elif sentence:
-            print(sentence)
+            print(sentence, flush=True)
 
     def error(self, error: VaultError) -> None:
         """Says what went wrong and what to do."""
@@ -85,7 +94,7 @@ def who(words: Words) -> str:
 def standing_fields(standing: Standing) -> Dict[str, Any]:
     """A standing for --json."""
     return {"claim": standing.claim, "standing": "gone" if standing.gone else "held" if standing.held else "queued",
-            "behind": standing.behind or None}
+            "behind": standing.behind or None, "anothers": standing.anothers}
 
 
 def hello(client: Client, words: Words, _output: Output) -> Told:
@@ -198,9 +207,9 @@ def abandon(client: Client, words: Words, _output: Output) -> Told:
 
 def wait(client: Client, words: Words, output: Output) -> Told:
     """Asks with growing pauses until a claim is held, and shows who is before it."""
-    patience, before, line = Patience(words.at_most, 1.0, 60.0), "", ""
+    patience, before, line = Patience(words.at_most, FIRST_PAUSE_SECONDS, LONGEST_PAUSE_SECONDS), "", ""
     while True:
-        standing = client.state(words.claim)
+        standing = asked_again(client, words.claim, patience, output)
         if standing.gone:
             raise Refused(f"{words.claim} is gone: it was checked in or given up.", 30)
         if standing.held:
@@ -212,7 +221,29 @@ def wait(client: Client, words: Words, output: Output) -> Told:
         if standing.behind != before:
             output.notice(line)
             before = standing.behind
-        patience.pause()
+        pause(client, patience)
+
+
+def asked_again(client: Client, claim: str, patience: Patience, output: Output) -> Standing:
+    """How a claim stands. Where the server is away, that is told once, and it is asked until it answers or the time is over."""
+    away = False
+    while True:
+        try:
+            return client.state(claim)
+        except Unreachable as error:
+            if patience.over():
+                raise
+            if not away:
+                output.notice(f"{error} `vault wait {claim}` goes on, and the check-out stands meanwhile.")
+            away = True
+            pause(client, patience)
+
+
+def pause(client: Client, patience: Patience) -> None:
+    """Waits a little; for a long pause it leaves the server, since a connection takes one of its workers."""
+    if patience.next > KEPT_OPEN_SECONDS:
+        client.close()
+    patience.pause()
 
 
 def in_a_row(chain: List[Standing]) -> str:
@@ -220,10 +251,33 @@ def in_a_row(chain: List[Standing]) -> str:
     return ", ".join(standing.sentence().rstrip(".") for standing in chain) + "."
 
 
-def mine(client: Client, _words: Words, _output: Output) -> Told:
-    """Shows the check-outs that are remembered."""
-    found = client.mine()
-    fields = [{**standing_fields(standing), "items": claim.items, "drafts": sorted(claim.drafts)} for standing, claim in found]
+def give(client: Client, words: Words, _output: Output) -> Told:
+    """Gives a check-out to another designer."""
+    client.give(words.claim, words.receiver)
+    return (f"{words.claim} is {words.receiver}'s now, with its drafts. `vault mine {words.claim}` shows it to {words.receiver}.",
+            {"claim": words.claim, "receiver": words.receiver})
+
+
+def note(client: Client, words: Words, _output: Output) -> Told:
+    """Writes a note on a check-out, or reads it."""
+    if words.text is not None:
+        client.set_note(words.claim, words.text.encode("utf-8"))
+        return f"{words.claim} has {'the' if words.text else 'no'} note now.", {"claim": words.claim, "note": words.text}
+    found = readable(client.note(words.claim))
+    return found or f"{words.claim} has no note.", {"claim": words.claim, "note": found}
+
+
+def readable(note: bytes) -> str:
+    """A note as text, or its bytes in hexadecimal where it is none that can be shown."""
+    text = note.decode("utf-8", "replace")
+    return text if text.isprintable() and "\ufffd" not in text else "0x" + note.hex()
+
+
+def mine(client: Client, words: Words, _output: Output) -> Told:
+    """Shows the check-outs that are remembered, and remembers those that are named."""
+    found = client.mine(words.claims)
+    fields = [{**standing_fields(standing), "items": claim.items, "drafts": sorted(claim.drafts), "given": claim.given or None}
+              for standing, claim in found]
     lines = [mine_line(standing, claim) for standing, claim in found]
     return "\n".join(lines or ["You have no check-outs from here."]), {"claims": fields}
 
@@ -231,9 +285,11 @@ def mine(client: Client, _words: Words, _output: Output) -> Told:
 def mine_line(standing: Standing, claim: Claim) -> str:
     """One remembered check-out in words."""
     drafts = "".join(f", draft of {place}" for place in sorted(claim.drafts))
-    asked = f" Asked for {' '.join(claim.items)}{drafts}." if claim.items or claim.drafts else ""
-    rest = f" `vault drafts {standing.claim} FOLDER` writes the copies that are kept." if standing.gone and claim.drafts else ""
-    return standing.sentence() + asked + rest
+    asked = f" Asked for {' '.join(claim.items)}{drafts}." if claim.items else f" Has{drafts[1:]}." if drafts else ""
+    given = f" You gave it to {claim.given}." if claim.given else ""
+    kept = (standing.gone or standing.anothers) and claim.drafts
+    rest = f" `vault drafts {standing.claim} FOLDER` writes the copies that are kept." if kept else ""
+    return standing.sentence() + given + asked + rest
 
 
 def drafts(client: Client, words: Words, _output: Output) -> Told:
@@ -265,7 +321,11 @@ def hold(client: Client, words: Words, output: Output) -> Told:
         output.progress(standing.sentence())
         patience.pause()
         standing = still(client, standing)
-    output.notice(standing.sentence() + " It ends with this command: end its standard input to let go.")
+    held = standing.sentence() + " It ends with this command: end its standard input to let go."
+    if output.as_json:
+        output.say(False, held, standing_fields(standing))
+    else:
+        output.notice(held)
     until_input_ends(lambda: still(client, standing))
     still(client, standing)
     return f"{standing.claim} was held until now.", {"claim": standing.claim}
@@ -291,7 +351,8 @@ def still(client: Client, standing: Standing) -> Standing:
 
 COMMANDS: Dict[str, Callable[[Client, Words, Output], Told]] = {
     "hello": hello, "tree": tree, "make": make, "checkout": checkout, "extend": extend, "put": put, "get": get, "history": history,
-    "checkin": checkin, "abandon": abandon, "wait": wait, "mine": mine, "hold": hold, "drafts": drafts, "forget": forget,
+    "checkin": checkin, "abandon": abandon, "give": give, "note": note, "wait": wait, "mine": mine, "hold": hold, "drafts": drafts,
+    "forget": forget,
 }
 
 
@@ -303,6 +364,14 @@ def seconds(word: str) -> float:
     return value
 
 
+class Parser(argparse.ArgumentParser):
+    """The reader of the command line, whose errors are told as all others."""
+
+    def error(self, message: str) -> NoReturn:
+        """Says what is wrong with the command line."""
+        raise Misused(f"{message}. `{self.prog} --help` shows the words.")
+
+
 def add(commands: Any, name: str, about: str, *arguments: Tuple[str, Dict[str, Any]]) -> None:
     """Adds a command with its words."""
     parser = commands.add_parser(name, help=about, description=about)
@@ -312,36 +381,52 @@ def add(commands: Any, name: str, about: str, *arguments: Tuple[str, Dict[str, A
 
 def command_line() -> argparse.ArgumentParser:
     """The words that the program knows."""
-    parser = argparse.ArgumentParser(prog="vault", description="The client of the design vault.",
-                                     epilog="A day with it is told in docs/TUTORIAL.md; the manual is vault(1).")
+    parser = Parser(prog="vault", description="The client of the design vault.",
+                    epilog="A day with it is told in docs/TUTORIAL.md; the manual is vault(1).")
     parser.add_argument("--version", action="version", version="vault " + VERSION)
     parser.add_argument("--as", dest="designer", metavar="NAME@HOST:PORT", help="who you are, in place of the last hello")
-    parser.add_argument("--json", action="store_true", help="prints one JSON object")
+    parser.add_argument("--json", action="store_true", help="answers in JSON, one object on a line")
     parser.add_argument("--patience", type=seconds, default=30.0, metavar="SECONDS", help="how long a lost server is asked for (30)")
     commands = parser.add_subparsers(dest="command", required=True, metavar="COMMAND")
-    place = ("place", {"metavar": "PLACE", "help": "as /engine/block/piston"})
-    claim = ("claim", {"metavar": "CLAIM", "help": "as c3"})
-    items = ("items", {"nargs": "+", "metavar": "ITEM", "help": "r:PLACE to look or w:PLACE to change"})
-    named = ("--claim", {"default": "", "metavar": "CLAIM", "help": "the check-out that it belongs to"})
     add(commands, "hello", "remembers who you are, and where", ("who", {"metavar": "NAME@HOST:PORT"}))
+    add_of_places(commands)
+    add_of_claims(commands)
+    return parser
+
+
+PLACE = ("place", {"metavar": "PLACE", "help": "as /engine/block/piston"})
+CLAIM = ("claim", {"metavar": "CLAIM", "help": "as c3"})
+ITEMS = ("items", {"nargs": "+", "metavar": "ITEM", "help": "r:PLACE to look or w:PLACE to change"})
+NAMED = ("--claim", {"default": "", "metavar": "CLAIM", "help": "the check-out that it belongs to"})
+
+
+def add_of_places(commands: Any) -> None:
+    """Adds the commands that name a place."""
     add(commands, "tree", "shows the places beneath one", ("place", {"nargs": "?", "default": "/", "metavar": "PLACE"}))
-    add(commands, "make", "makes a place", place, named)
-    add(commands, "checkout", "asks for a check-out of one to eight items", items)
-    add(commands, "extend", "asks for more items for a check-out that is held", claim, items)
-    add(commands, "put", "saves a file as the draft of a part", place, ("file", {"metavar": "FILE"}), named)
-    add(commands, "get", "writes a version of a part, the last where none is named", place,
+    add(commands, "make", "makes a place", PLACE, NAMED)
+    add(commands, "put", "saves a file as the draft of a part", PLACE, ("file", {"metavar": "FILE"}), NAMED)
+    add(commands, "get", "writes a version of a part, the last where none is named", PLACE,
         ("version", {"nargs": "?", "type": int, "metavar": "VERSION"}),
         ("--to", {"metavar": "FILE", "help": "a new file, in place of standard output"}))
-    add(commands, "history", "lists the versions of a part", place)
-    add(commands, "checkin", "makes versions of a check-out's drafts, and ends it", claim)
-    add(commands, "abandon", "gives a check-out up, with its drafts", claim)
-    add(commands, "wait", "waits until a claim is held, and shows who is before it", claim,
+    add(commands, "history", "lists the versions of a part", PLACE)
+
+
+def add_of_claims(commands: Any) -> None:
+    """Adds the commands that ask for a claim or name one."""
+    add(commands, "checkout", "asks for a check-out of one to eight items", ITEMS)
+    add(commands, "extend", "asks for more items for a check-out that is held", CLAIM, ITEMS)
+    add(commands, "checkin", "makes versions of a check-out's drafts, and ends it", CLAIM)
+    add(commands, "abandon", "gives a check-out up, with its drafts", CLAIM)
+    add(commands, "give", "gives a check-out to another designer, with its drafts", CLAIM, ("receiver", {"metavar": "NAME"}))
+    add(commands, "note", "writes a note on a check-out, or shows it where no text is given", CLAIM,
+        ("text", {"nargs": "?", "metavar": "TEXT", "help": "at most 64 bytes; '' takes the note away"}))
+    add(commands, "wait", "waits until a claim is held, and shows who is before it", CLAIM,
         ("--at-most", {"type": seconds, "default": float("inf"), "metavar": "SECONDS"}))
-    add(commands, "mine", "shows the check-outs that were asked for here")
-    add(commands, "hold", "keeps items from changing until standard input ends", items)
-    add(commands, "drafts", "writes the copies of a check-out's drafts into a folder", claim, ("folder", {"metavar": "FOLDER"}))
-    add(commands, "forget", "forgets a check-out that is gone, and its copies", claim)
-    return parser
+    add(commands, "mine", "shows the check-outs that were asked for here", ("claims", {
+        "nargs": "*", "metavar": "CLAIM", "help": "one of yours from elsewhere, which is remembered here from now on"}))
+    add(commands, "hold", "keeps items from changing until standard input ends", ITEMS)
+    add(commands, "drafts", "writes the copies of a check-out's drafts into a folder", CLAIM, ("folder", {"metavar": "FOLDER"}))
+    add(commands, "forget", "forgets a check-out that is gone, and its copies", CLAIM)
 
 
 def run(words: Words, output: Output) -> None:
@@ -357,9 +442,11 @@ def run(words: Words, output: Output) -> None:
 
 def main(arguments: Optional[List[str]] = None) -> int:
     """The program: 0 done, 1 refused, 2 the command line is wrong, 3 not known yet or no server."""
-    words = command_line().parse_args(arguments)
-    output = Output(words.command, words.json)
+    given = sys.argv[1:] if arguments is None else arguments
+    output = Output("", "--json" in given)
     try:
+        words = command_line().parse_args(given)
+        output = Output(words.command, words.json)
         run(words, output)
         sys.stdout.flush()
         return 0

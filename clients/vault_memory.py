@@ -24,10 +24,11 @@ class Draft:
 
 @dataclass
 class Claim:
-    """A check-out that this client asked for."""
+    """A check-out that this client asked for, and to whom it was given since."""
 
     items: List[str]
     drafts: Dict[str, Draft] = field(default_factory=dict)
+    given: str = ""
 
 
 @dataclass
@@ -71,7 +72,8 @@ class Memory:
             kept = json.loads(self.path.read_text("utf-8"))
             self.last_number = kept["last_number"]
             self.claims = {
-                name: Claim(claim["items"], {place: Draft(**draft) for place, draft in claim["drafts"].items()})
+                name: Claim(claim["items"], {place: Draft(**draft) for place, draft in claim["drafts"].items()},
+                            claim.get("given", ""))
                 for name, claim in kept["claims"].items()
             }
             self.under_way = Command(**kept["under_way"]) if kept["under_way"] else None
@@ -106,6 +108,24 @@ class Memory:
         numbers = [int(claim[1:]) for claim in reply.claims() if claim[0] == "c"]
         self.last_number = max([self.last_number] + numbers)
 
+    def remember(self, command: Command, reply: Reply) -> None:
+        """Keeps what a command that was done means for the check-outs."""
+        if command.kind == "checkout":
+            self.claims[reply.claims()[0]] = Claim(command.items)
+        elif command.kind == "extend" and command.claim in self.claims:
+            self.claims[command.claim].items += command.items
+        elif command.kind in ("checkin", "abandon"):
+            self.claims.pop(command.claim, None)
+        elif command.kind == "give" and command.claim in self.claims:
+            self._given(command.claim, command.line.split()[2])
+
+    def _given(self, claim: str, receiver: str) -> None:
+        """Forgets a check-out that was given away, but not while copies of its drafts are kept."""
+        if self.claims[claim].drafts:
+            self.claims[claim].given = receiver
+        else:
+            del self.claims[claim]
+
 
 def write_whole(path: Path, content: bytes) -> None:
     """Writes a file beside its place, puts it on disk and then into its place."""
@@ -133,7 +153,9 @@ def by_number(entry: Tuple[str, Claim]) -> int:
 
 def shown(command: Command) -> str:
     """A command as a designer says it, with no content."""
-    return f"put {command.place}" if command.kind == "put" else command.line
+    if command.kind == "put":
+        return f"put {command.place}"
+    return f"note {command.claim}" if command.kind == "note" else command.line
 
 
 def state_folder() -> Path:

@@ -5,6 +5,8 @@ from dataclasses import dataclass
 from typing import Dict, List, Optional, Tuple
 
 CONTENT_BYTES = 1024
+NOTE_BYTES = 64
+GREATEST = 2 ** 32 - 1
 ITEMS = 8
 
 NAME = re.compile(r"[a-z0-9_-]{1,32}")
@@ -14,7 +16,8 @@ CLAIM = re.compile(r"[ch][1-9][0-9]{0,9}")
 CHECKOUT = re.compile(r"c[1-9][0-9]{0,9}")
 
 SENTENCES: Dict[int, str] = {
-    10: "The server does not know this line: it is older than this client. Ask whoever runs it for a newer one.",
+    10: "The server does not know this command: it is older than this client. Ask whoever runs it for a newer one; nothing was"
+        " changed.",
     11: "The server knows no session on this connection. Run the command again.",
     12: "This connection has a session already. Run the command again.",
     20: "There is no such place. Look with `vault tree`.",
@@ -28,7 +31,8 @@ SENTENCES: Dict[int, str] = {
     34: "The check-out does not take in this place for change. `vault extend` asks for it.",
     36: "A check-out has one to eight items, those of its extensions among them. Ask for a place further up.",
     40: "There is no such version. `vault history` lists those that there are.",
-    50: "A limit of the vault is reached, for content 1,024 bytes; docs/PROTOCOL.md has them all. Nothing was changed.",
+    50: "A limit of the vault is reached: so many bytes, versions, places, check-outs or designers. Ask whoever runs it;"
+        " docs/PROTOCOL.md has them all. Nothing was changed.",
     80: "The server takes no more commands at this moment. Try again later; nothing was changed.",
     81: "The server has no memory for this now. Try again later; nothing was changed.",
     82: "The server's disk failed. Ask whoever runs it to mend that and to start it again.",
@@ -106,17 +110,21 @@ def read_reply(line: bytes) -> Reply:
 
 @dataclass(frozen=True)
 class Standing:
-    """How a claim stands: held, or queued behind another, or gone where it is neither."""
+    """How a claim stands: held, or queued behind another, or gone where it is neither; and whether it is known to be another
+    designer's."""
 
     claim: str
     held: bool
     behind: str = ""
     gone: bool = False
+    anothers: bool = False
 
     def sentence(self) -> str:
         """The standing in words."""
         if self.gone:
             return f"{self.claim} is gone."
+        if self.anothers:
+            return f"{self.claim} is another designer's."
         return f"{self.claim} is held." if self.held else f"{self.claim} is queued behind {self.behind}."
 
 
@@ -145,14 +153,23 @@ def place_word(word: str) -> str:
 
 def claim_word(word: str) -> str:
     """A claim as it is written."""
-    return checked(CLAIM, word, "claim: write c or h and its number, as c3")
+    return numbered(CLAIM, word, "claim: write c or h and its number, as c3")
 
 
 def checkout_word(word: str) -> str:
     """A check-out as it is written."""
-    return checked(CHECKOUT, word, "check-out: write c and its number, as c3")
+    return numbered(CHECKOUT, word, "check-out: write c and its number, as c3")
+
+
+def numbered(pattern: "re.Pattern[str]", word: str, what: str) -> str:
+    """A letter and a number, where there can be such a number."""
+    if int(checked(pattern, word, what)[1:]) > GREATEST:
+        raise Misused(f"`{word}` is no {what}.")
+    return word
 
 
 def item_words(words: List[str]) -> List[str]:
     """Items as they are written."""
+    if len(words) > ITEMS:
+        raise Misused(f"These are {len(words)} items, and a check-out has at most {ITEMS}. Ask for a place further up.")
     return [checked(ITEM, word, "item: write r:PLACE to look or w:PLACE to change, as w:/engine") for word in words]

@@ -14,6 +14,8 @@ from typing import Callable, List, Optional
 
 TOP = Path(__file__).resolve().parent.parent
 VAULTD = os.environ.get("VAULTD") or str(TOP / "crates" / "vaultd" / "out" / "vaultd")
+# A folder in memory, where syncs take no time, for what doesn't ask about them.
+MEMORY = "/dev/shm" if os.access("/dev/shm", os.W_OK) else None
 sys.path.insert(0, str(TOP / "clients"))
 sys.path.insert(0, str(TOP / "tools"))
 
@@ -28,8 +30,8 @@ def free_port() -> int:
 class Server:
     """A vault in two files and its server, which can be killed and started again at one address."""
 
-    def __init__(self, workers: int = 16):
-        self.folder = tempfile.TemporaryDirectory(prefix="vault-test-")
+    def __init__(self, workers: int = 16, folder: Optional[str] = None):
+        self.folder = tempfile.TemporaryDirectory(prefix="vault-test-", dir=folder)
         self.path = Path(self.folder.name)
         self.files = [str(self.path / "a"), str(self.path / "b")]
         self.port, self.workers = free_port(), workers

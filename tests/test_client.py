@@ -5,57 +5,22 @@ import os
 import random
 import subprocess
 import sys
-import tempfile
 import time
 import unittest
 from pathlib import Path
-from typing import Any, Dict, List
+from typing import Any, Callable, Iterator, List
+from unittest import mock
 
-from servers import TOP, Cutter, Server, free_port
+from designers import PART, WithServer
+from servers import TOP, free_port
 
-from vault import Client, Misused, NotKnown, Refused, Unreachable
-
-PART = "/engine/block/piston"
-
-
-class WithServer(unittest.TestCase):
-    """A server with one part, a cutter before it, and a folder for the clients' files."""
-
-    def setUp(self) -> None:
-        self.server = Server()
-        self.addCleanup(self.server.close)
-        self.server.start()
-        self.cutter = Cutter(self.server.port)
-        self.addCleanup(self.cutter.close)
-        self.folder = tempfile.TemporaryDirectory(prefix="vault-test-")
-        self.addCleanup(self.folder.cleanup)
-        self.notices: List[str] = []
-        self.anna = self.client("anna")
-        for place in ("/engine", "/engine/block", PART):
-            self.anna.make(place)
-
-    def client(self, designer: str, patience: float = 10.0) -> Client:
-        """A designer behind the cutter; a second one of a name stands for a second run of the program."""
-        client = Client(designer, "127.0.0.1", self.cutter.port, Path(self.folder.name), patience, 0.05, self.notices.append)
-        self.addCleanup(client.close)
-        return client
-
-    def standing(self) -> List[str]:
-        """The check-outs that stand, as the library sees them."""
-        found = [(f"c{number}", self.client("watcher").state(f"c{number}")) for number in range(1, 8)]
-        return [name for name, standing in found if not standing.gone]
-
-    def sent(self, word: bytes) -> int:
-        """How often a line reached the server."""
-        return sum(line.startswith(word) for line in self.cutter.lines)
+import vault
+from vault import COMMANDS, Client, Misused, NotKnown, Refused, Unreachable
+from vault_connection import Patience
 
 
 class Lost(WithServer):
     """Each command that changes something, with its line lost, and with its reply lost."""
-
-    def both(self) -> List[List[bytes]]:
-        """Where to cut."""
-        return [self.cutter.before, self.cutter.after]
 
     def test_make(self) -> None:
         for number, cut in enumerate(self.both()):
@@ -134,6 +99,15 @@ class Lost(WithServer):
             self.anna.abandon(claim)
             self.assertTrue(self.anna.state(claim).gone)
         self.assertEqual(self.sent(b"abandon"), 2)
+
+    def test_checkin_of_anothers(self) -> None:
+        """It is refused and never sent, so it can't be taken for done once that check-out is gone."""
+        other = self.client("ben").checkout(["w:/engine/block"]).claim
+        for ended in (self.anna.checkin, self.anna.abandon):
+            with self.assertRaises(Refused) as refused:
+                ended(other)
+            self.assertEqual(refused.exception.code, 31)
+        self.assertEqual(self.sent(b"checkin") + self.sent(b"abandon"), 0)
 
     def test_checkin_that_another_gave_up(self) -> None:
         """A draft that is no version is never told as checked in, and its copy is kept."""
@@ -268,17 +242,34 @@ class NoServer(WithServer):
         for name in ("ben", "carl"):
             designer = self.client(name)
             for _ in range(15):
-                designer._read_all(["list /"] * 200)
+                designer.link.read_all(["list /"] * 200)
         designer.make("/wing")
         self.assertEqual(list(self.anna.tree("/")), ["/engine", "/engine/block", PART, "/wing"])
+
+
+class Long(WithServer):
+    """Work on much."""
+
+    def test_history(self) -> None:
+        """More versions than are read at once: each is there, in its order, and what is read so far is told meanwhile."""
+        for first in range(1, 151, 50):
+            self.anna.link.read_all([line for number in range(first, first + 50) for line in (
+                f"checkout w:{PART}", f"save c{number} {PART} {number:08x}", f"checkin c{number}")])
+        told: List[str] = []
+        self.anna.progress = told.append
+        self.assertEqual(list(self.anna.history(PART)), [(number, number.to_bytes(4, "big")) for number in range(1, 151)])
+        self.assertEqual(told, ["64 of 150 versions so far", "128 of 150 versions so far"])
 
 
 class Words(WithServer):
     """What is refused before anything is sent, and the sentences."""
 
     def test_misused(self) -> None:
-        for wrong in (lambda: self.anna.checkout(["/engine"]), lambda: self.anna.make("engine"), lambda: self.anna.abandon("h3"),
-                      lambda: self.anna.put(PART, b"x"), lambda: self.anna.put(PART, b"x" * 1025)):
+        misused: List[Callable[[], object]] = [
+            lambda: self.anna.checkout(["/engine"]), lambda: self.anna.make("engine"), lambda: self.anna.abandon("h3"),
+            lambda: self.anna.put(PART, b"x"), lambda: self.anna.put(PART, b"x" * 1025), lambda: self.anna.get(PART, 0),
+            lambda: self.anna.abandon("c4294967296"), lambda: self.anna.checkout(["r:/"] * 9)]
+        for wrong in misused:
             with self.assertRaises(Misused):
                 wrong()
 
@@ -304,19 +295,6 @@ class Words(WithServer):
 
 class Program(WithServer):
     """The program `vault`."""
-
-    def vault(self, *words: str, status: int = 0, given: bytes = b"") -> bytes:
-        """Runs the program as anna, and answers what it printed."""
-        environment = {**os.environ, "XDG_STATE_HOME": self.folder.name}
-        environment.pop("VAULT_AS", None)
-        done = subprocess.run([sys.executable, str(TOP / "clients" / "vault.py"), *words], env=environment, input=given,
-                              capture_output=True, timeout=60, check=False)
-        self.assertEqual(done.returncode, status, (words, done.stdout, done.stderr))
-        return done.stdout if status == 0 or "--json" in words else done.stderr
-
-    def as_json(self, *words: str, status: int = 0) -> Dict[str, Any]:
-        """Runs the program with --json."""
-        return dict(json.loads(self.vault("--json", *words, status=status)))
 
     def test_a_round(self) -> None:
         self.assertIn(b"vault hello", self.vault("mine", status=2))
@@ -344,6 +322,42 @@ class Program(WithServer):
         self.assertEqual(self.vault("wait", "c2"), b"c2 is held.\n")
         self.assertIn(b"was held", self.vault("hold", "r:/engine"))
 
+    def test_waiting_while_the_server_is_away(self) -> None:
+        """A wait tells once that the server is away, goes on behind its restart, and has no connection in a long pause."""
+        self.anna.checkout(["w:/engine"])
+        ben, output = self.client("ben", patience=0.1), vault.Output("wait", True)
+        claim = ben.checkout(["r:/engine"]).claim
+        words = vault.command_line().parse_args(["wait", claim])
+        moments: Iterator[Callable[[], None]] = iter([self.server.kill, lambda: None, self.server.start, lambda: self.anna.abandon("c1")])
+
+        def pause(client: Client, _patience: object) -> None:
+            next(moments)()
+
+        with mock.patch("vault.pause", pause):
+            self.assertEqual(vault.wait(ben, words, output)[0], f"{claim} is held.")
+        self.assertEqual(len(output.notices), 2, output.notices)
+        self.assertIn("goes on", output.notices[1])
+        long = Patience(60.0, vault.KEPT_OPEN_SECONDS + 1)
+        with mock.patch("time.sleep"):
+            vault.pause(ben, long)
+        self.assertIsNone(ben.link.connection)
+
+    def test_every_command_in_json(self) -> None:
+        """Each prints one object on a line; a hold prints a second one, once it holds."""
+        drawing, state = Path(self.folder.name) / "drawing", Path(self.folder.name) / "vault"
+        drawing.write_bytes(b"bore 80")
+        notes = [["note", "c1", "mine"], ["give", "c1", "ben"], ["hello", f"ben@127.0.0.1:{self.server.port}"], ["mine", "c1"]]
+        said = [["hello", f"anna@127.0.0.1:{self.server.port}"], ["tree"], ["make", "/engine/block/rod"], ["checkout", "w:" + PART],
+                ["wait", "c1"], ["extend", "c1", "w:/engine/block/rod"], ["put", PART, str(drawing)], ["drafts", "c1", str(state / "kept")],
+                *(notes if self.gives() else []), ["checkin", "c1"], ["get", PART], ["history", PART], ["checkout", "r:/"],
+                ["abandon", "c2"], ["forget", "c2"], ["mine"], ["hold", "r:/"]]
+        for words in said:
+            told = [json.loads(line) for line in self.vault("--json", *words).splitlines()]
+            self.assertEqual([(one["command"], one["done"]) for one in told],
+                             [(words[0], False)] * (words[0] == "hold") + [(words[0], True)])
+        left_out = set() if self.gives() else {"give", "note"}
+        self.assertEqual({words[0] for words in said}, set(COMMANDS) - left_out)
+
     def test_killed(self) -> None:
         """The program is killed at random moments of a check-in, and the next run finds out: each content is a version once."""
         moments, contents = random.Random(34), [b"content %d" % number for number in range(6)]
@@ -368,7 +382,9 @@ class Program(WithServer):
                                 stdout=subprocess.DEVNULL, stderr=subprocess.DEVNULL)
 
     def test_errors(self) -> None:
-        self.assertIn(b"usage", self.vault("nonsense", status=2))
+        self.assertIn(b"`vault --help` shows the words", self.vault("nonsense", status=2))
+        self.assertIn("required: PLACE", self.as_json("get", status=2)["sentence"])
+        self.assertIn(b"no version", self.vault("--as", f"anna@127.0.0.1:{self.server.port}", "get", PART, "-1", status=2))
         nobody = f"anna@127.0.0.1:{free_port()}"
         self.assertIn(b"No server answers", self.vault("--as", nobody, "--patience", "0", "tree", status=3))
         refused = self.as_json("--as", f"anna@127.0.0.1:{self.server.port}", "checkout", "r:/nowhere", status=1)

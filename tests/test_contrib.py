@@ -12,7 +12,7 @@ import unittest
 from pathlib import Path
 from typing import List
 
-from servers import TOP, VAULTD, Server
+from servers import MEMORY, TOP, VAULTD, Server
 
 import vault
 
@@ -52,7 +52,7 @@ class Contrib(unittest.TestCase):
         kept.write_text("VAULTD_ADDRESS=127.0.0.1:1\n", "utf-8")
         self.install()
         self.assertEqual(kept.read_text("utf-8"), "VAULTD_ADDRESS=127.0.0.1:1\n")
-        server = Server()
+        server = Server(folder=MEMORY)
         self.addCleanup(server.close)
         server.start()
         os.environ["XDG_STATE_HOME"] = str(self.root / "state")
@@ -61,6 +61,9 @@ class Contrib(unittest.TestCase):
         self.said(sys.executable, client, "hello", f"anna@127.0.0.1:{server.port}")
         self.said(sys.executable, client, "make", "/engine")
         backup = self.root / "usr" / "sbin" / "vaultd-backup"
+        for program in (Path(client), backup):
+            self.assertTrue(os.access(program, os.X_OK))
+            self.assertEqual(program.read_text("utf-8").partition("\n")[0], "#!/usr/bin/python3")
         self.assertIn("places 2", self.said(sys.executable, str(backup), "--vaultd", VAULTD, *server.files, str(self.root / "kept")))
         for page in ("man1/vault.1.gz", "man5/vault-files.5.gz", "man8/vaultd.8.gz", "man8/vaultd-board.8.gz"):
             self.assertTrue((self.root / "usr" / "share" / "man" / page).exists(), page)
@@ -68,7 +71,7 @@ class Contrib(unittest.TestCase):
 
     @unittest.skipUnless(shutil.which("systemd-analyze"), "needs systemd-analyze")
     def test_units(self) -> None:
-        """Both units are accepted, and rated below 2 of 10."""
+        """Both units are accepted, and rated as the page on operating says."""
         program = self.root / "vaultd"
         self.root.mkdir()
         shutil.copy("/bin/true", program)
@@ -82,7 +85,8 @@ class Contrib(unittest.TestCase):
             rated = self.said("systemd-analyze", "security", "--offline=true", "--no-pager", unit)
             found = re.search(r"Overall exposure level for .*: ([0-9.]+)", rated)
             self.assertIsNotNone(found)
-            self.assertLess(float(found.group(1)) if found else 10.0, 2.0)
+            rating = found.group(1) if found else ""
+            self.assertIn(f"rates {rating} of 10", (TOP / "docs" / "OPERATING.md").read_text("utf-8"))
 
     def test_the_page_prints_the_unit(self) -> None:
         """The page on operating has the unit whole, and the template differs from it in its names alone."""
@@ -99,9 +103,11 @@ class Contrib(unittest.TestCase):
             words = ("man", "--warnings", "-E", "UTF-8", "-l", "-Tutf8", "-Z", str(page))
             done = subprocess.run(words, capture_output=True, text=True, check=True)
             self.assertEqual(done.stderr, "", page.name)
-        page = (CONTRIB / "man" / "vault.1").read_text("utf-8").replace("\\-", "-")
+            if shutil.which("mandoc"):
+                self.assertEqual(self.said("mandoc", "-Tlint", str(page)), "")
+        said = (CONTRIB / "man" / "vault.1").read_text("utf-8").replace("\\-", "-")
         for word in self.client_words():
-            self.assertIn(word, page)
+            self.assertIn(word, said)
 
     def client_words(self) -> List[str]:
         """The commands and options that the client has by its own help, but for help and version."""

@@ -1,16 +1,20 @@
 """The tools around the files: backup, salvage and board, on real vaults."""
 
 import hashlib
+import random
 import subprocess
 import sys
 import tempfile
 import threading
+import time
 import unittest
 from html.parser import HTMLParser
+from importlib.machinery import SourceFileLoader
 from pathlib import Path
-from typing import List, Tuple
+from types import ModuleType
+from typing import Any, List, Tuple
 
-from servers import TOP, VAULTD, Server
+from servers import MEMORY, TOP, VAULTD, Server
 
 from vault import Client
 
@@ -18,14 +22,23 @@ PART = "/engine/block/piston"
 VOID = {"meta", "path", "circle"}
 
 
+def load_tool(name: str) -> Any:
+    """A tool as a module."""
+    loader = SourceFileLoader(name.partition(".")[0], str(TOP / "tools" / name))
+    module = ModuleType(loader.name)
+    sys.modules[loader.name] = module
+    loader.exec_module(module)
+    return module
+
+
 class WithVault(unittest.TestCase):
     """A vault with one version and two check-outs, its server, and a folder."""
 
     def setUp(self) -> None:
-        self.server = Server()
+        self.server = Server(folder=MEMORY)
         self.addCleanup(self.server.close)
         self.server.start()
-        folder = tempfile.TemporaryDirectory(prefix="vault-test-")
+        folder = tempfile.TemporaryDirectory(prefix="vault-test-", dir=MEMORY)
         self.addCleanup(folder.cleanup)
         self.folder = Path(folder.name)
         self.anna = Client("anna", "127.0.0.1", self.server.port, self.folder / "state")
@@ -145,6 +158,32 @@ class Salvage(WithVault):
         self.assertIn("its head was closed", said)
         self.assertIn("claims 1, drafts 1", report)
 
+    def test_a_version(self) -> None:
+        damage(self.first, 8, 0, b"\x00\x00\x00\x63")
+        said, report = self.salvaged()
+        self.assertIn("the head's bytes at 8 were 00000063", said)
+        self.assertIn("claims 1, drafts 1", report)
+
+    def test_a_snapshot(self) -> None:
+        """The active file's snapshot is damaged: the other file opens, as the vault was before that snapshot."""
+        self.server.start()
+        saves = [f"save c1 {PART} {number:04x}{'00' * 1022}" for number in range(1040)]
+        for first in range(0, len(saves), 40):
+            self.anna.link.read_all(saves[first:first + 40])
+        while self.whole().active() != "b":
+            time.sleep(0.05)
+        self.server.kill()
+        damage(Path(self.server.files[1]), 24, 4, b"\xff" * 4)
+        said, report = self.salvaged()
+        self.assertIn("file b: gives up the whole file", said)
+        self.assertIn("places 4, versions 0, claims 1, drafts 1", report)
+
+    def whole(self) -> Any:
+        """What the program says of a copy of the vault."""
+        tools = load_tool("vault_files.py")
+        with tempfile.TemporaryDirectory(prefix="vault-test-", dir=MEMORY) as folder:
+            return tools.inspect(VAULTD, tools.copy_vault(*self.server.files, Path(folder)))
+
     def test_nothing_to_salvage(self) -> None:
         damage(self.first, 24, 0, b"\xff" * 8)
         self.assertIn("Take the last backup", self.tool("salvage", str(self.folder / "new"), status=1))
@@ -173,6 +212,12 @@ class Balanced(HTMLParser):
             self.wrong.append(tag)
 
 
+def row(*cells: str) -> str:
+    """The beginning of a row of the page."""
+    names = ("designer", "claim", "standing", "before it", "wait for it")
+    return "<tr>" + "".join(f'<td title="{name}">{cell}</td>' for name, cell in zip(names, cells))
+
+
 class Board(WithVault):
     """The page."""
 
@@ -187,9 +232,34 @@ class Board(WithVault):
         self.assertEqual((parser.open, parser.wrong), ([], []))
         self.assertEqual([parser.counted.count(tag) for tag in ("circle", "path", "tr")], [3, 2, 4])
         self.assertIn("<h1>Plant &lt;1&gt;</h1>", page)
-        self.assertIn("1 held, 2 waiting; the longest queue has 1 before its last.", page)
-        self.assertIn("<td>ben</td><td>c2</td><td>waits behind c1</td><td>1</td><td>0</td>", page)
-        self.assertIn("<td>anna</td><td>c1</td><td>held</td><td>0</td><td>2</td>", page)
+        self.assertIn("1 held, 2 waiting; whoever waits for most waits for 2.", page)
+        self.assertIn(row("ben", "c2", "waits behind c1", "1", "1"), page)
+        self.assertIn(row("anna", "c1", "held", "0", "2"), page)
+        self.assertIn(row("anna", "c3", "waits behind c1", "2", "0"), page)
+
+    def test_as_the_server_says(self) -> None:
+        """Each claim waits behind the first before it that overlaps it, which the page works out for itself."""
+        board, moments = load_tool("board"), random.Random(34)
+        for place in ("/engine/gear", "/engine/gear/wheel", "/engine/block/rod", "/wing"):
+            self.anna.make(place)
+        places = ["/"] + list(self.anna.tree("/"))
+        for _ in range(60):
+            self.anna.checkout([moments.choice("rrw") + ":" + moments.choice(places) for _ in range(moments.randint(1, 3))])
+        report = board.report_of(VAULTD, *self.server.files, 5)
+        claims, parser = report.claims(), Balanced()
+        parser.feed(board.page(report, "61 claims"))
+        self.assertEqual((parser.wrong, parser.counted.count("circle"), parser.counted.count("svg")), ([], 61, 11))
+        for number, claim in enumerate(claims):
+            first = next((earlier.name for earlier in claims[:number] if board.overlap(earlier, claim)), None)
+            self.assertEqual(first, claim.behind, claim.name)
+
+    def test_a_note(self) -> None:
+        """A note of the report is shown as text, and is no item."""
+        report = load_tool("vault_files.py").Report("file a: open\nfile b: closed\nplaces 2, versions 0, claims 1, drafts 0\n"
+                                                   "c1 anna queued behind c2 w:/e r:/e/b note 3c623e\n")
+        claim = report.claims()[0]
+        self.assertEqual((claim.behind, claim.items, claim.note), ("c2", ("w:/e", "r:/e/b"), b"<b>"))
+        self.assertIn("note: <q>&lt;b&gt;</q>", load_tool("board").page(report, "x"))
 
     def test_an_empty_line(self) -> None:
         self.anna.abandon("c1")

@@ -86,8 +86,8 @@ class Pages(unittest.TestCase):
         self.folder = Path(folder.name)
         programs = self.folder / "programs"
         programs.mkdir()
-        for name, program in (("vaultd", VAULTD), ("vault", TOP / "clients" / "vault.py"), ("vaultd-backup", TOP / "tools" / "backup"),
-                              ("vaultd-board", TOP / "tools" / "board")):
+        for name, program in (("vaultd", Path(VAULTD)), ("vault", TOP / "clients" / "vault.py"),
+                              ("vaultd-backup", TOP / "tools" / "backup"), ("vaultd-board", TOP / "tools" / "board")):
             (programs / name).symlink_to(program)
         self.shells: Dict[str, Shell] = {}
         for who in ("", "anna", "ben"):

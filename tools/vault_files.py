@@ -11,7 +11,8 @@ from typing import Dict, List, Optional, Tuple
 
 PIECE = 65536
 HEAD = 24
-CLAIM = re.compile(r"(?P<name>[ch]\d+) (?P<owner>\S+) (?:held|queued behind (?P<behind>[ch]\d+)) (?P<items>.+)")
+CLAIM = re.compile(r"(?P<name>[ch]\d+) (?P<owner>\S+) (?:held|queued behind (?P<behind>[ch]\d+))(?P<items>( [rw]:\S+)+)"
+                   r"( note (?P<note>([0-9a-f]{2})+))?")
 
 
 class ToolError(Exception):
@@ -26,6 +27,7 @@ class Claim:
     owner: str
     behind: Optional[str]
     items: Tuple[str, ...]
+    note: bytes = b""
 
 
 @dataclass(frozen=True)
@@ -53,7 +55,7 @@ class Report:
     def claims(self) -> List[Claim]:
         """The standing claims, in the order of the line."""
         found = [CLAIM.fullmatch(line) for line in self.text.splitlines()[3:]]
-        return [Claim(m["name"], m["owner"], m["behind"], tuple(m["items"].split())) for m in found if m]
+        return [Claim(m["name"], m["owner"], m["behind"], tuple(m["items"].split()), bytes.fromhex(m["note"] or "")) for m in found if m]
 
 
 def find_vaultd(named: Optional[str]) -> str:

@@ -1,0 +1,158 @@
+"""How the client speaks to a server: one connection at a time, made anew where it is spent or lost."""
+
+import contextlib
+import socket
+import time
+from typing import Callable, List, Optional
+
+from vault_words import Lost, Reply, Unreachable, read_reply
+
+LINES_OF_A_CONNECTION = 4000
+CONNECT_SECONDS = 10.0
+GREETING_SECONDS = 15.0
+REPLY_SECONDS = 60.0
+
+
+class Connection:
+    """A connection on which a designer's session stands."""
+
+    def __init__(self, host: str, port: int, designer: str):
+        self.lines = 0
+        try:
+            self.socket = socket.create_connection((host, port), timeout=CONNECT_SECONDS)
+        except OSError as error:
+            raise Lost(error.strerror or str(error)) from error
+        self.socket.settimeout(GREETING_SECONDS)
+        self.socket.setsockopt(socket.IPPROTO_TCP, socket.TCP_NODELAY, 1)
+        self.reader = self.socket.makefile("rb")
+        self.greeting = self.ask("hello " + designer)
+        self.socket.settimeout(REPLY_SECONDS)
+        if not self.greeting.ok:
+            self.drop()
+
+    def ask(self, line: str) -> Reply:
+        """Sends one line and waits for its answer."""
+        return self.ask_all([line])[0]
+
+    def ask_all(self, lines: List[str]) -> List[Reply]:
+        """Sends some lines at once and waits for their answers."""
+        self.lines += len(lines)
+        try:
+            self.socket.sendall("".join(line + "\n" for line in lines).encode("ascii"))
+            return [self._reply() for _ in lines]
+        except socket.timeout as error:
+            self.drop()
+            raise Lost("it does not answer; its workers may all be taken") from error
+        except OSError as error:
+            self.drop()
+            raise Lost(error.strerror or str(error)) from error
+        except Lost:
+            self.drop()
+            raise
+
+    def _reply(self) -> Reply:
+        line = self.reader.readline()
+        if not line.endswith(b"\n"):
+            raise Lost("the connection ended")
+        return read_reply(line)
+
+    def leave(self) -> None:
+        """Ends the session and the connection."""
+        with contextlib.suppress(Lost):
+            self.ask("quit")
+        self.drop()
+
+    def drop(self) -> None:
+        """Ends the connection."""
+        with contextlib.suppress(OSError):
+            self.reader.close()
+            self.socket.close()
+
+
+class Patience:
+    """Growing pauses, until a time is over."""
+
+    def __init__(self, seconds: float, first: float = 0.05, longest: float = 2.0):
+        self.end = time.monotonic() + seconds
+        self.next, self.longest = first, longest
+
+    def over(self) -> bool:
+        """Whether the time is over."""
+        return time.monotonic() >= self.end
+
+    def pause(self) -> None:
+        """Sleeps a little longer than the time before, and not past the end."""
+        time.sleep(max(0.0, min(self.next, self.end - time.monotonic())))
+        self.next = min(self.next * 1.6, self.longest)
+
+
+def quiet(_sentence: str) -> None:
+    """Tells nobody."""
+
+
+class Link:
+    """A designer's way to a server, which outlives its connections."""
+
+    def __init__(self, designer: str, host: str, port: int, patience: float, progress: Callable[[str], None],
+                 saw: Callable[[Reply], None]):
+        self.designer, self.host, self.port = designer, host, port
+        self.patience, self.progress, self.saw = patience, progress, saw
+        self.connection: Optional[Connection] = None
+
+    def close(self) -> None:
+        """Leaves the server."""
+        if self.connection is not None:
+            self.connection.leave()
+            self.connection = None
+
+    def drop(self) -> None:
+        """Ends the connection without a word."""
+        if self.connection is not None:
+            self.connection.drop()
+            self.connection = None
+
+    def connected(self) -> Connection:
+        """The connection, made anew where it is spent or lost."""
+        if self.connection is not None and self.connection.lines > LINES_OF_A_CONNECTION:
+            self.close()
+        if self.connection is None:
+            self.connection = self._connect()
+        return self.connection
+
+    def _connect(self) -> Connection:
+        patience, why = Patience(self.patience), ""
+        while True:
+            try:
+                connection = Connection(self.host, self.port, self.designer)
+                if connection.greeting.ok:
+                    return connection
+                why = str(connection.greeting.refusal())
+            except Lost as lost:
+                why = f"No server answers at {self.host}:{self.port} ({lost}). Ask whoever runs it whether it runs."
+            if patience.over():
+                raise Unreachable(why)
+            self.progress(why + " Trying again.")
+            patience.pause()
+
+    def read_all(self, lines: List[str]) -> List[Reply]:
+        """The replies to questions that change nothing, asked again until all are told."""
+        patience = Patience(self.patience)
+        while True:
+            try:
+                replies = self.connected().ask_all(lines)
+            except Lost:
+                replies = []
+            outside = [reply for reply in replies if reply.code in (80, 81, 82)]
+            if replies and not outside:
+                for reply in replies:
+                    self.saw(reply)
+                return replies
+            if not replies or outside[0].code == 82:
+                self.drop()
+            if patience.over():
+                raise Unreachable(str(outside[0].refusal()) if outside else "The server can't be reached.")
+            patience.pause()
+
+    def read(self, line: str) -> Reply:
+        """The reply to one question that changes nothing."""
+        return self.read_all([line])[0]

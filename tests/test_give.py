@@ -1,0 +1,145 @@
+"""Giving a check-out away, and notes, at a server that knows them, and at one that doesn't."""
+
+import unittest
+from pathlib import Path
+from typing import List
+
+from designers import PART, WithServer
+
+from vault import Client, Misused, NotKnown, Refused
+
+
+class Knowing(WithServer):
+    """A server that knows `give` and `note`; elsewhere these tests are left out."""
+
+    def setUp(self) -> None:
+        super().setUp()
+        if not self.gives():
+            self.skipTest("this server has no `give` and no `note`")
+        self.ben = self.client("ben")
+        self.claim = self.anna.checkout(["w:" + PART]).claim
+
+    def refused(self, *words: str, code: int) -> None:
+        """A method of anna's client that is refused."""
+        with self.assertRaises(Refused) as refused:
+            getattr(self.anna, words[0])(*words[1:])
+        self.assertEqual(refused.exception.code, code)
+
+
+class Give(Knowing):
+    """A check-out with its drafts goes from anna to ben, whatever breaks."""
+
+    def test_given(self) -> None:
+        for number, cut in enumerate(self.both(), 1):
+            self.anna.put(PART, b"content %d" % number)
+            cut.append(b"give")
+            self.anna.give(self.claim, "ben")
+            self.assertEqual(self.sent(b"give"), number)
+            self.refused("give", self.claim, "carl", code=31)
+            self.refused("checkin", self.claim, code=31)
+            self.assertEqual(self.ben.mine([self.claim])[0][0].claim, self.claim)
+            self.assertEqual(self.anna.kept_drafts(self.claim), {PART: b"content %d" % number})
+            self.assertTrue(self.anna.mine()[0][0].anothers)
+            self.assertEqual(self.ben.checkin(self.claim), 1)
+            self.assertEqual(self.anna.get(PART), b"content %d" % number)
+            self.anna.mine()
+            self.assertEqual(self.anna.mine(), [])
+            self.claim = self.anna.checkout(["w:" + PART]).claim
+        self.assertEqual(self.notices, [])
+
+    def test_given_back(self) -> None:
+        """What she put is hers to check in again, and the client still knows for what it was asked."""
+        self.anna.put(PART, b"x")
+        self.anna.give(self.claim, "ben")
+        with self.assertRaises(Misused):
+            self.anna.put(PART, b"y")
+        self.ben.give(self.claim, "anna")
+        standing, kept = self.anna.mine()[0]
+        self.assertEqual((standing.held, standing.anothers, kept.given), (True, False, ""))
+        self.assertEqual(self.anna.put(PART, b"y"), self.claim)
+        self.assertEqual(self.anna.checkin(self.claim), 1)
+
+    def test_ended_by_the_receiver(self) -> None:
+        """The reply is lost, and the receiver gives the check-out up at once: the copy of the draft is kept, and told of."""
+        self.anna.put(PART, b"dear")
+
+        def abandon() -> None:
+            self.ben.mine([self.claim])
+            self.ben.abandon(self.claim)
+
+        self.cutter.meanwhile = abandon
+        self.cutter.after.append(b"give")
+        with self.assertRaises(Refused) as refused:
+            self.anna.give(self.claim, "ben")
+        self.assertIn("vault drafts", str(refused.exception))
+        self.assertEqual(self.anna.kept_drafts(self.claim), {PART: b"dear"})
+
+    def test_refusals(self) -> None:
+        self.refused("give", "c9", "ben", code=30)
+        with self.assertRaises(Misused):
+            self.anna.give(self.claim, "anna")
+        with self.assertRaises(Misused):
+            self.anna.give(self.claim, "Ben")
+        with self.assertRaises(Refused):
+            self.ben.mine([self.claim])
+        self.assertEqual(self.ben.mine(), [])
+
+
+class Note(Knowing):
+    """A note is written, read by anyone and taken away, whatever breaks."""
+
+    def test_noted(self) -> None:
+        self.assertEqual(self.anna.note(self.claim), b"")
+        for cut in self.both():
+            cut.append(b"note")
+            self.anna.set_note(self.claim, b"back on Monday")
+            self.assertEqual(self.ben.note(self.claim), b"back on Monday")
+            cut.append(b"note")
+            self.anna.set_note(self.claim, b"")
+            self.assertEqual(self.ben.note(self.claim), b"")
+        self.anna.set_note(self.claim, b"x" * 64)
+        with self.assertRaises(Misused):
+            self.anna.set_note(self.claim, b"x" * 65)
+        self.refused("note", "c9", code=30)
+
+    def test_settled_by_the_next_run(self) -> None:
+        for cut, done in zip(self.both(), ("was not done. Say it again.", "was done.")):
+            cut.append(b"note c1 6162")
+            short = Client("anna", "127.0.0.1", self.cutter.port, Path(self.folder.name), 0.0, 0.0)
+            with self.assertRaises(NotKnown):
+                short.set_note(self.claim, b"ab")
+            short.close()
+            self.anna.mine()
+            self.assertEqual(self.notices.pop(), f"Your earlier `note {self.claim}` {done}")
+
+    def test_program(self) -> None:
+        self.vault("hello", f"anna@127.0.0.1:{self.server.port}")
+        self.assertEqual(self.vault("note", "c1"), b"c1 has no note.\n")
+        self.assertEqual(self.vault("note", "c1", "zur\u00fcck am Montag"), b"c1 has the note now.\n")
+        self.assertEqual(self.vault("note", "c1"), "zur\u00fcck am Montag\n".encode())
+        self.anna.set_note("c1", b"\x1b[2J")
+        self.assertEqual(self.as_json("note", "c1")["note"], "0x1b5b324a")
+        self.assertIn(b"c1 is ben's now", self.vault("give", "c1", "ben"))
+        self.vault("hello", f"ben@127.0.0.1:{self.server.port}")
+        self.assertIn(b"c1 is held.", self.vault("mine", "c1"))
+        self.assertEqual(self.as_json("mine")["claims"][0]["claim"], "c1")
+
+
+class NotKnowing(WithServer):
+    """A server that is older than the client: it is told so, and nothing is left under way."""
+
+    def test_told(self) -> None:
+        if self.gives():
+            self.skipTest("this server has `give` and `note`")
+        claim = self.anna.checkout(["w:" + PART]).claim
+        wanted: List[List[str]] = [["give", claim, "ben"], ["note", claim], ["set_note", claim]]
+        for name, *words in wanted:
+            with self.assertRaises(Refused) as refused:
+                getattr(self.anna, name)(*words, *([b"x"] if name == "set_note" else []))
+            self.assertIn("does not know this command", str(refused.exception))
+        self.assertEqual([standing.claim for standing, _ in self.anna.mine()], [claim])
+        self.assertEqual(self.notices, [])
+
+
+if __name__ == "__main__":
+    unittest.main()
