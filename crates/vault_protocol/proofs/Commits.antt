@@ -210,7 +210,7 @@ unfolding committed
 committed_view talk = pumps_view (pumps_needed talk.view) talk
 
 -- the numbers of a view that some run reaches are in order
-in_order : (view : View) → IsReachable snapshot_length view → InOrder (length_of view) view.retired view.settled view.sealed view.phase
+pub in_order : (view : View) → IsReachable snapshot_length view → InOrder (length_of view) view.retired view.settled view.sealed view.phase
 in_order view r =
     let w : World = run snapshot_length new_world r.events in
     let sound : IsSound w = after_run snapshot_length r.events r.is_run in

@@ -12,7 +12,7 @@ use Rattle.group_commit.specs.View.{View, opened_view, view_at}
 use Rattle.group_commit.specs.Seen.{VaultSeen, snapshot_length}
 use Rattle.group_commit.specs.Calls.{behind_snapshot, gained, generation_after, tail_after}
 use Rattle.vault_device.specs.Picks.{gives_one}
-use Rattle.vault_protocol.specs.Talk.{Line, Talk, Said, none_each, said, crashed}
+use Rattle.vault_protocol.specs.Talk.{Line, Talk, Said, none_each, said, all_gone, crashed}
 use Rattle.vault_protocol.specs.Saying.{known_texts, AreLost}
 use Rattle.vault_protocol.proofs.Lost.{view_at_same, effects_between_same}
 use Rattle.vault_protocol.proofs.Saying.{known_said}
@@ -31,9 +31,10 @@ pub crashed_talk : {D : Type 0} (old lost next : VaultSeen D) (sessions asked : 
     → next.store.tail ≡ cond (found_open pick lost.view) (tail_after lost.view (Ok Settled) lost.store.tail) lost.store.tail
     → none ≡ []
     → talk_of next none_each none_each none ≡ (said (crashed pick now)).talk
+unfolding all_gone
 crashed_talk old lost next sessions asked lines none now pick is h view buffer generation tail empty =
     subst (λ (t : Talk). talk_of next none_each none_each none ≡ (said (crashed pick t)).talk) is
-    (path ∙ sym (ap (λ (s : Said). s.talk) (known_said (crashed pick (talk_of old sessions asked lines)) lines)))
+    (path ∙ sym (ap (λ (s : Said). record s.talk { view = all_gone s.talk.view }) (known_said (crashed pick (talk_of old sessions asked lines)) lines)))
   where
     opened : Bool
     opened = found_open pick old.view

@@ -16,6 +16,7 @@ pub mod Reopens
 pub mod Pumping
 pub mod Crashed
 pub mod OpenLines
+pub mod LettingGo
 pub mod ScriptRuns
 pub mod ScriptLaws
 pub mod Commits

@@ -1,5 +1,5 @@
 -- The lines that wait for a reply wait for open entries, in their order.
-use Rattle.std.proofs.Common.{◌≡◌, ℕ, ◌+◌, ◌-◌, ◌<◌, ◌≤◌, List, [], ◌∷◌, ◌++◌, length, Some, refl, ap, ◌∙◌, arith}
+use Rattle.std.proofs.Common.{◌≡◌, ◌≢◌, ℕ, suc, ◌+◌, ◌-◌, ◌<◌, ◌≤◌, List, [], ◌∷◌, ◌++◌, length, drop, Some, refl, sym, ap, ◌∙◌, arith}
 use Rattle.std.specs.Prelude.{filter}
 use Rattle.group_commit.specs.declared.mark.Mark.{Mark}
 use Rattle.group_commit.specs.declared.mark.Mark.TheVariants.{Open}
@@ -72,6 +72,34 @@ with_awaited kept entry retired from connection (Awaited other position ∷ line
       record { reached = here; is_open = mark_front kept (opened entry ∷ []) (position - retired) below ∙ o.0.is_open },
       with_awaited kept entry retired (position + 1) connection lines (omega (arith, h, here)) (omega (arith, h, here, below)) o.1,
     )
+
+mark_behind : (kept : List Kept) (place : ℕ) → mark_at (drop 1 kept) place ≡ mark_at kept (suc place)
+mark_behind [] place = refl
+mark_behind (x ∷ rest) place = refl
+
+-- no line waits for the oldest entry where that isn't open
+later_open : (kept : List Kept) (retired : ℕ) (lines : List Line) → mark_at kept 0 ≢ Some Open → AreOpen kept retired retired lines → AreOpen kept retired (retired + 1) lines
+later_open kept retired [] closed o = tt
+later_open kept retired (Known text ∷ lines) closed o = later_open kept retired lines closed o
+later_open kept retired (Awaited connection position ∷ lines) closed o =
+    let here : retired ≤ position = o.0.reached in
+    let other : position ≢ retired = λ same. let first : 0 ≡ position - retired = omega (arith, same) in closed (ap (mark_at kept) first ∙ o.0.is_open) in
+    (record { reached = omega (arith, here, other); is_open = o.0.is_open }, o.1)
+
+shifted_open : (kept : List Kept) (retired from : ℕ) (lines : List Line) → retired + 1 ≤ from → AreOpen kept retired from lines → AreOpen (drop 1 kept) (retired + 1) from lines
+shifted_open kept retired from [] h o = tt
+shifted_open kept retired from (Known text ∷ lines) h o = shifted_open kept retired from lines h o
+shifted_open kept retired from (Awaited connection position ∷ lines) h o =
+    let here : from ≤ position = o.0.reached in
+    let place : suc (position - (retired + 1)) ≡ position - retired = omega (arith, h, here) in (
+      record { reached = here; is_open = mark_behind kept (position - (retired + 1)) ∙ ap (mark_at kept) place ∙ o.0.is_open },
+      shifted_open kept retired (position + 1) lines (omega (arith, h, here)) o.1,
+    )
+
+-- the oldest entry was let go, which isn't open
+pub open_behind : (kept : List Kept) (retired : ℕ) (lines : List Line) → mark_at kept 0 ≢ Some Open → AreOpen kept retired retired lines
+    → AreOpen (drop 1 kept) (retired + 1) (retired + 1) lines
+open_behind kept retired lines closed o = shifted_open kept retired (retired + 1) lines (omega arith) (later_open kept retired lines closed o)
 
 pub open_below : (kept : List Kept) (retired from : ℕ) (lines : List Line) → retired ≤ from → AreOpen kept retired from lines → AreBelow (retired + length kept) lines
 open_below kept retired from [] h o = tt

@@ -1,24 +1,28 @@
 -- What is printed is outside the history, or the reply of a told entry.
-use Rattle.std.proofs.Common.{◌≡◌, ℕ, zero, suc, ◌+◌, ◌-◌, ◌≤◌, inl, inr, List, [], ◌∷◌, ◌++◌, length, Option, Some, None, refl, sym, ap, ◌∙◌, subst, arith, append_assoc}
+use Rattle.std.proofs.Common.{◌≡◌, ℕ, zero, suc, ◌+◌, ◌-◌, ◌≤◌, Bool, true, false, cond, inl, inr, List, [], ◌∷◌, ◌++◌, length, map, Option, Some, None, refl, sym, ap, ◌∙◌, subst, arith, append_assoc}
 use Rattle.std.specs.Prelude.{codes, filter, nat_lt, slice_get}
 use Rattle.std.specs.Option.{option_map}
 use Rattle.std.specs.Str.{bytes_eq}
 use Rattle.std.proofs.lemmas.Option.{same_Some}
+use Rattle.std.proofs.lemmas.Bool.{ltb-true}
 use Rattle.vault_model.specs.Said.{Command}
 use Rattle.vault_device.specs.declared.history.Pick.{Pick}
 use Rattle.group_commit.specs.declared.mark.Mark.TheVariants.{Open, Told}
-use Rattle.group_commit.specs.Entries.{Kept, with_mark}
-use Rattle.group_commit.specs.View.{View}
+use Rattle.group_commit.specs.Entries.{Entry, Kept, with_mark}
+use Rattle.group_commit.specs.View.{View, length_of}
 use Rattle.group_commit.proofs.Marks.{entry_there, length-with_mark}
 use Rattle.vault_protocol.specs.Grammar.{command_of}
-use Rattle.vault_protocol.specs.Talk.{Line, Known, Awaited, Talk, Said, reply_at, told, told_text, said_of, said, with_text, pumped, pumps, pumps_needed, committed, may_start, started, is_full, is_awaited, is_known, crashed}
+use Rattle.vault_protocol.specs.Talk.{Line, Known, Awaited, Talk, Said, reply_at, told, told_text, behind, said_of, said_now, said, all_gone, with_text, pumped, pumps, pumps_needed, committed, may_start, started, is_full, is_awaited, is_known, crashed}
 use Rattle.vault_protocol.specs.Script.{is_skipped, connection_line, crash_line, answered, ready, heard, heard_of, said_by, said_with, said_for}
-use Rattle.vault_protocol.specs.ScriptLaws.{talk_after, IsOutside, IsToldAt, AreTold, joined, IsMadeOfTold}
+use Rattle.vault_protocol.specs.ScriptLaws.{talk_after, IsOutside, entries_in, IsToldAt, AreTold, joined, IsMadeOfTold, PrintsOldest}
 use Rattle.vault_protocol.specs.Saying.{known_texts}
 use Rattle.vault_protocol.proofs.Saying.{known_said}
-use Rattle.vault_protocol.proofs.InTurn.{AreNext, IsInTurn, in_turn_pump, in_turn_start, in_turn_commit, in_turn_answer, in_turn_ready, in_turn_text}
+use Rattle.vault_protocol.proofs.Lost.{same_marked}
+use Rattle.vault_protocol.proofs.InTurn.{Reached, reaches_acts, AreNext, IsInTurn, IsToldWhole, IsSaid, said_is, in_turn_pump, in_turn_start, in_turn_commit, in_turn_answer, in_turn_text, told_ready}
+use Rattle.vault_protocol.proofs.LettingGo.{settled_gone}
+use Rattle.vault_protocol.proofs.Commits.{in_order, commit_settles}
 use Rattle.vault_protocol.proofs.OpenLines.{AreOpen, open_from, still_open}
-use Rattle.vault_protocol.proofs.ScriptRuns.{KeepsActs, IsSoundTalk, either, commit_sound, pump_sound, start_sound, text_sound, ready_sound, answer_sound}
+use Rattle.vault_protocol.proofs.ScriptRuns.{IsSoundTalk, either, commit_sound, pump_sound, start_sound, text_sound, ready_sound, answer_sound}
 
 -- The known texts of lines are outside the history.
 
@@ -98,193 +102,265 @@ pub after_outside : (talk : Talk) (lines : List (List ℕ)) → AreOutside talk.
 after_outside talk [] o = o
 after_outside talk (line ∷ lines) o = after_outside (said_for talk line).talk lines (with_outside talk line (crash_line line) o)
 
--- What was told stays told.
-
-abbrev KeepsTold : List Kept → List Kept → Type 0
-KeepsTold old new = (place : ℕ) (kept : Kept) → slice_get old place ≡ Some kept → kept.mark ≡ Told → slice_get new place ≡ Some kept
-
-tell_keeps : (entries : List Kept) (position : ℕ) → KeepsTold entries (with_mark Told entries position)
-tell_keeps [] position place kept e told = e
-tell_keeps (x ∷ xs) zero zero kept e told = λ i. Some (record (same_Some _ _ e i) { mark = (sym told) i })
-tell_keeps (x ∷ xs) zero (suc place) kept e told = e
-tell_keeps (x ∷ xs) (suc position) zero kept e told = e
-tell_keeps (x ∷ xs) (suc position) (suc place) kept e told = tell_keeps xs position place kept e told
-
-more_keeps : (entries more : List Kept) → KeepsTold entries (entries ++ more)
-more_keeps [] more place kept e told = cc e
-more_keeps (x ∷ xs) more zero kept e told = e
-more_keeps (x ∷ xs) more (suc place) kept e told = more_keeps xs more place kept e told
-
-said_keeps : (talk : Talk) (lines : List Line) → KeepsTold talk.view.kept (said_of talk lines).talk.view.kept
-said_keeps talk [] place kept e t = e
-said_keeps talk (Known text ∷ lines) place kept e t = said_keeps talk lines place kept e t
-said_keeps talk (Awaited connection position ∷ lines) place kept e t =
-    either (λ (s : Said). slice_get s.talk.view.kept place ≡ Some kept) (nat_lt position talk.view.settled)
-    (said_keeps (told talk connection position) lines place kept (tell_keeps talk.view.kept (position - talk.view.retired) place kept e t) t)
-    e
-
-answer_keeps : (talk : Talk) (connection : ℕ) (command : Option Command) → KeepsTold talk.view.kept (answered talk connection command).view.kept
-answer_keeps talk connection None place kept e t = e
-answer_keeps talk connection (Some command) place kept e t =
-    either (λ (t : Talk). slice_get t.view.kept place ≡ Some kept) (is_full talk) e (more_keeps talk.view.kept _ place kept e t)
-
 -- Texts that are made of told ones.
 
-told_later : (old new : View) (from to : ℕ) (texts : List (List ℕ)) → KeepsTold old.kept new.kept → AreTold old from to texts → AreTold new from to texts
-told_later old new from to [] keeps t = t
-told_later old new from to (text ∷ texts) keeps t = elim t [
-  | inl outside ↦ inl (outside.0, told_later old new from to texts keeps outside.1)
-  | inr told ↦
-      let one : IsToldAt old from text = told.0 in
-      inr (
-        record { connection = one.connection; kept = one.kept; stands = keeps from one.kept one.stands one.told; told = one.told; says = one.says },
-        told_later old new (from + 1) to texts keeps told.1,
-      )
-]
-
-told_both : (view : View) (from middle to : ℕ) (texts more : List (List ℕ)) → AreTold view from middle texts → AreTold view middle to more → AreTold view from to (texts ++ more)
-told_both view from middle to [] more t u = subst (λ k. AreTold view k to more) (sym t) u
-told_both view from middle to (text ∷ texts) more t u = elim t [
-  | inl outside ↦ inl (outside.0, told_both view from middle to texts more outside.1 u)
-  | inr told ↦ inr (told.0, told_both view (from + 1) middle to texts more told.1 u)
+told_both : (entries : List Entry) (from middle to : ℕ) (texts more : List (List ℕ)) → AreTold entries from middle texts → AreTold entries middle to more
+    → AreTold entries from to (texts ++ more)
+told_both entries from middle to [] more t u = subst (λ k. AreTold entries k to more) (sym t) u
+told_both entries from middle to (text ∷ texts) more t u = elim t [
+  | inl outside ↦ inl (outside.0, told_both entries from middle to texts more outside.1 u)
+  | inr told ↦ inr (told.0, told_both entries (from + 1) middle to texts more told.1 u)
 ]
 
 joined_both : (texts more : List (List ℕ)) → joined texts ++ joined more ≡ joined (texts ++ more)
 joined_both [] more = refl
 joined_both (text ∷ texts) more = append_assoc text (joined texts) (joined more) ∙ ap (λ rest. text ++ rest) (joined_both texts more)
 
-made_of_none : (view : View) (from : ℕ) → IsMadeOfTold view from from []
-made_of_none view from = record { texts = []; each = refl; whole = refl }
+made_of_none : (entries : List Entry) (from : ℕ) → IsMadeOfTold entries from from []
+made_of_none entries from = record { texts = []; each = refl; whole = refl }
 
-made_of_both : (old new : View) (from middle to : ℕ) (text more : List ℕ) → KeepsTold old.kept new.kept → IsMadeOfTold old from middle text → IsMadeOfTold new middle to more
-    → IsMadeOfTold new from to (text ++ more)
-made_of_both old new from middle to text more keeps a b = record {
+made_of_both : (entries : List Entry) (from middle to : ℕ) (text more : List ℕ) → IsMadeOfTold entries from middle text → IsMadeOfTold entries middle to more
+    → IsMadeOfTold entries from to (text ++ more)
+made_of_both entries from middle to text more a b = record {
   texts = a.texts ++ b.texts;
-  each = told_both new from middle to a.texts b.texts (told_later old new from middle a.texts keeps a.each) b.each;
+  each = told_both entries from middle to a.texts b.texts a.each b.each;
   whole = ap (λ t. t ++ more) a.whole ∙ ap (λ t. joined a.texts ++ t) b.whole ∙ joined_both a.texts b.texts;
 }
 
-outside_first : (view : View) (from to : ℕ) (text more : List ℕ) → IsOutside text → IsMadeOfTold view from to more → IsMadeOfTold view from to (text ++ more)
-outside_first view from to text more outside m = record { texts = text ∷ m.texts; each = inl (outside, m.each); whole = ap (λ t. text ++ t) m.whole }
+outside_first : (entries : List Entry) (from to : ℕ) (text more : List ℕ) → IsOutside text → IsMadeOfTold entries from to more → IsMadeOfTold entries from to (text ++ more)
+outside_first entries from to text more outside m = record { texts = text ∷ m.texts; each = inl (outside, m.each); whole = ap (λ t. text ++ t) m.whole }
 
-told_first : (view : View) (from to : ℕ) (text more : List ℕ) → IsToldAt view from text → IsMadeOfTold view (from + 1) to more → IsMadeOfTold view from to (text ++ more)
-told_first view from to text more told m = record { texts = text ∷ m.texts; each = inr (told, m.each); whole = ap (λ t. text ++ t) m.whole }
+told_first : (entries : List Entry) (from to : ℕ) (text more : List ℕ) → IsToldAt entries from text → IsMadeOfTold entries (from + 1) to more → IsMadeOfTold entries from to (text ++ more)
+told_first entries from to text more told m = record { texts = text ∷ m.texts; each = inr (told, m.each); whole = ap (λ t. text ++ t) m.whole }
 
-marked_stands : (entries : List Kept) (place : ℕ) (kept : Kept) → slice_get entries place ≡ Some kept → slice_get (with_mark Told entries place) place ≡ Some (record kept { mark = Told })
-marked_stands [] place kept e = cc e
-marked_stands (x ∷ xs) zero kept e = λ i. Some (record (same_Some _ _ e i) { mark = Told })
-marked_stands (x ∷ xs) (suc place) kept e = marked_stands xs place kept e
+entry_in : (kept : List Kept) (place : ℕ) (one : Kept) → slice_get kept place ≡ Some one → slice_get (map (λ (kept : Kept). kept.entry) kept) place ≡ Some one.entry
+entry_in [] place one e = cc e
+entry_in (x ∷ xs) zero one e = ap (λ (kept : Kept). Some kept.entry) (same_Some x one e)
+entry_in (x ∷ xs) (suc place) one e = entry_in xs place one e
 
 -- What is printed.
 
-said_made : (talk : Talk) (lines : List Line) → AreOpen talk.view.kept talk.view.retired talk.view.retired lines → AreOutside lines
-    → talk.view.retired ≡ 0 → AreNext talk.view.told (length talk.view.kept) lines
-    → IsMadeOfTold (said_of talk lines).talk.view talk.view.told (said_of talk lines).talk.view.told (said_of talk lines).text
-said_made talk [] open_lines o whole n = made_of_none talk.view talk.view.told
-said_made talk (Known text ∷ lines) open_lines o whole n =
-    let rest = said_of talk lines in
-    outside_first rest.talk.view talk.view.told rest.talk.view.told text rest.text o.0 (said_made talk lines open_lines o.1 whole n)
-said_made talk (Awaited connection position ∷ lines) open_lines o whole n =
-    let here : talk.view.retired ≤ position = open_lines.0.reached in
-    let next = told talk connection position in
-    let rest = said_of next lines in
+-- the entry whose turn it is
+told_here : (talk : Talk) (connection position : ℕ) (lines : List Line) → AreOpen talk.view.kept talk.view.retired talk.view.retired (Awaited connection position ∷ lines)
+    → position ≡ talk.view.told → IsToldAt (entries_in talk.view) (talk.view.told - talk.view.retired) (told_text connection (reply_at talk.view position))
+told_here talk connection position lines open_lines turn =
     let place = position - talk.view.retired in
-    let turn : place ≡ talk.view.told = omega (arith, whole, n.0) in
     let entry = entry_there talk.view.kept place Open open_lines.0.is_open in
-    let later =
-    open_from (with_mark Told talk.view.kept place) talk.view.retired (position + 1) talk.view.retired lines (omega (arith, here))
-    (still_open Told talk.view.kept talk.view.retired (position + 1) position lines here (omega arith) open_lines.1) in
-    let turns = subst (λ k. AreNext (talk.view.told + 1) k lines) (sym (length-with_mark Told talk.view.kept place)) n.1 in
-    let stands = said_keeps next lines place (record entry.0 { mark = Told }) (marked_stands talk.view.kept place entry.0 entry.1) refl in
-    let one : IsToldAt rest.talk.view talk.view.told (told_text connection (reply_at talk.view position)) =
     record {
       connection = connection;
-      kept = record entry.0 { mark = Told };
-      stands = ap (slice_get rest.talk.view.kept) (sym turn) ∙ stands;
-      told = refl;
+      entry = entry.0.entry;
+      stands = ap (λ n. slice_get (entries_in talk.view) (n - talk.view.retired)) (sym turn) ∙ entry_in talk.view.kept place entry.0 entry.1;
       says = ap (λ (found : Option Kept). told_text connection (option_map (λ (kept : Kept). kept.entry.reply) found)) entry.1;
-    } in
-    either (λ (s : Said). IsMadeOfTold s.talk.view talk.view.told s.talk.view.told s.text) (nat_lt position talk.view.settled)
-    (told_first rest.talk.view talk.view.told rest.talk.view.told (told_text connection (reply_at talk.view position)) rest.text one (said_made next lines later o whole turns))
-    (made_of_none talk.view talk.view.told)
+    }
 
--- what was said from a place on
-abbrev pub IsMade : ℕ → Said → Type 0
-IsMade from said = IsMadeOfTold said.talk.view from said.talk.view.told said.text
+abbrev MakesTold : Talk → List Line → Type 0
+MakesTold talk lines = AreOpen talk.view.kept talk.view.retired talk.view.retired lines → AreOutside lines
+    → talk.view.retired ≤ talk.view.told → AreNext talk.view.told (length_of talk.view) lines
+    → IsMadeOfTold (entries_in talk.view) (talk.view.told - talk.view.retired) ((said_of talk lines).talk.view.told - talk.view.retired) (said_of talk lines).text
 
-now_made : (P : View → Type 0) (talk : Talk) → IsSoundTalk P talk → AreOutside talk.lines → IsInTurn talk → IsMade talk.view.told (said talk)
-now_made P talk s o t = said_made talk talk.lines s.awaited o t.whole t.turns
+said_made : (talk : Talk) (lines : List Line) → MakesTold talk lines
+said_made talk [] open_lines o gone n = made_of_none (entries_in talk.view) (talk.view.told - talk.view.retired)
+said_made talk (Known text ∷ lines) open_lines o gone n =
+    let rest = said_of talk lines in
+    outside_first (entries_in talk.view) (talk.view.told - talk.view.retired) (rest.talk.view.told - talk.view.retired) text rest.text o.0 (said_made talk lines open_lines o.1 gone n)
+said_made talk (Awaited connection position ∷ lines) open_lines o gone n =
+    either (λ (s : Said). IsMadeOfTold entries from (s.talk.view.told - v.retired) s.text) (nat_lt position v.settled)
+    (told_first entries from (rest.talk.view.told - v.retired) (told_text connection (reply_at v position)) rest.text
+    (told_here talk connection position lines open_lines n.0) (others (said_made next lines)))
+    (made_of_none entries from)
+  where
+    v : View
+    v = talk.view
 
-pumps_tell_none : (n : ℕ) (talk : Talk) → (pumps n talk).view.told ≡ talk.view.told
+    entries : List Entry
+    entries = entries_in v
+
+    from : ℕ
+    from = v.told - v.retired
+
+    next : Talk
+    next = told talk connection position
+
+    rest : Said
+    rest = said_of next lines
+
+    others : MakesTold next lines → IsMadeOfTold entries (from + 1) (rest.talk.view.told - v.retired) rest.text
+    others makes =
+        let here : v.retired ≤ position = open_lines.0.reached in
+        let later =
+        open_from next.view.kept v.retired (position + 1) v.retired lines (omega (arith, here))
+        (still_open Told v.kept v.retired (position + 1) position lines here (omega arith) open_lines.1) in
+        let turns = subst (λ k. AreNext (v.told + 1) (v.retired + k) lines) (sym (length-with_mark Told v.kept (position - v.retired))) n.1 in
+        let one : v.told + 1 - v.retired ≡ v.told - v.retired + 1 = omega (arith, gone) in
+        let same : entries_in next.view ≡ entries = same_marked Told v.kept (position - v.retired) in
+        let made = makes later o (omega (arith, gone)) turns in
+        subst (λ (all : List Entry). IsMadeOfTold all (from + 1) (rest.talk.view.told - v.retired) rest.text) same
+        (subst (λ k. IsMadeOfTold (entries_in next.view) k (rest.talk.view.told - v.retired) rest.text) one made)
+
+-- how many were told is how many were before entries were let go
+told_as_said : (old new : Talk) → IsSaid old new → (all_gone new.view).told ≡ new.view.told
+told_as_said old new is = ap (λ (v : View). v.told) (settled_gone new.view is.closed)
+
+pub now_made : (talk : Talk) → IsSoundTalk Reached talk → AreOutside talk.lines → IsInTurn talk → PrintsOldest talk.view (said talk)
+now_made talk s o t =
+    let is = said_is talk s t in
+    let order = in_order talk.view s.vault.holds in
+    let gone : talk.view.retired ≡ talk.view.told = t.gone in
+    let least : talk.view.retired ≤ talk.view.settled = order.retired_settled in
+    let all : (said_now talk).talk.view.told ≡ talk.view.settled = is.told ∙ is.settled in
+    let counted : (said_now talk).talk.view.told ≡ talk.view.told + ((said_now talk).talk.view.told - talk.view.retired) = omega (arith, gone, least, all) in
+    let none : talk.view.told - talk.view.retired ≡ 0 = omega (arith, gone) in
+    record {
+      count = (said_now talk).talk.view.told - talk.view.retired;
+      counted = told_as_said talk (said_now talk).talk is ∙ counted;
+      made = subst (λ from. IsMadeOfTold (entries_in talk.view) from ((said_now talk).talk.view.told - talk.view.retired) (said_now talk).text) none
+          (said_made talk talk.lines s.awaited o (omega (arith, gone)) t.turns);
+    }
+
+-- Where all that is settled was told, nothing more is.
+
+none_made : (talk : Talk) (lines : List Line) (entries : List Entry) (place : ℕ) → AreOutside lines → talk.view.settled ≤ talk.view.told
+    → AreNext talk.view.told (length_of talk.view) lines → IsMadeOfTold entries place place (said_of talk lines).text × ((said_of talk lines).talk.view ≡ talk.view)
+none_made talk [] entries place o settled n = (made_of_none entries place, refl)
+none_made talk (Known text ∷ lines) entries place o settled n =
+    let rest = none_made talk lines entries place o.1 settled n in
+    (outside_first entries place place text (said_of talk lines).text o.0 rest.0, rest.1)
+none_made talk (Awaited connection position ∷ lines) entries place o settled n = by_test (nat_lt position talk.view.settled) refl
+  where
+    rest : Said
+    rest = behind (told_text connection (reply_at talk.view position)) (said_of (told talk connection position) lines)
+
+    by_test : (b : Bool) → nat_lt position talk.view.settled ≡ b
+        → let said = cond b rest (record { text = []; talk = record talk { lines = Awaited connection position ∷ lines } }) in
+        IsMadeOfTold entries place place said.text × (said.talk.view ≡ talk.view)
+    by_test true e =
+        let below = ltb-true position talk.view.settled e in
+        let turn : position ≡ talk.view.told = n.0 in
+        absurd (omega (arith, below, turn, settled))
+    by_test false e = (made_of_none entries place, refl)
+
+-- nothing but texts outside the history is printed, and nothing more counts as told
+pub outside_made : (old : View) (count : ℕ) (talk : Talk) → IsSoundTalk Reached talk → AreOutside talk.lines → IsInTurn talk → talk.view.settled ≤ talk.view.told
+    → talk.view.told ≡ old.told + count → IsMadeOfTold (entries_in old) count count (said talk).text × ((said talk).talk.view.told ≡ old.told + count)
+outside_made old count talk s o t settled counted =
+    let none = none_made talk talk.lines (entries_in old) count o settled t.turns in
+    (none.0, told_as_said talk (said_now talk).talk (said_is talk s t) ∙ ap (λ (v : View). v.told) none.1 ∙ counted)
+
+none_more : (talk : Talk) → IsSoundTalk Reached talk → AreOutside talk.lines → IsInTurn talk → talk.view.settled ≤ talk.view.told → PrintsOldest talk.view (said talk)
+none_more talk s o t settled =
+    let none = outside_made talk.view 0 talk s o t settled (omega arith) in
+    record { count = 0; counted = none.1; made = none.0 }
+
+nothing_said : (talk : Talk) → PrintsOldest talk.view (record { text = []; talk = talk })
+nothing_said talk = record { count = 0; counted = omega arith; made = made_of_none (entries_in talk.view) 0 }
+
+-- Each line of a script.
+
+pub commit_made : (talk : Talk) → IsSoundTalk Reached talk → AreOutside talk.lines → IsInTurn talk → PrintsOldest talk.view (said (committed talk))
+commit_made talk s o t =
+    let made =
+    subst (λ (v : View). PrintsOldest v (said (committed talk))) (commit_settles talk s)
+    (now_made (committed talk) (commit_sound Reached reaches_acts talk s) (commit_outside talk o) (in_turn_commit talk t)) in
+    record { count = made.count; counted = made.counted; made = made.made }
+
+pump_made : (talk : Talk) → IsSoundTalk Reached talk → AreOutside talk.lines → IsInTurn talk → PrintsOldest talk.view (said (pumped talk))
 unfolding pumped
-pumps_tell_none zero talk = refl
-pumps_tell_none (suc n) talk = pumps_tell_none n (pumped talk)
+pump_made talk s o t =
+    let made = now_made (pumped talk) (pump_sound Reached reaches_acts talk s) (pump_outside talk o) (in_turn_pump talk t) in
+    record { count = made.count; counted = made.counted; made = made.made }
 
-commit_tells_none : (talk : Talk) → (committed talk).view.told ≡ talk.view.told
-unfolding committed
-commit_tells_none talk = pumps_tell_none (pumps_needed talk.view) talk
-
-start_tells_none : (talk : Talk) → (started talk).view.told ≡ talk.view.told
+start_made : (talk : Talk) → IsSoundTalk Reached talk → AreOutside talk.lines → IsToldWhole talk → PrintsOldest talk.view (said (started talk))
 unfolding started
-start_tells_none talk = either (λ (t : Talk). t.view.told ≡ talk.view.told) (may_start talk) refl refl
+start_made talk s o t =
+    let whole : talk.view.told ≡ talk.view.settled = t.whole in
+    let same : ((started talk).view.settled ≡ talk.view.settled) × ((started talk).view.told ≡ talk.view.told) =
+    either (λ (t : Talk). (t.view.settled ≡ talk.view.settled) × (t.view.told ≡ talk.view.told)) (may_start talk) (refl, refl) (refl, refl) in
+    let settled = same.0 in
+    let told = same.1 in
+    let none =
+    outside_made talk.view 0 (started talk) (start_sound Reached reaches_acts talk s) (start_outside talk o) (in_turn_start talk t.turn) (omega (arith, whole, settled, told)) (omega (arith, told)) in
+    record { count = 0; counted = none.1; made = none.0 }
 
-pub end_made : (P : View → Type 0) (k : KeepsActs P) (talk : Talk) → IsSoundTalk P talk → AreOutside talk.lines → IsInTurn talk → IsMade talk.view.told (said (committed talk))
-end_made P k talk s o t =
-    subst (λ from. IsMade from (said (committed talk))) (commit_tells_none talk)
-    (now_made P (committed talk) (commit_sound P k talk s) (commit_outside talk o) (in_turn_commit talk t))
+answer_same : (talk : Talk) (connection : ℕ) (command : Option Command)
+    → ((answered talk connection command).view.settled ≡ talk.view.settled) × ((answered talk connection command).view.told ≡ talk.view.told)
+answer_same talk connection None = (refl, refl)
+answer_same talk connection (Some command) =
+    either (λ (t : Talk). (t.view.settled ≡ talk.view.settled) × (t.view.told ≡ talk.view.told)) (is_full talk) (refl, refl) (refl, refl)
 
-answer_tells_none : (talk : Talk) (connection : ℕ) (command : Option Command) → (answered talk connection command).view.told ≡ talk.view.told
-answer_tells_none talk connection None = refl
-answer_tells_none talk connection (Some command) = either (λ (t : Talk). t.view.told ≡ talk.view.told) (is_full talk) refl refl
+ready_made : (talk : Talk) (connection : ℕ) → IsSoundTalk Reached talk → AreOutside talk.lines → IsInTurn talk → PrintsOldest talk.view (ready talk connection)
+ready_made talk connection s o t = either (PrintsOldest talk.view) (is_awaited talk connection) (commit_made talk s o t) (nothing_said talk)
 
-hear_made : (P : View → Type 0) (k : KeepsActs P) (talk : Talk) (connection : ℕ) (line : List ℕ) → IsSoundTalk P talk → AreOutside talk.lines → IsInTurn talk
-    → IsMade talk.view.told (heard talk connection line)
-hear_made P k talk connection line s o t =
+hear_made : (talk : Talk) (connection : ℕ) (line : List ℕ) → IsSoundTalk Reached talk → AreOutside talk.lines → IsToldWhole talk → PrintsOldest talk.view (heard talk connection line)
+hear_made talk connection line s o t =
     let before = ready talk connection in
     let command = command_of line in
     let answer = answered before.talk connection command in
-    let first : IsMade talk.view.told before = either (IsMade talk.view.told) (is_awaited talk connection) (end_made P k talk s o t) (made_of_none talk.view talk.view.told) in
-    let sound = answer_sound P k before.talk connection command (ready_sound P k talk connection s) in
-    let outside = answer_outside before.talk connection command (ready_outside talk connection o) in
-    let turn = in_turn_answer before.talk connection command (in_turn_ready talk connection t) in
-    let second : IsMade before.talk.view.told (said answer) =
-    subst (λ from. IsMade from (said answer)) (answer_tells_none before.talk connection command) (now_made P answer sound outside turn) in
-    made_of_both before.talk.view (said answer).talk.view talk.view.told before.talk.view.told (said answer).talk.view.told before.text (said answer).text
-    (λ place kept e told. said_keeps answer answer.lines place kept (answer_keeps before.talk connection command place kept e told) told)
-    first second
+    let first = ready_made talk connection s o t.turn in
+    let ready_told = told_ready talk connection s t in
+    let same = answer_same before.talk connection command in
+    let settled : answer.view.settled ≡ before.talk.view.settled = same.0 in
+    let told : answer.view.told ≡ before.talk.view.told = same.1 in
+    let whole : before.talk.view.told ≡ before.talk.view.settled = ready_told.whole in
+    let none =
+    outside_made talk.view first.count answer
+    (answer_sound Reached reaches_acts before.talk connection command (ready_sound Reached reaches_acts talk connection s))
+    (answer_outside before.talk connection command (ready_outside talk connection o))
+    (in_turn_answer before.talk connection command ready_told.turn)
+    (omega (arith, whole, settled, told)) (told ∙ first.counted) in
+    record {
+      count = first.count;
+      counted = none.1;
+      made = made_of_both (entries_in talk.view) 0 first.count first.count before.text (said answer).text first.made none.0;
+    }
 
-line_made : (P : View → Type 0) (k : KeepsActs P) (talk : Talk) (line : Option (ℕ × List ℕ)) → IsSoundTalk P talk → AreOutside talk.lines → IsInTurn talk
-    → IsMade talk.view.told (heard_of talk line)
-line_made P k talk None s o t =
-    now_made P (with_text talk (codes "! ERR 10\n")) (text_sound P talk _ s) (one_known _ talk.lines (inl refl) o) (in_turn_text talk _ t)
-line_made P k talk (Some line) s o t = hear_made P k talk line.0 line.1 s o t
+line_made : (talk : Talk) (line : Option (ℕ × List ℕ)) → IsSoundTalk Reached talk → AreOutside talk.lines → IsToldWhole talk → PrintsOldest talk.view (heard_of talk line)
+line_made talk None s o t =
+    let whole : talk.view.told ≡ talk.view.settled = t.whole in
+    none_more (with_text talk (codes "! ERR 10\n")) (text_sound Reached talk _ s) (one_known _ talk.lines (inl refl) o) (in_turn_text talk _ t.turn) (omega (arith, whole))
+line_made talk (Some line) s o t = hear_made talk line.0 line.1 s o t
 
-pump_made : (P : View → Type 0) (k : KeepsActs P) (talk : Talk) → IsSoundTalk P talk → AreOutside talk.lines → IsInTurn talk → IsMade talk.view.told (said (pumped talk))
-pump_made P k talk s o t =
-    subst (λ from. IsMade from (said (pumped talk))) (pumps_tell_none 1 talk)
-    (now_made P (pumped talk) (pump_sound P k talk s) (pump_outside talk o) (in_turn_pump talk t))
-
-start_made : (P : View → Type 0) (k : KeepsActs P) (talk : Talk) → IsSoundTalk P talk → AreOutside talk.lines → IsInTurn talk → IsMade talk.view.told (said (started talk))
-start_made P k talk s o t =
-    subst (λ from. IsMade from (said (started talk))) (start_tells_none talk)
-    (now_made P (started talk) (start_sound P k talk s) (start_outside talk o) (in_turn_start talk t))
-
-pub by_made : (P : View → Type 0) (k : KeepsActs P) (talk : Talk) (line : List ℕ) → IsSoundTalk P talk → AreOutside talk.lines → IsInTurn talk → IsMade talk.view.told (said_by talk line)
-by_made P k talk line s o t =
-    let Q = IsMade talk.view.told in
-    either Q (is_skipped line) (made_of_none talk.view talk.view.told)
-    (either Q (bytes_eq line (codes "!commit")) (end_made P k talk s o t)
-    (either Q (bytes_eq line (codes "!pump")) (pump_made P k talk s o t)
-    (either Q (bytes_eq line (codes "!snapshot")) (start_made P k talk s o t) (line_made P k talk (connection_line line) s o t))))
+pub by_made : (talk : Talk) (line : List ℕ) → IsSoundTalk Reached talk → AreOutside talk.lines → IsToldWhole talk → PrintsOldest talk.view (said_by talk line)
+by_made talk line s o t =
+    let Q = PrintsOldest talk.view in
+    either Q (is_skipped line) (nothing_said talk)
+    (either Q (bytes_eq line (codes "!commit")) (commit_made talk s o t.turn)
+    (either Q (bytes_eq line (codes "!pump")) (pump_made talk s o t.turn)
+    (either Q (bytes_eq line (codes "!snapshot")) (start_made talk s o t) (line_made talk (connection_line line) s o t))))
 
 -- A stop prints what is known.
 
-lost_made : (view : View) (lines : List Line) → AreOutside lines → IsMadeOfTold view 0 0 (known_texts lines)
-lost_made view [] o = made_of_none view 0
-lost_made view (Known text ∷ lines) o = outside_first view 0 0 text (known_texts lines) o.0 (lost_made view lines o.1)
-lost_made view (Awaited connection position ∷ lines) o = lost_made view lines o
+lost_made : (lines : List Line) → AreOutside lines → IsMadeOfTold [] 0 0 (known_texts lines)
+lost_made [] o = made_of_none [] 0
+lost_made (Known text ∷ lines) o = outside_first [] 0 0 text (known_texts lines) o.0 (lost_made lines o.1)
+lost_made (Awaited connection position ∷ lines) o = lost_made lines o
 
-pub stop_made : (pick : Pick) (talk : Talk) → AreOutside talk.lines → IsMadeOfTold (said (crashed pick talk)).talk.view 0 0 (said (crashed pick talk)).text
+pub stop_made : (pick : Pick) (talk : Talk) → AreOutside talk.lines → IsMadeOfTold [] 0 0 (said (crashed pick talk)).text
 stop_made pick talk o =
-    subst (λ text. IsMadeOfTold (said (crashed pick talk)).talk.view 0 0 text) (sym (ap (λ (s : Said). s.text) (known_said (crashed pick talk) talk.lines)))
-    (lost_made (said (crashed pick talk)).talk.view talk.lines o)
+    subst (λ text. IsMadeOfTold [] 0 0 text) (sym (ap (λ (s : Said). s.text) (known_said (crashed pick talk) talk.lines))) (lost_made talk.lines o)
+
+-- The end prints all.
+
+none_left : (kept : List Kept) → length kept ≡ 0 → kept ≡ []
+none_left [] e = refl
+none_left (x ∷ rest) e = absurd (omega (arith, e))
+
+-- a conversation without lines that wait keeps nothing
+pub none_kept : (talk : Talk) → IsInTurn talk → talk.lines ≡ [] → talk.view.kept ≡ []
+none_kept talk t none =
+    let gone : talk.view.retired ≡ talk.view.told = t.gone in
+    let all : talk.view.told ≡ talk.view.retired + length talk.view.kept = subst (λ (lines : List Line). AreNext talk.view.told (length_of talk.view) lines) none t.turns in
+    none_left talk.view.kept (omega (arith, gone, all))
+
+-- all that were kept are told at the end
+pub end_made : (talk : Talk) → IsSoundTalk Reached talk → AreOutside talk.lines → IsInTurn talk → IsMadeOfTold (entries_in talk.view) 0 (length talk.view.kept) (said (committed talk)).text
+end_made talk s o t =
+    let made = commit_made talk s o t in
+    let sound = commit_sound Reached reaches_acts talk s in
+    let is = said_is (committed talk) sound (in_turn_commit talk t) in
+    let gone : talk.view.retired ≡ talk.view.told = t.gone in
+    let settled : (committed talk).view.settled ≡ talk.view.retired + length talk.view.kept = ap (λ (v : View). v.settled) (commit_settles talk s) in
+    let told : (said (committed talk)).talk.view.told ≡ (committed talk).view.settled =
+    told_as_said (committed talk) (said_now (committed talk)).talk is ∙ is.told ∙ is.settled in
+    let counted : (said (committed talk)).talk.view.told ≡ talk.view.told + made.count = made.counted in
+    let all : made.count ≡ length talk.view.kept = omega (arith, gone, settled, told, counted) in
+    subst (λ to. IsMadeOfTold (entries_in talk.view) 0 to (said (committed talk)).text) all made.made

@@ -1,39 +1,32 @@
 -- The laws of scripts.
-use Rattle.std.proofs.Common.{arith, length, ◌≡◌, ℕ, List, [], ◌∷◌, ◌++◌, Option, refl, sym, ap, ◌∙◌, subst, append_assoc}
+use Rattle.std.proofs.Common.{◌≡◌, ℕ, List, [], ◌∷◌, ◌++◌, Option, refl, sym, ap, ◌∙◌, subst, append_assoc}
 use Rattle.vault_device.specs.declared.history.Pick.{Pick}
 use Rattle.group_commit.specs.Runs.{Crash}
-use Rattle.group_commit.specs.View.{View, length_of}
+use Rattle.group_commit.specs.View.{View}
 use Rattle.group_commit.specs.Seen.{snapshot_length}
-use Rattle.group_commit.specs.Laws.{IsReachable}
 use Rattle.group_commit.proofs.Reach.{reachable_goes_on}
-use Rattle.vault_protocol.specs.Talk.{Line, Talk, Said, new_talk, said, committed, crashed}
+use Rattle.vault_protocol.specs.Talk.{Line, Talk, Said, new_talk, said, all_gone, committed, crashed}
 use Rattle.vault_protocol.specs.Script.{said_for, said_with, printed}
-use Rattle.vault_protocol.specs.ScriptLaws.{texts_of, talk_after, reached_by, ended_by, PrintedInParts, ScriptsAreRuns, IsRunTo, GoesOnTo, ActsOnTo, RunsGoOn, gate_of, StopsAreCrashes, OthersAreActs, CommitsSettle, EndsTold, IsMadeOfTold, RepliesAreTold}
+use Rattle.vault_protocol.specs.ScriptLaws.{texts_of, talk_after, reached_by, ended_by, PrintedInParts, ScriptsAreRuns, IsRunTo, GoesOnTo, ActsOnTo, RunsGoOn, gate_of, StopsAreCrashes, OthersAreActs, CommitsSettle, EndsTold, IsMadeOfTold, PrintsOldest, RepliesAreTold}
 use Rattle.vault_protocol.proofs.Saying.{known_said}
-use Rattle.vault_protocol.proofs.ScriptRuns.{KeepsActs, KeepsOpenings, IsSoundTalk, commit_sound, by_sound, after_sound, end_sound}
-use Rattle.vault_protocol.proofs.InTurn.{AreNext, IsInTurn, in_turn_after, in_turn_end}
-use Rattle.vault_protocol.proofs.Replies.{AreOutside, after_outside, IsMade, by_made, end_made, stop_made}
+use Rattle.vault_protocol.proofs.ScriptRuns.{IsSoundTalk, commit_sound, by_sound, after_sound, end_sound}
+use Rattle.vault_protocol.proofs.InTurn.{Reached, reaches_acts, reaches_openings, IsToldWhole, told_after, told_commit}
+use Rattle.vault_protocol.proofs.Replies.{AreOutside, after_outside, by_made, end_made, stop_made, none_kept}
 use Rattle.vault_protocol.proofs.Commits.{commit_settles, commit_tells}
 use Rattle.vault_protocol.proofs.GoingOn.{acts_on, no_acts, events_on, stops_on, no_events, stop_more}
 
 -- What a script reaches.
 
-reaches_acts : KeepsActs (IsReachable snapshot_length)
-reaches_acts = record { acts = (reachable_goes_on snapshot_length).acts }
-
-reaches_openings : KeepsOpenings (IsReachable snapshot_length)
-reaches_openings = record { opens = (reachable_goes_on snapshot_length).opens }
-
-new_sound : IsSoundTalk (IsReachable snapshot_length) new_talk
+new_sound : IsSoundTalk Reached new_talk
 new_sound = record { vault = record { holds = (reachable_goes_on snapshot_length).begins; unbroken = refl }; awaited = tt }
 
-reached_sound : (lines : List (List ℕ)) → IsSoundTalk (IsReachable snapshot_length) (reached_by lines)
-reached_sound lines = after_sound (IsReachable snapshot_length) reaches_acts reaches_openings new_talk lines new_sound
+reached_sound : (lines : List (List ℕ)) → IsSoundTalk Reached (reached_by lines)
+reached_sound lines = after_sound Reached reaches_acts reaches_openings new_talk lines new_sound
 
 pub scripts_are_runs : ScriptsAreRuns
 scripts_are_runs lines =
     let reached = reached_sound lines in
-    let ended = end_sound (IsReachable snapshot_length) reaches_acts (reached_by lines) reached in
+    let ended = end_sound Reached reaches_acts (reached_by lines) reached in
     (reached.vault.holds, ended.vault.holds)
 
 -- How it goes on.
@@ -57,10 +50,11 @@ runs_go_on lines more events r =
     (later.vault.holds, (end_sound P (events_on events) (reached_by (lines ++ more)) later).vault.holds)
 
 pub stops_are_crashes : StopsAreCrashes
+unfolding all_gone
 stops_are_crashes lines line pick events is_stop r =
     let talk = reached_by lines in
     let same : (crashed pick talk).view ≡ (said_for talk line).talk.view =
-    sym (ap (λ (o : Option Pick). (said_with talk line o).talk.view) is_stop ∙ ap (λ (s : Said). s.talk.view) (known_said (crashed pick talk) talk.lines)) in
+    sym (ap (λ (o : Option Pick). (said_with talk line o).talk.view) is_stop ∙ ap (λ (s : Said). all_gone s.talk.view) (known_said (crashed pick talk) talk.lines)) in
     subst (IsRunTo (events ++ Crash (gate_of pick) ∷ [])) same (stop_more events talk.view pick r)
 
 pub others_are_acts : OthersAreActs
@@ -80,7 +74,7 @@ commits_settle lines = commit_settles (reached_by lines) (reached_sound lines)
 pub ends_told : EndsTold
 ends_told lines =
     let reached = reached_sound lines in
-    commit_tells (reached_by lines) reached (commit_sound (IsReachable snapshot_length) reaches_acts (reached_by lines) reached)
+    commit_tells (reached_by lines) reached (commit_sound Reached reaches_acts (reached_by lines) reached)
 
 -- What it prints.
 
@@ -97,26 +91,19 @@ printed_in_parts lines more = in_parts new_talk lines more
 reached_outside : (lines : List (List ℕ)) → AreOutside (reached_by lines).lines
 reached_outside lines = after_outside new_talk lines tt
 
-reached_in_turn : (lines : List (List ℕ)) → IsInTurn (reached_by lines)
-reached_in_turn lines = in_turn_after new_talk lines (record { whole = refl; turns = refl })
-
--- at the end all are told
-ended_at_all : (lines : List (List ℕ)) → (ended_by lines).view.told ≡ length_of (ended_by lines).view
-ended_at_all lines =
-    let turn = in_turn_end (reached_by lines) (reached_in_turn lines) in
-    let view = (ended_by lines).view in
-    let all : view.told ≡ length view.kept = subst (λ (rest : List Line). AreNext view.told (length view.kept) rest) (ends_told lines) turn.turns in
-    omega (arith, all, turn.whole)
+reached_told : (lines : List (List ℕ)) → IsToldWhole (reached_by lines)
+reached_told lines = told_after new_talk lines new_sound (record { turn = record { gone = refl; turns = refl }; whole = refl })
 
 pub replies_are_told : RepliesAreTold
 replies_are_told lines =
-    let P = IsReachable snapshot_length in
     let talk = reached_by lines in
     let sound = reached_sound lines in
     let outside = reached_outside lines in
-    let turn = reached_in_turn lines in
+    let told = reached_told lines in
     record {
-      others = λ line other. subst (λ (o : Option Pick). IsMade talk.view.told (said_with talk line o)) (sym other) (by_made P reaches_acts talk line sound outside turn);
-      stops = λ line pick stop. subst (λ (o : Option Pick). let next = said_with talk line o in IsMadeOfTold next.talk.view 0 0 next.text) (sym stop) (stop_made pick talk outside);
-      at_end = subst (λ to. IsMadeOfTold (ended_by lines).view talk.view.told to (said (committed talk)).text) (ended_at_all lines) (end_made P reaches_acts talk sound outside turn);
+      others = λ line other. subst (λ (o : Option Pick). PrintsOldest talk.view (said_with talk line o)) (sym other) (by_made talk line sound outside told);
+      stops = λ line pick stop. subst (λ (o : Option Pick). IsMadeOfTold [] 0 0 (said_with talk line o).text) (sym stop) (stop_made pick talk outside);
+      at_end = end_made talk sound outside told.turn;
+      let_go = told.turn.gone;
+      none_kept = none_kept (ended_by lines) (told_commit talk sound told).turn (ends_told lines);
     }

@@ -10,16 +10,17 @@ use Rattle.vault_store.specs.Phases.{is_idle, is_opening}
 use Rattle.group_commit.specs.declared.mark.Mark.TheVariants.{Open, Told}
 use Rattle.group_commit.specs.Entries.{mark_at, with_mark}
 use Rattle.group_commit.specs.History.{entry_of}
-use Rattle.group_commit.specs.World.{Act, Stage, Pump, StartSnapshot, Tell}
+use Rattle.group_commit.specs.World.{Act, Stage, Pump, StartSnapshot, Tell, Retire}
 use Rattle.group_commit.specs.View.{View, opened_view, view_at, book_of, ViewAllows, view_acted, MayLeave}
 use Rattle.group_commit.specs.Seen.{snapshot_length}
 use Rattle.group_commit.proofs.Pumps.{idle_is}
 use Rattle.vault_device.specs.Picks.{gives_one}
 use Rattle.vault_protocol.specs.Grammar.{command_of}
-use Rattle.vault_protocol.specs.Talk.{Line, Known, Awaited, Talk, Said, told, told_text, reply_at, behind, said_of, said, with_text, pumped, pumps, pumps_needed, committed, may_start, started, is_full, staged, is_awaited, crashed}
+use Rattle.vault_protocol.specs.Talk.{Line, Known, Awaited, Talk, Said, told, told_text, reply_at, behind, said_of, said_now, said, with_text, pumped, pumps, pumps_needed, committed, may_start, started, is_full, staged, is_awaited, crashed}
 use Rattle.vault_protocol.specs.Script.{is_skipped, connection_line, crash_line, answered, ready, heard, heard_of, said_by, said_with, said_for}
 use Rattle.vault_protocol.specs.ScriptLaws.{talk_after}
-use Rattle.vault_protocol.proofs.OpenLines.{AreOpen, none_open, open_from, with_known, still_open, with_awaited}
+use Rattle.vault_protocol.proofs.OpenLines.{AreOpen, none_open, open_from, with_known, still_open, open_behind, with_awaited}
+use Rattle.vault_protocol.proofs.LettingGo.{behind_one, all_gone_keeps}
 
 -- each allowed act keeps it
 pub record KeepsActs (P : View → Type 0) : Type 0 where
@@ -65,8 +66,21 @@ said_sound P k talk (Awaited connection position ∷ lines) s o =
     by_test true e next = next (ltb-true _ _ e)
     by_test false e next = record { vault = s; awaited = o }
 
+-- a view that serves, and on which these lines wait for open entries
+abbrev ServesLines : (View → Type 0) → List Line → View → Type 0
+ServesLines P lines view = IsServing P view × AreOpen view.kept view.retired view.retired lines
+
+one_gone_sound : (P : View → Type 0) (k : KeepsActs P) (lines : List Line) (view : View) → ServesLines P lines view → ViewAllows snapshot_length view Retire
+    → ServesLines P lines (behind_one view)
+one_gone_sound P k lines view s may =
+    (record { holds = k.acts view Retire s.0.holds may; unbroken = s.0.unbroken }, open_behind view.kept view.retired lines may.1 s.1)
+
 pub now_said : (P : View → Type 0) (k : KeepsActs P) (talk : Talk) → IsSoundTalk P talk → IsSoundTalk P (said talk).talk
-now_said P k talk s = said_sound P k talk talk.lines s.vault s.awaited
+now_said P k talk s =
+    let now = (said_now talk).talk in
+    let told = said_sound P k talk talk.lines s.vault s.awaited in
+    let gone = all_gone_keeps (ServesLines P now.lines) (one_gone_sound P k now.lines) now.view (told.vault, told.awaited) in
+    record { vault = gone.0; awaited = gone.1 }
 
 pub text_sound : (P : View → Type 0) (talk : Talk) (text : List ℕ) → IsSoundTalk P talk → IsSoundTalk P (with_text talk text)
 text_sound P talk text s = record { vault = s.vault; awaited = with_known talk.view.kept talk.view.retired talk.view.retired text talk.lines s.awaited }
@@ -162,7 +176,7 @@ by_sound P k talk line s =
     (either (LeavesSound P) (bytes_eq line (codes "!snapshot")) (now_said P k (started talk) (start_sound P k talk s))
     (line_sound P k talk (connection_line line) s))))
 
-with_sound : (P : View → Type 0) (k : KeepsActs P) (o : KeepsOpenings P) (talk : Talk) (line : List ℕ) (pick : Option Pick) → IsSoundTalk P talk → LeavesSound P (said_with talk line pick)
+pub with_sound : (P : View → Type 0) (k : KeepsActs P) (o : KeepsOpenings P) (talk : Talk) (line : List ℕ) (pick : Option Pick) → IsSoundTalk P talk → LeavesSound P (said_with talk line pick)
 with_sound P k o talk line None s = by_sound P k talk line s
 with_sound P k o talk line (Some pick) s = now_said P k (crashed pick talk) (crash_sound P o pick talk s)
 

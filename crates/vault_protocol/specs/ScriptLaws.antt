@@ -1,10 +1,9 @@
 -- What holds of every script: what it does to its vault is a run of the world, and a commit settles all. This project's own.
-use Rattle.std.specs.Prelude.{◌≡◌, ◌⊎◌, ℕ, ◌+◌, List, [], ◌∷◌, ◌++◌, codes, map, if◌then◌else◌, Some, None, slice_get}
+use Rattle.std.specs.Prelude.{◌≡◌, ◌⊎◌, ℕ, ◌+◌, List, [], ◌∷◌, ◌++◌, codes, map, length, if◌then◌else◌, Some, None, slice_get}
 use Rattle.vault_model.specs.declared.replies.Outside.TheVariants.{BadLine, Busy}
 use Rattle.vault_device.specs.declared.history.Pick.{Pick}
 use Rattle.vault_store.specs.declared.phase.Phase.TheVariants.{Idle}
-use Rattle.group_commit.specs.declared.mark.Mark.TheVariants.{Told}
-use Rattle.group_commit.specs.Entries.{Kept}
+use Rattle.group_commit.specs.Entries.{Entry, Kept}
 use Rattle.group_commit.specs.World.{new_world, Act, GateLeft, StaysClosed, IsOpen}
 use Rattle.group_commit.specs.Runs.{Event, Within, Crash, run, IsRun}
 use Rattle.group_commit.specs.View.{View, view_of, length_of}
@@ -12,7 +11,7 @@ use Rattle.group_commit.specs.Seen.{snapshot_length}
 use Rattle.group_commit.specs.Laws.{IsReachable}
 use Rattle.vault_device.specs.Picks.{gives_one}
 use Rattle.vault_protocol.specs.Texts.{reply_text, outside_text}
-use Rattle.vault_protocol.specs.Talk.{Talk, connection_text, new_talk, said, committed}
+use Rattle.vault_protocol.specs.Talk.{Talk, Said, connection_text, new_talk, said, committed}
 use Rattle.vault_protocol.specs.Script.{crash_line, said_for, printed}
 
 -- what lines print before the end commits
@@ -97,19 +96,22 @@ IsOutside text =
     ⊎ ((connection : ℕ) × (text ≡ connection_text connection (outside_text BadLine)))
     ⊎ ((connection : ℕ) × (text ≡ connection_text connection (outside_text Busy)))
 
--- a connection is given the reply of the entry at a place, which counts as told
-pub record IsToldAt (view : View) (place : ℕ) (text : List ℕ) : Type 0 where
+-- the entries that a view keeps
+abbrev pub entries_in : View → List Entry
+entries_in view = map (λ (kept : Kept). kept.entry) view.kept
+
+-- a connection is given the reply of the entry at a place
+pub record IsToldAt (entries : List Entry) (place : ℕ) (text : List ℕ) : Type 0 where
   pub connection : ℕ
-  pub kept : Kept
-  pub stands : slice_get view.kept place ≡ Some kept
-  pub told : kept.mark ≡ Told
-  pub says : text ≡ connection_text connection (reply_text kept.entry.reply)
+  pub entry : Entry
+  pub stands : slice_get entries place ≡ Some entry
+  pub says : text ≡ connection_text connection (reply_text entry.reply)
 
 -- of these texts each is outside the history or such a reply, of the entries from one place to a later one, each in its turn
-abbrev pub AreTold : View → ℕ → ℕ → List (List ℕ) → Type 0
-AreTold view from to [] = from ≡ to
-AreTold view from to (text ∷ texts) =
-    (IsOutside text × AreTold view from to texts) ⊎ (IsToldAt view from text × AreTold view (from + 1) to texts)
+abbrev pub AreTold : List Entry → ℕ → ℕ → List (List ℕ) → Type 0
+AreTold entries from to [] = from ≡ to
+AreTold entries from to (text ∷ texts) =
+    (IsOutside text × AreTold entries from to texts) ⊎ (IsToldAt entries from text × AreTold entries (from + 1) to texts)
 
 -- one after the other
 abbrev pub joined : List (List ℕ) → List ℕ
@@ -117,20 +119,26 @@ joined [] = []
 joined (text ∷ texts) = text ++ joined texts
 
 -- a text is made of such ones
-pub record IsMadeOfTold (view : View) (from to : ℕ) (text : List ℕ) : Type 0 where
+pub record IsMadeOfTold (entries : List Entry) (from to : ℕ) (text : List ℕ) : Type 0 where
   pub texts : List (List ℕ)
-  pub each : AreTold view from to texts
+  pub each : AreTold entries from to texts
   pub whole : text ≡ joined texts
 
--- A line that is no stop prints, beside outside texts, the reply of each entry that it tells, in their order and once; a stop prints
--- outside texts alone; the end prints the replies of all entries that weren't told yet.
+-- what is printed is made of the replies of the oldest entries that were kept before, and so many more count as told behind it
+pub record PrintsOldest (old : View) (said : Said) : Type 0 where
+  pub count : ℕ
+  pub counted : said.talk.view.told ≡ old.told + count
+  pub made : IsMadeOfTold (entries_in old) 0 count said.text
+
+-- A line that is no stop prints, beside outside texts, the replies of the oldest entries that were kept before it, in their order and
+-- once, and these count as told; a stop prints outside texts alone; the end prints the replies of all that were kept. Behind a line
+-- exactly the entries that were told are let go, and behind the end none is kept.
 pub record PrintsReplies (lines : List (List ℕ)) : Type 0 where
-  pub others : (line : List ℕ) → crash_line line ≡ None → let next =
-      said_for (reached_by lines) line in IsMadeOfTold next.talk.view (reached_by lines).view.told next.talk.view.told next.text
-  pub stops : (line : List ℕ) (pick : Pick) → crash_line line ≡ Some pick → let next =
-      said_for (reached_by lines) line in IsMadeOfTold next.talk.view 0 0 next.text
-  pub at_end : IsMadeOfTold (ended_by lines).view (reached_by lines).view.told (length_of (ended_by lines).view)
-      (said (committed (reached_by lines))).text
+  pub others : (line : List ℕ) → crash_line line ≡ None → PrintsOldest (reached_by lines).view (said_for (reached_by lines) line)
+  pub stops : (line : List ℕ) (pick : Pick) → crash_line line ≡ Some pick → IsMadeOfTold [] 0 0 (said_for (reached_by lines) line).text
+  pub at_end : let old = (reached_by lines).view in IsMadeOfTold (entries_in old) 0 (length old.kept) (said (committed (reached_by lines))).text
+  pub let_go : (reached_by lines).view.retired ≡ (reached_by lines).view.told
+  pub none_kept : (ended_by lines).view.kept ≡ []
 
 -- so it is whatever lines came before
 abbrev pub RepliesAreTold : Type 0

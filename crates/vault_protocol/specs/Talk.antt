@@ -14,10 +14,12 @@ use Rattle.vault_store.specs.declared.phase.Phase.TheVariants.{Idle, Written, Bo
 use Rattle.vault_store.specs.Files.{header}
 use Rattle.vault_store.specs.Phases.{Waiting, Nothing, NoEffects, Effects, most_piece, is_idle, is_opening}
 use Rattle.vault_store.specs.Seen.{most_noted, last_tail}
+use Rattle.group_commit.specs.declared.mark.Mark.{Mark}
+use Rattle.group_commit.specs.declared.mark.Mark.TheVariants.{Open, Told, Forgotten}
 use Rattle.group_commit.specs.Entries.{Kept}
 use Rattle.group_commit.specs.History.{effects}
 use Rattle.group_commit.specs.Phases.{waiting}
-use Rattle.group_commit.specs.World.{Stage, Pump, StartSnapshot, Tell}
+use Rattle.group_commit.specs.World.{Stage, Pump, StartSnapshot, Tell, Retire}
 use Rattle.group_commit.specs.View.{View, opened_view, length_of, view_at, book_of, view_row, view_acted}
 use Rattle.group_commit.specs.Seen.{snapshot_length, most_kept, framed}
 use Rattle.group_commit.specs.Calls.{generation_after, tail_after}
@@ -111,9 +113,34 @@ said_of talk (Awaited connection position ∷ lines) =
     then behind (told_text connection (reply_at talk.view position)) (said_of (told talk connection position) lines)
     else record { text = []; talk = record talk { lines = Awaited connection position ∷ lines } }
 
--- what is printed now
+-- what is printed now, before any entry is let go
+abbrev pub said_now : Talk → Said
+said_now talk = said_of talk talk.lines
+
+-- whether a ticket isn't out any more
+abbrev pub is_closed : Mark → Bool
+is_closed Open = false
+is_closed Told = true
+is_closed Forgotten = true
+
+-- how many of these entries may be let go, of which so many are settled: those in front whose tickets aren't out any more
+abbrev pub free_in : ℕ → List Kept → ℕ
+free_in zero kept = 0
+free_in (suc settled) [] = 0
+free_in (suc settled) (kept ∷ rest) = if is_closed kept.mark then suc (free_in settled rest) else 0
+
+-- what is seen once so many of the oldest entries were let go
+abbrev pub retirings : ℕ → View → View
+retirings zero view = view
+retirings (suc n) view = retirings n (view_acted snapshot_length view Retire)
+
+-- what is seen once all entries were let go that may be
+unfoldable pub all_gone : View → View
+all_gone view = retirings (free_in (view.settled - view.retired) view.kept) view
+
+-- what is printed now; the entries that were told are let go then
 abbrev pub said : Talk → Said
-said talk = said_of talk talk.lines
+said talk = let now = said_now talk in record { text = now.text; talk = record now.talk { view = all_gone now.talk.view } }
 
 -- one more line, of this text
 abbrev pub with_text : Talk → List ℕ → Talk
@@ -180,7 +207,7 @@ may_start talk = is_idle talk.view.phase && nat_lt (talk.generation + 1) (2 ^ 64
 unfoldable pub started : Talk → Talk
 started talk = if may_start talk then record talk { view = view_acted snapshot_length talk.view StartSnapshot; buffer = 0 } else talk
 
--- no more commands get a place in the history: this life has the most entries, or there is no room for their records
+-- no more commands get a place in the history: the most entries are kept, or there is no room for their records
 abbrev pub is_full : Talk → Bool
 is_full talk =
     nat_le most_kept (length talk.view.kept) || length_of talk.view == 2 ^ 64 - 1

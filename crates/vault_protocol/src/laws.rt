@@ -48,8 +48,8 @@ pub fn commits_settle()
 {}
 
 /// What a script prints is, beside outside texts, the reply of each entry once, in the order of the entries, when it counts as
-/// told; a stop prints none, and the end all that are left. So, by the laws of runs, no reply is printed before its entry is
-/// settled, and each entry whose reply was printed stands for good.
+/// told; a stop prints none, and the end all that are left. Behind each line those are let go that were told, and no others. So, by the
+/// laws of runs, no reply is printed before its entry is settled, and each entry whose reply was printed stands for good.
 pub fn replies_are_told()
     ensures { RepliesAreTold }
 {}

@@ -18,6 +18,7 @@ mod error;
 mod input;
 mod keyword;
 pub mod laws;
+mod letting_go;
 mod limits;
 mod lines;
 mod losing;

@@ -5,11 +5,12 @@ ghost use Rattle.vault_model.specs.Said.{Command};
 ghost use Rattle.vault_protocol.specs.Limits.{last_connection};
 ghost use Rattle.vault_protocol.specs.Grammar.{command_of};
 ghost use Rattle.vault_protocol.specs.Texts.{outside_text};
-ghost use Rattle.vault_protocol.specs.Talk.{new_talk, connection_text, sessions_after, with_text, said, pumped, pumps_needed, committed, started, crashed, told, told_text, reply_at, is_awaited};
+ghost use Rattle.vault_protocol.specs.Talk.{new_talk, connection_text, sessions_after, with_text, said_now, said, pumped, pumps_needed, committed, started, crashed, told, told_text, reply_at, is_awaited};
 ghost use Rattle.vault_protocol.specs.Script.{answered, connection_line, heard, heard_of, with_refusal, ready, said_by, said_for};
 ghost use Rattle.vault_protocol.specs.Saying.{is_sayable, said_first};
 
 use crate::error::{LineError, ScriptError};
+use crate::letting_go::let_go;
 use crate::limits::LAST_CONNECTION;
 use crate::lines::{Connection, connection_of, crash_of};
 use crate::losing::{give_up, lose};
@@ -279,14 +280,25 @@ impl<A: Allocator + Copy> Runner<A> {
     }
 
     // Prints the lines in front whose texts are known or whose entries are settled.
-    fn say(&mut self, alloc: A, out: &mut Vec<u8, A>) -> Result<(), ScriptError>
-        ensures state { OnOk result (self.new ≡ (said self.old).talk) }
-        ensures text { OnOk result (out.new.items ≡ out.old.items ++ (said self.old).text) }
+    fn say_now(&mut self, alloc: A, out: &mut Vec<u8, A>) -> Result<(), ScriptError>
+        ensures state { OnOk result (self.new ≡ (said_now self.old).talk) }
+        ensures text { OnOk result (out.new.items ≡ out.old.items ++ (said_now self.old).text) }
         ensures cause { IfErr result (λ e. e ≡ ScriptError.NoMemory) }
     {
         while self.first_is_sayable() {
             self.say_first(alloc, out)?;
         }
+        Ok(())
+    }
+
+    // The same, and lets the entries go that were told.
+    fn say(&mut self, alloc: A, out: &mut Vec<u8, A>) -> Result<(), ScriptError>
+        ensures state { OnOk result (self.new ≡ (said self.old).talk) }
+        ensures text { OnOk result (out.new.items ≡ out.old.items ++ (said self.old).text) }
+        ensures cause { IfErr result (λ e. e ≡ ScriptError.NoMemory) }
+    {
+        self.say_now(alloc, out)?;
+        let_go(&mut self.vault);
         Ok(())
     }
 
