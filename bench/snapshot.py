@@ -11,6 +11,7 @@ usage, at the top of the repository:  python3 bench/snapshot.py [--program PROGR
 """
 import os
 import re
+import signal
 import socket
 import statistics
 import subprocess
@@ -117,6 +118,12 @@ def written(path, limit=60):
     raise SystemExit("no snapshot was written")
 
 
+def traced_by(tracer):
+    """The program that strace runs: a signal to strace itself is held back while it writes to a file."""
+    with open(f"/proc/{tracer}/task/{tracer}/children", encoding="utf-8") as file:
+        return int(file.read().split()[0])
+
+
 def one_run(program, files, content, options, connections, before=()):
     """How long a snapshot took, the waits of the commands that were under way in it, and the server's greatest memory."""
     with open(files[0], "wb") as file:
@@ -137,7 +144,7 @@ def one_run(program, files, content, options, connections, before=()):
             client.join()
             client.socket.close()
         memory = status_of(server.pid)[0] if not before else None
-        server.terminate()
+        os.kill(traced_by(server.pid) if before else server.pid, signal.SIGTERM)
         server.wait()
     waits = [end - begin for client in clients for begin, end in client.waits if begin < ended and end > began]
     return ended - began, waits, memory
