@@ -382,7 +382,11 @@ impl<A: Allocator + Copy> Book<A> {
         self.in_session(&session, command)
     }
 
-    fn in_session<B: Allocator>(&mut self, session: &Session, command: &CommandIn<B>) -> Result<Done<A>, Stop>
+    fn in_session<B: Allocator>(
+        &mut self,
+        session: &Session,
+        command: &CommandIn<B>,
+    ) -> Result<Done<A>, Stop>
         requires { is_some (session_of self.old.sessions session.now.number) ≡ true }
         ensures told { Follows self.old result self.new (in_session self.old session.now command.now) }
         ensures counts { (bound : ℕ) → CountsBelow bound self.old → CountsBelow bound self.new }
