@@ -57,7 +57,7 @@ def records(size, content):
 def file_of(all_records):
     """The bytes of a new vault's file with these records in frames, as full as they may be."""
     snapshot = number(0, 4) + number(1, 4) + number(0, 2)
-    out = [b"\x01LLVAULT" + number(1, 4) + number(1, 8) + number(len(snapshot), 4) + snapshot]
+    out = [b"\x01LLVAULT" + number(2, 4) + number(1, 8) + number(len(snapshot), 4) + snapshot]
     frame, length, count = [], 0, 0
 
     def close():

@@ -51,21 +51,21 @@ def snapshot_of(weight):
     versions, more = divmod((weight - WORKERS * (CONTENT + 8)) // (CONTENT + 8), parts)
     out = [number(CLAIMS, 4), number(PLACES, 4)]
     for place, (parent, word) in enumerate(places(), 1):
-        out.append(number(parent, 4) + name(word))
+        out.append(number(parent, 4) + name(word) + number(place > 64, 1))
         if place > 64:
             count = versions + (place - 65 < more)
             out.append(number(count, 2) + (number(CONTENT, 2) + b"v" * CONTENT) * count)
     out.append(number(CLAIMS, 2))
     for claim in range(1, CLAIMS + 1):
         items = b"".join(b"\x01" + number(65 + (claim - 1) * ITEMS + item, 4) for item in range(ITEMS))
-        out.append(number(claim, 4) + name(f"d{(claim - 1) % WORKERS + 1}") + number(ITEMS, 1) + items + b"\x00")
+        out.append(number(claim, 4) + name(f"d{(claim - 1) % WORKERS + 1}") + b"\x00" + number(ITEMS, 1) + items + b"\x00")
     return b"".join(out)
 
 
 def full_file(weight):
     """A file of generation 1: this snapshot, frames of almost 1 MiB, and a tail gate."""
     snapshot = snapshot_of(weight)
-    out = [b"\x01LLVAULT" + number(1, 4) + number(1, 8) + number(len(snapshot), 4) + snapshot]
+    out = [b"\x01LLVAULT" + number(2, 4) + number(1, 8) + number(len(snapshot), 4) + snapshot]
     record = 0
     for count in FRAMES:
         out.append(b"\x01" + number(count * SAVE, 4))

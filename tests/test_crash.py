@@ -62,6 +62,9 @@ class Designer(threading.Thread):
             standing = self.client.state(standing.claim)
         self.client.put(part, b"superseded")
         self.client.put(part, content)
+        self.client.set_note(standing.claim, content)
+        if self.client.note(standing.claim) != content:
+            self.odd.append(f"{standing.claim} lost its note")
         if self.client.checkin(standing.claim) != 1:
             self.odd.append(f"{standing.claim} had not one draft")
         self.told[part].append(content)

@@ -18,7 +18,8 @@ use Rattle.vault_model.proofs.Overlaps.{and_both}
 use Rattle.vault_model.proofs.Stays.{own_id, claim_there}
 use Rattle.vault_model.specs.Drafts.{new_draft}
 use Rattle.vault_model.proofs.WellFormed.{not_last}
-use Rattle.vault_model.proofs.Transitions.{CanExtend, Transition, made, asked, extended, saved, checked_in, abandoned, by_transition}
+use Rattle.vault_model.proofs.Shelves.{true_le}
+use Rattle.vault_model.proofs.Transitions.{CanExtend, Transition, made, asked, extended, saved, checked_in, abandoned, given, noted, by_transition}
 use Rattle.vault_journal.specs.Spelling.{IsClaimNumber, ItemFits, HasRecord}
 use Rattle.group_commit.specs.Written.{IsOfItsType}
 
@@ -39,8 +40,8 @@ module _ (v : Vault) (kept : IsVault v) where
   items_fit (item ∷ items) there = (fits_there item.place (All-head (λ (i : Item). i.place ≤ length v.tree) item items there), items_fit items (All-tail (λ (i : Item). i.place ≤ length v.tree) item items there))
 
   given_by : (number : ℕ) (claim : Claim) → claim.id ≡ Long number → IsGiven v.last_long v.last_short claim.id → IsClaimNumber number
-  given_by number claim e given =
-      let is = subst (λ id. IsGiven v.last_long v.last_short id) e given in
+  given_by number claim e ranged =
+      let is = subst (λ id. IsGiven v.last_long v.last_short id) e ranged in
       record { positive = is.0; fits = omega (arith, is.1, kept.numbers.long) }
 
   -- the number of a claim that stands
@@ -62,6 +63,8 @@ module _ (v : Vault) (kept : IsVault v) where
   transition_has effect w (saved claim number place content can) = λ typed. (numbered number claim can.used.found, fits_there place can.there, short_enough v number place content can.limits)
   transition_has effect w (checked_in number claim used fits) = λ typed. numbered number claim used.found
   transition_has effect w (abandoned number claim found) = λ typed. numbered number claim found
+  transition_has effect w (given number designer claim found) = λ typed. (numbered number claim found, typed)
+  transition_has effect w (noted number text claim found short) = λ typed. (numbered number claim found, true_le _ _ short)
   transition_has effect w change = tt
 
 pub step_has_record : (v : Vault) (n : ℕ) (command : Command) → IsVault v → HasOne (step v n command).effect

@@ -6,15 +6,15 @@ use Rattle.std.specs.List.{IsDistinct, AllByRecursion}
 use Rattle.std.specs.Option.{option_map, option_map_or}
 use Rattle.std.proofs.lemmas.List.Elements.{All-cons, All-head, All-tail, All-append, All-take, All-drop, All-push}
 use Rattle.std.proofs.lemmas.Bool.Decides.{nat_tests}
-use Rattle.indexmap.specs.IndexMap.{move_index}
+use Rattle.indexmap.specs.IndexMap.{move_index, insert_entry}
 use Rattle.indexmap.specs.Layout.{set_value_at}
-use Rattle.indexmap.proofs.MapLemmas.{Found-position, remove_entry-first, some_index}
+use Rattle.indexmap.proofs.MapLemmas.{Found-position, remove_entry-first, some_index, insert_entry-first}
 use Rattle.vault_model.specs.declared.claims.Item.{Item}
 use Rattle.vault_model.specs.declared.claims.Claim.{Claim}
 use Rattle.vault_model.specs.declared.ids.ClaimId.{ClaimId}
 use Rattle.vault_model.specs.declared.ids.ClaimId.TheVariants.{Long, Short}
 use Rattle.vault_model.specs.contracts.ids.ClaimIdPartialEq.TheImpl.{eq-value}
-use Rattle.vault_model.specs.Claims.{same_id, claim_of, without}
+use Rattle.vault_model.specs.Claims.{same_id, claim_of, without, changed}
 use Rattle.vault_model.proofs.Stays.{same_id_is}
 use Rattle.long_locks.specs.Lines.{put_first}
 use Rattle.long_locks.specs.Keyed.{AreKeyed}
@@ -144,6 +144,70 @@ module _ (eq : ClaimId → ClaimId → Bool) (is : (a b : ClaimId) → eq a b �
         front_values =
             ap values_of written ∙ ap (λ cs. record moved.claim { items = items } ∷ cs) one_removed
             ∙ sym (ap (λ o. option_map_or (λ (c : Claim). record c { items = items } ∷ without (values_of es) id) o (values_of es)) moved.is_of)
+
+  -- ---- a claim that changes in its place, and keeps its id
+
+  module _ (f : Claim → Claim) (keeps : (c : Claim) → (f c).id ≡ c.id) where
+    none_changed : (es : List Entry) (id : ClaimId) → AreKeyed es → lookup (eq id) es ≡ None → changed (values_of es) id f ≡ values_of es
+    none_changed [] id keyed none = refl
+    none_changed (e ∷ es) id keyed none = by_test (eq id e.0) refl none (none_changed es id (All-tail own e es keyed))
+      where
+        by_test : (b : Bool) → eq id e.0 ≡ b → cond b (Some e.1) (lookup (eq id) es) ≡ None → (lookup (eq id) es ≡ None → changed (values_of es) id f ≡ values_of es) → changed (e.1 ∷ values_of es) id f ≡ e.1 ∷ values_of es
+        by_test true h k rest = cc
+        by_test false h k rest = rw (sym (key_test id e (All-head own e es keyed)) ∙ h) (ap (λ cs. e.1 ∷ cs) (rest k))
+
+    others_unchanged : (es : List Entry) (id : ClaimId) → AreKeyed es → AllByRecursion (λ k. eq id k ≡ false) (keys_of es) → changed (values_of es) id f ≡ values_of es
+    others_unchanged [] id keyed all = refl
+    others_unchanged (e ∷ es) id keyed all = rw (sym (key_test id e (All-head own e es keyed)) ∙ all.0) (ap (λ cs. e.1 ∷ cs) (others_unchanged es id (All-tail own e es keyed) all.1))
+
+    turned : (es : List Entry) (id : ClaimId) (w : Claim) → AreKeyed es → IsDistinct eq (keys_of es) → lookup (eq id) es ≡ Some w → values_of (insert_entry eq es id (f w)) ≡ changed (values_of es) id f
+    unfolding IsDistinct
+    turned [] id w keyed distinct there = cc
+    turned (e ∷ es) id w keyed distinct there = by_test (eq id e.0) refl there (turned es id w (All-tail own e es keyed) distinct.1)
+      where
+        here : eq id e.0 ≡ same_id e.1.id id
+        here = key_test id e (All-head own e es keyed)
+
+        by_test : (b : Bool) → eq id e.0 ≡ b → cond b (Some e.1) (lookup (eq id) es) ≡ Some w → (lookup (eq id) es ≡ Some w → values_of (insert_entry eq es id (f w)) ≡ changed (values_of es) id f)
+            → values_of (cond b ((e.0, f w) ∷ es) (e ∷ insert_entry eq es id (f w))) ≡ changed (e.1 ∷ values_of es) id f
+        by_test true h k rest =
+            let same : e.1 ≡ w = cc in
+            let key : e.0 ≡ id = same_id_is e.0 id (sym (is id e.0) ∙ h) in
+            let others = others_unchanged es id (All-tail own e es keyed) (subst (λ j. AllByRecursion (λ y. eq j y ≡ false) (keys_of es)) key distinct.0) in
+            rw (sym here ∙ h) (ap (λ (c : Claim). f c ∷ values_of es) (sym same) ∙ ap (λ cs. f e.1 ∷ cs) (sym others))
+        by_test false h k rest = rw (sym here ∙ h) (ap (λ cs. e.1 ∷ cs) (rest k))
+
+    turned_keyed : (es : List Entry) (id : ClaimId) (w : Claim) → AreKeyed es → lookup (eq id) es ≡ Some w → AreKeyed (insert_entry eq es id (f w))
+    turned_keyed [] id w keyed there = cc
+    turned_keyed (e ∷ es) id w keyed there = by_test (eq id e.0) there (turned_keyed es id w (All-tail own e es keyed))
+      where
+        by_test : (b : Bool) → cond b (Some e.1) (lookup (eq id) es) ≡ Some w → (lookup (eq id) es ≡ Some w → AreKeyed (insert_entry eq es id (f w))) → AreKeyed (cond b ((e.0, f w) ∷ es) (e ∷ insert_entry eq es id (f w)))
+        by_test true k rest =
+            let same : e.1 ≡ w = cc in
+            All-cons own (e.0, f w) es (All-head own e es keyed ∙ ap (λ (c : Claim). c.id) same ∙ sym (keeps w)) (All-tail own e es keyed)
+        by_test false k rest = All-cons own e (insert_entry eq es id (f w)) (All-head own e es keyed) (rest k)
+
+    module _ (es : List Entry) (id : ClaimId) (keyed : AreKeyed es) where
+      -- where the id has no index, nothing changes
+      pub nothing_changed : None ≡ position (eq id) (keys_of es) → changed (values_of es) id f ≡ values_of es
+      nothing_changed none = by_lookup (lookup (eq id) es) refl (ap is_some none ∙ some_index (eq id) es)
+        where
+          by_lookup : (o : Option Claim) → lookup (eq id) es ≡ o → false ≡ is_some o → changed (values_of es) id f ≡ values_of es
+          by_lookup None e h = none_changed es id keyed e
+          by_lookup (Some c) e h = cc
+
+      module _ (distinct : IsDistinct eq (keys_of es)) (i : ℕ) (at : Some i ≡ position (eq id) (keys_of es)) (w : Claim) (here : slice_get (values_of es) i ≡ Some w) where
+        its : lookup (eq id) es ≡ Some w
+        its = (Found-position (eq id) es i (sym at)).value ∙ here
+
+        set_there : set_value_at es i (f w) ≡ insert_entry eq es id (f w)
+        set_there = sym (insert_entry-first eq id (f w) es i (Found-position (eq id) es i (sym at)).first)
+
+        pub changed_values : values_of (set_value_at es i (f w)) ≡ changed (values_of es) id f
+        changed_values = ap values_of set_there ∙ turned es id w keyed distinct its
+
+        pub changed_keyed : AreKeyed (set_value_at es i (f w))
+        changed_keyed = subst AreKeyed (sym set_there) (turned_keyed es id w keyed its)
 
 -- two ids are equal where they are one
 abbrev pub id_eq : ClaimId → ClaimId → Bool

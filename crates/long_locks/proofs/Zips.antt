@@ -1,6 +1,6 @@
 -- A line and its table, changed alike.
 use Rattle.std.specs.Prelude.{◌≡◌, suc, not, List, [], ◌∷◌, ◌++◌, length, None, All, refl}
-use Rattle.std.proofs.Common.{sym, ap, ◌∙◌}
+use Rattle.std.proofs.Common.{sym, ap, subst, ◌∙◌}
 use Rattle.std.specs.List.{AllZip}
 use Rattle.std.specs.Option.{option_map}
 use Rattle.vault_model.specs.declared.place.Place.{Place}
@@ -8,7 +8,8 @@ use Rattle.vault_model.specs.declared.claims.Item.{Item}
 use Rattle.vault_model.specs.declared.claims.Claim.{Claim}
 use Rattle.vault_model.specs.declared.ids.ClaimId.{ClaimId}
 use Rattle.vault_model.specs.Tree.{IsTree}
-use Rattle.vault_model.specs.Claims.{same_id, standing_by, standing_behind, claim_of, before, without}
+use Rattle.vault_model.specs.Claims.{same_id, standing_by, standing_behind, claim_of, before, without, changed}
+use Rattle.vault_model.proofs.InPlace.{one_id, one_items}
 use Rattle.vault_model.specs.Vault.{AreThere}
 use Rattle.lock_table.specs.declared.locks.Lock.{Lock}
 use Rattle.lock_table.specs.declared.entry.Entry.{Entry}
@@ -26,6 +27,20 @@ zip_push R [] [] x y zip h = (h, tt)
 zip_push R [] (v ∷ ys) x y zip h = absurd zip
 zip_push R (u ∷ xs) [] x y zip h = absurd zip
 zip_push R (u ∷ xs) (v ∷ ys) x y zip h = (zip.0, zip_push R xs ys x y zip.1 h)
+
+-- a claim that changes in its place keeps its entry, where its id and its items stay
+pub zip_changed : (tree : List Place) (line : List Claim) (table : List Entry) (id : ClaimId) (f : Claim → Claim) → ((c : Claim) → (f c).id ≡ c.id) → ((c : Claim) → (f c).items ≡ c.items) → IsTableOf tree line table
+    → IsTableOf tree (changed line id f) table
+zip_changed tree [] [] id f own same zip = tt
+zip_changed tree [] (e ∷ table) id f own same zip = absurd zip
+zip_changed tree (c ∷ line) [] id f own same zip = absurd zip
+zip_changed tree (c ∷ line) (e ∷ table) id f own same zip = (
+  record {
+    id = zip.0.id ∙ sym (one_id id f own same c);
+    locks = subst (λ items. AreLocksOf tree items e.locks) (sym (one_items id f own same c)) zip.0.locks;
+  },
+  zip_changed tree line table id f own same zip.1,
+)
 
 module _ (tree : List Place) (line : List Claim) (table : List Entry) (zip : IsTableOf tree line table) where
   pub as_long : length table ≡ length line

@@ -2,14 +2,14 @@
 ghost use Rattle.std.specs.Prelude.{◌≡◌, ◌<◌, ◌++◌, ◌∷◌, [], true, is_some, length, slice_get, None, IsOk, IfOk, OnOk};
 ghost use Rattle.std.specs.Option.{option_copied};
 ghost use Rattle.vault_model.specs.declared.claims.Claim.{Claim};
-ghost use Rattle.vault_model.specs.Claims.{claim_of, without};
+ghost use Rattle.vault_model.specs.Claims.{claim_of, without, changed, given_to, noted_as};
 ghost use Rattle.long_locks.specs.Lines.{put_first};
 
 use indexmap::IndexMap;
 use std::alloc::{Allocator, Global};
 use std::hash::{BuildHasherDefault, FoldHasher};
 use std::marker::Model;
-use vault_model::{Claim, ClaimId, Items, NoMemory};
+use vault_model::{Claim, ClaimId, Items, Name, NoMemory, Note, Owner};
 
 /// Claims in order, each found by its id without a search. Contracts see their list, and the room
 /// that there is for more.
@@ -102,6 +102,24 @@ impl<A: Allocator> Claims<A> {
         let index = self.by_id.get_index_of(&id).unwrap();
         self.by_id.move_index(index, 0);
         self.by_id[0].items = items;
+    }
+
+    /// Gives a claim to a designer, in its place. Where there is none of this id, nothing changes.
+    pub(crate) fn give(&mut self, id: ClaimId, designer: Name)
+        ensures { self.new.claims ≡ changed self.old.claims id (given_to designer) }
+    {
+        if let Some(index) = self.by_id.get_index_of(&id) {
+            self.by_id[index].owner = Owner::Designer(designer);
+        }
+    }
+
+    /// Gives a claim a note, in its place. Where there is none of this id, nothing changes.
+    pub(crate) fn set_note(&mut self, id: ClaimId, note: Note)
+        ensures { self.new.claims ≡ changed self.old.claims id (noted_as note) }
+    {
+        if let Some(index) = self.by_id.get_index_of(&id) {
+            self.by_id[index].note = note;
+        }
     }
 
     /// Takes a claim out. The others keep their order.

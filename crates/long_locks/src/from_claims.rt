@@ -5,7 +5,7 @@ ghost use Rattle.vault_model.specs.declared.claims.Claim.{Claim};
 ghost use Rattle.vault_model.specs.Claims.{same_id};
 ghost use Rattle.vault_model.specs.Limits.{most_claims};
 ghost use Rattle.vault_model.specs.Tree.{IsTree};
-ghost use Rattle.vault_model.specs.Vault.{AreThere, IsGiven, Owns, IsClaim};
+ghost use Rattle.vault_model.specs.Vault.{AreThere, IsGiven, Owns, IsNoteOf, IsClaim};
 ghost use Rattle.lock_table.specs.Tables.{IsTableOf};
 ghost use Rattle.long_locks.specs.LongClaims.{AreLongClaims, line_of, IsRefusalOf};
 
@@ -49,8 +49,11 @@ pub(crate) fn are_there<A: Allocator>(tree: &Tree<A>, items: &[Item]) -> bool
 
 // Whether a claim is a long one, of a designer, with a number up to the last.
 fn is_long(last_long: u32, claim: &Claim) -> bool
-    ensures { IsTrue result ↔ (IsGiven last_long 0 claim.now.id × Owns [] claim.now.owner claim.now.id) }
+    ensures { IsTrue result
+        ↔ (IsGiven last_long 0 claim.now.id × Owns [] claim.now.owner claim.now.id × IsNoteOf claim.now.id claim.now.note) }
 {
+    // Any note is short enough.
+    let _ = claim.note.as_bytes();
     match (claim.id, claim.owner) {
         (ClaimId::Long(number), Owner::Designer(_)) => 1 <= number && number <= last_long,
         (ClaimId::Long(_), Owner::Session(_)) => false,

@@ -1,7 +1,8 @@
 //! The line: long and short claims in order of arrival, and how each stands.
 //!
 //! Promises: it keeps the model's list of claims, and each answer is the model's, for the tree that it was weighed over and
-//! for every tree grown from that. An extension goes to the front, or nothing moves. A copy equals its source. A line is made
+//! for every tree grown from that. An extension goes to the front, or nothing moves. Who is given a check-out, or a note of it,
+//! changes that alone, in its place. A copy equals its source. A line is made
 //! of long claims exactly where they are a vault's (`from_claims`).
 //! Stands on: vault_model, design_tree, lock_modes, lock_table. Must not know: sessions beside their numbers, drafts, files.
 //!

@@ -5,7 +5,8 @@ ghost use Rattle.std.specs.List.{IsDistinct};
 ghost use Rattle.vault_model.specs.declared.claims.Claim.{Claim};
 ghost use Rattle.vault_model.specs.declared.place.Place.{Place};
 ghost use Rattle.vault_model.specs.Tree.{IsTree};
-ghost use Rattle.vault_model.specs.Claims.{same_id, standing_behind, standing_of, claim_of, without, covering};
+ghost use Rattle.vault_model.specs.declared.ids.ClaimId.TheVariants.{Long};
+ghost use Rattle.vault_model.specs.Claims.{same_id, standing_behind, standing_of, claim_of, without, covering, changed, given_to, noted_as};
 ghost use Rattle.vault_model.specs.Vault.{AreThere};
 ghost use Rattle.vault_model.specs.Limits.{most_claims, last_number};
 ghost use Rattle.lock_table.specs.Tables.{IsTableOf, extension_by};
@@ -18,7 +19,7 @@ use design_tree::Tree;
 use lock_table::{Extension, Table, lock_set};
 use std::alloc::{Allocator, Global};
 use std::marker::Model;
-use vault_model::{Claim, ClaimId, Items, Name, NoMemory, Owner, PlaceId, Standing};
+use vault_model::{Claim, ClaimId, Items, Name, NoMemory, Note, Owner, PlaceId, Standing};
 
 /// The claims of a vault in order of arrival. Contracts see them as a list, with the last number
 /// that was given to a claim of each kind, and the tree over which a claim was weighed last.
@@ -216,6 +217,7 @@ impl<A: Allocator + Copy> Line<A> {
             id: ClaimId::Long(self.last_long + 1),
             owner: Owner::Designer(owner),
             items,
+            note: Note::new(),
         };
         let standing = put_last(&mut self.claims, &mut self.table, tree, claim)?;
         self.last_long += 1;
@@ -243,6 +245,7 @@ impl<A: Allocator + Copy> Line<A> {
             id: ClaimId::Short(self.last_short + 1),
             owner: Owner::Session(session),
             items,
+            note: Note::new(),
         };
         let standing = put_last(&mut self.claims, &mut self.table, tree, claim)?;
         self.last_short += 1;
@@ -301,6 +304,22 @@ impl<A: Allocator> Line<A> {
     {
         self.claims.remove(id);
         self.table.release(id);
+    }
+
+    /// Gives the check-out of this number to a designer. Its place in the line, its items and its note stay. Where there is none of this
+    /// number, nothing changes. Takes no memory.
+    pub fn give(&mut self, number: u32, designer: Name)
+        ensures { self.new ≡ record self.old { claims = changed self.old.claims (Long number) (given_to designer) } }
+    {
+        self.claims.give(ClaimId::Long(number), designer);
+    }
+
+    /// Gives the check-out of this number a note, in place of its own. All else of it stays. Where there is none of this number,
+    /// nothing changes. Takes no memory.
+    pub fn set_note(&mut self, number: u32, note: Note)
+        ensures { self.new ≡ record self.old { claims = changed self.old.claims (Long number) (noted_as note) } }
+    {
+        self.claims.set_note(ClaimId::Long(number), note);
     }
 
     /// Takes every claim of a session out of the line, when the session ends.

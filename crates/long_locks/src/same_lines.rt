@@ -5,7 +5,7 @@ use design_tree::Tree;
 use std::alloc::{Allocator, Global};
 use std::process::Abort;
 use test_memory::Refusing;
-use vault_model::{Claim, ClaimId, Item, Items, Name, NoMemory, Owner, Standing};
+use vault_model::{Claim, ClaimId, Item, Items, Name, NoMemory, Note, Owner, Standing};
 
 // Whether two lines answer alike.
 fn is_same<A: Allocator, B: Allocator>(one: &Line<A>, other: &Line<B>) -> bool {
@@ -85,6 +85,7 @@ fn long_claim(rt: &impl Abort, number: u32, items: Items) -> Claim {
         id: ClaimId::Long(number),
         owner: Owner::Designer(owner),
         items,
+        note: Note::new(),
     }
 }
 
@@ -159,6 +160,7 @@ fn claims_of_no_line_are_refused(rt: HostRuntime) {
             id: ClaimId::Short(1),
             owner: Owner::Session(1),
             items: one(look(4)),
+            note: Note::new(),
         },
     ];
     for claim in &wrong {

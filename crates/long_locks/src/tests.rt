@@ -3,6 +3,8 @@ ghost use Rattle.vault_model.specs.declared.place.Place.{Place};
 ghost use Rattle.vault_model.specs.Vault.{AreThere};
 ghost use Rattle.long_locks.specs.Lines.{IsGrownFrom};
 
+mod giving;
+
 use super::*;
 use crate::from_claims::are_there;
 use design_tree::Tree;

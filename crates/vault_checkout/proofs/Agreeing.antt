@@ -14,7 +14,8 @@ use Rattle.vault_model.specs.declared.claims.Owner.TheVariants as owners
 use Rattle.vault_model.specs.declared.claims.Standing.TheVariants as standings
 use Rattle.vault_model.specs.declared.ids.ClaimId.{ClaimId}
 use Rattle.vault_model.specs.declared.ids.ClaimId.TheVariants.{Long, Short}
-use Rattle.vault_model.specs.Claims.{same_id, claim_of, without, without_session, without_short, is_session, is_short, standing_of, standing_behind, put_first, in_way_of}
+use Rattle.vault_model.specs.Claims.{same_id, claim_of, without, without_session, without_short, is_session, is_short, standing_of, standing_behind, put_first, in_way_of, changed}
+use Rattle.vault_model.proofs.InPlace.{standing_of-changed, stands-changed}
 use Rattle.vault_model.specs.Shelf.{Draft}
 use Rattle.vault_model.specs.Drafts.{SavedDraft, saved_by, drafts_of}
 use Rattle.vault_model.specs.Vault.{Vault, IsVault, IsClaim, AreThere, AreDrafts, IsDraft, Owns, IsGiven}
@@ -294,6 +295,11 @@ module _ {A : Type 0} where
     pub agrees_put_first : (id : ClaimId) (claim : Claim) (items : List Item) → claim_of v.line id ≡ Some claim → AreDrafts v.tree (put_first v.line id items) (saved xs)
         → Agrees v.tree (put_first v.line id items) (map (granted v.tree (put_first v.line id items)) (map (recalled v.tree (put_first v.line id items)) xs))
     agrees_put_first id claim items found drafts = recalled_then_granted (put_first v.line id items) (first_there id claim items found) drafts
+
+    -- a claim that changes in its place
+    pub agrees_changed : (id : ClaimId) (f : Claim → Claim) → ((c : Claim) → (f c).id ≡ c.id) → ((c : Claim) → (f c).items ≡ c.items) → Agrees v.tree (changed v.line id f) xs
+    agrees_changed id f own same =
+        agrees_same v.tree v.tree v.line (changed v.line id f) xs agrees (λ n. stands-changed id f own same v.line (Long n)) (λ n there. standing_of-changed id f own same v.tree v.line (Long n))
 
     -- one more draft in a check-out
     pub agrees_saved : (n : ℕ) (draft : Draft) → Agrees v.tree v.line (with_saved xs n draft)

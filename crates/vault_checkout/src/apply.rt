@@ -1,6 +1,6 @@
 //! Effects, made on a book as the journal tells them.
 ghost use Rattle.std.specs.Prelude.{◌≡◌, ◌+◌, ◌==◌, ◌&&◌, not, nat_le, length, Some};
-ghost use Rattle.vault_model.specs.After.{may_make, may_ask, are_there, after_made, after_asked, after_extended, after_saved, after_checked_in, after_abandoned, after};
+ghost use Rattle.vault_model.specs.After.{may_make, may_ask, are_there, after_made, after_asked, after_extended, after_saved, after_checked_in, after_abandoned, after_given, after_noted, after};
 ghost use Rattle.vault_model.specs.Tree.{is_part};
 ghost use Rattle.vault_model.specs.Claims.{change_set};
 ghost use Rattle.vault_model.specs.Limits.{most_items};
@@ -15,7 +15,8 @@ use long_locks::Line;
 use std::alloc::Allocator;
 use thiserror::Error;
 use vault_model::{
-    Claim, ClaimId, Effect, EffectIn, Item, Items, MOST_CLAIMS, MOST_ITEMS, Name, NoMemory, PlaceId,
+    Claim, ClaimId, Effect, EffectIn, Item, Items, MOST_CLAIMS, MOST_ITEMS, Name, NoMemory, Note,
+    PlaceId,
 };
 
 /// Why an effect was not applied.
@@ -178,6 +179,30 @@ impl<A: Allocator + Copy> Book<A> {
         Ok(())
     }
 
+    #[tactic(auto, unfolding(vault_model::specs::After::after_given))]
+    fn apply_given(&mut self, number: u32, designer: Name) -> Result<(), ApplyError>
+        ensures { Applies self.old result self.new (after_given self.old number designer) }
+    {
+        if self.line.get(ClaimId::Long(number)).is_none() {
+            return Err(ApplyError::NotApplicable);
+        }
+        self.set_owner(number, designer);
+        Ok(())
+    }
+
+    #[tactic(auto, unfolding(vault_model::specs::After::after_noted))]
+    fn apply_noted(&mut self, number: u32, note: Note) -> Result<(), ApplyError>
+        ensures { Applies self.old result self.new (after_noted self.old number note) }
+    {
+        // Any note is short enough.
+        let _ = note.as_bytes();
+        if self.line.get(ClaimId::Long(number)).is_none() {
+            return Err(ApplyError::NotApplicable);
+        }
+        self.set_note(number, note);
+        Ok(())
+    }
+
     /// Makes the change of an effect, as a journal tells it; claims are not judged again. An effect
     /// that is not applicable is refused before memory is wanted.
     ///
@@ -196,6 +221,8 @@ impl<A: Allocator + Copy> Book<A> {
             }
             Effect::CheckedIn(number) => self.apply_checked_in(*number),
             Effect::Abandoned(number) => self.apply_abandoned(*number),
+            Effect::Given(number, designer) => self.apply_given(*number, *designer),
+            Effect::Noted(number, note) => self.apply_noted(*number, *note),
         }
     }
 }

@@ -4,7 +4,7 @@ ghost use Rattle.std.specs.Option.{option_copied};
 ghost use Rattle.vault_model.specs.Vault.{Vault, IsVault, CountsBelow, session_of, one_more, counted, counted_in, new_vault, durable};
 ghost use Rattle.vault_model.specs.Claims.{claim_of, standing_of, is_held};
 ghost use Rattle.vault_model.specs.Drafts.{drafts_of};
-ghost use Rattle.vault_model.specs.Step.{usable, permitted, join, make, check_out, extend, abandon, asked, extension, is_designer, is_owned_by, in_session, decide, step};
+ghost use Rattle.vault_model.specs.Step.{usable, permitted, join, make, check_out, extend, abandon, asked, extension, in_session, decide, step};
 ghost use Rattle.vault_model.specs.declared.session.Session.{Session};
 ghost use Rattle.vault_model.specs.declared.claims.Standing.TheVariants as standings;
 ghost use Rattle.long_locks.specs.Lines.{IsGrownFrom};
@@ -14,6 +14,7 @@ ghost use Rattle.vault_checkout.specs.Done.{Follows};
 
 use crate::check_outs::{AnyCheckOut, check_out_at, drafts_at, grant_held};
 use crate::done::{Done, Stop};
+use crate::owners::{is_designer, is_owned_by};
 use crate::places::{is_changed_by, joined, places_of};
 use design_tree::Tree;
 use lock_table::Extension;
@@ -64,24 +65,6 @@ pub(crate) fn reply_of<A: Allocator>(id: ClaimId, standing: Standing) -> ReplyIn
     match standing {
         Standing::Held => Reply::Held(id),
         Standing::Queued(other) => Reply::Queued(id, other),
-    }
-}
-
-fn is_designer(owner: &Owner, name: &Name) -> bool
-    ensures { result ≡ is_designer name.now owner.now }
-{
-    match owner {
-        Owner::Designer(other) => other == name,
-        Owner::Session(_) => false,
-    }
-}
-
-pub(crate) fn is_owned_by(owner: &Owner, session: &Session) -> bool
-    ensures { result ≡ is_owned_by session.now owner.now }
-{
-    match owner {
-        Owner::Designer(other) => *other == session.name,
-        Owner::Session(number) => *number == session.number,
     }
 }
 
@@ -407,6 +390,9 @@ impl<A: Allocator + Copy> Book<A> {
             Command::List(path) => self.list(path),
             Command::Fetch(path, version) => self.fetch(path, *version),
             Command::Count(path) => self.count_versions(path),
+            Command::Give(claim, designer) => self.give(session, *claim, *designer),
+            Command::Note(claim, text) => self.note(session, *claim, text.as_slice()),
+            Command::ReadNote(claim) => self.read_note(*claim),
             Command::Leave => Ok(self.leave(session)),
         }
     }

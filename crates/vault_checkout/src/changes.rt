@@ -11,7 +11,7 @@ ghost use Rattle.vault_model.specs.Shelf.{is_shelvable};
 ghost use Rattle.vault_model.specs.Drafts.{drafts_of, new_draft};
 ghost use Rattle.vault_model.specs.Vault.{AreThere, IsDraft, IsVault};
 ghost use Rattle.vault_model.specs.After.{drafts_held};
-ghost use Rattle.vault_model.specs.Changes.{with_place, with_check_out, with_items, with_content, with_versions, without_check_out, without_hold};
+ghost use Rattle.vault_model.specs.Changes.{with_place, with_check_out, with_items, with_content, with_versions, without_check_out, with_owner, with_note, without_hold};
 ghost use Rattle.vault_checkout.specs.Applied.{held_at};
 ghost use Rattle.vault_checkout.specs.Typed.{number_of, own_drafts, marked, saved};
 ghost use Rattle.vault_model.specs.Step.{may_save};
@@ -27,7 +27,7 @@ use crate::weights::may_save;
 use design_tree::Tree;
 use lock_table::{Extension, lock_set};
 use std::alloc::Allocator;
-use vault_model::{Claim, ClaimId, Draft, Items, Listing, Name, NoMemory, PlaceId, Standing};
+use vault_model::{Claim, ClaimId, Draft, Items, Listing, Name, NoMemory, Note, PlaceId, Standing};
 
 pub(crate) fn overlaps<A: Allocator>(tree: &Tree<A>, items: &Items, others: &Items) -> bool
     requires items { AreThere tree.now items.now }
@@ -85,6 +85,22 @@ impl<A: Allocator + Copy> Book<A> {
         withdraw_at(&mut self.check_outs, number);
         self.line.drop_claim(ClaimId::Long(number));
         grant_held(&mut self.check_outs, &self.line);
+    }
+
+    /// Gives a long claim to a designer, in its place. Its check-out stays as it is, with its drafts.
+    pub(crate) fn set_owner(&mut self, number: u32, designer: Name)
+        ensures { self.new ≡ with_owner self.old number designer }
+    {
+        self.line.give(number, designer);
+    }
+
+    /// Gives a long claim a note, in its place. Its check-out stays as it is, with its drafts.
+    pub(crate) fn set_note(&mut self, number: u32, note: Note)
+        ensures { self.new ≡ with_note self.old number note }
+    {
+        // Any note is short enough.
+        let _ = note.as_bytes();
+        self.line.set_note(number, note);
     }
 
     /// Takes a short claim out of the line; check-outs that are now held are granted.

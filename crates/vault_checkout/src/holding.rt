@@ -4,9 +4,10 @@ ghost use Rattle.vault_model.specs.Vault.{CountsBelow, session_of};
 ghost use Rattle.vault_model.specs.Step.{hold, release, leave};
 ghost use Rattle.vault_checkout.specs.Done.{Follows};
 
-use crate::book::{Book, drop_session, is_owned_by, reply_of};
+use crate::book::{Book, drop_session, reply_of};
 use crate::check_outs::grant_held;
 use crate::done::{Done, Stop};
+use crate::owners::is_owned_by;
 use crate::places::places_of;
 use std::alloc::Allocator;
 use vault_model::{

@@ -1,6 +1,7 @@
 -- The text of a report. This project's own.
 use Rattle.std.specs.Prelude.{ℕ, ◌+◌, List, [], ◌∷◌, ◌++◌, codes, decimal, length, Option, None, Some}
 use Rattle.std.specs.List.{flat_map}
+use Rattle.hex.specs.Hex.{encode_lower}
 use Rattle.vault_model.specs.declared.ids.ClaimId.{ClaimId}
 use Rattle.vault_model.specs.declared.ids.ClaimId.TheVariants.{Long, Short}
 use Rattle.vault_model.specs.declared.ids.Intent.{Intent}
@@ -80,7 +81,12 @@ intent_text Change = codes " w:"
 abbrev pub item_text : List Place → Item → List ℕ
 item_text tree item = intent_text item.intent ++ path_text (path_of tree item.place)
 
--- the line of a claim: its number, its owner, how it stands, and its items in order
+-- a note, where there is one: two lower case hexadecimal digits a byte
+abbrev pub note_text : List ℕ → List ℕ
+note_text [] = []
+note_text (byte ∷ note) = codes " note " ++ encode_lower (byte ∷ note)
+
+-- the line of a claim: its number, its owner, how it stands, its items in order, and its note
 abbrev pub claim_line : Vault → Claim → List ℕ
 claim_line v c =
     claim_text c.id
@@ -88,6 +94,7 @@ claim_line v c =
     ++ owner_text c.owner
     ++ standing_text (standing_of v.tree v.line c.id)
     ++ flat_map (item_text v.tree) c.items
+    ++ note_text c.note
     ++ newline
 
 -- the lines of the vault: its counts, and its claims in the order of the line

@@ -3,18 +3,23 @@
 
 ghost use Rattle.std.specs.Prelude.{◌≡◌, ◌<◌, ◌≤◌, ◌∷◌, ◌++◌, codes, length, slice_get, Some};
 ghost use Rattle.std.specs.List.{flat_map};
+ghost use Rattle.hex.specs.Hex.{encode_lower};
 ghost use Rattle.vault_model.specs.Claims.{standing_of};
+ghost use Rattle.vault_model.specs.Limits.{longest_note};
 ghost use Rattle.vault_model.specs.Path.{path_text};
 ghost use Rattle.vault_model.specs.Tree.{path_of};
 ghost use Rattle.vault_inspector.specs.Output.{Writes};
-ghost use Rattle.vault_inspector.specs.Texts.{claim_line, claim_text, item_text, owner_text, standing_text};
+ghost use Rattle.vault_inspector.specs.Texts.{claim_line, claim_text, item_text, note_text, owner_text, standing_text};
 
 use crate::output::{PrintError, put, put_number};
 use design_tree::Tree;
+use hex::encode_to_slice;
 use std::alloc::Allocator;
 use std::io::Write;
 use vault_checkout::Book;
-use vault_model::{Claim, ClaimId, Intent, Item, Name, Owner, Path, PlaceId, Standing};
+use vault_model::{
+    Claim, ClaimId, Intent, Item, LONGEST_NOTE, Name, Note, Owner, Path, PlaceId, Standing,
+};
 
 // Writes a claim by its number.
 fn print_id<W: Write>(writer: &mut W, id: ClaimId) -> Result<(), PrintError>
@@ -146,6 +151,29 @@ fn print_claimed<W: Write, A: Allocator + Copy>(
     print_items(writer, book.tree(), claim.items.as_slice())
 }
 
+// Writes two digits for each byte of a note.
+fn print_digits<W: Write>(writer: &mut W, note: &[u8]) -> Result<(), PrintError>
+    requires { length note.now ≤ longest_note }
+    ensures { Writes (W.contents writer.old) (W.contents writer.new) (encode_lower note.now) result }
+{
+    let mut room = [0; 2 * LONGEST_NOTE];
+    let digits = &mut room[..2 * note.len()];
+    encode_to_slice(note, digits).unwrap();
+    put(writer, digits)
+}
+
+// Writes a note, where there is one.
+fn print_note<W: Write>(writer: &mut W, note: &Note) -> Result<(), PrintError>
+    ensures { Writes (W.contents writer.old) (W.contents writer.new) (note_text note.now) result }
+{
+    let bytes = note.as_bytes();
+    if bytes.is_empty() {
+        return Ok(());
+    }
+    put(writer, b" note ")?;
+    print_digits(writer, bytes)
+}
+
 // Writes the line of a claim.
 fn print_claim<W: Write, A: Allocator + Copy>(
     writer: &mut W,
@@ -159,6 +187,7 @@ fn print_claim<W: Write, A: Allocator + Copy>(
     print_owner(writer, &claim.owner)?;
     print_standing(writer, book, claim.id)?;
     print_claimed(writer, book, claim)?;
+    print_note(writer, &claim.note)?;
     put(writer, b"\n")
 }
 

@@ -10,21 +10,21 @@ use vault_store::laws::what_is_noted_is_spelled;
 use vault_store::{Advanced, Started, Store};
 
 // A new vault, and one with a project made in a frame.
-const NEW: &[u8; 35] = b"\x01LLVAULT\0\0\0\x01\0\0\0\0\0\0\0\x01\0\0\0\x0a\0\0\0\0\0\0\0\x01\0\0\0";
+const NEW: &[u8; 35] = b"\x01LLVAULT\0\0\0\x02\0\0\0\0\0\0\0\x01\0\0\0\x0a\0\0\0\0\0\0\0\x01\0\0\0";
 
 const WITH_E: &[u8; 47] =
-    b"\x01LLVAULT\0\0\0\x01\0\0\0\0\0\0\0\x01\0\0\0\x0a\0\0\0\0\0\0\0\x01\0\0\x01\0\0\0\x07\x01\0\0\0\0\x01e\0";
+    b"\x01LLVAULT\0\0\0\x02\0\0\0\0\0\0\0\x01\0\0\0\x0a\0\0\0\0\0\0\0\x01\0\0\x01\0\0\0\x07\x01\0\0\0\0\x01e\0";
 
 // A file of generation 2 with a snapshot: a project that anna has checked out for change.
-const CHECKED_OUT: &[u8; 57] =
-    b"\x01LLVAULT\0\0\0\x01\0\0\0\0\0\0\0\x02\0\0\0\x20\0\0\0\x01\0\0\0\x02\0\0\0\0\x01e\0\x01\0\0\0\x01\x04anna\x01\x01\0\0\0\x01\0\0";
+const CHECKED_OUT: &[u8; 59] =
+    b"\x01LLVAULT\0\0\0\x02\0\0\0\0\0\0\0\x02\0\0\0\x22\0\0\0\x01\0\0\0\x02\0\0\0\0\x01e\0\0\x01\0\0\0\x01\x04anna\0\x01\x01\0\0\0\x01\0\0";
 
-// One of generation 3: a part with a version; anna's c3, which is held with a draft of it; and behind it ben's c2.
-const QUEUED: &[u8; 99] =
-    b"\x01LLVAULT\0\0\0\x01\0\0\0\0\0\0\0\x03\0\0\0\x4a\0\0\0\x03\0\0\0\x04\0\0\0\0\x01e\0\0\0\x01\x01b\0\0\0\x02\x01p\0\x01\0\x04text\0\x02\0\0\0\x03\x04anna\x01\x01\0\0\0\x03\x01\0\0\0\x03\0\x01x\0\0\0\x02\x03ben\x01\0\0\0\0\x02\0\0";
+// One of generation 3: a part with a version; anna's c3, which is held with a draft of it; and behind it ben's c2, with a note.
+const QUEUED: &[u8; 106] =
+    b"\x01LLVAULT\0\0\0\x02\0\0\0\0\0\0\0\x03\0\0\0\x51\0\0\0\x03\0\0\0\x04\0\0\0\0\x01e\0\0\0\0\x01\x01b\0\0\0\0\x02\x01p\x01\0\x01\0\x04text\0\x02\0\0\0\x03\x04anna\0\x01\x01\0\0\0\x03\x01\0\0\0\x03\0\x01x\0\0\0\x02\x03ben\x02ab\x01\0\0\0\0\x02\0\0";
 
-const QUEUED_TEXT: &[u8; 168] =
-    b"file a: open, generation 3, frames 0, tail 98\nfile b: older, generation 1\nplaces 4, versions 1, claims 2, drafts 1\nc3 anna held w:/e/b/p\nc2 ben queued behind c3 r:/e/b\n";
+const QUEUED_TEXT: &[u8; 179] =
+    b"file a: open, generation 3, frames 0, tail 105\nfile b: older, generation 1\nplaces 4, versions 1, claims 2, drafts 1\nc3 anna held w:/e/b/p\nc2 ben queued behind c3 r:/e/b note 6162\n";
 
 // A device with these bytes.
 fn holding(rt: &impl Abort, alloc: Global, bytes: &[u8]) -> MemDevice
@@ -60,7 +60,7 @@ fn reports_on_vaults(rt: HostRuntime) {
         b"file a: open, generation 1, frames 1, tail 46\nfile b: closed\nplaces 2, versions 0, claims 0, drafts 0\n";
     assert!(rt; tells(&rt, alloc, WITH_E, b"", text));
     let text =
-        b"file a: older, generation 1\nfile b: open, generation 2, frames 0, tail 56\nplaces 2, versions 0, claims 1, drafts 0\nc1 anna held w:/e\n";
+        b"file a: older, generation 1\nfile b: open, generation 2, frames 0, tail 58\nplaces 2, versions 0, claims 1, drafts 0\nc1 anna held w:/e\n";
     assert!(rt; tells(&rt, alloc, WITH_E, CHECKED_OUT, text));
     assert!(rt; tells(&rt, alloc, QUEUED, NEW, QUEUED_TEXT));
 }
@@ -95,7 +95,7 @@ fn is_settled_by(store: &mut Store<MemDevice>, steps: u8) -> bool {
     store.advance() == Ok(Advanced::Settled)
 }
 
-// A snapshot of 16 bytes has its tail gate at 40, and a frame of 12 bytes behind it moves that to 52.
+// A snapshot of 17 bytes has its tail gate at 41, and a frame of 12 bytes behind it moves that to 53.
 #[test]
 fn reports_behind_a_snapshot(rt: HostRuntime) {
     let alloc = rt.alloc();
@@ -106,7 +106,7 @@ fn reports_behind_a_snapshot(rt: HostRuntime) {
     let mut printed = Vec::new(alloc);
     assert!(rt; print(&report, &mut printed).is_ok());
     let text =
-        b"file a: older, generation 1\nfile b: open, generation 2, frames 1, tail 52\nplaces 3, versions 0, claims 0, drafts 0\n";
+        b"file a: older, generation 1\nfile b: open, generation 2, frames 1, tail 53\nplaces 3, versions 0, claims 0, drafts 0\n";
     assert!(rt; printed.as_slice() == text.as_slice());
     drop(report);
     drop(a);
@@ -132,20 +132,20 @@ fn reports_on_no_vault(rt: HostRuntime) {
     let text = b"file a: damaged at 34\nfile b: closed\nno vault\n";
     assert!(rt; tells(&rt, alloc, &WITH_E[..40], b"", text));
     let mut other = *NEW;
-    other[11] = 2;
+    other[11] = 1;
     let text = b"file a: damaged at 8\nfile b: open, generation 1, frames 0, tail 34\nno vault\n";
     assert!(rt; tells(&rt, alloc, &other, NEW, text));
     let text = b"file a: open, generation 1, frames 1, tail 46\nfile b: damaged at 8\nno vault\n";
     assert!(rt; tells(&rt, alloc, WITH_E, &other, text));
     let text = b"file a: older, generation 1\nfile b: damaged at 20\nno vault\n";
-    assert!(rt; tells(&rt, alloc, NEW, &CHECKED_OUT[..56], text));
+    assert!(rt; tells(&rt, alloc, NEW, &CHECKED_OUT[..58], text));
 }
 
 // Whether a writer with room for so many bytes fails, and then holds the first of the text.
 fn is_cut(report: &Report, room: usize) -> bool
-    requires { room ≤ 168 }
+    requires { room ≤ 179 }
 {
-    let mut bytes = [0; 168];
+    let mut bytes = [0; 179];
     let mut writer = &mut bytes[..room];
     let end = print(report, &mut writer);
     end == Err(PrintError::Write) && bytes[..room] == QUEUED_TEXT[..room]
@@ -156,7 +156,7 @@ fn a_writer_that_fails(rt: HostRuntime) {
     let mut a = holding(&rt, rt.alloc(), QUEUED);
     let mut b = holding(&rt, rt.alloc(), NEW);
     let report = inspect(rt.alloc(), &mut a, &mut b).expect(&rt, "a report");
-    for room in 0..168 {
+    for room in 0..179 {
         assert!(rt; is_cut(&report, room), "{room}");
     }
     drop(report);

@@ -2,13 +2,13 @@
 use Rattle.std.proofs.Common.{◌≡◌, ℕ, true, cond, eqb, List, ◌∷◌, ◌++◌, Option, Some, None, sym, ap, subst, ◌∙◌, append_assoc, inl, inr}
 use Rattle.std.proofs.lemmas.Bool.{eqb-true}
 use Rattle.vault_model.specs.Said.{Effect}
-use Rattle.vault_model.specs.declared.effects.Effect.TheVariants.{Made, Asked, Extended, Saved, CheckedIn, Abandoned}
+use Rattle.vault_model.specs.declared.effects.Effect.TheVariants.{Made, Asked, Extended, Saved, CheckedIn, Abandoned, Given, Noted}
 use Rattle.vault_model.specs.declared.claims.Item.{Item}
-use Rattle.vault_journal.specs.Spelling.{in_four, name_bytes, items_bytes, content_bytes, record_of, HasRecord}
-use Rattle.vault_journal.specs.Reading.{◌>>=◌, u8_at, u32_at, name_at, items_at, content_at, claim_at, made_at, asked_at, extended_at, saved_at, checked_in_at, abandoned_at, effect_of_kind, effect_at}
+use Rattle.vault_journal.specs.Spelling.{in_four, name_bytes, items_bytes, content_bytes, note_bytes, record_of, HasRecord}
+use Rattle.vault_journal.specs.Reading.{◌>>=◌, u8_at, u32_at, name_at, items_at, content_at, note_at, claim_at, made_at, asked_at, extended_at, saved_at, checked_in_at, abandoned_at, given_at, noted_at, effect_of_kind, effect_at}
 use Rattle.vault_journal.specs.Laws.{AreBytes}
 use Rattle.vault_journal.proofs.Takes.{bind_some, guard_passed, some_is, chosen, Takes, Takes-then, Takes-behind}
-use Rattle.vault_journal.proofs.Fields.{u8_takes, u32_takes, u32_again, name_takes, name_again, items_take, items_again, content_takes, content_again, claim_takes, claim_again}
+use Rattle.vault_journal.proofs.Fields.{u8_takes, u32_takes, u32_again, name_takes, name_again, items_take, items_again, content_takes, content_again, note_takes, note_again, claim_takes, claim_again}
 
 abbrev IsRead : ℕ → List ℕ → Effect × List ℕ → Type 0
 IsRead kind bytes x = Takes (kind ∷ bytes) (record_of x.0) x.1 × HasRecord x.0
@@ -73,9 +73,35 @@ abandoned_takes bytes f rest fits e =
     let t = claim_takes bytes a.0.0 a.0.1 fits a.1 in
     subst (IsRead 6 bytes) (some_is (Abandoned a.0.0, a.0.1) (f, rest) a.2) (Takes-behind 6 bytes (in_four a.0.0) a.0.1 t.0, t.1)
 
+given_takes : (bytes : List ℕ) (f : Effect) (rest : List ℕ) → AreBytes bytes → given_at bytes ≡ Some (f, rest) → IsRead 7 bytes (f, rest)
+unfolding given_at
+given_takes bytes f rest fits e =
+    let a = bind_some (claim_at bytes) (λ claim. name_at claim.1 >>= λ designer. Some (Given claim.0 designer.0, designer.1)) (f, rest) e in
+    let b = bind_some (name_at a.0.1) (λ designer. Some (Given a.0.0 designer.0, designer.1)) (f, rest) a.2 in
+    let t = claim_takes bytes a.0.0 a.0.1 fits a.1 in
+    let u = name_takes a.0.1 b.0.0 b.0.1 t.0.rest_fits b.1 in
+    let all = Takes-then bytes (in_four a.0.0) a.0.1 (name_bytes b.0.0) b.0.1 t.0 u.0 in
+    subst (IsRead 7 bytes) (some_is (Given a.0.0 b.0.0, b.0.1) (f, rest) b.2) (Takes-behind 7 bytes (in_four a.0.0 ++ name_bytes b.0.0) b.0.1 all, (t.1, u.1))
+
+noted_takes : (bytes : List ℕ) (f : Effect) (rest : List ℕ) → AreBytes bytes → noted_at bytes ≡ Some (f, rest) → IsRead 8 bytes (f, rest)
+unfolding noted_at
+noted_takes bytes f rest fits e =
+    let a = bind_some (claim_at bytes) (λ claim. note_at claim.1 >>= λ note. Some (Noted claim.0 note.0, note.1)) (f, rest) e in
+    let b = bind_some (note_at a.0.1) (λ note. Some (Noted a.0.0 note.0, note.1)) (f, rest) a.2 in
+    let t = claim_takes bytes a.0.0 a.0.1 fits a.1 in
+    let u = note_takes a.0.1 b.0.0 b.0.1 t.0.rest_fits b.1 in
+    let all = Takes-then bytes (in_four a.0.0) a.0.1 (note_bytes b.0.0) b.0.1 t.0 u.0 in
+    subst (IsRead 8 bytes) (some_is (Noted a.0.0 b.0.0, b.0.1) (f, rest) b.2) (Takes-behind 8 bytes (in_four a.0.0 ++ note_bytes b.0.0) b.0.1 all, (t.1, u.1))
+
 -- the kinds that are left, from each on
+abbrev from_eight : ℕ → List ℕ → Option (Effect × List ℕ)
+from_eight kind bytes = cond (eqb kind 8) (noted_at bytes) None
+
+abbrev from_seven : ℕ → List ℕ → Option (Effect × List ℕ)
+from_seven kind bytes = cond (eqb kind 7) (given_at bytes) (from_eight kind bytes)
+
 abbrev from_six : ℕ → List ℕ → Option (Effect × List ℕ)
-from_six kind bytes = cond (eqb kind 6) (abandoned_at bytes) None
+from_six kind bytes = cond (eqb kind 6) (abandoned_at bytes) (from_seven kind bytes)
 
 abbrev from_five : ℕ → List ℕ → Option (Effect × List ℕ)
 from_five kind bytes = cond (eqb kind 5) (checked_in_at bytes) (from_six kind bytes)
@@ -93,8 +119,14 @@ module _ (kind : ℕ) (bytes : List ℕ) (f : Effect) (rest : List ℕ) (fits : 
   as_kind : (k : ℕ) → eqb kind k ≡ true → IsRead k bytes (f, rest) → IsRead kind bytes (f, rest)
   as_kind k is read = subst (λ (t : ℕ). IsRead t bytes (f, rest)) (sym (eqb-true kind k is)) read
 
+  eight : from_eight kind bytes ≡ Some (f, rest) → IsRead kind bytes (f, rest)
+  eight e = let g = guard_passed (eqb kind 8) (noted_at bytes) (f, rest) e in as_kind 8 g.0 (noted_takes bytes f rest fits g.1)
+
+  seven : from_seven kind bytes ≡ Some (f, rest) → IsRead kind bytes (f, rest)
+  seven e = elim (chosen (eqb kind 7) (given_at bytes) (from_eight kind bytes) (Some (f, rest)) e) [ inl g ↦ as_kind 7 g.0 (given_takes bytes f rest fits g.1) | inr g ↦ eight g.1 ]
+
   six : from_six kind bytes ≡ Some (f, rest) → IsRead kind bytes (f, rest)
-  six e = let g = guard_passed (eqb kind 6) (abandoned_at bytes) (f, rest) e in as_kind 6 g.0 (abandoned_takes bytes f rest fits g.1)
+  six e = elim (chosen (eqb kind 6) (abandoned_at bytes) (from_seven kind bytes) (Some (f, rest)) e) [ inl g ↦ as_kind 6 g.0 (abandoned_takes bytes f rest fits g.1) | inr g ↦ seven g.1 ]
 
   five : from_five kind bytes ≡ Some (f, rest) → IsRead kind bytes (f, rest)
   five e = elim (chosen (eqb kind 5) (checked_in_at bytes) (from_six kind bytes) (Some (f, rest)) e) [ inl g ↦ as_kind 5 g.0 (checked_in_takes bytes f rest fits g.1) | inr g ↦ six g.1 ]
@@ -122,7 +154,7 @@ effect_takes bytes f rest fits e =
 
 -- the record of an effect is read again, whatever follows
 pub effect_again : (e : Effect) (rest : List ℕ) → HasRecord e → effect_at (record_of e ++ rest) ≡ Some (e, rest)
-unfolding effect_at effect_of_kind made_at asked_at extended_at saved_at checked_in_at abandoned_at
+unfolding effect_at effect_of_kind made_at asked_at extended_at saved_at checked_in_at abandoned_at given_at noted_at
 effect_again (Made parent child) rest has =
     let regrouped : (in_four parent ++ name_bytes child) ++ rest ≡ in_four parent ++ (name_bytes child ++ rest) = append_assoc (in_four parent) (name_bytes child) rest in
     ap (λ (l : List ℕ). made_at l) regrouped
@@ -149,3 +181,13 @@ effect_again (Saved claim place content) rest has =
     ∙ ap (λ (r : Option (List ℕ × List ℕ)). r >>= λ content. Some (Saved claim place content.0, content.1)) (content_again content rest has.2)
 effect_again (CheckedIn claim) rest has = ap (λ (r : Option (ℕ × List ℕ)). r >>= λ claim. Some (CheckedIn claim.0, claim.1)) (claim_again claim rest has)
 effect_again (Abandoned claim) rest has = ap (λ (r : Option (ℕ × List ℕ)). r >>= λ claim. Some (Abandoned claim.0, claim.1)) (claim_again claim rest has)
+effect_again (Given claim designer) rest has =
+    let regrouped : (in_four claim ++ name_bytes designer) ++ rest ≡ in_four claim ++ (name_bytes designer ++ rest) = append_assoc (in_four claim) (name_bytes designer) rest in
+    ap (λ (l : List ℕ). given_at l) regrouped
+    ∙ ap (λ (r : Option (ℕ × List ℕ)). r >>= λ claim. name_at claim.1 >>= λ designer. Some (Given claim.0 designer.0, designer.1)) (claim_again claim (name_bytes designer ++ rest) has.0)
+    ∙ ap (λ (r : Option (List ℕ × List ℕ)). r >>= λ designer. Some (Given claim designer.0, designer.1)) (name_again designer rest has.1)
+effect_again (Noted claim note) rest has =
+    let regrouped : (in_four claim ++ note_bytes note) ++ rest ≡ in_four claim ++ (note_bytes note ++ rest) = append_assoc (in_four claim) (note_bytes note) rest in
+    ap (λ (l : List ℕ). noted_at l) regrouped
+    ∙ ap (λ (r : Option (ℕ × List ℕ)). r >>= λ claim. note_at claim.1 >>= λ note. Some (Noted claim.0 note.0, note.1)) (claim_again claim (note_bytes note ++ rest) has.0)
+    ∙ ap (λ (r : Option (List ℕ × List ℕ)). r >>= λ note. Some (Noted claim note.0, note.1)) (note_again note rest has.1)

@@ -9,12 +9,13 @@ use Rattle.std.proofs.lemmas.List.{take_at, drop_at, take-append-drop, length-ap
 use Rattle.std.proofs.lemmas.List.Concat.{flat_map-cons}
 use Rattle.std.proofs.lemmas.Nat.{be_bytes_2, be_bytes_4, be_bytes_8, from_be_bytes-to_be_bytes_2, from_be_bytes-to_be_bytes_4, from_be_bytes-to_be_bytes_8}
 use Rattle.vault_model.specs.Name.{IsName, is_name}
+use Rattle.vault_model.specs.Note.{IsNote, is_note}
 use Rattle.vault_model.specs.Limits.{most_items}
 use Rattle.vault_model.specs.declared.ids.Intent.{Intent}
 use Rattle.vault_model.specs.declared.ids.Intent.TheVariants.{Look, Change}
 use Rattle.vault_model.specs.declared.claims.Item.{Item}
-use Rattle.vault_journal.specs.Spelling.{in_two, in_four, in_eight, name_bytes, item_bytes, items_bytes, content_bytes, longest_content, ItemFits, AreItems, IsClaimNumber}
-use Rattle.vault_journal.specs.Reading.{◌>>=◌, u8_at, u16_at, u32_at, u64_at, bytes_at, name_at, item_at, each_item_at, items_at, content_at, claim_at}
+use Rattle.vault_journal.specs.Spelling.{in_two, in_four, in_eight, name_bytes, item_bytes, items_bytes, content_bytes, note_bytes, longest_content, ItemFits, AreItems, IsClaimNumber}
+use Rattle.vault_journal.specs.Reading.{◌>>=◌, u8_at, u16_at, u32_at, u64_at, bytes_at, name_at, item_at, each_item_at, items_at, content_at, note_at, claim_at}
 use Rattle.vault_journal.specs.Laws.{AreBytes}
 use Rattle.vault_journal.proofs.Takes.{AreBytes-drop, AreBytes-take, bind_some, guard_some, guard_passed, some_is, Takes, Takes-then, Takes-behind}
 
@@ -120,6 +121,32 @@ unfolding name_at
 name_again text rest is =
     let known : is_name text ≡ true = is in
     ap (λ (r : Option (List ℕ × List ℕ)). r >>= checked_name) (bytes_again text rest) ∙ ap (λ (b : Bool). cond b (Some (text, rest)) None) known
+
+-- ---- notes
+
+abbrev checked_note : List ℕ × List ℕ → Option (List ℕ × List ℕ)
+checked_note note = cond (is_note note.0) (Some note) None
+
+pub note_takes : (bytes text rest : List ℕ) → AreBytes bytes → note_at bytes ≡ Some (text, rest) → Takes bytes (note_bytes text) rest × IsNote text
+unfolding note_at
+note_takes bytes text rest fits e =
+    let a = bind_some (u8_at bytes) (λ count. bytes_at count.0 count.1 >>= checked_note) (text, rest) e in
+    let b = bind_some (bytes_at a.0.0 a.0.1) checked_note (text, rest) a.2 in
+    let g = guard_passed (is_note b.0.0) (Some b.0) (text, rest) b.2 in
+    let t = u8_takes bytes a.0.0 a.0.1 fits a.1 in
+    let u = bytes_take a.0.0 a.0.1 b.0.0 b.0.1 t.0.rest_fits b.1 in
+    let joined = Takes-then bytes (a.0.0 ∷ []) a.0.1 b.0.0 b.0.1 t.0 u.0 in
+    let whole = subst (λ (n : ℕ). Takes bytes (n ∷ b.0.0) b.0.1) (sym u.1) joined in
+    subst (λ (p : List ℕ × List ℕ). Takes bytes (note_bytes p.0) p.1 × IsNote p.0) (some_is b.0 (text, rest) g.1) (whole, short_from b.0.0 g.0)
+  where
+    short_from : (l : List ℕ) → is_note l ≡ true → IsNote l
+    short_from l e = grind (arith, nat_tests)
+
+pub note_again : (text rest : List ℕ) → IsNote text → note_at (note_bytes text ++ rest) ≡ Some (text, rest)
+unfolding note_at
+note_again text rest short =
+    let known : is_note text ≡ true = grind (arith, nat_tests) in
+    ap (λ (r : Option (List ℕ × List ℕ)). r >>= checked_note) (bytes_again text rest) ∙ ap (λ (b : Bool). cond b (Some (text, rest)) None) known
 
 -- ---- contents
 

@@ -6,14 +6,14 @@ use Rattle.std.proofs.lemmas.List.Concat.{flat_map-cons}
 use Rattle.std.proofs.lemmas.Bool.Decides.{nat_tests}
 use Rattle.vault_model.specs.Name.{IsName, is_name}
 use Rattle.vault_model.specs.Said.{Effect}
-use Rattle.vault_model.specs.declared.effects.Effect.TheVariants.{Made, Asked, Extended, Saved, CheckedIn, Abandoned}
+use Rattle.vault_model.specs.declared.effects.Effect.TheVariants.{Made, Asked, Extended, Saved, CheckedIn, Abandoned, Given, Noted}
 use Rattle.vault_journal.specs.Spelling.{record_of, records_of, HasRecord}
 use Rattle.vault_journal.specs.Reading.{effect_at}
 use Rattle.vault_journal.specs.Rows.{AreRecordsOf, IsFirstFault}
 use Rattle.vault_journal.specs.Laws.{AreBytes, FieldsAreSpelled, EffectsAreSpelled, RecordsAreShort, OneRecordAtTheFront, OneRow, NoFaultInARow, OneFirstFault}
 use Rattle.vault_journal.proofs.Sizes.{record_size}
 use Rattle.vault_journal.proofs.Takes.{Takes, some_is}
-use Rattle.vault_journal.proofs.Fields.{u8_takes, u8_again, u16_takes, u16_again, u32_takes, u32_again, u64_takes, u64_again, name_takes, name_again, item_takes, item_again, items_take, items_again, content_takes, content_again}
+use Rattle.vault_journal.proofs.Fields.{u8_takes, u8_again, u16_takes, u16_again, u32_takes, u32_again, u64_takes, u64_again, name_takes, name_again, item_takes, item_again, items_take, items_again, content_takes, content_again, note_takes, note_again}
 use Rattle.vault_journal.proofs.Effects.{effect_takes, effect_again}
 
 pub fields_are_spelled : FieldsAreSpelled
@@ -26,6 +26,7 @@ fields_are_spelled = record {
   item = record { reads = λ n rest has. item_again n rest has; spelled = λ bytes n rest fits e. let t = item_takes bytes n rest fits e in (t.0.parts, t.1) };
   items = record { reads = λ n rest has. items_again n rest has; spelled = λ bytes n rest fits e. let t = items_take bytes n rest fits e in (t.0.parts, t.1) };
   content = record { reads = λ n rest has. content_again n rest has; spelled = λ bytes n rest fits e. let t = content_takes bytes n rest fits e in (t.0.parts, t.1) };
+  note = record { reads = λ n rest has. note_again n rest has; spelled = λ bytes n rest fits e. let t = note_takes bytes n rest fits e in (t.0.parts, t.1) };
 }
 
 pub effects_are_spelled : EffectsAreSpelled
@@ -41,6 +42,8 @@ records_are_short (Extended claim items) has = omega (arith, record_size (Extend
 records_are_short (Saved claim place content) has = omega (arith, record_size (Saved claim place content), has.2)
 records_are_short (CheckedIn claim) has = omega (arith, record_size (CheckedIn claim))
 records_are_short (Abandoned claim) has = omega (arith, record_size (Abandoned claim))
+records_are_short (Given claim designer) has = omega (arith, record_size (Given claim designer), name_is_short designer has.1)
+records_are_short (Noted claim note) has = omega (arith, record_size (Noted claim note), has.1)
 
 -- a record has a byte
 pub record_some : (e : Effect) → 1 ≤ length (record_of e)
@@ -50,6 +53,8 @@ record_some (Extended claim items) = omega (arith, record_size (Extended claim i
 record_some (Saved claim place content) = omega (arith, record_size (Saved claim place content))
 record_some (CheckedIn claim) = omega (arith, record_size (CheckedIn claim))
 record_some (Abandoned claim) = omega (arith, record_size (Abandoned claim))
+record_some (Given claim designer) = omega (arith, record_size (Given claim designer))
+record_some (Noted claim note) = omega (arith, record_size (Noted claim note))
 
 abbrev pair : Effect → List ℕ → Option (Effect × List ℕ)
 pair e behind = Some (e, behind)

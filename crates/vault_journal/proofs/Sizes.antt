@@ -3,7 +3,7 @@ use Rattle.std.proofs.Common.{◌≡◌, ℕ, ◌+◌, ◌*◌, List, [], ◌∷
 use Rattle.std.specs.List.{flat_map}
 use Rattle.std.proofs.lemmas.List.Concat.{flat_map-cons}
 use Rattle.vault_model.specs.Said.{Effect}
-use Rattle.vault_model.specs.declared.effects.Effect.TheVariants.{Made, Asked, Extended, Saved, CheckedIn, Abandoned}
+use Rattle.vault_model.specs.declared.effects.Effect.TheVariants.{Made, Asked, Extended, Saved, CheckedIn, Abandoned, Given, Noted}
 use Rattle.vault_model.specs.declared.claims.Item.{Item}
 use Rattle.vault_journal.specs.Spelling.{in_four, name_bytes, item_bytes, items_bytes, record_of}
 
@@ -19,6 +19,8 @@ size_of (Extended claim items) = 6 + 5 * length items
 size_of (Saved claim place content) = 11 + length content
 size_of (CheckedIn claim) = 5
 size_of (Abandoned claim) = 5
+size_of (Given claim designer) = 6 + length designer
+size_of (Noted claim note) = 6 + length note
 
 pub record_size : (effect : Effect) → length (record_of effect) ≡ size_of effect
 record_size (Made parent child) = omega arith
@@ -27,3 +29,5 @@ record_size (Extended claim items) = omega (arith, flat_map-item_bytes items)
 record_size (Saved claim place content) = omega arith
 record_size (CheckedIn claim) = refl
 record_size (Abandoned claim) = refl
+record_size (Given claim designer) = omega arith
+record_size (Noted claim note) = omega arith

@@ -1,9 +1,10 @@
 -- One spelling: what is spelled is read, whatever follows, and what is read was spelled so.
 use Rattle.std.specs.Prelude.{◌≡◌, ℕ, ◌<◌, ◌≤◌, ◌^◌, List, [], ◌∷◌, ◌++◌, Option, Some, length, slice_index}
 use Rattle.vault_model.specs.Name.{IsName}
+use Rattle.vault_model.specs.Note.{IsNote}
 use Rattle.vault_model.specs.Said.{Effect}
-use Rattle.vault_journal.specs.Spelling.{in_two, in_four, in_eight, name_bytes, item_bytes, items_bytes, content_bytes, record_of, longest_content, longest_record, ItemFits, AreItems, HasRecord}
-use Rattle.vault_journal.specs.Reading.{u8_at, u16_at, u32_at, u64_at, name_at, item_at, items_at, content_at, effect_at}
+use Rattle.vault_journal.specs.Spelling.{in_two, in_four, in_eight, name_bytes, item_bytes, items_bytes, content_bytes, note_bytes, record_of, longest_content, longest_record, ItemFits, AreItems, HasRecord}
+use Rattle.vault_journal.specs.Reading.{u8_at, u16_at, u32_at, u64_at, name_at, item_at, items_at, content_at, note_at, effect_at}
 use Rattle.vault_journal.specs.Rows.{AreRecordsOf, IsFirstFault}
 
 -- each of them is a byte
@@ -27,6 +28,7 @@ pub record FieldsAreSpelled : Type 0 where
   pub item : IsInverse item_bytes ItemFits item_at
   pub items : IsInverse items_bytes AreItems items_at
   pub content : IsInverse content_bytes (λ content. length content ≤ longest_content) content_at
+  pub note : IsInverse note_bytes IsNote note_at
 
 -- an effect is read exactly where its record stands
 abbrev pub EffectsAreSpelled : Type 0

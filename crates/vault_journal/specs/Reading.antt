@@ -2,9 +2,10 @@
 use Rattle.std.specs.Prelude.{◌≡◌, ℕ, zero, suc, List, [], ◌∷◌, length, take, drop, Option, Some, None, Result, Ok, Err, nat_lt, nat_le, ◌==◌, ◌&&◌, if◌then◌else◌}
 use Rattle.std.specs.Int.{w16, w32, w64, from_be_bytes}
 use Rattle.vault_model.specs.Name.{is_name}
+use Rattle.vault_model.specs.Note.{is_note}
 use Rattle.vault_model.specs.Limits.{most_items}
 use Rattle.vault_model.specs.Said.{Effect}
-use Rattle.vault_model.specs.declared.effects.Effect.TheVariants.{Made, Asked, Extended, Saved, CheckedIn, Abandoned}
+use Rattle.vault_model.specs.declared.effects.Effect.TheVariants.{Made, Asked, Extended, Saved, CheckedIn, Abandoned, Given, Noted}
 use Rattle.vault_model.specs.declared.ids.Intent.TheVariants.{Look, Change}
 use Rattle.vault_model.specs.declared.claims.Item.{Item}
 use Rattle.vault_journal.specs.declared.records.ReadError.{ReadError}
@@ -54,6 +55,13 @@ name_at bytes = do
   count ← u8_at bytes
   name ← bytes_at count.0 count.1
   if is_name name.0 then Some name else None
+
+-- the note
+unfoldable pub note_at : List ℕ → Option (List ℕ × List ℕ)
+note_at bytes = do
+  count ← u8_at bytes
+  note ← bytes_at count.0 count.1
+  if is_note note.0 then Some note else None
 
 -- the item
 unfoldable pub item_at : List ℕ → Option (Item × List ℕ)
@@ -128,6 +136,18 @@ abandoned_at bytes = do
   claim ← claim_at bytes
   Some (Abandoned claim.0, claim.1)
 
+unfoldable pub given_at : List ℕ → Option (Effect × List ℕ)
+given_at bytes = do
+  claim ← claim_at bytes
+  designer ← name_at claim.1
+  Some (Given claim.0 designer.0, designer.1)
+
+unfoldable pub noted_at : List ℕ → Option (Effect × List ℕ)
+noted_at bytes = do
+  claim ← claim_at bytes
+  note ← note_at claim.1
+  Some (Noted claim.0 note.0, note.1)
+
 -- the effect whose kind this is
 unfoldable pub effect_of_kind : ℕ → List ℕ → Option (Effect × List ℕ)
 effect_of_kind kind bytes =
@@ -137,6 +157,8 @@ effect_of_kind kind bytes =
     else if kind == 4 then saved_at bytes
     else if kind == 5 then checked_in_at bytes
     else if kind == 6 then abandoned_at bytes
+    else if kind == 7 then given_at bytes
+    else if kind == 8 then noted_at bytes
     else None
 
 -- the effect whose record stands at the front, and the bytes behind it; none where the front is no record

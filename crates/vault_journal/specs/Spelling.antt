@@ -3,10 +3,11 @@ use Rattle.std.specs.Prelude.{ℕ, ◌<◌, ◌≤◌, ◌^◌, List, ◌∷◌,
 use Rattle.std.specs.List.{flat_map, AllByRecursion}
 use Rattle.std.specs.Int.{w16, w32, w64, to_be_bytes}
 use Rattle.vault_model.specs.Name.{IsName}
+use Rattle.vault_model.specs.Note.{IsNote}
 use Rattle.vault_model.specs.Limits.{most_items}
 pub use Rattle.vault_model.specs.Limits.{longest_content}
 use Rattle.vault_model.specs.Said.{Effect}
-use Rattle.vault_model.specs.declared.effects.Effect.TheVariants.{Made, Asked, Extended, Saved, CheckedIn, Abandoned}
+use Rattle.vault_model.specs.declared.effects.Effect.TheVariants.{Made, Asked, Extended, Saved, CheckedIn, Abandoned, Given, Noted}
 use Rattle.vault_model.specs.declared.ids.Intent.{Intent}
 use Rattle.vault_model.specs.declared.ids.Intent.TheVariants.{Look, Change}
 use Rattle.vault_model.specs.declared.claims.Item.{Item}
@@ -45,6 +46,10 @@ items_bytes items = length items ∷ flat_map item_bytes items
 abbrev pub content_bytes : List ℕ → List ℕ
 content_bytes content = in_two (length content) ++ content
 
+-- a note: its length in one byte, and its bytes
+abbrev pub note_bytes : List ℕ → List ℕ
+note_bytes note = length note ∷ note
+
 -- the record of an effect
 abbrev pub record_of : Effect → List ℕ
 record_of (Made parent child) = 1 ∷ in_four parent ++ name_bytes child
@@ -53,6 +58,8 @@ record_of (Extended claim items) = 3 ∷ in_four claim ++ items_bytes items
 record_of (Saved claim place content) = 4 ∷ in_four claim ++ in_four place ++ content_bytes content
 record_of (CheckedIn claim) = 5 ∷ in_four claim
 record_of (Abandoned claim) = 6 ∷ in_four claim
+record_of (Given claim designer) = 7 ∷ in_four claim ++ name_bytes designer
+record_of (Noted claim note) = 8 ∷ in_four claim ++ note_bytes note
 
 -- the records of effects, one behind another
 abbrev pub records_of : List Effect → List ℕ
@@ -85,3 +92,5 @@ HasRecord (Extended claim items) = IsClaimNumber claim × AreItems items
 HasRecord (Saved claim place content) = IsClaimNumber claim × (place < 2 ^ 32) × (length content ≤ longest_content)
 HasRecord (CheckedIn claim) = IsClaimNumber claim
 HasRecord (Abandoned claim) = IsClaimNumber claim
+HasRecord (Given claim designer) = IsClaimNumber claim × IsName designer
+HasRecord (Noted claim note) = IsClaimNumber claim × IsNote note

@@ -2,9 +2,9 @@
 //! behind it, or `None` where no such field stands at the front.
 ghost use Rattle.std.specs.Prelude.{◌≡◌, ◌≤◌};
 ghost use Rattle.vault_model.specs.Limits.{most_items};
-ghost use Rattle.vault_journal.specs.Reading.{Reads, u8_at, u16_at, u32_at, u64_at, bytes_at, name_at, item_at, each_item_at, items_at, content_at};
+ghost use Rattle.vault_journal.specs.Reading.{Reads, u8_at, u16_at, u32_at, u64_at, bytes_at, name_at, item_at, each_item_at, items_at, content_at, note_at};
 
-use vault_model::{Intent, Item, Items, LONGEST_CONTENT, MOST_ITEMS, Name, PlaceId};
+use vault_model::{Intent, Item, Items, LONGEST_CONTENT, MOST_ITEMS, Name, Note, PlaceId};
 
 /// The number in the first byte.
 pub fn u8_at(bytes: &[u8]) -> Option<(u8, &[u8])>
@@ -71,6 +71,17 @@ pub fn name_at(bytes: &[u8]) -> Option<(Name, &[u8])>
     let (text, rest) = bytes_at(usize::from(count), rest)?;
     let name = Name::read(text)?;
     Some((name, rest))
+}
+
+/// The note.
+#[tactic(auto, unfolding(crate::specs::Reading::note_at))]
+pub fn note_at(bytes: &[u8]) -> Option<(Note, &[u8])>
+    ensures { Reads (λ x. (x.0, x.1.now)) result (note_at bytes.now) }
+{
+    let (count, rest) = u8_at(bytes)?;
+    let (text, rest) = bytes_at(usize::from(count), rest)?;
+    let note = Note::read(text)?;
+    Some((note, rest))
 }
 
 /// The content.

@@ -1,20 +1,20 @@
 //! The record of each effect, written and read.
 ghost use Rattle.std.specs.Prelude.{◌≡◌, ◌≤◌, ◌<◌, ◌+◌, ◌*◌, ◌∷◌, ◌++◌, IfOk, IfErr, length};
 ghost use Rattle.vault_model.specs.Limits.{most_items};
-ghost use Rattle.vault_model.specs.declared.effects.Effect.TheVariants.{Made, Asked, Extended, Saved};
+ghost use Rattle.vault_model.specs.declared.effects.Effect.TheVariants.{Made, Asked, Extended, Saved, Given, Noted};
 ghost use Rattle.vault_journal.specs.Spelling.{record_of, in_four, longest_content, longest_record, HasRecord};
 ghost use Rattle.vault_journal.specs.Written.{IsWritten};
-ghost use Rattle.vault_journal.specs.Reading.{Reads, Gives, claim_at, made_at, asked_at, extended_at, saved_at, checked_in_at, abandoned_at, effect_at};
+ghost use Rattle.vault_journal.specs.Reading.{Reads, Gives, claim_at, made_at, asked_at, extended_at, saved_at, checked_in_at, abandoned_at, given_at, noted_at, effect_at};
 ghost use Rattle.vault_journal.specs.Rows.{AreRecordsOf};
 ghost use Rattle.vault_journal.specs.Damage.{IsDamage};
 ghost use Rattle.vault_journal.specs.declared.records.ReadError.TheVariants.{Memory};
 ghost use Rattle.vault_journal.specs.declared.records.Damage.TheVariants.{NoMemory};
 
-use crate::reading::{content_at, items_at, name_at, u8_at, u32_at};
-use crate::writing::{put_content, put_items, put_name, put_u8, put_u32};
+use crate::reading::{content_at, items_at, name_at, note_at, u8_at, u32_at};
+use crate::writing::{put_content, put_items, put_name, put_note, put_u8, put_u32};
 use std::alloc::{AllocError, AllocFailed, Allocator};
 use thiserror::Error;
-use vault_model::{Effect, EffectIn, Items, Listing, Name, PlaceId};
+use vault_model::{Effect, EffectIn, Items, Listing, Name, Note, PlaceId};
 
 /// The most bytes of a record.
 pub const LONGEST_RECORD: usize = 1035;
@@ -27,8 +27,11 @@ pub const LONGEST_RECORD: usize = 1035;
 //   saved       1 kind, 4 · 4 claim · 4 place · 2 n, at most 1,024 · n content
 //   checked in  1 kind, 5 · 4 claim
 //   abandoned   1 kind, 6 · 4 claim
+//   given       1 kind, 7 · 4 claim · 1 + n designer's name
+//   noted       1 kind, 8 · 4 claim · 1 + n note
 //
-// A name is n, 1 to 32, in 1 byte and n bytes. An item is 1 byte, 0 to look and 1 to change, and its place in 4.
+// A name is n, 1 to 32, in 1 byte and n bytes. A note is n, 0 to 64, in 1 byte and n bytes. An item is 1 byte, 0 to look and
+// 1 to change, and its place in 4.
 
 // Writes a record's kind and the number of a claim.
 fn put_claim(out: &mut [u8], at: usize, kind: u8, claim: u32) -> usize
@@ -75,6 +78,22 @@ fn put_saved(out: &mut [u8], at: usize, claim: u32, place: PlaceId, content: &[u
     put_content(out, at, content)
 }
 
+fn put_given(out: &mut [u8], at: usize, claim: u32, designer: &Name) -> usize
+    requires { at + 6 + length designer.now ≤ length out.old }
+    ensures { IsWritten at (record_of (Given claim designer.now)) result out.old out.new }
+{
+    let at = put_claim(out, at, 7, claim);
+    put_name(out, at, designer)
+}
+
+fn put_noted(out: &mut [u8], at: usize, claim: u32, note: &Note) -> usize
+    requires { at + 6 + length note.now ≤ length out.old }
+    ensures { IsWritten at (record_of (Noted claim note.now)) result out.old out.new }
+{
+    let at = put_claim(out, at, 8, claim);
+    put_note(out, at, note)
+}
+
 /// Writes the record of an effect into a slice, and answers the offset behind it. Takes no memory.
 #[tactic(auto, using(crate::proofs::Sizes::record_size))]
 pub fn put_effect<A: Allocator>(out: &mut [u8], at: usize, effect: &EffectIn<A>) -> usize
@@ -91,6 +110,8 @@ pub fn put_effect<A: Allocator>(out: &mut [u8], at: usize, effect: &EffectIn<A>)
         }
         Effect::CheckedIn(claim) => put_claim(out, at, 5, *claim),
         Effect::Abandoned(claim) => put_claim(out, at, 6, *claim),
+        Effect::Given(claim, designer) => put_given(out, at, *claim, designer),
+        Effect::Noted(claim, note) => put_noted(out, at, *claim, note),
     }
 }
 
@@ -107,6 +128,8 @@ pub fn record_len<A: Allocator>(effect: &EffectIn<A>) -> usize
         Effect::Extended(_, items) => 6 + 5 * items.len(),
         Effect::Saved(_, _, content) => 11 + content.as_slice().len(),
         Effect::CheckedIn(_) | Effect::Abandoned(_) => 5,
+        Effect::Given(_, designer) => 6 + designer.as_bytes().len(),
+        Effect::Noted(_, note) => 6 + note.as_bytes().len(),
     }
 }
 
@@ -203,6 +226,28 @@ fn abandoned_at<A: Allocator>(bytes: &[u8]) -> Option<(EffectIn<A>, &[u8])>
     Some((Effect::Abandoned(claim), rest))
 }
 
+#[tactic(auto, unfolding(crate::specs::Reading::given_at))]
+fn given_at<A: Allocator>(bytes: &[u8]) -> Option<(EffectIn<A>, &[u8])>
+    ensures { Reads (λ x. (x.0, x.1.now)) result (given_at bytes.now) }
+{
+    let (claim, rest) = claim_at(bytes)?;
+    let Some((designer, rest)) = name_at(rest) else {
+        return None;
+    };
+    Some((Effect::Given(claim, designer), rest))
+}
+
+#[tactic(auto, unfolding(crate::specs::Reading::noted_at))]
+fn noted_at<A: Allocator>(bytes: &[u8]) -> Option<(EffectIn<A>, &[u8])>
+    ensures { Reads (λ x. (x.0, x.1.now)) result (noted_at bytes.now) }
+{
+    let (claim, rest) = claim_at(bytes)?;
+    let Some((note, rest)) = note_at(rest) else {
+        return None;
+    };
+    Some((Effect::Noted(claim, note), rest))
+}
+
 // The effect whose record stands at the front, and what is behind it.
 #[tactic(auto, unfolding(crate::specs::Reading::effect_at, crate::specs::Reading::effect_of_kind))]
 fn effect_at<A: Allocator>(alloc: A, bytes: &[u8]) -> Result<(EffectIn<A>, &[u8]), ReadError>
@@ -216,6 +261,8 @@ fn effect_at<A: Allocator>(alloc: A, bytes: &[u8]) -> Result<(EffectIn<A>, &[u8]
         4 => saved_at(alloc, rest),
         5 => checked_in_at(rest).ok_or(ReadError::NotOne),
         6 => abandoned_at(rest).ok_or(ReadError::NotOne),
+        7 => given_at(rest).ok_or(ReadError::NotOne),
+        8 => noted_at(rest).ok_or(ReadError::NotOne),
         _ => Err(ReadError::NotOne),
     }
 }

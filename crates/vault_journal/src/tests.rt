@@ -7,7 +7,7 @@ use recording::{full, is_recorded, is_spoiled, push_within, saved};
 use std::test::Fail;
 use test_memory::Refusing;
 use vault_device::Pick;
-use vault_model::{Effect, Intent, Item, Items, Listing, Name, NoMemory, PlaceId};
+use vault_model::{Effect, Intent, Item, Items, Listing, Name, NoMemory, Note, PlaceId};
 
 // A frame's length, one record and a closed gate, behind the gate of the offset 0.
 const GATE_SHUT: [u8; 13] = [0, 0, 0, 0, 7, 1, 0, 0, 0, 0, 1, 0x65, 0];
@@ -53,6 +53,12 @@ fn records(rt: HostRuntime) -> Result<(), Fail> {
     assert!(rt; is_recorded(alloc, &Effect::Saved(9, PlaceId(3), text), saved)?);
     assert!(rt; is_recorded(alloc, &Effect::CheckedIn(u32::MAX), b"\x05\xff\xff\xff\xff")?);
     assert!(rt; is_recorded(alloc, &Effect::Abandoned(1), b"\x06\0\0\0\x01")?);
+    let ben = Name::read(b"ben").ok_or("a name")?;
+    assert!(rt; is_recorded(alloc, &Effect::Given(1, ben), b"\x07\0\0\0\x01\x03ben")?);
+    let note = Note::read(b"ab").ok_or("a note")?;
+    assert!(rt; is_recorded(alloc, &Effect::Noted(1, note), b"\x08\0\0\0\x01\x02ab")?);
+    let none = Note::new();
+    assert!(rt; is_recorded(alloc, &Effect::Noted(1, none), b"\x08\0\0\0\x01\0")?);
     Ok(())
 }
 
@@ -67,13 +73,15 @@ fn no_records(rt: HostRuntime) -> Result<(), Fail> {
 #[test]
 fn cut_records(rt: HostRuntime) -> Result<(), Fail> {
     let alloc = rt.alloc();
-    let whole: [&[u8]; 6] = [
+    let whole: [&[u8]; 8] = [
         b"\x01\0\0\0\0\x02ab",
         b"\x02\0\0\0\x01\x04anna\x01\x01\0\0\0\x01",
         b"\x03\0\0\0\x01\x02\x01\0\0\0\x01\0\0\0\x01\x02",
         b"\x04\0\0\0\x09\0\0\0\x03\0\x04text",
         b"\x05\0\0\0\x02",
         b"\x06\0\0\0\x01",
+        b"\x07\0\0\0\x01\x03ben",
+        b"\x08\0\0\0\x01\x02ab",
     ];
     for record in whole {
         assert!(rt; read_effects(alloc, record).is_ok(), "{record:?}");
@@ -96,9 +104,11 @@ fn spoiled_fields(rt: HostRuntime) -> Result<(), Fail> {
     long_name[..6].copy_from_slice(b"\x01\0\0\0\0\x21");
     let mut long_content = [0; 1036];
     long_content[..11].copy_from_slice(b"\x04\0\0\0\x01\0\0\0\0\x04\x01");
-    let spoiled: [&[u8]; 18] = [
+    let mut long_note = [0; 71];
+    long_note[..6].copy_from_slice(b"\x08\0\0\0\x01\x41");
+    let spoiled: [&[u8]; 23] = [
         b"\0\0\0\0\x01",
-        b"\x07\0\0\0\x01",
+        b"\x09\0\0\0\x01",
         b"\x01\0\0\0\0\0",
         &long_name,
         b"\x01\0\0\0\0\x02aB",
@@ -115,12 +125,19 @@ fn spoiled_fields(rt: HostRuntime) -> Result<(), Fail> {
         b"\x04\0\0\0\x01\0\0\0\x03\x04\0text",
         b"\x05\0\0\0\0",
         b"\x06\0\0\0\0",
+        b"\x07\0\0\0\0\x01b",
+        b"\x07\0\0\0\x01\0",
+        b"\x07\0\0\0\x01\x01B",
+        b"\x08\0\0\0\0\0",
+        &long_note,
     ];
     for record in spoiled {
         assert!(rt; is_spoiled(alloc, record)?, "{record:?}");
     }
     nine_items[5] = 8;
     assert!(rt; read_effects(alloc, &nine_items[..46]).is_ok());
+    long_note[5] = 64;
+    assert!(rt; read_effects(alloc, &long_note[..70]).is_ok());
     Ok(())
 }
 
@@ -179,7 +196,8 @@ fn fields(rt: HostRuntime) -> Result<(), Fail> {
         place: PlaceId(2),
     };
     let items = Items::new().with(item);
-    let mut out = [b'-'; 45];
+    let note = Note::read(b"\xff\0").ok_or("a note")?;
+    let mut out = [b'-'; 48];
     let at = put_u8(&mut out, 1, 0xab);
     let at = put_u16(&mut out, at, 0x1234);
     let at = put_u32(&mut out, at, 0x0102_0304);
@@ -189,26 +207,30 @@ fn fields(rt: HostRuntime) -> Result<(), Fail> {
     let at = put_content(&mut out, at, b"text");
     let at = put_item(&mut out, at, &item);
     let at = put_items(&mut out, at, items.as_slice());
-    assert_eq!(rt; at, 41);
+    let at = put_note(&mut out, at, &note);
+    assert_eq!(rt; at, 44);
     let numbers = b"-\xab\x12\x34\x01\x02\x03\x04\x01\x02\x03\x04\x05\x06\x07\x08";
-    let others = b"raw\x04anna\0\x04text\x01\0\0\0\x02\x01\x01\0\0\0\x02----";
+    let others = b"raw\x04anna\0\x04text\x01\0\0\0\x02\x01\x01\0\0\0\x02\x02\xff\0----";
     assert!(rt; &out[..16] == numbers.as_slice() && &out[16..] == others.as_slice());
 
-    assert!(rt; matches!(u8_at(&out[1..]), Some((0xab, rest)) if rest.len() == 43));
-    assert!(rt; matches!(u16_at(&out[2..]), Some((0x1234, rest)) if rest.len() == 41));
-    assert!(rt; matches!(u32_at(&out[4..]), Some((0x0102_0304, rest)) if rest.len() == 37));
+    assert!(rt; matches!(u8_at(&out[1..]), Some((0xab, rest)) if rest.len() == 46));
+    assert!(rt; matches!(u16_at(&out[2..]), Some((0x1234, rest)) if rest.len() == 44));
+    assert!(rt; matches!(u32_at(&out[4..]), Some((0x0102_0304, rest)) if rest.len() == 40));
     assert!(rt;
-        matches!(u64_at(&out[8..]), Some((0x0102_0304_0506_0708, rest)) if rest.len() == 29)
+        matches!(u64_at(&out[8..]), Some((0x0102_0304_0506_0708, rest)) if rest.len() == 32)
     );
     assert!(rt;
-        matches!(name_at(&out[19..]), Some((name, rest)) if name == anna && rest.len() == 21)
+        matches!(name_at(&out[19..]), Some((name, rest)) if name == anna && rest.len() == 24)
     );
-    assert!(rt; matches!(content_at(&out[24..]), Some((b"text", rest)) if rest.len() == 15));
+    assert!(rt; matches!(content_at(&out[24..]), Some((b"text", rest)) if rest.len() == 18));
     assert!(rt;
-        matches!(item_at(&out[30..]), Some((read, rest)) if read == item && rest.len() == 10)
+        matches!(item_at(&out[30..]), Some((read, rest)) if read == item && rest.len() == 13)
     );
     assert!(rt;
-        matches!(items_at(&out[35..]), Some((read, rest)) if read == items && rest.len() == 4)
+        matches!(items_at(&out[35..]), Some((read, rest)) if read == items && rest.len() == 7)
+    );
+    assert!(rt;
+        matches!(note_at(&out[41..]), Some((read, rest)) if read == note && rest.len() == 4)
     );
     Ok(())
 }

@@ -1,10 +1,10 @@
 //! One field after another into a slice, without memory. Each writer answers the offset behind what it wrote.
 ghost use Rattle.std.specs.Prelude.{◌≡◌, ◌≤◌, ◌<◌, ◌+◌, ◌*◌, ◌∷◌, [], length};
-ghost use Rattle.vault_journal.specs.Spelling.{in_two, in_four, in_eight, name_bytes, intent_byte, item_bytes, items_bytes, content_bytes, longest_content};
+ghost use Rattle.vault_journal.specs.Spelling.{in_two, in_four, in_eight, name_bytes, intent_byte, item_bytes, items_bytes, content_bytes, note_bytes, longest_content};
 ghost use Rattle.vault_journal.specs.Written.{IsWritten};
 
 use byteorder::{BigEndian, ByteOrder};
-use vault_model::{Intent, Item, Name};
+use vault_model::{Intent, Item, Name, Note};
 
 /// Writes a number in one byte.
 pub fn put_u8(out: &mut [u8], at: usize, n: u8) -> usize
@@ -57,6 +57,16 @@ pub fn put_name(out: &mut [u8], at: usize, name: &Name) -> usize
     ensures { IsWritten at (name_bytes name.now) result out.old out.new }
 {
     let text = name.as_bytes();
+    let at = put_u8(out, at, text.len() as u8);
+    put_bytes(out, at, text)
+}
+
+/// Writes a note.
+pub fn put_note(out: &mut [u8], at: usize, note: &Note) -> usize
+    requires { at + 1 + length note.now ≤ length out.old }
+    ensures { IsWritten at (note_bytes note.now) result out.old out.new }
+{
+    let text = note.as_bytes();
     let at = put_u8(out, at, text.len() as u8);
     put_bytes(out, at, text)
 }

@@ -7,6 +7,7 @@ use Rattle.std.proofs.lemmas.List.{append-nil}
 use Rattle.std.proofs.lemmas.List.Elements.{filter-append, All-weaker, All-head, All-tail, All-cons, All-nil, All-append}
 use Rattle.std.proofs.lemmas.List.Sums.{length-filter, count_by-le-length}
 use Rattle.vault_model.specs.Limits.{most_items, most_claims, last_number}
+use Rattle.vault_model.specs.Note.{is_note}
 use Rattle.vault_model.specs.Tree.{child, is_part, is_full}
 use Rattle.vault_model.specs.Said.{Effect}
 use Rattle.vault_model.specs.declared.effects.Effect.TheVariants as effects
@@ -17,20 +18,21 @@ use Rattle.vault_model.specs.declared.claims.Owner.{Owner}
 use Rattle.vault_model.specs.declared.claims.Owner.TheVariants as owners
 use Rattle.vault_model.specs.declared.ids.ClaimId.{ClaimId}
 use Rattle.vault_model.specs.declared.ids.ClaimId.TheVariants.{Long, Short}
-use Rattle.vault_model.specs.Claims.{new_check_out, new_hold, same_id, change_set, claim_of, without, without_short, is_short, is_session, is_held, put_first}
+use Rattle.vault_model.specs.Claims.{changed, given_to, noted_as, new_check_out, new_hold, same_id, change_set, claim_of, without, without_short, is_short, is_session, is_held, put_first}
 use Rattle.vault_model.specs.Vault.{Vault, AreThere, Owns, IsClaim, IsVault, durable, counted}
 use Rattle.vault_model.specs.Step.{extension, may_save}
 use Rattle.vault_model.specs.Shelf.{is_shelvable}
 use Rattle.vault_model.proofs.Shelves.{true_le}
 use Rattle.vault_model.specs.Drafts.{new_draft, drafts_of, without_drafts}
-use Rattle.vault_model.specs.After.{only_if, are_there, may_make, may_ask, may_extend, after_made, after_asked, drafts_held, after_extended, after_saved, after_checked_in, after_abandoned, after, IsDurable, IsDurableChange}
+use Rattle.vault_model.specs.After.{only_if, are_there, may_make, may_ask, may_extend, after_made, after_asked, drafts_held, after_extended, after_saved, after_checked_in, after_abandoned, after_given, after_noted, after, IsDurable, IsDurableChange}
 use Rattle.vault_model.specs.Laws.{EffectIsTheDurableChange, DurableStays}
 use Rattle.vault_model.proofs.Overlaps.{and_both, and_intro, eq_from, eq_itself}
 use Rattle.vault_model.proofs.Stays.{own_id, claim_of-kept, held_kept, kept_there, claim_there}
 use Rattle.vault_model.proofs.Fronts.{held_claim, stands_held}
 use Rattle.vault_model.proofs.Kept.{kept_first, kept_without, kept_checked_in, kept_durable}
-use Rattle.vault_model.proofs.Transitions.{CanMake, CanExtend, Transition, answered, joined, left, made, asked, taken, extended, saved, checked_in, abandoned, released, by_transition, by_count}
-use Rattle.vault_model.specs.Changes.{gone, with_place, with_check_out, with_items, with_content, with_versions, without_check_out}
+use Rattle.vault_model.proofs.Transitions.{CanMake, CanExtend, Transition, answered, joined, left, made, asked, taken, extended, saved, checked_in, abandoned, given, noted, released, by_transition, by_count}
+use Rattle.vault_model.proofs.InPlace.{one_id, filter-changed, kept_given, kept_noted}
+use Rattle.vault_model.specs.Changes.{gone, with_place, with_check_out, with_items, with_content, with_versions, without_check_out, with_owner, with_note}
 use Rattle.vault_model.proofs.DraftsKept.{all_held, drafts_put_first}
 use Rattle.vault_model.proofs.WellFormed.{transition_keeps, not_last}
 use Rattle.vault_model.proofs.Lists.{not_false, three, four, five}
@@ -146,6 +148,14 @@ gives_up : (w : Vault) (number : ℕ) → is_some (claim_of w.line (Long number)
 unfolding after after_abandoned
 gives_up w number stands = only_if_true (is_some (claim_of w.line (Long number))) _ stands
 
+gives : (w : Vault) (number : ℕ) (designer : List ℕ) → is_some (claim_of w.line (Long number)) ≡ true → after w (effects.Given number designer) ≡ Some (with_owner w number designer)
+unfolding after after_given
+gives w number designer stands = only_if_true (is_some (claim_of w.line (Long number))) _ stands
+
+notes : (w : Vault) (number : ℕ) (note : List ℕ) → is_some (claim_of w.line (Long number)) ≡ true → is_note note ≡ true → after w (effects.Noted number note) ≡ Some (with_note w number note)
+unfolding after after_noted
+notes w number note stands short = only_if_true (is_some (claim_of w.line (Long number)) && is_note note) _ (and_intro (is_some (claim_of w.line (Long number))) (is_note note) stands short)
+
 saves : (w : Vault) (number place : ℕ) (content : List ℕ) (claim : Claim) → claim_of w.line (Long number) ≡ Some claim → is_held w.tree w.line claim ≡ true → place ≤ length w.tree → is_part w.tree place ≡ true
     → change_set w.tree claim.items place ≡ true → may_save w (new_draft number place content) ≡ true
     → after w (effects.Saved number place content) ≡ Some (with_content w number place content)
@@ -180,6 +190,15 @@ module _ (v : Vault) (kept : IsVault v) where
 
   abandoned_lasts : (number : ℕ) → durable (without_check_out v number) ≡ without_check_out (durable v) number
   abandoned_lasts number = ap (λ line. record (durable v) { line = line; drafts = without_drafts v.drafts number }) (filter_swap lasts (λ (c : Claim). not (same_id c.id (Long number))) v.line)
+
+  changed_lasts : (number : ℕ) (f : Claim → Claim) → ((c : Claim) → (f c).id ≡ c.id) → ((c : Claim) → (f c).items ≡ c.items) → without_short (changed v.line (Long number) f) ≡ changed (without_short v.line) (Long number) f
+  changed_lasts number f own same = filter-changed (Long number) f own same lasts v.line (λ c. ap (λ k. not (is_short k)) (one_id (Long number) f own same c))
+
+  owner_lasts : (number : ℕ) (designer : List ℕ) → durable (with_owner v number designer) ≡ with_owner (durable v) number designer
+  owner_lasts number designer = ap (λ line. record (durable v) { line = line }) (changed_lasts number (given_to designer) (λ c. refl) (λ c. refl))
+
+  note_lasts : (number : ℕ) (note : List ℕ) → durable (with_note v number note) ≡ with_note (durable v) number note
+  note_lasts number note = ap (λ line. record (durable v) { line = line }) (changed_lasts number (noted_as note) (λ c. refl) (λ c. refl))
 
   versions_last : (number : ℕ) → durable (with_versions v number) ≡ with_versions (durable v) number
   versions_last number = ap (λ line. record (with_versions (durable v) number) { line = line }) (filter_swap lasts (λ (c : Claim). not (same_id c.id (Long number))) v.line)
@@ -236,6 +255,10 @@ module _ (v : Vault) (kept : IsVault v) where
       ∙ ap Some (sym (versions_last number))
   transition_durable effect w (abandoned number claim found) =
       gives_up (durable v) number (rw (lasting number claim found) refl) ∙ ap Some (sym (abandoned_lasts number))
+  transition_durable effect w (given number designer claim found) =
+      gives (durable v) number designer (rw (lasting number claim found) refl) ∙ ap Some (sym (owner_lasts number designer))
+  transition_durable effect w (noted number text claim found short) =
+      notes (durable v) number text (rw (lasting number claim found) refl) short ∙ ap Some (sym (note_lasts number text))
   transition_durable effect w (released number) = ap (λ line. record (durable v) { line = line }) (short_gone v.line number)
 
 pub effect_is_the_durable_change : EffectIsTheDurableChange
@@ -278,6 +301,25 @@ module _ (w : Vault) (kept : IsVault w) where
       subst (λ (x : Vault). IsVault x × (IsDurable w → IsDurable x)) is.1 (
         kept_without w kept number,
         stays w kept (λ x. without_check_out x number) (abandoned_lasts w kept number),
+      )
+
+  given_stays : (number : ℕ) (designer : List ℕ) (next : Vault) → after_given w number designer ≡ Some next → IsVault next × (IsDurable w → IsDurable next)
+  unfolding after_given
+  given_stays number designer next e =
+      let is = only_if_some (is_some (claim_of w.line (Long number))) _ next e in
+      subst (λ (x : Vault). IsVault x × (IsDurable w → IsDurable x)) is.1 (
+        kept_given w kept number designer,
+        stays w kept (λ x. with_owner x number designer) (owner_lasts w kept number designer),
+      )
+
+  noted_stays : (number : ℕ) (note : List ℕ) (next : Vault) → after_noted w number note ≡ Some next → IsVault next × (IsDurable w → IsDurable next)
+  unfolding after_noted
+  noted_stays number note next e =
+      let is = only_if_some (is_some (claim_of w.line (Long number)) && is_note note) _ next e in
+      let both = and_both (is_some (claim_of w.line (Long number))) (is_note note) is.0 in
+      subst (λ (x : Vault). IsVault x × (IsDurable w → IsDurable x)) is.1 (
+        kept_noted w kept number note (true_le _ _ both.1),
+        stays w kept (λ x. with_note x number note) (note_lasts w kept number note),
       )
 
   extended_stays : (number : ℕ) (items : List Item) (next : Vault) → after_extended w number items ≡ Some next → IsVault next × (IsDurable w → IsDurable next)
@@ -352,3 +394,5 @@ durable_stays w next (effects.Extended number items) kept e = extended_stays w k
 durable_stays w next (effects.Saved number place content) kept e = saved_stays w kept number place content next e
 durable_stays w next (effects.CheckedIn number) kept e = checked_in_stays w kept number next e
 durable_stays w next (effects.Abandoned number) kept e = abandoned_stays w kept number next e
+durable_stays w next (effects.Given number designer) kept e = given_stays w kept number designer next e
+durable_stays w next (effects.Noted number note) kept e = noted_stays w kept number note next e

@@ -7,7 +7,7 @@ use Rattle.vault_model.specs.declared.claims.Claim.{Claim}
 use Rattle.vault_model.specs.declared.claims.Standing.TheVariants.{Held}
 use Rattle.vault_model.specs.declared.ids.ClaimId.{ClaimId}
 use Rattle.vault_model.specs.declared.ids.ClaimId.TheVariants.{Long, Short}
-use Rattle.vault_model.specs.Claims.{is_session, is_short, same_id, overlap, standing_behind, claim_of, before, standing_of}
+use Rattle.vault_model.specs.Claims.{given_to, noted_as, is_session, is_short, same_id, overlap, standing_behind, claim_of, before, standing_of}
 use Rattle.vault_model.specs.Vault.{Vault, AreThere, IsClaim, IsVault}
 use Rattle.vault_model.specs.Said.{Effect}
 use Rattle.vault_model.specs.Tree.{new_place}
@@ -16,7 +16,8 @@ use Rattle.vault_model.proofs.Grown.{standing_of-grown}
 use Rattle.vault_model.proofs.Stays.{held_there, stood, take_while-cons, standing_of-push, find-filter, held_none, held_kept, kept_there, same_id_is}
 use Rattle.vault_model.proofs.Fronts.{none_passes, held_front}
 use Rattle.vault_model.proofs.Meetings.{symmetric}
-use Rattle.vault_model.proofs.Transitions.{Transition, left, made, asked, taken, extended, checked_in, abandoned, released, by_transition, by_count}
+use Rattle.vault_model.proofs.Transitions.{Transition, left, made, asked, taken, extended, checked_in, abandoned, given, noted, released, by_transition, by_count}
+use Rattle.vault_model.proofs.InPlace.{standing_of-changed}
 
 -- a claim is held, if it stands
 abbrev IsHeldIn : ClaimId → Vault → Type 0
@@ -33,6 +34,8 @@ module _ (v : Vault) (id : ClaimId) (kept : IsVault v) (held : standing_of v.tre
   transition_held effect w (left session) stands = held_kept (λ (c : Claim). not (is_session session c.owner)) v.tree v.line id kept.apart stands held
   transition_held effect w (checked_in number claim used fits) stands = held_kept (λ (c : Claim). not (same_id c.id (Long number))) v.tree v.line id kept.apart stands held
   transition_held effect w (abandoned number claim found) stands = held_kept (λ (c : Claim). not (same_id c.id (Long number))) v.tree v.line id kept.apart stands held
+  transition_held effect w (given number designer claim found) stands = standing_of-changed (Long number) (given_to designer) (λ c. refl) (λ c. refl) v.tree v.line id ∙ held
+  transition_held effect w (noted number text claim found short) stands = standing_of-changed (Long number) (noted_as text) (λ c. refl) (λ c. refl) v.tree v.line id ∙ held
   transition_held effect w (released number) stands = held_kept (λ (c : Claim). not (same_id c.id (Short number))) v.tree v.line id kept.apart stands held
   transition_held effect w change stands = held
 

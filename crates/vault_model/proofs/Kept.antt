@@ -19,7 +19,7 @@ use Rattle.std.specs.List.{IsDistinct, AllByRecursion}
 use Rattle.vault_model.specs.Changes.{with_check_out, with_hold}
 use Rattle.vault_model.specs.Claims.{new_check_out, new_hold, same_id, claim_of, without, without_session, without_short, is_session, is_short, put_first}
 use Rattle.vault_model.specs.Limits.{most_items, most_claims, most_sessions, last_number}
-use Rattle.vault_model.specs.Vault.{Vault, weight_of, IsDraft, AreDrafts, AreThere, IsGiven, Owns, IsClaim, AreSessions, IsVault, new_vault, durable, session_of, one_more, counted_in, CountsBelow}
+use Rattle.vault_model.specs.Vault.{Vault, weight_of, IsDraft, AreDrafts, AreThere, IsGiven, Owns, IsNoteOf, IsClaim, AreSessions, IsVault, new_vault, durable, session_of, one_more, counted_in, CountsBelow}
 use Rattle.vault_model.specs.declared.claims.PathItem.{PathItem}
 use Rattle.vault_model.specs.Step.{placed}
 use Rattle.std.specs.Option.{option_map, option_and_then}
@@ -101,7 +101,7 @@ session_stands sessions number s found = rw (own_number sessions number s found)
 
 -- a claim is still a claim with other sessions that have its own
 claim_with : (tree : List Place) (sessions others : List Session) (last_long last_short : ℕ) (c : Claim) → ((number : ℕ) → is_some (session_of sessions number) ≡ true → is_some (session_of others number) ≡ true) → IsClaim tree sessions last_long last_short c → IsClaim tree others last_long last_short c
-claim_with tree sessions others last_long last_short c more h = record { given = h.given; owned = by_owner c.owner c.id h.owned; some = h.some; few = h.few; there = h.there }
+claim_with tree sessions others last_long last_short c more h = record { given = h.given; owned = by_owner c.owner c.id h.owned; some = h.some; few = h.few; there = h.there; noted = h.noted }
   where
     by_owner : (owner : Owner) (id : ClaimId) → Owns sessions owner id → Owns others owner id
     by_owner (owners.Designer name) (Long n) owned = tt
@@ -190,7 +190,7 @@ module _ (v : Vault) (kept : IsVault v) where
     tree = tree;
     few_claims = kept.few_claims;
     claims = All-weaker (IsClaim v.tree v.sessions v.last_long v.last_short) (IsClaim (v.tree ++ x ∷ []) v.sessions v.last_long v.last_short)
-        (λ c h. record { given = h.given; owned = h.owned; some = h.some; few = h.few; there = AreThere-push v.tree x c.items h.there }) v.line kept.claims;
+        (λ c h. record { given = h.given; owned = h.owned; some = h.some; few = h.few; there = AreThere-push v.tree x c.items h.there; noted = h.noted }) v.line kept.claims;
     apart = kept.apart;
     sessions = kept.sessions;
     numbers = kept.numbers;
@@ -247,13 +247,13 @@ module _ (v : Vault) (kept : IsVault v) where
   kept_without number = kept_left (λ c. not (same_id c.id (Long number))) (without_drafts v.drafts number) (drafts_without number) (lighter_drafts (λ (x : SavedDraft). not (x.claim == number)) v.drafts)
 
   pub kept_asked : (c : Claim) (m n : ℕ) → v.last_long ≤ m → v.last_short ≤ n → IsGiven m n c.id → ((id : ClaimId) → IsGiven v.last_long v.last_short id → same_id id c.id ≡ false) → Owns v.sessions c.owner c.id
-      → m ≤ last_number → n ≤ last_number → length v.line < most_claims → 0 < length c.items → length c.items ≤ most_items → AreThere v.tree c.items → IsVault (record v { line = v.line ++ c ∷ []; last_long = m; last_short = n })
-  kept_asked c m n long short given fresh owned below_long below_short room some few there = record {
+      → m ≤ last_number → n ≤ last_number → length v.line < most_claims → 0 < length c.items → length c.items ≤ most_items → AreThere v.tree c.items → IsNoteOf c.id c.note → IsVault (record v { line = v.line ++ c ∷ []; last_long = m; last_short = n })
+  kept_asked c m n long short given fresh owned below_long below_short room some few there noted = record {
     tree = kept.tree;
     few_claims = let longer = length-append v.line (c ∷ []) in omega arith;
     claims = All-push (IsClaim v.tree v.sessions m n) v.line c
-        (All-weaker (IsClaim v.tree v.sessions v.last_long v.last_short) (IsClaim v.tree v.sessions m n) (λ d h. record { given = later d.id h.given; owned = h.owned; some = h.some; few = h.few; there = h.there }) v.line kept.claims)
-        (record { given = given; owned = owned; some = some; few = few; there = there });
+        (All-weaker (IsClaim v.tree v.sessions v.last_long v.last_short) (IsClaim v.tree v.sessions m n) (λ d h. record { given = later d.id h.given; owned = h.owned; some = h.some; few = h.few; there = h.there; noted = h.noted }) v.line kept.claims)
+        (record { given = given; owned = owned; some = some; few = few; there = there; noted = noted });
     apart = IsDistinct-push same_id (λ (d : Claim). d.id) v.line c kept.apart
         (All-weaker (IsClaim v.tree v.sessions v.last_long v.last_short) (λ (d : Claim). same_id d.id c.id ≡ false) (λ d h. fresh d.id h.given) v.line kept.claims);
     sessions = kept.sessions;
@@ -271,7 +271,7 @@ module _ (v : Vault) (kept : IsVault v) where
       → IsVault (with_check_out v (v.last_long + 1) designer items)
   kept_asked_long designer items below room some few there =
       kept_asked (new_check_out (v.last_long + 1) designer items) (v.last_long + 1) v.last_short (omega arith) (omega arith) (omega arith, omega arith) fresh tt
-      (omega (arith, below)) kept.numbers.short room some few there
+      (omega (arith, below)) kept.numbers.short room some few there (omega arith)
     where
       fresh : (id : ClaimId) → IsGiven v.last_long v.last_short id → same_id id (Long (v.last_long + 1)) ≡ false
       fresh (Long n) h = let high = h.1 in grind (arith, nat_tests)
@@ -281,7 +281,7 @@ module _ (v : Vault) (kept : IsVault v) where
       → IsVault (with_hold v (v.last_short + 1) session items)
   kept_asked_short session items stands below room some few there =
       kept_asked (new_hold (v.last_short + 1) session items) v.last_long (v.last_short + 1) (omega arith) (omega arith) (omega arith, omega arith) fresh stands
-      kept.numbers.long (omega (arith, below)) room some few there
+      kept.numbers.long (omega (arith, below)) room some few there refl
     where
       fresh : (id : ClaimId) → IsGiven v.last_long v.last_short id → same_id id (Short (v.last_short + 1)) ≡ false
       fresh (Long n) h = refl
@@ -297,7 +297,7 @@ module _ (v : Vault) (kept : IsVault v) where
         let bound = kept.few_claims in
         omega arith;
     claims = All-cons (IsClaim v.tree v.sessions v.last_long v.last_short) (record claim { items = items }) (without v.line id)
-        (let h = claim_there (IsClaim v.tree v.sessions v.last_long v.last_short) v.line id kept.claims claim found in record { given = h.given; owned = h.owned; some = some; few = few; there = there })
+        (let h = claim_there (IsClaim v.tree v.sessions v.last_long v.last_short) v.line id kept.claims claim found in record { given = h.given; owned = h.owned; some = some; few = few; there = there; noted = h.noted })
         (All-filter (λ (c : Claim). not (same_id c.id id)) (IsClaim v.tree v.sessions v.last_long v.last_short) v.line kept.claims);
     apart = (
       subst (λ k. AllByRecursion (λ j. same_id k j ≡ false) (ids (without v.line id))) (sym (own_id v.line id claim found)) (without_none v.line id),
@@ -343,7 +343,7 @@ module _ (v : Vault) (kept : IsVault v) where
     tree = kept.tree;
     few_claims = few_left (λ (c : Claim). not (is_session gone c.owner));
     claims = All-kept (IsClaim v.tree v.sessions v.last_long v.last_short) (IsClaim v.tree (filter (λ (s : Session). not (s.number == gone)) v.sessions) v.last_long v.last_short) (λ (c : Claim). not (is_session gone c.owner)) v.line
-        (λ c h e. record { given = h.given; owned = by_owner c.owner c.id e h.owned; some = h.some; few = h.few; there = h.there }) kept.claims;
+        (λ c h e. record { given = h.given; owned = by_owner c.owner c.id e h.owned; some = h.some; few = h.few; there = h.there; noted = h.noted }) kept.claims;
     apart = IsDistinct-filter same_id (λ (c : Claim). c.id) (λ (c : Claim). not (is_session gone c.owner)) v.line kept.apart;
     versions = kept.versions;
     drafts = drafts_left v.tree v.line (λ (c : Claim). not (is_session gone c.owner)) v.drafts kept.apart (still v.drafts kept.drafts.each) kept.drafts;
@@ -390,7 +390,7 @@ module _ (v : Vault) (kept : IsVault v) where
     tree = kept.tree;
     few_claims = few_left (λ (c : Claim). not (is_short c.id));
     claims = All-kept (IsClaim v.tree v.sessions v.last_long v.last_short) (IsClaim v.tree [] v.last_long 0) (λ (c : Claim). not (is_short c.id)) v.line
-        (λ c h e. record { given = by_id c.id e h.given; owned = by_owner c.owner c.id e h.owned; some = h.some; few = h.few; there = h.there }) kept.claims;
+        (λ c h e. record { given = by_id c.id e h.given; owned = by_owner c.owner c.id e h.owned; some = h.some; few = h.few; there = h.there; noted = h.noted }) kept.claims;
     apart = IsDistinct-filter same_id (λ (c : Claim). c.id) (λ (c : Claim). not (is_short c.id)) v.line kept.apart;
     versions = kept.versions;
     drafts = drafts_left v.tree v.line (λ (c : Claim). not (is_short c.id)) v.drafts kept.apart (still v.drafts kept.drafts.each) kept.drafts;

@@ -9,6 +9,7 @@ pub mod Stays
 pub mod Fronts
 pub mod Kept
 pub mod Transitions
+pub mod InPlace
 pub mod HeldStays
 pub mod WellFormed
 pub mod Meetings

@@ -1,9 +1,9 @@
 -- The conversations that were worked out by hand, computed.
 use Rattle.std.specs.Prelude.{refl}
 use Rattle.vault_model.specs.Claims.{overlap}
-use Rattle.vault_model.specs.Step.{step, decide, chained, join, make, permitted, usable, check_out, extend, abandon, hold, release, state, list, save, check_in, fetch, count}
+use Rattle.vault_model.specs.Step.{step, decide, chained, join, make, permitted, usable, check_out, extend, abandon, hold, release, state, list, save, check_in, fetch, count, owned, give, note, read_note}
 use Rattle.vault_model.specs.Shelf.{is_shelvable}
-use Rattle.vault_model.specs.Rows.{replies_of, Rows, TwoDesigners, Siblings, LookAndChange, LineMovesUp, CoveredParent, Refusals, ClaimRefusals, RefusedExtension, GrantedExtension, MadeUnderAClaim, HoldsAndLeaving, ExtensionRefusals, DraftsAndVersions, DraftRefusals}
+use Rattle.vault_model.specs.Rows.{replies_of, Rows, TwoDesigners, Siblings, LookAndChange, LineMovesUp, CoveredParent, Refusals, ClaimRefusals, RefusedExtension, GrantedExtension, MadeUnderAClaim, HoldsAndLeaving, ExtensionRefusals, DraftsAndVersions, DraftRefusals, GivenAway, DraftsAndPlaceStay}
 
 two_designers : TwoDesigners
 unfolding replies_of step decide chained join make permitted check_out overlap
@@ -61,6 +61,14 @@ draft_refusals : DraftRefusals
 unfolding replies_of step decide chained join make permitted usable check_out save check_in abandon fetch count overlap is_shelvable
 draft_refusals = refl
 
+given_away : GivenAway
+unfolding replies_of step decide chained join make permitted usable check_out save check_in owned give note read_note overlap is_shelvable
+given_away = refl
+
+drafts_and_place_stay : DraftsAndPlaceStay
+unfolding replies_of step decide chained join make permitted usable check_out save check_in state fetch owned give note read_note overlap is_shelvable
+drafts_and_place_stay = refl
+
 pub rows : Rows
 rows = record {
   two_designers = two_designers;
@@ -77,4 +85,6 @@ rows = record {
   extension_refusals = extension_refusals;
   drafts_and_versions = drafts_and_versions;
   draft_refusals = draft_refusals;
+  given_away = given_away;
+  drafts_and_place_stay = drafts_and_place_stay;
 }

@@ -5,6 +5,7 @@ use Rattle.std.specs.Option.{ok_or, IfSome, option_map, option_and_then}
 use Rattle.std.proofs.lemmas.Bool.Decides.{nat_tests}
 use Rattle.std.proofs.lemmas.List.Elements.{All-nil, All-cons}
 use Rattle.vault_model.specs.Limits.{most_items, most_claims, most_sessions, last_number}
+use Rattle.vault_model.specs.Note.{is_note}
 use Rattle.vault_model.specs.Tree.{find_place, child, is_part, is_full}
 use Rattle.vault_model.specs.Said.{Command, Effect}
 use Rattle.vault_model.specs.declared.commands.Command.TheVariants as commands
@@ -22,8 +23,8 @@ use Rattle.vault_model.specs.Claims.{change_set, claim_of, is_held, in_way_of}
 use Rattle.vault_model.specs.Shelf.{is_shelvable}
 use Rattle.vault_model.specs.Drafts.{new_draft, drafts_of}
 use Rattle.vault_model.specs.Vault.{Vault, AreThere, session_of, counted, counted_in}
-use Rattle.vault_model.specs.Changes.{with_session, gone, with_place, with_check_out, with_hold, with_items, with_content, with_versions, without_check_out, without_hold}
-use Rattle.vault_model.specs.Step.{Outcome, ◌>>=◌, chained, refuse_if, refuse_by, is_owned_by, placed, usable, join, make, check_out, extension, extend, abandon, hold, release, state, list, may_save, save, check_in, fetch, count, at_door, in_session, decide, outcome_of, step}
+use Rattle.vault_model.specs.Changes.{with_session, gone, with_place, with_check_out, with_hold, with_items, with_content, with_versions, without_check_out, with_owner, with_note, without_hold}
+use Rattle.vault_model.specs.Step.{Outcome, ◌>>=◌, chained, refuse_if, refuse_by, is_owned_by, placed, owned, usable, join, make, check_out, extension, extend, abandon, hold, release, state, list, may_save, save, check_in, fetch, count, give, note, read_note, at_door, in_session, decide, outcome_of, step}
 use Rattle.vault_model.proofs.Overlaps.{neither}
 use Rattle.vault_model.proofs.Growth.{find_place_there}
 use Rattle.vault_model.proofs.Kept.{length-placed, session_stands}
@@ -86,6 +87,10 @@ pub data Transition (v : Vault) : Option Effect → Vault → Type 0 where
       → Transition v (Some (effects.CheckedIn number)) (with_versions v number)
   abandoned : (number : ℕ) (claim : Claim) → claim_of v.line (Long number) ≡ Some claim
       → Transition v (Some (effects.Abandoned number)) (without_check_out v number)
+  given : (number : ℕ) (designer : List ℕ) (claim : Claim) → claim_of v.line (Long number) ≡ Some claim
+      → Transition v (Some (effects.Given number designer)) (with_owner v number designer)
+  noted : (number : ℕ) (text : List ℕ) (claim : Claim) → claim_of v.line (Long number) ≡ Some claim → is_note text ≡ true
+      → Transition v (Some (effects.Noted number text)) (with_note v number text)
   released : (number : ℕ)
       → Transition v None (without_hold v number)
 
@@ -149,6 +154,19 @@ module _ (v : Vault) where
   follows (Err e) f next = tt
   follows (Ok x) f next = next x refl
 
+  -- a claim stands, whoever owns it
+  owns : (session : Session) (id : ClaimId) (f : Claim → Result Outcome Refusal) → ((claim : Claim) → claim_of v.line id ≡ Some claim → Decided v (f claim)) → Decided v (owned v session id >>= f)
+  unfolding owned chained Decided
+  owns session id f next = by_claim (claim_of v.line id) refl
+    where
+      by_claim : (o : Option Claim) → claim_of v.line id ≡ o → Decided v ((ok_or o NoClaim >>= λ c. refuse_if (not (is_owned_by session c.owner)) NotYours >>= λ _. Ok c) >>= f)
+      by_claim None found = tt
+      by_claim (Some c) found = by_test (is_owned_by session c.owner)
+        where
+          by_test : (b : Bool) → Decided v ((refuse_if (not b) NotYours >>= λ _. Ok c) >>= f)
+          by_test false = tt
+          by_test true = next c found
+
   -- a claim may be used
   uses : (session : Session) (id : ClaimId) (f : Claim → Result Outcome Refusal) → ((claim : Claim) → IsUsed v id claim → Decided v (f claim)) → Decided v (usable v session id >>= f)
   unfolding usable chained Decided
@@ -188,7 +206,7 @@ module _ (v : Vault) where
       joined name (grind (arith, nat_tests, free.0)) free.1)
 
   session_is : (session : Session) → is_some (session_of v.sessions session.number) ≡ true → (command : Command) → Decided v (in_session v session command)
-  unfolding Decided make check_out extend save check_in abandon hold release state list fetch count
+  unfolding Decided make check_out extend save check_in abandon hold release state list fetch count give note read_note
   session_is session stands (commands.Join name) = tt
   session_is session stands (commands.Make path claim) =
       finds _ _ _ (λ name _. finds_place _ _ _ (λ parent there. passes _ _ _ (λ above. passes _ _ _ (λ fresh. follows _ _ (λ _ _. passes _ _ _ (λ room.
@@ -208,6 +226,9 @@ module _ (v : Vault) where
   session_is session stands (commands.List path) = follows _ _ (λ _ _. answered)
   session_is session stands (commands.Fetch path version) = follows _ _ (λ _ _. follows _ _ (λ _ _. follows _ _ (λ _ _. answered)))
   session_is session stands (commands.Count path) = follows _ _ (λ _ _. follows _ _ (λ _ _. answered))
+  session_is session stands (commands.Give number designer) = owns _ _ _ (λ claim found. given number designer claim found)
+  session_is session stands (commands.Note number text) = owns _ _ _ (λ claim found. holds _ _ _ (λ short. noted number text claim found short))
+  session_is session stands (commands.ReadNote number) = follows _ _ (λ _ _. answered)
   session_is session stands commands.Leave = left session.number
 
   pub decide_is : (n : ℕ) (command : Command) → Decided v (decide v n command)

@@ -21,7 +21,8 @@ use Rattle.vault_model.proofs.Shelves.{true_le}
 use Rattle.vault_model.proofs.Fronts.{stands_held}
 use Rattle.vault_model.proofs.DraftsKept.{drafts_first}
 use Rattle.vault_model.proofs.Stays.{claim_there}
-use Rattle.vault_model.proofs.Transitions.{Transition, answered, joined, left, made, asked, taken, extended, saved, checked_in, abandoned, released, by_transition, by_count}
+use Rattle.vault_model.proofs.Transitions.{Transition, answered, joined, left, made, asked, taken, extended, saved, checked_in, abandoned, given, noted, released, by_transition, by_count}
+use Rattle.vault_model.proofs.InPlace.{kept_given, kept_noted}
 use Rattle.vault_model.proofs.Lists.{three}
 
 pub absent : (o : Option ℕ) → is_some o ≡ false → o ≡ None
@@ -70,6 +71,8 @@ transition_keeps v kept effect w (saved claim number place content can) =
     }) (true_le _ _ tests.1) (true_le _ _ tests.2)
 transition_keeps v kept effect w (checked_in number claim used fits) = kept_checked_in v kept number fits
 transition_keeps v kept effect w (abandoned number claim found) = kept_without v kept number
+transition_keeps v kept effect w (given number designer claim found) = kept_given v kept number designer
+transition_keeps v kept effect w (noted number text claim found short) = kept_noted v kept number text (true_le _ _ short)
 transition_keeps v kept effect w (released number) = kept_released v kept number
 
 pub step_keeps : (v : Vault) (n : ℕ) (command : Command) → IsVault v → IsVault (step v n command).vault

@@ -9,13 +9,14 @@ use Rattle.vault_model.specs.declared.claims.Item.{Item}
 use Rattle.vault_model.specs.declared.claims.Claim.{Claim}
 use Rattle.vault_model.specs.declared.ids.ClaimId.TheVariants.{Long}
 use Rattle.vault_model.specs.Limits.{most_items, most_claims, last_number}
+use Rattle.vault_model.specs.Note.{is_note}
 use Rattle.vault_model.specs.Tree.{child, is_part, is_full}
 use Rattle.vault_model.specs.Claims.{claim_of, is_held, change_set, put_first}
 use Rattle.vault_model.specs.Shelf.{is_shelvable}
 use Rattle.vault_model.specs.Drafts.{SavedDraft, new_draft, drafts_of}
 use Rattle.vault_model.specs.Step.{may_save}
 use Rattle.vault_model.specs.Vault.{Vault, durable}
-use Rattle.vault_model.specs.Changes.{with_place, with_check_out, with_items, with_content, with_versions, without_check_out}
+use Rattle.vault_model.specs.Changes.{with_place, with_check_out, with_items, with_content, with_versions, without_check_out, with_owner, with_note}
 
 -- a vault, where a test holds
 abbrev pub only_if : Bool → Vault → Option Vault
@@ -89,6 +90,14 @@ after_checked_in w number =
 unfoldable pub after_abandoned : Vault → ℕ → Option Vault
 after_abandoned w number = only_if (is_some (claim_of w.line (Long number))) (without_check_out w number)
 
+-- one that stands may be given to a designer
+unfoldable pub after_given : Vault → ℕ → List ℕ → Option Vault
+after_given w number designer = only_if (is_some (claim_of w.line (Long number))) (with_owner w number designer)
+
+-- one that stands may get a note that is short enough
+unfoldable pub after_noted : Vault → ℕ → List ℕ → Option Vault
+after_noted w number note = only_if (is_some (claim_of w.line (Long number)) && is_note note) (with_note w number note)
+
 -- The durable vault after an effect, where that is applicable.
 unfoldable pub after : Vault → Effect → Option Vault
 after w (effects.Made parent name) = after_made w parent name
@@ -97,6 +106,8 @@ after w (effects.Extended number items) = after_extended w number items
 after w (effects.Saved number place content) = after_saved w number place content
 after w (effects.CheckedIn number) = after_checked_in w number
 after w (effects.Abandoned number) = after_abandoned w number
+after w (effects.Given number designer) = after_given w number designer
+after w (effects.Noted number note) = after_noted w number note
 
 -- a vault is a durable one: it has no sessions and no short claims, and counts nothing
 abbrev pub IsDurable : Vault → Type 0

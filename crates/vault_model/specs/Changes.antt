@@ -5,7 +5,7 @@ use Rattle.vault_model.specs.declared.ids.ClaimId.{ClaimId}
 use Rattle.vault_model.specs.declared.ids.ClaimId.TheVariants.{Long, Short}
 use Rattle.vault_model.specs.declared.session.Session.{Session}
 use Rattle.vault_model.specs.Tree.{new_place}
-use Rattle.vault_model.specs.Claims.{new_check_out, new_hold, without, without_session, put_first}
+use Rattle.vault_model.specs.Claims.{new_check_out, new_hold, without, without_session, put_first, changed, given_to, noted_as}
 use Rattle.vault_model.specs.Shelf.{shelved_all}
 use Rattle.vault_model.specs.Drafts.{new_draft, with_draft, drafts_of, without_drafts}
 use Rattle.vault_model.specs.Vault.{Vault}
@@ -53,6 +53,14 @@ with_versions v number = record v {
 -- a check-out went, and its drafts with it
 abbrev pub without_check_out : Vault → ℕ → Vault
 without_check_out v number = record v { line = without v.line (Long number); drafts = without_drafts v.drafts number }
+
+-- a check-out was given to a designer, in its place
+abbrev pub with_owner : Vault → ℕ → List ℕ → Vault
+with_owner v number designer = record v { line = changed v.line (Long number) (given_to designer) }
+
+-- a check-out got a note, in its place
+abbrev pub with_note : Vault → ℕ → List ℕ → Vault
+with_note v number note = record v { line = changed v.line (Long number) (noted_as note) }
 
 -- a hold was released
 abbrev pub without_hold : Vault → ℕ → Vault

@@ -1,6 +1,6 @@
 -- The vault's limits; `src/limits.rt` has the numbers. This project's own.
 use Rattle.std.specs.Prelude.{ℕ}
-use Rattle.vault_model.specs.declared.limits.TheConstants.{GREATEST_DEPTH, MOST_NAMES, PART_DEPTH, LONGEST_NAME, MOST_PLACES, MOST_CHILDREN, MOST_ITEMS, MOST_CLAIMS, MOST_SESSIONS, LAST_NUMBER, LONGEST_CONTENT, MOST_VERSIONS, MOST_WEIGHT, EXTRA_WEIGHT, MOST_DRAFTS}
+use Rattle.vault_model.specs.declared.limits.TheConstants.{GREATEST_DEPTH, MOST_NAMES, PART_DEPTH, LONGEST_NAME, MOST_PLACES, MOST_CHILDREN, MOST_ITEMS, MOST_CLAIMS, MOST_SESSIONS, LAST_NUMBER, LONGEST_CONTENT, MOST_VERSIONS, MOST_WEIGHT, EXTRA_WEIGHT, MOST_DRAFTS, LONGEST_NOTE}
 
 -- how many places above it a place has at most
 abbrev pub greatest_depth : ℕ
@@ -61,3 +61,7 @@ extra_weight = EXTRA_WEIGHT
 -- the most drafts of a check-out
 abbrev pub most_drafts : ℕ
 most_drafts = MOST_DRAFTS
+
+-- the most bytes of a check-out's note
+abbrev pub longest_note : ℕ
+longest_note = LONGEST_NOTE

@@ -1,8 +1,8 @@
 -- Conversations worked out by hand, which the definitions have to give.
 use Rattle.std.specs.Prelude.{◌≡◌, ℕ, List, [], ◌∷◌, ◌++◌, None, Some, codes, replicate}
 use Rattle.vault_model.specs.Said.{Command, Reply}
-use Rattle.vault_model.specs.declared.commands.Command.TheVariants.{Join, Make, CheckOut, Extend, Save, CheckIn, Abandon, Hold, Release, State, List as Names, Fetch, Count, Leave}
-use Rattle.vault_model.specs.declared.replies.Reply.TheVariants.{Session, Place, Held, Queued, Saved, CheckedIn, Abandoned, Released, Children, Content, Versions, Left, Refused}
+use Rattle.vault_model.specs.declared.commands.Command.TheVariants.{Join, Make, CheckOut, Extend, Save, CheckIn, Abandon, Hold, Release, State, List as Names, Fetch, Count, Give, Note, ReadNote, Leave}
+use Rattle.vault_model.specs.declared.replies.Reply.TheVariants.{Session, Place, Held, Queued, Saved, CheckedIn, Abandoned, Released, Children, Content, Versions, Given, Noted, NoteIs, Left, Refused}
 use Rattle.vault_model.specs.declared.replies.Refusal.TheVariants.{NoSession, Joined, NoPlace, Exists, WrongKind, Covered, NoClaim, NotYours, NotHeld, Overlaps, NotCovered, ItemCount, NoVersion, Limit}
 use Rattle.vault_model.specs.declared.claims.PathItem.{PathItem}
 use Rattle.vault_model.specs.declared.ids.ClaimId.TheVariants.{Long, Short}
@@ -183,6 +183,26 @@ DraftRefusals =
     ∷ Refused NoClaim
     ∷ Refused NotCovered ∷ Refused Limit ∷ Saved ∷ Abandoned ∷ CheckedIn 0 ∷ Versions 0 ∷ [])
 
+-- who is given a check-out has it, with its note, and who gave it has it no more
+abbrev pub GivenAway : Type 0
+GivenAway =
+    Told
+    ((1, CheckOut (change path_b ∷ [])) ∷ (1, Note 1 (codes "ab")) ∷ (1, Give 1 ben) ∷ (1, Save 1 path_p1 (0 ∷ [])) ∷ (2, Save 1 path_p1 (0 ∷ []))
+    ∷ (1, ReadNote 1) ∷ (2, Note 1 (replicate 65 0)) ∷ (1, Give 9 ben) ∷ (1, Give 1 anna) ∷ (2, ReadNote 1) ∷ (2, CheckIn 1) ∷ [])
+    (Held (Long 1) ∷ Noted ∷ Given ∷ Refused NotYours ∷ Saved ∷ NoteIs (codes "ab") ∷ Refused Limit ∷ Refused NoClaim ∷ Refused NotYours
+    ∷ NoteIs (codes "ab") ∷ CheckedIn 1 ∷ [])
+
+-- the drafts of a check-out that is given stay with it, and so does its place in the line; one that waits may be given and noted, too
+abbrev pub DraftsAndPlaceStay : Type 0
+DraftsAndPlaceStay =
+    Told
+    ((1, CheckOut (change path_b ∷ [])) ∷ (1, Save 1 path_p1 (codes "ab")) ∷ (2, CheckOut (look path_p1 ∷ [])) ∷ (2, Note 2 (codes "next"))
+    ∷ (2, Give 2 anna) ∷ (1, Give 1 ben) ∷ (2, State (Long 2)) ∷ (2, Note 2 []) ∷ (1, ReadNote 2) ∷ (2, CheckIn 1) ∷ (1, State (Long 2))
+    ∷ (1, Fetch path_p1 1) ∷ (1, Note 2 []) ∷ (1, ReadNote 2) ∷ (1, Note 9 []) ∷ (1, ReadNote 9) ∷ (0, ReadNote 2) ∷ [])
+    (Held (Long 1) ∷ Saved ∷ Queued (Long 2) (Long 1) ∷ Noted ∷ Given ∷ Given ∷ Queued (Long 2) (Long 1) ∷ Refused NotYours
+    ∷ NoteIs (codes "next") ∷ CheckedIn 1 ∷ Held (Long 2) ∷ Content (codes "ab") ∷ Noted ∷ NoteIs [] ∷ Refused NoClaim ∷ Refused NoClaim
+    ∷ Refused NoSession ∷ [])
+
 -- all of them
 pub record Rows : Type 0 where
   pub two_designers : TwoDesigners
@@ -199,3 +219,5 @@ pub record Rows : Type 0 where
   pub extension_refusals : ExtensionRefusals
   pub drafts_and_versions : DraftsAndVersions
   pub draft_refusals : DraftRefusals
+  pub given_away : GivenAway
+  pub drafts_and_place_stay : DraftsAndPlaceStay

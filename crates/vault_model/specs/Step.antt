@@ -22,12 +22,13 @@ use Rattle.vault_model.specs.declared.session.Session.{Session}
 use Rattle.std.specs.Str.{bytes_eq}
 use Rattle.vault_model.specs.Path.{front, last}
 use Rattle.vault_model.specs.Limits.{most_items, most_claims, most_sessions, last_number, longest_content, most_drafts, most_weight}
+use Rattle.vault_model.specs.Note.{is_note}
 use Rattle.vault_model.specs.Shelf.{versions_of, numbered, is_shelvable}
 use Rattle.vault_model.specs.Drafts.{SavedDraft, new_draft, with_draft, drafts_of}
 use Rattle.vault_model.specs.Tree.{find_place, child, names_under, is_part, is_full}
 use Rattle.vault_model.specs.Claims.{claim_of, is_held, is_session, in_way_of, change_set, covering, standing_behind, standing_of}
 use Rattle.vault_model.specs.Vault.{Vault, weight_of, session_of, counted}
-use Rattle.vault_model.specs.Changes.{with_session, gone, with_place, with_check_out, with_hold, with_items, with_content, with_versions, without_check_out, without_hold}
+use Rattle.vault_model.specs.Changes.{with_session, gone, with_place, with_check_out, with_hold, with_items, with_content, with_versions, without_check_out, with_owner, with_note, without_hold}
 
 -- a reply, the vault after it, and what has changed for good
 pub record Outcome : Type 0 where
@@ -74,6 +75,13 @@ is_designer name (owners.Session number) = false
 -- whether a claim is its designer's, or its own
 abbrev pub is_owned_by : Session → Owner → Bool
 is_owned_by session owner = is_designer session.name owner || is_session session.number owner
+
+-- the claim of this id, held or queued, for one who owns it
+unfoldable pub owned : Vault → Session → ClaimId → Result Claim Refusal
+owned v session id = do
+  claim ← ok_or (claim_of v.line id) NoClaim
+  _ ← refuse_if (not (is_owned_by session claim.owner)) NotYours
+  Ok claim
 
 -- the held claim of this id, for one who owns it
 unfoldable pub usable : Vault → Session → ClaimId → Result Claim Refusal
@@ -215,6 +223,38 @@ abandon v designer number = do
     effect = Some (effects.Abandoned number);
   })
 
+-- `give`: a check-out of the session's designer, held or queued, is another designer's from now on; its place in the line, its drafts and
+-- its note stay
+unfoldable pub give : Vault → Session → ℕ → List ℕ → Result Outcome Refusal
+give v session number designer = do
+  _ ← owned v session (Long number)
+  Ok (record {
+    reply = replies.Given;
+    vault = with_owner v number designer;
+    effect = Some (effects.Given number designer);
+  })
+
+-- `note` with a text: the note of a check-out of the session's designer, held or queued, in place of the one that it had
+unfoldable pub note : Vault → Session → ℕ → List ℕ → Result Outcome Refusal
+note v session number text = do
+  _ ← owned v session (Long number)
+  _ ← refuse_if (not (is_note text)) Limit
+  Ok (record {
+    reply = replies.Noted;
+    vault = with_note v number text;
+    effect = Some (effects.Noted number text);
+  })
+
+-- `note` without one: the note of a check-out; anybody may ask
+unfoldable pub read_note : Vault → ℕ → Result Outcome Refusal
+read_note v number = do
+  claim ← ok_or (claim_of v.line (Long number)) NoClaim
+  Ok (record {
+    reply = replies.NoteIs claim.note;
+    vault = v;
+    effect = None;
+  })
+
 -- `hold`: a new short claim of the session on all the items at once, held or queued as it stands behind all others
 unfoldable pub hold : Vault → Session → List PathItem → Result Outcome Refusal
 hold v session wanted = do
@@ -293,6 +333,9 @@ in_session v session (commands.State id) = state v id
 in_session v session (commands.List path) = list v path
 in_session v session (commands.Fetch path version) = fetch v path version
 in_session v session (commands.Count path) = count v path
+in_session v session (commands.Give number designer) = give v session number designer
+in_session v session (commands.Note number text) = note v session number text
+in_session v session (commands.ReadNote number) = read_note v number
 in_session v session commands.Leave = Ok (leave v session)
 
 -- what a command does, before it is counted; a number without a standing session is no session

@@ -7,6 +7,7 @@ use Rattle.vault_model.specs.declared.ids.ClaimId.{ClaimId}
 use Rattle.vault_model.specs.declared.ids.ClaimId.TheVariants.{Long, Short}
 use Rattle.vault_model.specs.declared.session.Session.{Session}
 use Rattle.std.specs.List.{IsDistinct}
+use Rattle.vault_model.specs.Note.{IsNote}
 use Rattle.vault_model.specs.Tree.{IsTree, is_part}
 use Rattle.vault_model.specs.Shelf.{weight, versions_of, IsShelf}
 use Rattle.vault_model.specs.Drafts.{SavedDraft, saved_weight, drafts_of, IsOrdered}
@@ -75,6 +76,11 @@ Owns sessions (owners.Session number) (Short n) = is_some (session_of sessions n
 Owns sessions (owners.Designer name) (Short n) = ⊥
 Owns sessions (owners.Session number) (Long n) = ⊥
 
+-- a check-out has a note, which may be empty; a hold has none
+abbrev pub IsNoteOf : ClaimId → List ℕ → Type 0
+IsNoteOf (Long n) note = IsNote note
+IsNoteOf (Short n) note = note ≡ []
+
 -- what every claim of a vault keeps
 pub record IsClaim (tree : List Place) (sessions : List Session) (last_long last_short : ℕ) (c : Claim) : Type 0 where
   pub given : IsGiven last_long last_short c.id
@@ -82,6 +88,7 @@ pub record IsClaim (tree : List Place) (sessions : List Session) (last_long last
   pub some : 0 < length c.items
   pub few : length c.items ≤ most_items
   pub there : AreThere tree c.items
+  pub noted : IsNoteOf c.id c.note
 
 -- what the sessions that stand keep
 pub record AreSessions (last_session : ℕ) (sessions : List Session) : Type 0 where

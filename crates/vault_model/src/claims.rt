@@ -1,5 +1,5 @@
 //! Claims and what they are made of.
-use crate::{ClaimId, Intent, Items, Name, Path, PlaceId};
+use crate::{ClaimId, Intent, Items, Name, Note, Path, PlaceId};
 
 /// An intent at a place.
 #[derive(Clone, Copy, Debug, PartialEq, Eq)]
@@ -29,10 +29,11 @@ pub enum Standing {
     Queued(ClaimId),
 }
 
-/// A claim in the line.
+/// A claim in the line. A hold has no note.
 #[derive(Clone, Copy, Debug, PartialEq, Eq)]
 pub struct Claim {
     pub id: ClaimId,
     pub owner: Owner,
     pub items: Items,
+    pub note: Note,
 }

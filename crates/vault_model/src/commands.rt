@@ -33,6 +33,12 @@ pub enum Command<Wanted = Listing<PathItem, Global>, Content = Listing<u8, Globa
     Fetch(Path, u32),
     /// Asks how many versions a part has.
     Count(Path),
+    /// Gives the long claim of this number to a designer.
+    Give(u32, Name),
+    /// Sets the note of the long claim of this number.
+    Note(u32, Content),
+    /// Asks for the note of the long claim of this number.
+    ReadNote(u32),
     /// Closes the session.
     Leave,
 }
@@ -61,6 +67,9 @@ impl<A: Allocator> CommandIn<A> {
             Command::List(path) => Command::List(*path),
             Command::Fetch(path, version) => Command::Fetch(*path, *version),
             Command::Count(path) => Command::Count(*path),
+            Command::Give(number, designer) => Command::Give(*number, *designer),
+            Command::Note(number, text) => Command::Note(*number, text.copy(alloc)?),
+            Command::ReadNote(number) => Command::ReadNote(*number),
             Command::Leave => Command::Leave,
         })
     }

@@ -1,7 +1,7 @@
 //! What a command changes in the durable vault.
 ghost use Rattle.std.specs.Prelude.{◌≡◌, IfOk};
 
-use crate::{Items, Listing, Name, NoMemory, PlaceId};
+use crate::{Items, Listing, Name, NoMemory, Note, PlaceId};
 use std::alloc::{Allocator, Global};
 
 /// The change that a command made, as the journal keeps it, over how its content is kept.
@@ -19,6 +19,10 @@ pub enum Effect<Content = Listing<u8, Global>> {
     CheckedIn(u32),
     /// The long claim of this number was given up.
     Abandoned(u32),
+    /// The long claim of this number was given to a designer.
+    Given(u32, Name),
+    /// The long claim of this number got this note.
+    Noted(u32, Note),
 }
 
 /// An effect in an allocator's memory.
@@ -38,6 +42,8 @@ impl<A: Allocator> EffectIn<A> {
             }
             Effect::CheckedIn(number) => Effect::CheckedIn(*number),
             Effect::Abandoned(number) => Effect::Abandoned(*number),
+            Effect::Given(number, designer) => Effect::Given(*number, *designer),
+            Effect::Noted(number, note) => Effect::Noted(*number, *note),
         })
     }
 }

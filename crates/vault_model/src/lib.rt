@@ -1,6 +1,7 @@
 //! The vault's types, as its commands and replies name them, and the definitions of everything that other crates promise.
 //!
-//! Promises: names and paths are read exactly from their spelling (`Name::read`, `Path::read`). The definitions have the laws
+//! Promises: names and paths are read exactly from their spelling (`Name::read`, `Path::read`), and a note is any bytes that are
+//! few enough (`Note::read`). The definitions have the laws
 //! of `laws`: a well-formed vault stays so, held stays held, held claims are apart, an effect is the durable change of its
 //! step, overlap and "under" are the sentences that they stand for, a path leads back to its place, a check-in leaves the
 //! weight and is refused for full parts alone, a second save replaces the first. A copy of a command, a reply or an effect
@@ -12,6 +13,7 @@
 //! 1. `Name`: 1 to 32 bytes of `a-z`, `0-9`, `_`, `-`, and zeros behind them.
 //! 2. `Path`: at most three names, and spare room behind them.
 //! 3. `Items`: at most 8 items, and spare room behind them.
+//! 4. `Note`: at most 64 bytes, and zeros behind them.
 //!
 //! Neither proved nor tested: the `Display` texts of refusals.
 //! Start at: specs/Vault.antt (what a vault is), specs/Step.antt (what each command does), specs/Claims.antt (the line). Then
@@ -28,6 +30,7 @@ pub mod laws;
 mod limits;
 mod listing;
 mod name;
+mod note;
 mod path;
 mod place;
 mod replies;
@@ -43,12 +46,13 @@ pub use effects::{Effect, EffectIn};
 pub use ids::{ClaimId, Intent, PlaceId};
 pub use items::Items;
 pub use limits::{
-    EXTRA_WEIGHT, GREATEST_DEPTH, LAST_NUMBER, LONGEST_CONTENT, LONGEST_NAME, MOST_CHILDREN,
-    MOST_CLAIMS, MOST_DRAFTS, MOST_ITEMS, MOST_NAMES, MOST_PLACES, MOST_SESSIONS, MOST_VERSIONS,
-    MOST_WEIGHT, PART_DEPTH,
+    EXTRA_WEIGHT, GREATEST_DEPTH, LAST_NUMBER, LONGEST_CONTENT, LONGEST_NAME, LONGEST_NOTE,
+    MOST_CHILDREN, MOST_CLAIMS, MOST_DRAFTS, MOST_ITEMS, MOST_NAMES, MOST_PLACES, MOST_SESSIONS,
+    MOST_VERSIONS, MOST_WEIGHT, PART_DEPTH,
 };
 pub use listing::Listing;
 pub use name::Name;
+pub use note::Note;
 pub use path::Path;
 pub use place::{Kind, Place};
 pub use replies::{Outside, Refusal, Reply, ReplyIn};

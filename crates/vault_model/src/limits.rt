@@ -39,6 +39,9 @@ pub const MOST_VERSIONS: usize = 65_535;
 /// How many drafts a check-out may have.
 pub const MOST_DRAFTS: usize = 64;
 
+/// The most bytes of a check-out's note.
+pub const LONGEST_NOTE: usize = 64;
+
 /// The most that all contents weigh together.
 pub const MOST_WEIGHT: usize = 16_777_216;
 

@@ -1,7 +1,7 @@
 //! What a session is told.
 ghost use Rattle.std.specs.Prelude.{◌≡◌, IfOk};
 
-use crate::{ClaimId, Listing, Name, NoMemory};
+use crate::{ClaimId, Listing, Name, NoMemory, Note};
 use std::alloc::{Allocator, Global};
 use thiserror::Error;
 
@@ -76,6 +76,12 @@ pub enum Reply<Names = Listing<Name, Global>, Content = Listing<u8, Global>> {
     Content(Content),
     /// How many versions a part has.
     Versions(u32),
+    /// The claim is another designer's.
+    Given,
+    /// The claim has another note.
+    Noted,
+    /// The note of a claim.
+    NoteIs(Note),
     /// The session was closed.
     Left,
     /// The command was refused, and changed nothing but the count of its session.
@@ -102,6 +108,9 @@ impl<A: Allocator> ReplyIn<A> {
             Reply::Children(names) => Reply::Children(names.copy(alloc)?),
             Reply::Content(content) => Reply::Content(content.copy(alloc)?),
             Reply::Versions(number) => Reply::Versions(*number),
+            Reply::Given => Reply::Given,
+            Reply::Noted => Reply::Noted,
+            Reply::NoteIs(note) => Reply::NoteIs(*note),
             Reply::Left => Reply::Left,
             Reply::Refused(refusal) => Reply::Refused(*refusal),
         })

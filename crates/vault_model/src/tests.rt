@@ -27,6 +27,17 @@ fn names_are_read(rt: HostRuntime) -> Result<(), Fail> {
 }
 
 #[test]
+fn notes_are_read(rt: HostRuntime) {
+    let bytes = [255; 65];
+    let longest = &bytes[..64];
+    let note = Note::read(longest).expect(&rt, "a note");
+    assert!(rt; note.as_bytes() == longest);
+    assert!(rt; Note::read(&bytes).is_none());
+    assert!(rt; Note::read(b"") == Some(Note::new()));
+    assert!(rt; Note::read(b"ab") != Some(note));
+}
+
+#[test]
 fn paths_are_read(rt: HostRuntime) -> Result<(), Fail> {
     let words: [(&[u8], Option<usize>); 12] = [
         (b"/", Some(0)),

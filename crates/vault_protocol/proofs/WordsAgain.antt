@@ -94,6 +94,15 @@ words_again words (commands.Fetch path version) h =
     ∙ ap (λ place. place >>= λ p. number_in (decimal version) >>= λ n. Some (commands.Fetch p n)) (path_again path h.0)
     ∙ ap (λ number. number >>= λ n. Some (commands.Fetch path n)) (number_is (decimal version) version h.1 refl)
 words_again words (commands.Count path) h = ap words_in h.1 ∙ ap (λ path. path >>= λ p. Some (commands.Count p)) (path_again path h.0)
+words_again words (commands.Give number designer) h =
+    ap words_in h.2
+    ∙ ap (λ claim. claim >>= λ n. name_in designer >>= λ d. Some (commands.Give n d)) (positive_again number h.0)
+    ∙ ap (λ name. name >>= λ d. Some (commands.Give number d)) (name_again designer h.1)
+words_again words (commands.Note number text) h =
+    ap words_in h.1.2
+    ∙ ap (λ claim. claim >>= λ n. content_in h.1.0 >>= λ t. Some (commands.Note n t)) (positive_again number h.0)
+    ∙ ap (λ bytes. bytes >>= λ t. Some (commands.Note number t)) (content_again h.1.0 text h.1.1)
+words_again words (commands.ReadNote number) h = ap words_in h.1 ∙ ap (λ claim. claim >>= λ n. Some (commands.ReadNote n)) (positive_again number h.0)
 words_again words commands.Leave h = ap words_in h
 
 -- No word has a space.
@@ -206,6 +215,20 @@ words_of words (commands.Fetch path version) h = record {
 }
 words_of words (commands.Count path) h =
     record { first = codes "count"; others = path_text path ∷ []; all = h.1; apart = (by_looking (codes "count") refl, (in_path path h.0, tt)) }
+words_of words (commands.Give number designer) h = record {
+  first = codes "give";
+  others = claim_text (Long number) ∷ designer ∷ [];
+  all = h.2;
+  apart = (by_looking (codes "give") refl, (in_claim (Long number) h.0, (in_name designer h.1, tt)));
+}
+words_of words (commands.Note number text) h = record {
+  first = codes "note";
+  others = claim_text (Long number) ∷ h.1.0 ∷ [];
+  all = h.1.2;
+  apart = (by_looking (codes "note") refl, (in_claim (Long number) h.0, (in_content h.1.0 text h.1.1, tt)));
+}
+words_of words (commands.ReadNote number) h =
+    record { first = codes "note"; others = claim_text (Long number) ∷ []; all = h.1; apart = (by_looking (codes "note") refl, (in_claim (Long number) h.0, tt)) }
 words_of words commands.Leave h =
     record { first = codes "quit"; others = []; all = h; apart = (by_looking (codes "quit") refl, tt) }
 

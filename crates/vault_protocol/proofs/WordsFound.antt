@@ -277,6 +277,32 @@ count_found (word ∷ []) command e =
     along (λ c. Spells (codes "count" ∷ word ∷ []) c) (same_Some _ _ path.2) (found.0, ap (λ w. codes "count" ∷ w ∷ []) found.1)
 count_found (word ∷ other ∷ words) command e = cc e
 
+give_found : (words : List (List ℕ)) (command : Command) → arguments_in keywords.Give words ≡ Some command → Spells (codes "give" ∷ words) command
+give_found [] command e = cc e
+give_found (word ∷ []) command e = cc e
+give_found (word ∷ other ∷ []) command e =
+    let claim = bind_some (long_in word) _ command e in
+    let name = bind_some (name_in other) _ command claim.2 in
+    let number = long_found word claim.0 claim.1 in
+    let found = name_found other name.0 name.1 in
+    along (λ c. Spells (codes "give" ∷ word ∷ other ∷ []) c) (same_Some _ _ name.2)
+    (number.0, found.0, ap (λ w. codes "give" ∷ w ∷ other ∷ []) number.1 ∙ ap (λ w. codes "give" ∷ claim_text (Long claim.0) ∷ w ∷ []) found.1)
+give_found (word ∷ other ∷ another ∷ words) command e = cc e
+
+note_found : (words : List (List ℕ)) (command : Command) → arguments_in keywords.Note words ≡ Some command → Spells (codes "note" ∷ words) command
+note_found [] command e = cc e
+note_found (word ∷ []) command e =
+    let claim = bind_some (long_in word) _ command e in
+    let found = long_found word claim.0 claim.1 in
+    along (λ c. Spells (codes "note" ∷ word ∷ []) c) (same_Some _ _ claim.2) (found.0, ap (λ w. codes "note" ∷ w ∷ []) found.1)
+note_found (word ∷ digits ∷ []) command e =
+    let claim = bind_some (long_in word) _ command e in
+    let text = bind_some (content_in digits) _ command claim.2 in
+    let number = long_found word claim.0 claim.1 in
+    along (λ c. Spells (codes "note" ∷ word ∷ digits ∷ []) c) (same_Some _ _ text.2)
+    (number.0, (digits, content_found digits text.0 text.1, ap (λ w. codes "note" ∷ w ∷ digits ∷ []) number.1))
+note_found (word ∷ digits ∷ other ∷ words) command e = cc e
+
 quit_found : (words : List (List ℕ)) (command : Command) → arguments_in keywords.Quit words ≡ Some command → Spells (codes "quit" ∷ words) command
 quit_found [] command e = along (λ c. Spells (codes "quit" ∷ []) c) (same_Some _ _ e) refl
 quit_found (word ∷ words) command e = cc e
@@ -296,6 +322,8 @@ arguments_found keywords.State words command e = state_found words command e
 arguments_found keywords.List words command e = list_found words command e
 arguments_found keywords.Fetch words command e = fetch_found words command e
 arguments_found keywords.Count words command e = count_found words command e
+arguments_found keywords.Give words command e = give_found words command e
+arguments_found keywords.Note words command e = note_found words command e
 arguments_found keywords.Quit words command e = quit_found words command e
 
 words_found : (words : List (List ℕ)) (command : Command) → words_in words ≡ Some command → Spells words command

@@ -63,6 +63,17 @@ arguments_in keywords.Fetch (path ∷ version ∷ []) = do
 arguments_in keywords.Count (path ∷ []) = do
   path ← path_in path
   Some (commands.Count path)
+arguments_in keywords.Give (claim ∷ designer ∷ []) = do
+  claim ← long_in claim
+  designer ← name_in designer
+  Some (commands.Give claim designer)
+arguments_in keywords.Note (claim ∷ []) = do
+  claim ← long_in claim
+  Some (commands.ReadNote claim)
+arguments_in keywords.Note (claim ∷ text ∷ []) = do
+  claim ← long_in claim
+  text ← content_in text
+  Some (commands.Note claim text)
 arguments_in keywords.Quit [] = Some commands.Leave
 arguments_in keyword words = None
 

@@ -19,13 +19,16 @@ keyword_text keywords.State = codes "state"
 keyword_text keywords.List = codes "list"
 keyword_text keywords.Fetch = codes "fetch"
 keyword_text keywords.Count = codes "count"
+keyword_text keywords.Give = codes "give"
+keyword_text keywords.Note = codes "note"
 keyword_text keywords.Quit = codes "quit"
 
 -- every keyword
 abbrev pub all_keywords : List Keyword
 all_keywords =
     keywords.Hello ∷ keywords.Make ∷ keywords.CheckOut ∷ keywords.Extend ∷ keywords.Save ∷ keywords.CheckIn ∷ keywords.Abandon
-    ∷ keywords.Hold ∷ keywords.Release ∷ keywords.State ∷ keywords.List ∷ keywords.Fetch ∷ keywords.Count ∷ keywords.Quit ∷ []
+    ∷ keywords.Hold ∷ keywords.Release ∷ keywords.State ∷ keywords.List ∷ keywords.Fetch ∷ keywords.Count ∷ keywords.Give
+    ∷ keywords.Note ∷ keywords.Quit ∷ []
 
 -- the keyword that the word is
 abbrev pub keyword_in : List ℕ → Option Keyword

@@ -49,7 +49,7 @@ DigitsSpellAll [] [] = Unit {0}
 DigitsSpellAll (high ∷ low ∷ digits) (byte ∷ bytes) = DigitsSpell high low byte × DigitsSpellAll digits bytes
 DigitsSpellAll digits bytes = ⊥
 
--- the word spells the content: `-` for no bytes, else its digits
+-- the word spells the content, or the note: `-` for no bytes, else its digits
 abbrev pub ContentSpells : List ℕ → List ℕ → Type 0
 ContentSpells word [] = word ≡ codes "-"
 ContentSpells word (byte ∷ bytes) = DigitsSpellAll word (byte ∷ bytes)
@@ -75,6 +75,12 @@ Spells words (commands.List path) = IsPath path × (words ≡ codes "list" ∷ p
 Spells words (commands.Fetch path version) =
     IsPath path × (version < 2 ^ 32) × (words ≡ codes "fetch" ∷ path_text path ∷ decimal version ∷ [])
 Spells words (commands.Count path) = IsPath path × (words ≡ codes "count" ∷ path_text path ∷ [])
+Spells words (commands.Give number designer) =
+    IsClaimNumber number × IsName designer × (words ≡ codes "give" ∷ claim_text (Long number) ∷ designer ∷ [])
+Spells words (commands.Note number text) =
+    IsClaimNumber number
+    × ((digits : List ℕ) × ContentSpells digits text × (words ≡ codes "note" ∷ claim_text (Long number) ∷ digits ∷ []))
+Spells words (commands.ReadNote number) = IsClaimNumber number × (words ≡ codes "note" ∷ claim_text (Long number) ∷ [])
 Spells words commands.Leave = words ≡ codes "quit" ∷ []
 
 -- the line is words that spell the command, joined by single spaces, and not too long
@@ -89,7 +95,7 @@ ReadAsSpelled = (line : List ℕ) (command : Command) → (command_of line ≡ S
 abbrev pub OneCommand : Type 0
 OneCommand = (line : List ℕ) (one other : Command) → LineSpells line one → LineSpells line other → one ≡ other
 
--- a content is told as one of its spellings
+-- a content, or a note, is told as one of its spellings
 abbrev pub ToldAsSpelled : Type 0
 ToldAsSpelled = (content : List ℕ) → IsBytes content → ContentSpells (content_text content) content
 

@@ -5,7 +5,7 @@ use Rattle.hex.specs.Hex.{encode_lower}
 use Rattle.vault_model.specs.Said.{Reply}
 use Rattle.vault_model.specs.declared.ids.ClaimId.{ClaimId}
 use Rattle.vault_model.specs.declared.ids.ClaimId.TheVariants.{Long, Short}
-use Rattle.vault_model.specs.declared.replies.Reply.TheVariants.{Session, Place, Held, Queued, Saved, CheckedIn, Abandoned, Released, Children, Content, Versions, Left, Refused}
+use Rattle.vault_model.specs.declared.replies.Reply.TheVariants.{Session, Place, Held, Queued, Saved, CheckedIn, Abandoned, Released, Children, Content, Versions, Given, Noted, NoteIs, Left, Refused}
 use Rattle.vault_model.specs.declared.replies.Refusal.{Refusal}
 use Rattle.vault_model.specs.declared.replies.Refusal.TheVariants as refusals
 use Rattle.vault_model.specs.declared.replies.Outside.{Outside}
@@ -45,7 +45,7 @@ queued_text claim before = codes "OK queued " ++ claim_text claim ++ (codes " be
 abbrev pub children_text : List (List ℕ) → List ℕ
 children_text names = codes "OK list " ++ decimal (length names) ++ flat_map (λ name. 32 ∷ name) names ++ newline
 
--- a content: two lower case hexadecimal digits a byte, or `-` for no bytes
+-- a content, or a note: two lower case hexadecimal digits a byte, or `-` for no bytes
 abbrev pub content_text : List ℕ → List ℕ
 content_text [] = codes "-"
 content_text (byte ∷ bytes) = encode_lower (byte ∷ bytes)
@@ -63,6 +63,9 @@ reply_text Released = codes "OK released\n"
 reply_text (Children names) = children_text names
 reply_text (Content content) = codes "OK content " ++ content_text content ++ newline
 reply_text (Versions count) = codes "OK versions " ++ decimal count ++ newline
+reply_text Given = codes "OK given\n"
+reply_text Noted = codes "OK noted\n"
+reply_text (NoteIs note) = codes "OK note " ++ content_text note ++ newline
 reply_text Left = codes "OK left\n"
 reply_text (Refused refusal) = refusal_text refusal ++ newline
 

@@ -19,12 +19,14 @@ pub(crate) enum Keyword {
     List,
     Fetch,
     Count,
+    Give,
+    Note,
     Quit,
 }
 
 impl Keyword {
     /// Every keyword.
-    const ALL: [Keyword; 14] = [
+    const ALL: [Keyword; 16] = [
         Keyword::Hello,
         Keyword::Make,
         Keyword::CheckOut,
@@ -38,6 +40,8 @@ impl Keyword {
         Keyword::List,
         Keyword::Fetch,
         Keyword::Count,
+        Keyword::Give,
+        Keyword::Note,
         Keyword::Quit,
     ];
 
@@ -59,6 +63,8 @@ impl Keyword {
             Keyword::List => b"list",
             Keyword::Fetch => b"fetch",
             Keyword::Count => b"count",
+            Keyword::Give => b"give",
+            Keyword::Note => b"note",
             Keyword::Quit => b"quit",
         }
     }

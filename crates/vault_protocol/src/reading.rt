@@ -153,6 +153,36 @@ fn count<A: Allocator>(arguments: &[&[u8]]) -> Result<CommandIn<A>, LineError>
     Ok(Command::Count(part))
 }
 
+/// `give CNUM NAME`
+fn give<A: Allocator>(arguments: &[&[u8]]) -> Result<CommandIn<A>, LineError>
+    ensures { Gives result (arguments_in keywords.Give (map (λ word. word.now) arguments.now)) }
+{
+    let [claim, designer] = arguments else {
+        return Err(LineError::BadLine);
+    };
+    let claim = read_long(claim).ok_or(LineError::BadLine)?;
+    let designer = Name::read(designer).ok_or(LineError::BadLine)?;
+    Ok(Command::Give(claim, designer))
+}
+
+/// `note CNUM` or `note CNUM HEX`
+fn note<A: Allocator>(alloc: A, arguments: &[&[u8]]) -> Result<CommandIn<A>, LineError>
+    ensures { Gives result (arguments_in keywords.Note (map (λ word. word.now) arguments.now)) }
+{
+    match arguments {
+        [claim] => {
+            let claim = read_long(claim).ok_or(LineError::BadLine)?;
+            Ok(Command::ReadNote(claim))
+        }
+        [claim, text] => {
+            let claim = read_long(claim).ok_or(LineError::BadLine)?;
+            let text = read_content(alloc, text)?;
+            Ok(Command::Note(claim, text))
+        }
+        _ => Err(LineError::BadLine),
+    }
+}
+
 /// `quit`
 fn quit<A: Allocator>(arguments: &[&[u8]]) -> Result<CommandIn<A>, LineError>
     ensures { Gives result (arguments_in keywords.Quit (map (λ word. word.now) arguments.now)) }
@@ -186,6 +216,8 @@ fn read_arguments<A: Allocator>(
         Keyword::List => list(arguments),
         Keyword::Fetch => fetch(arguments),
         Keyword::Count => count(arguments),
+        Keyword::Give => give(arguments),
+        Keyword::Note => note(alloc, arguments),
         Keyword::Quit => quit(arguments),
     }
 }
@@ -202,8 +234,8 @@ fn read_words<A: Allocator>(alloc: A, words: &[&[u8]]) -> Result<CommandIn<A>, L
 }
 
 /// The command that the line spells. The line comes without the line feed at its end.
-/// Memory goes to the list of its words, to the items of a check-out, an extension or a hold, and to a draft's content,
-/// which may have any number of bytes here.
+/// Memory goes to the list of its words, to the items of a check-out, an extension or a hold, and to a draft's content and a
+/// note's text, which may have any number of bytes here.
 pub fn read_line_of<A: Allocator + Copy>(alloc: A, line: &[u8]) -> Result<CommandIn<A>, LineError>
     ensures { Gives result (command_of line.now) }
 {

@@ -87,6 +87,17 @@ fn text_of_content<A: Allocator + Copy>(alloc: A, content: &[u8]) -> Result<Vec<
     Ok(format!(in alloc; "OK content {digits}\n")?.into_bytes())
 }
 
+/// The text of a note.
+fn text_of_note<A: Allocator + Copy>(alloc: A, note: &[u8]) -> Result<Vec<u8, A>, AllocError>
+    ensures { IfOk result (λ text. text.items ≡ codes "OK note " ++ content_text note.now ++ newline) }
+{
+    if note.is_empty() {
+        return Vec::from_slice(alloc, b"OK note -\n");
+    }
+    let digits = hex::encode(alloc, note)?;
+    Ok(format!(in alloc; "OK note {digits}\n")?.into_bytes())
+}
+
 /// The text of a reply, where memory is there.
 fn reply_text_of<A: Allocator + Copy, B: Allocator>(
     alloc: A,
@@ -109,6 +120,9 @@ fn reply_text_of<A: Allocator + Copy, B: Allocator>(
         Reply::Children(names) => text_of_children(alloc, names.as_slice()),
         Reply::Content(content) => text_of_content(alloc, content.as_slice()),
         Reply::Versions(count) => Ok(format!(in alloc; "OK versions {count}\n")?.into_bytes()),
+        Reply::Given => Ok(format!(in alloc; "OK given\n")?.into_bytes()),
+        Reply::Noted => Ok(format!(in alloc; "OK noted\n")?.into_bytes()),
+        Reply::NoteIs(note) => text_of_note(alloc, note.as_bytes()),
         Reply::Left => Ok(format!(in alloc; "OK left\n")?.into_bytes()),
         Reply::Refused(refusal) => {
             Ok(format!(in alloc; "{}\n", RefusalText(*refusal))?.into_bytes())

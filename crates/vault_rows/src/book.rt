@@ -63,12 +63,16 @@ fn is_effect(command: &Command, reply: &Reply, effect: &Option<Effect>) -> bool 
         (Command::Abandon(claim), Reply::Abandoned, Some(Effect::Abandoned(number))) => {
             claim == number
         }
+        (Command::Give(claim, _), Reply::Given, Some(Effect::Given(number, _))) => claim == number,
+        (Command::Note(claim, _), Reply::Noted, Some(Effect::Noted(number, _))) => claim == number,
         (Command::Make(_, _), Reply::Place(_), None) => false,
         (Command::CheckOut(_), Reply::Held(_) | Reply::Queued(_, _), None) => false,
         (Command::Extend(ClaimId::Long(_), _), Reply::Held(_), None) => false,
         (Command::Save(_, _, _), Reply::Saved, None) => false,
         (Command::CheckIn(_), Reply::CheckedIn(_), None) => false,
         (Command::Abandon(_), Reply::Abandoned, None) => false,
+        (Command::Give(_, _), Reply::Given, None) => false,
+        (Command::Note(_, _), Reply::Noted, None) => false,
         (_, _, None) => true,
         (_, _, Some(_)) => false,
     }

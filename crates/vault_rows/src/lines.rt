@@ -3,7 +3,8 @@
 use std::alloc::Global;
 use std::test::Fail;
 use vault_model::{
-    ClaimId, Command, CommandIn, Intent, Listing, Name, Outside, Path, PathItem, Refusal, Reply,
+    ClaimId, Command, CommandIn, Intent, Listing, Name, Note, Outside, Path, PathItem, Refusal,
+    Reply,
 };
 use vault_protocol::{LONGEST_LINE, LineError, outside_text, read_line_of, text_of};
 
@@ -11,7 +12,7 @@ use vault_protocol::{LONGEST_LINE, LineError, outside_text, read_line_of, text_o
 fn lines_that_spell_a_command(rt: HostRuntime) -> Result<(), Fail> {
     let anna = Name::read(b"anna").ok_or("a name")?;
     let path = Path::read(b"/e/b").ok_or("a path")?;
-    let rows: [(&[u8], CommandIn<Global>); 13] = [
+    let rows: [(&[u8], CommandIn<Global>); 15] = [
         (b"hello anna", Command::Join(anna)),
         (b"make /e/b", Command::Make(path, None)),
         (b"make /e/b c7", Command::Make(path, Some(7))),
@@ -24,6 +25,8 @@ fn lines_that_spell_a_command(rt: HostRuntime) -> Result<(), Fail> {
         (b"fetch /e/b 0", Command::Fetch(path, 0)),
         (b"fetch /e/b 4294967295", Command::Fetch(path, 4294967295)),
         (b"count /e/b", Command::Count(path)),
+        (b"give c7 anna", Command::Give(7, anna)),
+        (b"note c7", Command::ReadNote(7)),
         (b"quit", Command::Leave),
     ];
     for (line, want) in rows {
@@ -74,6 +77,12 @@ fn lines_of_contents(rt: HostRuntime) -> Result<(), Fail> {
         let content = Listing::from_vec(Vec::from_slice(rt.alloc(), bytes)?);
         let read: CommandIn<Global> = read_line_of(rt.alloc(), line)?;
         assert!(rt; read == Command::Save(7, path, content));
+    }
+    let rows: [(&[u8], &[u8]); 2] = [(b"note c7 -", b""), (b"note c7 0aFf", b"\x0a\xff")];
+    for (line, bytes) in rows {
+        let text = Listing::from_vec(Vec::from_slice(rt.alloc(), bytes)?);
+        let read: CommandIn<Global> = read_line_of(rt.alloc(), line)?;
+        assert!(rt; read == Command::Note(7, text));
     }
     Ok(())
 }
@@ -146,7 +155,7 @@ fn lines_that_spell_none(rt: HostRuntime) -> Result<(), Fail> {
 
 #[test]
 fn lines_that_say_too_little_or_too_much(rt: HostRuntime) -> Result<(), Fail> {
-    let rows: [&[u8]; 19] = [
+    let rows: [&[u8]; 28] = [
         b"make",
         b"make /e h1",
         b"make /e 1",
@@ -166,6 +175,15 @@ fn lines_that_say_too_little_or_too_much(rt: HostRuntime) -> Result<(), Fail> {
         b"list / /e",
         b"quit ",
         b"quit anna",
+        b"give",
+        b"give c1",
+        b"give c1 Anna",
+        b"give c1 anna ben",
+        b"give h1 anna",
+        b"note",
+        b"note h1",
+        b"note c1 0",
+        b"note c1 00 00",
     ];
     for line in rows {
         let read: Result<CommandIn<Global>, LineError> = read_line_of(rt.alloc(), line);
@@ -194,7 +212,7 @@ fn longest_line(rt: HostRuntime) -> Result<(), Fail> {
 
 #[test]
 fn texts_of_replies(rt: HostRuntime) -> Result<(), Fail> {
-    let rows: [(Reply, &[u8]); 17] = [
+    let rows: [(Reply, &[u8]); 19] = [
         (Reply::Session(64), b"OK session 64\n"),
         (Reply::Place(4095), b"OK place 4095\n"),
         (Reply::Held(ClaimId::Long(1)), b"OK held c1\n"),
@@ -207,6 +225,8 @@ fn texts_of_replies(rt: HostRuntime) -> Result<(), Fail> {
         (Reply::Abandoned, b"OK abandoned\n"),
         (Reply::Released, b"OK released\n"),
         (Reply::Versions(65535), b"OK versions 65535\n"),
+        (Reply::Given, b"OK given\n"),
+        (Reply::Noted, b"OK noted\n"),
         (Reply::Left, b"OK left\n"),
         (Reply::Refused(Refusal::NoSession), b"ERR 11\n"),
         (
@@ -264,6 +284,11 @@ fn texts_of_contents(rt: HostRuntime) -> Result<(), Fail> {
     ];
     for (bytes, want) in rows {
         let reply: Reply = Reply::Content(Listing::from_vec(Vec::from_slice(rt.alloc(), bytes)?));
+        assert_eq!(rt; text_of(rt.alloc(), &reply)?.as_slice(), want);
+    }
+    let rows: [(&[u8], &[u8]); 2] = [(b"", b"OK note -\n"), (b"\0\x0a\xff", b"OK note 000aff\n")];
+    for (bytes, want) in rows {
+        let reply: Reply = Reply::NoteIs(Note::read(bytes).ok_or("a note")?);
         assert_eq!(rt; text_of(rt.alloc(), &reply)?.as_slice(), want);
     }
     Ok(())

@@ -23,6 +23,7 @@ pub(crate) fn may_change<W, C>(command: &Command<W, C>) -> bool {
             | Command::List(_)
             | Command::Fetch(_, _)
             | Command::Count(_)
+            | Command::ReadNote(_)
             | Command::Leave
     )
 }

@@ -329,6 +329,8 @@ some_bytes (effects.Extended claim items) = omega arith
 some_bytes (effects.Saved claim place content) = omega arith
 some_bytes (effects.CheckedIn claim) = omega arith
 some_bytes (effects.Abandoned claim) = omega arith
+some_bytes (effects.Given claim designer) = omega arith
+some_bytes (effects.Noted claim note) = omega arith
 
 no_effects : (effects : List Effect) (bytes : List ℕ) → AreRecordsOf effects bytes → length bytes ≡ 0 → effects ≡ []
 no_effects [] bytes records none = refl

@@ -18,6 +18,7 @@ mod New
 pub mod Creating
 pub mod OneReading
 mod SpelledLists
+mod KindBytes
 mod SpelledPlaces
 mod SpelledClaims
 mod Spelled

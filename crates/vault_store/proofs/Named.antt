@@ -1,20 +1,19 @@
 -- Effects with records keep a vault that has a spelling one that has.
-use Rattle.std.proofs.Common.{◌≡◌, ℕ, not, Bool, true, false, List, [], ◌∷◌, ◌++◌, Option, Some, None, refl, subst, All}
+use Rattle.std.proofs.Common.{◌≡◌, ℕ, not, Bool, true, false, cond, List, [], ◌∷◌, ◌++◌, Option, Some, None, refl, subst, All}
 use Rattle.std.specs.List.{AllByRecursion}
 use Rattle.std.specs.Option.{option_and_then}
-use Rattle.std.proofs.lemmas.List.Elements.{All-cons, All-filter, All-push}
+use Rattle.std.proofs.lemmas.List.Elements.{All-cons, All-filter, All-push, All-map, All-weaker}
 use Rattle.vault_model.specs.declared.place.Place.{Place}
 use Rattle.vault_model.specs.declared.claims.Item.{Item}
 use Rattle.vault_model.specs.declared.claims.Claim.{Claim}
-use Rattle.vault_model.specs.declared.claims.Owner.TheVariants as owners
 use Rattle.vault_model.specs.declared.ids.ClaimId.{ClaimId}
 use Rattle.vault_model.specs.declared.ids.ClaimId.TheVariants.{Long}
 use Rattle.vault_model.specs.declared.effects.Effect.TheVariants as effects
 use Rattle.vault_model.specs.Name.{IsName}
 use Rattle.vault_model.specs.Said.{Effect}
-use Rattle.vault_model.specs.Claims.{same_id, claim_of, without, put_first}
+use Rattle.vault_model.specs.Claims.{new_check_out, same_id, claim_of, without, put_first, changed, given_to, noted_as}
 use Rattle.vault_model.specs.Vault.{Vault}
-use Rattle.vault_model.specs.After.{only_if, after, after_made, after_asked, after_extended, after_saved, after_checked_in, after_abandoned}
+use Rattle.vault_model.specs.After.{only_if, after, after_made, after_asked, after_extended, after_saved, after_checked_in, after_abandoned, after_given, after_noted}
 use Rattle.vault_model.proofs.Durable.{durable_stays}
 use Rattle.vault_model.proofs.Stays.{claim_there}
 use Rattle.vault_journal.specs.Spelling.{HasRecord}
@@ -46,7 +45,7 @@ module _ (w next : Vault) (named : IsNamed w) where
   named_asked number designer items is e =
       subst IsNamed (only_if_is _ _ next e) (record {
         places = named.places;
-        owners = All-push (λ (claim : Claim). IsName (designer_of claim.owner)) w.line (record { id = Long number; owner = owners.Designer designer; items = items }) named.owners is;
+        owners = All-push (λ (claim : Claim). IsName (designer_of claim.owner)) w.line (new_check_out number designer items) named.owners is;
       })
 
   named_without : (id : ClaimId) → All (λ (claim : Claim). IsName (designer_of claim.owner)) (without w.line id)
@@ -76,6 +75,23 @@ module _ (w next : Vault) (named : IsNamed w) where
   unfolding after_abandoned
   named_abandoned number e = subst IsNamed (only_if_is _ _ next e) (record { places = named.places; owners = named_without (Long number) })
 
+  named_changed : (id : ClaimId) (f : Claim → Claim) → ((c : Claim) → IsName (designer_of c.owner) → IsName (designer_of (f c).owner)) → All (λ (c : Claim). IsName (designer_of c.owner)) (changed w.line id f)
+  named_changed id f still =
+      All-map (λ (c : Claim). IsName (designer_of c.owner)) (λ (c : Claim). cond (same_id c.id id) (f c) c) w.line
+      (All-weaker (λ (c : Claim). IsName (designer_of c.owner)) (λ (c : Claim). IsName (designer_of (cond (same_id c.id id) (f c) c).owner)) (λ c h. by_test c (same_id c.id id) h) w.line named.owners)
+    where
+      by_test : (c : Claim) (b : Bool) → IsName (designer_of c.owner) → IsName (designer_of (cond b (f c) c).owner)
+      by_test c true h = still c h
+      by_test c false h = h
+
+  named_given : (number : ℕ) (designer : List ℕ) → IsName designer → after_given w number designer ≡ Some next → IsNamed next
+  unfolding after_given
+  named_given number designer is e = subst IsNamed (only_if_is _ _ next e) (record { places = named.places; owners = named_changed (Long number) (given_to designer) (λ c h. is) })
+
+  named_noted : (number : ℕ) (note : List ℕ) → after_noted w number note ≡ Some next → IsNamed next
+  unfolding after_noted
+  named_noted number note e = subst IsNamed (only_if_is _ _ next e) (record { places = named.places; owners = named_changed (Long number) (noted_as note) (λ c h. h) })
+
 named_after : (w next : Vault) (effect : Effect) → IsNamed w → HasRecord effect → after w effect ≡ Some next → IsNamed next
 unfolding after
 named_after w next (effects.Made parent name) named has e = named_made w next named parent name has.1 e
@@ -84,6 +100,8 @@ named_after w next (effects.Extended number items) named has e = named_extended 
 named_after w next (effects.Saved number place content) named has e = named_saved w next named number place content e
 named_after w next (effects.CheckedIn number) named has e = named_checked_in w next named number e
 named_after w next (effects.Abandoned number) named has e = named_abandoned w next named number e
+named_after w next (effects.Given number designer) named has e = named_given w next named number designer has.1 e
+named_after w next (effects.Noted number note) named has e = named_noted w next named number note e
 
 spelled_after : (w next : Vault) (effect : Effect) → HasSnapshot w → HasRecord effect → after w effect ≡ Some next → HasSnapshot next
 spelled_after w next effect has record_is e =

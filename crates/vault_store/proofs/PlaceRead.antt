@@ -19,10 +19,11 @@ use Rattle.design_tree.specs.Added.{refusal, refusal_told}
 use Rattle.design_tree.specs.declared.tree.AddError.{AddError}
 use Rattle.design_tree.specs.declared.tree.AddError.TheVariants as unmade
 use Rattle.vault_store.specs.declared.snapshot.SnapshotError.TheVariants.{NotWellFormed}
-use Rattle.vault_store.specs.Snapshot.{versions_bytes}
-use Rattle.vault_store.specs.Places.{told_of, IsFrontOf, shelf_with, AreVersionsRead, BeginsWithNoVersions, IsPlaceAdded, BeginsWithNoName, IsPlaceRead, BeginsWithNoPlace}
+use Rattle.vault_store.specs.Snapshot.{versions_bytes, kind_bytes, place_bytes}
+use Rattle.vault_store.specs.Places.{vault_with, ArePlaces, behind_kind, told_of, IsFrontOf, shelf_with, AreVersionsRead, BeginsWithNoVersions, IsPlaceAdded, BeginsWithNoName, IsPlaceRead, BeginsWithNoPlace}
 use Rattle.vault_store.proofs.OneReading.{one_number}
 use Rattle.vault_store.proofs.SpelledLists.{name_tells}
+use Rattle.vault_store.proofs.KindBytes.{kind_alone, kind_then, kind_left, no_kind}
 use Rattle.vault_store.proofs.SpelledPlaces.{part_same}
 use Rattle.vault_store.proofs.TreeFronts.{tree_front, rises_front, last_parent, may_follow}
 use Rattle.vault_store.proofs.ListsRead.{all_next}
@@ -103,8 +104,8 @@ module _ (tree : List Place) (shelf : List (List (List ℕ))) (are : AreVersions
   nameless none place more whole rest is kept same =
       let one = tree_front (tree ++ place ∷ []) more (subst IsTree (sym (append_assoc tree (place ∷ []) more)) is.tree_is) in
       let n = suc (length tree) in
-      let versions = cond (is_part (tree ++ place ∷ more) n) (versions_bytes (versions_of whole n)) [] in
-      none place (versions ++ rest) one (all_next (λ (x : Place). IsName x.name) tree more place is.named) (same ∙ append_assoc (in_four place.parent ++ name_bytes place.name) versions rest)
+      let kinds = kind_bytes (is_part (tree ++ place ∷ more) n) (versions_of whole n) in
+      none place (kinds ++ rest) one (all_next (λ (x : Place). IsName x.name) tree more place is.named) (same ∙ append_assoc (in_four place.parent ++ name_bytes place.name) kinds rest)
 
   module _ (new : List Place) (mid : List ℕ) (added : IsPlaceAdded tree new bytes mid) where
     rises : Rises tree
@@ -119,77 +120,90 @@ module _ (tree : List Place) (shelf : List (List (List ℕ))) (are : AreVersions
     still_versions : (p : ℕ) → versions_of shelf p ≢ [] → (p ≤ length new) × (is_part new p ≡ true)
     still_versions p some = let there = are.parts p some in (omega (arith, there.0, longer), still_part p there.0 there.1)
 
-    pub no_part_read : is_part new (suc (length tree)) ≡ false → IsPlaceRead tree shelf new shelf bytes mid
-    no_part_read other = record {
-      place = added.place;
-      named = added.named;
-      grown = added.grown;
-      tree_is = added.tree_is;
-      versions = record { shelf_is = are.shelf_is; parts = still_versions };
-      kept = λ p within. refl;
-      spelled =
-          added.spelled
-          ∙ ap (λ (l : List ℕ). l ++ mid) (sym (append-nil (in_four added.place.parent ++ name_bytes added.place.name)) ∙ ap (λ (b : Bool). (in_four added.place.parent ++ name_bytes added.place.name) ++ cond b (versions_bytes (versions_of shelf (suc (length tree)))) []) (sym other));
-    }
+    -- what stands behind the name of a place that stands there
+    at_kind : (place : Place) (more : List Place) (whole : List (List (List ℕ))) (rest : List ℕ) → ArePlaces (tree ++ place ∷ more) whole
+        → bytes ≡ place_bytes (vault_with (tree ++ place ∷ more) whole) (suc (length tree)) place ++ rest → mid ≡ kind_bytes (is_part new (suc (length tree))) (versions_of whole (suc (length tree))) ++ rest
+    at_kind place more whole rest is same =
+        let grown = tree ++ place ∷ more in
+        let kinds = kind_bytes (is_part grown (suc (length tree))) (versions_of whole (suc (length tree))) in
+        let one = tree_front (tree ++ place ∷ []) more (subst IsTree (sym (append_assoc tree (place ∷ []) more)) is.tree_is) in
+        let named = all_next (λ (x : Place). IsName x.name) tree more place is.named in
+        let whole_is : (in_four added.place.parent ++ name_bytes added.place.name) ++ mid ≡ (in_four place.parent ++ name_bytes place.name) ++ (kinds ++ rest) =
+        sym added.spelled ∙ same ∙ append_assoc (in_four place.parent ++ name_bytes place.name) kinds rest in
+        let parents =
+        one_number added.place.parent place.parent (name_bytes added.place.name ++ mid) (name_bytes place.name ++ (kinds ++ rest)) (parent_fits tree [] added.place (subst IsTree added.grown added.tree_is)) (parent_fits tree [] place one)
+        (sym (append_assoc (in_four added.place.parent) (name_bytes added.place.name) mid) ∙ whole_is ∙ append_assoc (in_four place.parent) (name_bytes place.name) (kinds ++ rest)) in
+        let names = name_tells added.place.name place.name mid (kinds ++ rest) added.named named parents.1 in
+        let new_is : new ≡ tree ++ place ∷ [] = added.grown ∙ ap (λ (p : ℕ). tree ++ new_place p added.place.name ∷ []) parents.0 ∙ ap (λ (l : List ℕ). tree ++ new_place place.parent l ∷ []) names.0 in
+        let same_part : is_part grown (suc (length tree)) ≡ is_part new (suc (length tree)) =
+        part_same grown new (tree ++ place ∷ []) more [] (suc (length tree)) (sym (append_assoc tree (place ∷ []) more)) (new_is ∙ sym (append-nil (tree ++ place ∷ []))) is.tree_is.parents (omega (arith, length_push tree place)) in
+        names.1 ∙ ap (λ (b : Bool). kind_bytes b (versions_of whole (suc (length tree))) ++ rest) same_part
 
-    -- of a part
-    module _ (part : is_part new (suc (length tree)) ≡ true) where
-      pub part_read : (shelf_new : List (List (List ℕ))) (rest : List ℕ) → AreVersionsRead (suc (length tree)) shelf shelf_new mid rest → IsPlaceRead tree shelf new shelf_new bytes rest
-      part_read shelf_new rest read = record {
+    -- where another kind stands, or none, no place does
+    pub kindless : behind_kind (is_part new (suc (length tree))) mid ≡ None → BeginsWithNoPlace tree shelf bytes
+    kindless none place more whole rest is kept same = no_kind (is_part new (suc (length tree))) (versions_of whole (suc (length tree))) mid rest none (at_kind place more whole rest is same)
+
+    module _ (behind : List ℕ) (got : behind_kind (is_part new (suc (length tree))) mid ≡ Some behind) where
+      pub no_part_read : is_part new (suc (length tree)) ≡ false → IsPlaceRead tree shelf new shelf bytes behind
+      no_part_read other = record {
         place = added.place;
         named = added.named;
         grown = added.grown;
         tree_is = added.tree_is;
-        versions = record { shelf_is = read.well_formed; parts = λ p some. parts p some };
-        kept = λ p within. others p (λ same. absurd (omega (arith, same, within)));
+        versions = record { shelf_is = are.shelf_is; parts = still_versions };
+        kept = λ p within. refl;
         spelled =
             added.spelled
-            ∙ ap (λ (l : List ℕ). (in_four added.place.parent ++ name_bytes added.place.name) ++ l) (read.spelled ∙ ap (λ (l : List ℕ). l ++ rest) (ap versions_bytes (sym own) ∙ ap (λ (b : Bool). cond b (versions_bytes (versions_of shelf_new (suc (length tree)))) []) (sym part)))
-            ∙ sym (append_assoc (in_four added.place.parent ++ name_bytes added.place.name) (cond (is_part new (suc (length tree))) (versions_bytes (versions_of shelf_new (suc (length tree)))) []) rest);
+            ∙ ap (λ (l : List ℕ). (in_four added.place.parent ++ name_bytes added.place.name) ++ l) (kind_alone (is_part new (suc (length tree))) (versions_of shelf (suc (length tree))) mid behind other got)
+            ∙ sym (append_assoc (in_four added.place.parent ++ name_bytes added.place.name) (kind_bytes (is_part new (suc (length tree))) (versions_of shelf (suc (length tree)))) behind);
       }
-        where
-          others : (p : ℕ) → suc (length tree) ≢ p → versions_of shelf_new p ≡ versions_of shelf p
-          others p differ = ap (λ (s : List (List (List ℕ))). versions_of s p) read.shelf_is ∙ versions_of-shelf_with_other shelf (suc (length tree)) read.contents p differ
 
-          own : versions_of shelf_new (suc (length tree)) ≡ read.contents
-          own =
-              ap (λ (s : List (List (List ℕ))). versions_of s (suc (length tree))) read.shelf_is ∙ versions_of-shelf_with shelf (suc (length tree)) read.contents
-              ∙ ap (λ (l : List (List ℕ)). l ++ read.contents) (no_versions_past tree shelf are (suc (length tree)) (omega arith))
+      -- of a part
+      module _ (part : is_part new (suc (length tree)) ≡ true) where
+        pub part_read : (shelf_new : List (List (List ℕ))) (rest : List ℕ) → AreVersionsRead (suc (length tree)) shelf shelf_new behind rest → IsPlaceRead tree shelf new shelf_new bytes rest
+        part_read shelf_new rest read = record {
+          place = added.place;
+          named = added.named;
+          grown = added.grown;
+          tree_is = added.tree_is;
+          versions = record { shelf_is = read.well_formed; parts = λ p some. parts p some };
+          kept = λ p within. others p (λ same. absurd (omega (arith, same, within)));
+          spelled =
+              added.spelled
+              ∙ ap (λ (l : List ℕ). (in_four added.place.parent ++ name_bytes added.place.name) ++ l)
+              (kind_then (is_part new (suc (length tree))) (versions_of shelf_new (suc (length tree))) mid behind rest part got (read.spelled ∙ ap (λ (l : List (List ℕ)). versions_bytes l ++ rest) (sym own)))
+              ∙ sym (append_assoc (in_four added.place.parent ++ name_bytes added.place.name) (kind_bytes (is_part new (suc (length tree))) (versions_of shelf_new (suc (length tree)))) rest);
+        }
+          where
+            others : (p : ℕ) → suc (length tree) ≢ p → versions_of shelf_new p ≡ versions_of shelf p
+            others p differ = ap (λ (s : List (List (List ℕ))). versions_of s p) read.shelf_is ∙ versions_of-shelf_with_other shelf (suc (length tree)) read.contents p differ
 
-          parts : (p : ℕ) → versions_of shelf_new p ≢ [] → (p ≤ length new) × (is_part new p ≡ true)
-          parts p some = elim (eqb_tells (suc (length tree)) p) [
-            | inl here ↦ (omega (arith, here.1, longer), subst (λ (q : ℕ). is_part new q ≡ true) here.1 part)
-            | inr other ↦ still_versions p (λ none. some (others p other.1 ∙ none))
-          ]
+            own : versions_of shelf_new (suc (length tree)) ≡ read.contents
+            own =
+                ap (λ (s : List (List (List ℕ))). versions_of s (suc (length tree))) read.shelf_is ∙ versions_of-shelf_with shelf (suc (length tree)) read.contents
+                ∙ ap (λ (l : List (List ℕ)). l ++ read.contents) (no_versions_past tree shelf are (suc (length tree)) (omega arith))
 
-      pub versionless : BeginsWithNoVersions (suc (length tree)) shelf mid → BeginsWithNoPlace tree shelf bytes
-      versionless none place more whole rest is kept same =
-          let grown = tree ++ place ∷ more in
-          let versions = cond (is_part grown (suc (length tree))) (versions_bytes (versions_of whole (suc (length tree)))) [] in
-          let one = tree_front (tree ++ place ∷ []) more (subst IsTree (sym (append_assoc tree (place ∷ []) more)) is.tree_is) in
-          let named = all_next (λ (x : Place). IsName x.name) tree more place is.named in
-          let whole_is : (in_four added.place.parent ++ name_bytes added.place.name) ++ mid ≡ (in_four place.parent ++ name_bytes place.name) ++ (versions ++ rest) =
-          sym added.spelled ∙ same ∙ append_assoc (in_four place.parent ++ name_bytes place.name) versions rest in
-          let parents =
-          one_number added.place.parent place.parent (name_bytes added.place.name ++ mid) (name_bytes place.name ++ (versions ++ rest)) (parent_fits tree [] added.place (subst IsTree added.grown added.tree_is)) (parent_fits tree [] place one)
-          (sym (append_assoc (in_four added.place.parent) (name_bytes added.place.name) mid) ∙ whole_is ∙ append_assoc (in_four place.parent) (name_bytes place.name) (versions ++ rest)) in
-          let names = name_tells added.place.name place.name mid (versions ++ rest) added.named named parents.1 in
-          let new_is : new ≡ tree ++ place ∷ [] = added.grown ∙ ap (λ (p : ℕ). tree ++ new_place p added.place.name ∷ []) parents.0 ∙ ap (λ (l : List ℕ). tree ++ new_place place.parent l ∷ []) names.0 in
-          let same_part : is_part grown (suc (length tree)) ≡ is_part new (suc (length tree)) =
-          part_same grown new (tree ++ place ∷ []) more [] (suc (length tree)) (sym (append_assoc tree (place ∷ []) more)) (new_is ∙ sym (append-nil (tree ++ place ∷ []))) is.tree_is.parents (omega (arith, length_push tree place)) in
-          let versions_are : versions ≡ versions_bytes (versions_of whole (suc (length tree))) = ap (λ (b : Bool). cond b (versions_bytes (versions_of whole (suc (length tree)))) []) (same_part ∙ part) in
-          none (versions_of whole (suc (length tree))) whole rest is.versions.shelf_is (front whole kept) (names.1 ∙ ap (λ (l : List ℕ). l ++ rest) versions_are)
-        where
-          front : (whole : List (List (List ℕ))) → ((p : ℕ) → p ≤ length tree → versions_of whole p ≡ versions_of shelf p) → IsFrontOf (shelf_with shelf (suc (length tree)) (versions_of whole (suc (length tree)))) whole
-          front whole kept p = elim (eqb_tells (suc (length tree)) p) [
-            | inl here ↦ ([], subst (λ (q : ℕ). versions_of whole q ≡ versions_of (shelf_with shelf (suc (length tree)) (versions_of whole (suc (length tree)))) q ++ []) here.1 (sym (append-nil _ ∙ own)))
-            | inr other ↦ elim (cases_lt (length tree) p) [
-              | inl past ↦ (versions_of whole p, sym (ap (λ (l : List (List ℕ)). l ++ versions_of whole p) (versions_of-shelf_with_other shelf (suc (length tree)) (versions_of whole (suc (length tree))) p other.1 ∙ no_versions_past tree shelf are p past)))
-              | inr within ↦ ([], sym (append-nil _ ∙ versions_of-shelf_with_other shelf (suc (length tree)) (versions_of whole (suc (length tree))) p other.1 ∙ sym (kept p within)))
+            parts : (p : ℕ) → versions_of shelf_new p ≢ [] → (p ≤ length new) × (is_part new p ≡ true)
+            parts p some = elim (eqb_tells (suc (length tree)) p) [
+              | inl here ↦ (omega (arith, here.1, longer), subst (λ (q : ℕ). is_part new q ≡ true) here.1 part)
+              | inr other ↦ still_versions p (λ none. some (others p other.1 ∙ none))
             ]
-          ]
-            where
-              own : versions_of (shelf_with shelf (suc (length tree)) (versions_of whole (suc (length tree)))) (suc (length tree)) ≡ versions_of whole (suc (length tree))
-              own =
-                  versions_of-shelf_with shelf (suc (length tree)) (versions_of whole (suc (length tree)))
-                  ∙ ap (λ (l : List (List ℕ)). l ++ versions_of whole (suc (length tree))) (no_versions_past tree shelf are (suc (length tree)) (omega arith))
+
+        pub versionless : BeginsWithNoVersions (suc (length tree)) shelf behind → BeginsWithNoPlace tree shelf bytes
+        versionless none place more whole rest is kept same =
+            none (versions_of whole (suc (length tree))) whole rest is.versions.shelf_is (front whole kept)
+            (kind_left (is_part new (suc (length tree))) (versions_of whole (suc (length tree))) mid behind rest part got (at_kind place more whole rest is same))
+          where
+            front : (whole : List (List (List ℕ))) → ((p : ℕ) → p ≤ length tree → versions_of whole p ≡ versions_of shelf p) → IsFrontOf (shelf_with shelf (suc (length tree)) (versions_of whole (suc (length tree)))) whole
+            front whole kept p = elim (eqb_tells (suc (length tree)) p) [
+              | inl here ↦ ([], subst (λ (q : ℕ). versions_of whole q ≡ versions_of (shelf_with shelf (suc (length tree)) (versions_of whole (suc (length tree)))) q ++ []) here.1 (sym (append-nil _ ∙ own)))
+              | inr other ↦ elim (cases_lt (length tree) p) [
+                | inl past ↦ (versions_of whole p, sym (ap (λ (l : List (List ℕ)). l ++ versions_of whole p) (versions_of-shelf_with_other shelf (suc (length tree)) (versions_of whole (suc (length tree))) p other.1 ∙ no_versions_past tree shelf are p past)))
+                | inr within ↦ ([], sym (append-nil _ ∙ versions_of-shelf_with_other shelf (suc (length tree)) (versions_of whole (suc (length tree))) p other.1 ∙ sym (kept p within)))
+              ]
+            ]
+              where
+                own : versions_of (shelf_with shelf (suc (length tree)) (versions_of whole (suc (length tree)))) (suc (length tree)) ≡ versions_of whole (suc (length tree))
+                own =
+                    versions_of-shelf_with shelf (suc (length tree)) (versions_of whole (suc (length tree)))
+                    ∙ ap (λ (l : List (List ℕ)). l ++ versions_of whole (suc (length tree))) (no_versions_past tree shelf are (suc (length tree)) (omega arith))

@@ -15,7 +15,7 @@ use Rattle.vault_journal.specs.Laws.{AreBytes}
 use Rattle.vault_journal.specs.Reading.{u32_at}
 use Rattle.vault_journal.specs.Spelling.{in_two, in_four}
 use Rattle.vault_journal.proofs.OneSpelling.{fields_are_spelled}
-use Rattle.vault_store.specs.Snapshot.{versions_bytes, place_bytes, places_bytes, claim_bytes, snapshot_of, HasSnapshot}
+use Rattle.vault_store.specs.Snapshot.{kind_bytes, place_bytes, places_bytes, claim_bytes, snapshot_of, HasSnapshot}
 use Rattle.vault_store.specs.Places.{vault_with, places_of, ArePlaces, ArePlacesAt, BeginsWithNoPlaces, IsPlaceRead, BeginsWithNoPlace}
 use Rattle.vault_store.proofs.OneReading.{one_number}
 use Rattle.vault_store.proofs.SpelledPlaces.{AreTold, places_tell, one_shelf, part_same}
@@ -35,7 +35,7 @@ place_same v w n place parts versions =
     ap (λ (b : Bool). place_of b (versions_of v.shelf n)) parts ∙ ap (λ (l : List (List ℕ)). place_of (is_part w.tree n) l) versions
   where
     place_of : Bool → List (List ℕ) → List ℕ
-    place_of b l = in_four place.parent ++ (length place.name ∷ place.name) ++ cond b (versions_bytes l) []
+    place_of b l = in_four place.parent ++ (length place.name ∷ place.name) ++ kind_bytes b l
 
 -- so do those of many
 abbrev SamePlaces : Vault → Vault → ℕ → ℕ → Type 0

@@ -9,15 +9,17 @@ use Rattle.std.proofs.lemmas.List.Elements.{All-head, All-tail, All-map, All-fil
 use Rattle.vault_model.specs.declared.place.Place.{Place}
 use Rattle.vault_model.specs.declared.claims.Claim.{Claim}
 use Rattle.vault_model.specs.Name.{IsName}
+use Rattle.vault_model.specs.declared.ids.ClaimId.{ClaimId}
+use Rattle.vault_model.specs.declared.ids.ClaimId.TheVariants.{Long, Short}
 use Rattle.vault_model.specs.Tree.{is_part}
 use Rattle.vault_model.specs.Shelf.{Draft, versions_of, versions_weight, weight, content_weight}
 use Rattle.vault_model.specs.Drafts.{SavedDraft, drafts_of}
-use Rattle.vault_model.specs.Vault.{Vault, IsVault, IsClaim, IsDraft}
+use Rattle.vault_model.specs.Vault.{Vault, IsVault, IsNoteOf, IsClaim, IsDraft}
 use Rattle.vault_journal.proofs.Sizes.{flat_map-item_bytes}
 use Rattle.vault_journal.proofs.OneSpelling.{name_is_short}
-use Rattle.vault_journal.specs.Spelling.{in_two, in_four, name_bytes, items_bytes, content_bytes}
+use Rattle.vault_journal.specs.Spelling.{in_two, in_four, name_bytes, items_bytes, content_bytes, note_bytes}
 use Rattle.vault_store.specs.Laws.{SnapshotsAreShort}
-use Rattle.vault_store.specs.Snapshot.{snapshot_of, versions_bytes, places_bytes, draft_bytes, drafts_bytes, claim_bytes, number_of, designer_of}
+use Rattle.vault_store.specs.Snapshot.{snapshot_of, versions_bytes, kind_bytes, places_bytes, draft_bytes, drafts_bytes, claim_bytes, number_of, designer_of}
 
 -- the contents of a place
 contents_short : (versions : List (List ℕ)) → length (flat_map content_bytes versions) ≤ versions_weight versions
@@ -25,8 +27,8 @@ contents_short [] = omega arith
 contents_short (content ∷ versions) =
     omega (arith, ap length (flat_map-cons content_bytes content versions), length-append (content_bytes content) (flat_map content_bytes versions), length-append (in_two (length content)) content, sum_by-cons content_weight content versions, contents_short versions)
 
--- the versions of a part, where it is one
-part_short : (b : Bool) (versions : List (List ℕ)) → length (cond b (versions_bytes versions) []) ≤ 2 + versions_weight versions
+-- the kind of a place, and its versions where it is a part
+part_short : (b : Bool) (versions : List (List ℕ)) → length (kind_bytes b versions) ≤ 3 + versions_weight versions
 part_short true versions = omega (arith, length-append (in_two (length versions)) (flat_map content_bytes versions), contents_short versions)
 part_short false versions = omega arith
 
@@ -40,10 +42,10 @@ weight_behind shelf n = elim (cases_lt n (length shelf)) [
 rest_weight : (shelf : List (List (List ℕ))) (n : ℕ) → versions_weight (versions_of shelf n) + weight (drop (suc n) shelf) ≤ weight (drop n shelf)
 rest_weight shelf n = let next : n + 1 ≡ suc n = omega arith in let e = ap (λ (k : ℕ). weight (drop k shelf)) next in let h = weight_behind shelf n in omega (arith, e, h)
 
-places_short : (v : Vault) (n : ℕ) (places : List Place) → All (λ (place : Place). IsName place.name) places → length (places_bytes v n places) ≤ 39 * length places + weight (drop n v.shelf)
+places_short : (v : Vault) (n : ℕ) (places : List Place) → All (λ (place : Place). IsName place.name) places → length (places_bytes v n places) ≤ 40 * length places + weight (drop n v.shelf)
 places_short v n [] names = omega arith
 places_short v n (place ∷ places) names =
-    let of_place = cond (is_part v.tree n) (versions_bytes (versions_of v.shelf n)) [] in
+    let of_place = kind_bytes (is_part v.tree n) (versions_of v.shelf n) in
     omega (
       arith,
       length-append (place.name ++ of_place) (places_bytes v (suc n) places),
@@ -67,6 +69,10 @@ drafts_short (draft ∷ drafts) short =
       drafts_short drafts (All-tail (λ (d : Draft). length d.content ≤ 1024) draft drafts short),
     )
 
+note_short : (id : ClaimId) (note : List ℕ) → IsNoteOf id note → length note ≤ 64
+note_short (Long n) note is = is
+note_short (Short n) note is = omega (arith, ap length is)
+
 module _ (v : Vault) (is_vault : IsVault v) where
   drafts_of_short : (n : ℕ) → length (drafts_bytes (drafts_of v.drafts n)) ≤ 65921
   drafts_of_short n =
@@ -76,7 +82,7 @@ module _ (v : Vault) (is_vault : IsVault v) where
       (All-weaker (IsDraft v.tree v.line) (λ (x : SavedDraft). length x.draft.content ≤ 1024) (λ x is. is.short) v.drafts is_vault.drafts.each)) in
       omega (arith, drafts_short (drafts_of v.drafts n) each, is_vault.drafts.few n)
 
-  claims_short : (line : List Claim) → All (IsClaim v.tree v.sessions v.last_long v.last_short) line → All (λ (claim : Claim). IsName (designer_of claim.owner)) line → length (flat_map (claim_bytes v) line) ≤ 66000 * length line
+  claims_short : (line : List Claim) → All (IsClaim v.tree v.sessions v.last_long v.last_short) line → All (λ (claim : Claim). IsName (designer_of claim.owner)) line → length (flat_map (claim_bytes v) line) ≤ 66100 * length line
   claims_short [] are names = omega arith
   claims_short (claim ∷ line) are names =
       let name = designer_of claim.owner in
@@ -87,8 +93,10 @@ module _ (v : Vault) (is_vault : IsVault v) where
         arith,
         ap length (flat_map-cons (claim_bytes v) claim line),
         length-append (claim_bytes v claim) (flat_map (claim_bytes v) line),
-        length-append (in_four (number_of claim.id) ++ name_bytes name ++ of_items) of_drafts,
-        length-append (in_four (number_of claim.id) ++ name_bytes name) of_items,
+        length-append (in_four (number_of claim.id) ++ name_bytes name ++ note_bytes claim.note ++ of_items) of_drafts,
+        length-append (in_four (number_of claim.id) ++ name_bytes name ++ note_bytes claim.note) of_items,
+        length-append (in_four (number_of claim.id) ++ name_bytes name) (note_bytes claim.note),
+        note_short claim.id claim.note is.noted,
         length-append (in_four (number_of claim.id)) (name_bytes name),
         name_is_short name (All-head (λ (c : Claim). IsName (designer_of c.owner)) claim line names),
         flat_map-item_bytes claim.items,

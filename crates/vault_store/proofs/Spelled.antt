@@ -15,12 +15,13 @@ use Rattle.vault_model.specs.declared.ids.ClaimId.{ClaimId}
 use Rattle.vault_model.specs.declared.ids.ClaimId.TheVariants.{Long, Short}
 use Rattle.vault_model.specs.declared.place.Place.{Place}
 use Rattle.vault_model.specs.Name.{IsName}
+use Rattle.vault_model.specs.Note.{IsNote}
 use Rattle.vault_model.specs.Limits.{most_versions}
 use Rattle.vault_model.specs.Tree.{is_part, IsTree, new_place}
 use Rattle.vault_model.specs.Claims.{standing_of}
 use Rattle.vault_model.specs.Shelf.{versions_of, IsShelf}
 use Rattle.vault_model.specs.Drafts.{SavedDraft, drafts_of}
-use Rattle.vault_model.specs.Vault.{Vault, IsClaim, IsGiven, Owns, AreThere, IsDraft}
+use Rattle.vault_model.specs.Vault.{Vault, IsClaim, IsGiven, Owns, IsNoteOf, AreThere, IsDraft}
 use Rattle.vault_journal.specs.Spelling.{in_two, in_four, ItemFits}
 use Rattle.vault_journal.specs.Reading.{u16_at}
 use Rattle.vault_journal.proofs.OneSpelling.{fields_are_spelled}
@@ -82,6 +83,10 @@ module _ (v : Vault) (has : HasSnapshot v) where
   designer_owns (Long n) (owners.Session number) is owns = absurd owns
   designer_owns (Short n) owner is owns = absurd (cc)
 
+  long_note : (id : ClaimId) (note : List ℕ) → id ≡ Long (number_of id) → IsNoteOf id note → IsNote note
+  long_note (Long n) note is noted = noted
+  long_note (Short n) note is noted = absurd (cc)
+
   claim_has : (c : Claim) → IsClaim v.tree v.sessions v.last_long v.last_short c → IsName (designer_of c.owner) → HasClaim (drafted v.drafts c)
   claim_has c is name =
       let id = long_id c.id is.given in record {
@@ -89,6 +94,7 @@ module _ (v : Vault) (has : HasSnapshot v) where
         fits = id.1;
         designer = designer_owns c.id c.owner id.0 is.owned;
         name = name;
+        note = long_note c.id c.note id.0 is.noted;
         items = record { some = omega (arith, is.some); few = is.few; fit = items_fit v.tree c.items few_places is.there };
         drafts = drafts_have v.tree v.line v.drafts (number_of c.id) few_places has.well_formed.drafts.each;
       }

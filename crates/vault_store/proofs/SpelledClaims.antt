@@ -6,40 +6,61 @@ use Rattle.std.proofs.lemmas.List.{length-map}
 use Rattle.std.proofs.lemmas.List.Folds.{flat_map-map}
 use Rattle.std.proofs.lemmas.List.Elements.{All-map}
 use Rattle.vault_model.specs.declared.claims.Claim.{Claim}
+use Rattle.vault_model.specs.declared.claims.Item.{Item}
 use Rattle.vault_model.specs.declared.claims.Owner.TheVariants as owners
 use Rattle.vault_model.specs.declared.claims.Standing.TheVariants.{Held}
 use Rattle.vault_model.specs.declared.ids.ClaimId.{ClaimId}
 use Rattle.vault_model.specs.declared.ids.ClaimId.TheVariants.{Long, Short}
 use Rattle.vault_model.specs.declared.place.Place.{Place}
-use Rattle.vault_model.specs.Claims.{same_id, claim_of, standing_of, new_check_out}
+use Rattle.vault_model.specs.Claims.{same_id, claim_of, standing_of, new_check_out, noted_as}
 use Rattle.vault_model.specs.Drafts.{SavedDraft, drafts_of}
 use Rattle.vault_model.specs.Vault.{Vault}
-use Rattle.vault_journal.specs.Spelling.{in_four, name_bytes, items_bytes}
+use Rattle.vault_journal.specs.Spelling.{in_four, name_bytes, items_bytes, note_bytes}
 pub use Rattle.vault_store.specs.Claims.{Drafted, drafted_bytes, drafted, HasClaim}
 use Rattle.vault_store.specs.Snapshot.{number_of, designer_of, drafts_bytes, claim_bytes}
 use Rattle.vault_checkout.proofs.OneDrafts.{no_drafts_of}
 use Rattle.vault_store.proofs.OneReading.{one_number}
-use Rattle.vault_store.proofs.SpelledLists.{Tells, name_tells, items_tell, drafts_tell, lists_tell}
+use Rattle.vault_store.proofs.SpelledLists.{Tells, name_tells, note_tells, items_tell, drafts_tell, lists_tell}
 
 pub regroup : (n m i d a : List ℕ) → (((n ++ m) ++ i) ++ d) ++ a ≡ n ++ (m ++ (i ++ (d ++ a)))
 regroup n m i d a = simp append_assoc
 
--- a check-out is told by its number, its designer and its items
-check_out_is : (c : Claim) → c.id ≡ Long (number_of c.id) → c.owner ≡ owners.Designer (designer_of c.owner) → c ≡ new_check_out (number_of c.id) (designer_of c.owner) c.items
+pub regroup_claim : (n m t i d a : List ℕ) → ((((n ++ m) ++ t) ++ i) ++ d) ++ a ≡ n ++ (m ++ (t ++ (i ++ (d ++ a))))
+regroup_claim n m t i d a = simp append_assoc
+
+-- a check-out that is spelled
+abbrev pub spelled_claim : ℕ → List ℕ → List ℕ → List Item → Claim
+spelled_claim number designer note items = noted_as note (new_check_out number designer items)
+
+-- it is told by its number, its designer, its note and its items
+check_out_is : (c : Claim) → c.id ≡ Long (number_of c.id) → c.owner ≡ owners.Designer (designer_of c.owner) → c ≡ spelled_claim (number_of c.id) (designer_of c.owner) c.note c.items
 check_out_is c long designer = λ i. record c { id = long i; owner = designer i }
+
+-- what stands behind each field of a check-out
+abbrev pub past_items : Drafted → List ℕ → List ℕ
+past_items x rest = drafts_bytes x.1 ++ rest
+
+abbrev pub past_note : Drafted → List ℕ → List ℕ
+past_note x rest = items_bytes x.0.items ++ past_items x rest
+
+abbrev pub past_name : Drafted → List ℕ → List ℕ
+past_name x rest = note_bytes x.0.note ++ past_note x rest
+
+abbrev pub past_number : Drafted → List ℕ → List ℕ
+past_number x rest = name_bytes (designer_of x.0.owner) ++ past_name x rest
+
+pub fields_of : (x : Drafted) (rest : List ℕ) → drafted_bytes x ++ rest ≡ in_four (number_of x.0.id) ++ past_number x rest
+fields_of x rest = regroup_claim (in_four (number_of x.0.id)) (name_bytes (designer_of x.0.owner)) (note_bytes x.0.note) (items_bytes x.0.items) (drafts_bytes x.1) rest
 
 pub claim_tells : Tells drafted_bytes HasClaim
 claim_tells x y a b has_x has_y same =
-    let left : drafted_bytes x ++ a ≡ in_four (number_of x.0.id) ++ (name_bytes (designer_of x.0.owner) ++ (items_bytes x.0.items ++ (drafts_bytes x.1 ++ a))) =
-    regroup (in_four (number_of x.0.id)) (name_bytes (designer_of x.0.owner)) (items_bytes x.0.items) (drafts_bytes x.1) a in
-    let right : drafted_bytes y ++ b ≡ in_four (number_of y.0.id) ++ (name_bytes (designer_of y.0.owner) ++ (items_bytes y.0.items ++ (drafts_bytes y.1 ++ b))) =
-    regroup (in_four (number_of y.0.id)) (name_bytes (designer_of y.0.owner)) (items_bytes y.0.items) (drafts_bytes y.1) b in
-    let whole = sym left ∙ same ∙ right in
-    let numbers = one_number (number_of x.0.id) (number_of y.0.id) (name_bytes (designer_of x.0.owner) ++ (items_bytes x.0.items ++ (drafts_bytes x.1 ++ a))) (name_bytes (designer_of y.0.owner) ++ (items_bytes y.0.items ++ (drafts_bytes y.1 ++ b))) has_x.fits has_y.fits whole in
-    let names = name_tells (designer_of x.0.owner) (designer_of y.0.owner) (items_bytes x.0.items ++ (drafts_bytes x.1 ++ a)) (items_bytes y.0.items ++ (drafts_bytes y.1 ++ b)) has_x.name has_y.name numbers.1 in
-    let items = items_tell x.0.items y.0.items (drafts_bytes x.1 ++ a) (drafts_bytes y.1 ++ b) has_x.items has_y.items names.1 in
+    let whole = sym (fields_of x a) ∙ same ∙ fields_of y b in
+    let numbers = one_number (number_of x.0.id) (number_of y.0.id) (past_number x a) (past_number y b) has_x.fits has_y.fits whole in
+    let names = name_tells (designer_of x.0.owner) (designer_of y.0.owner) (past_name x a) (past_name y b) has_x.name has_y.name numbers.1 in
+    let notes = note_tells x.0.note y.0.note (past_note x a) (past_note y b) has_x.note has_y.note names.1 in
+    let items = items_tell x.0.items y.0.items (past_items x a) (past_items y b) has_x.items has_y.items notes.1 in
     let drafts = drafts_tell x.1 y.1 a b has_x.drafts has_y.drafts items.1 in
-    let claims : x.0 ≡ y.0 = check_out_is x.0 has_x.long has_x.designer ∙ (λ i. new_check_out (numbers.0 i) (names.0 i) (items.0 i)) ∙ sym (check_out_is y.0 has_y.long has_y.designer) in
+    let claims : x.0 ≡ y.0 = check_out_is x.0 has_x.long has_x.designer ∙ (λ i. spelled_claim (numbers.0 i) (names.0 i) (notes.0 i) (items.0 i)) ∙ sym (check_out_is y.0 has_y.long has_y.designer) in
     (λ i. (claims i, drafts.0 i), drafts.1)
 
 pub claims_tell : (v w : Vault) (a b : List ℕ) → length v.line ≡ length w.line → All (λ (c : Claim). HasClaim (drafted v.drafts c)) v.line → All (λ (c : Claim). HasClaim (drafted w.drafts c)) w.line

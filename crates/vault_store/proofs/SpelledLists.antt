@@ -5,9 +5,10 @@ use Rattle.std.proofs.lemmas.List.Concat.{flat_map-cons}
 use Rattle.std.proofs.lemmas.List.Elements.{All-head, All-tail}
 use Rattle.vault_model.specs.Limits.{most_versions}
 use Rattle.vault_model.specs.Name.{IsName}
+use Rattle.vault_model.specs.Note.{IsNote}
 use Rattle.vault_model.specs.Shelf.{draft_at}
-use Rattle.vault_journal.specs.Spelling.{in_two, in_four, name_bytes, items_bytes, content_bytes, longest_content, AreItems}
-use Rattle.vault_journal.specs.Reading.{u16_at, name_at, items_at, content_at}
+use Rattle.vault_journal.specs.Spelling.{in_two, in_four, name_bytes, items_bytes, content_bytes, note_bytes, longest_content, AreItems}
+use Rattle.vault_journal.specs.Reading.{u16_at, name_at, items_at, content_at, note_at}
 use Rattle.vault_journal.proofs.OneSpelling.{fields_are_spelled}
 pub use Rattle.vault_store.specs.Claims.{HasDraft}
 use Rattle.vault_store.specs.Snapshot.{versions_bytes, draft_bytes, drafts_bytes}
@@ -19,6 +20,9 @@ Tells {X} spell Has = (x y : X) (a b : List ℕ) → Has x → Has y → spell x
 
 pub name_tells : Tells name_bytes IsName
 name_tells = one_spelled name_bytes IsName name_at fields_are_spelled.name
+
+pub note_tells : Tells note_bytes IsNote
+note_tells = one_spelled note_bytes IsNote note_at fields_are_spelled.note
 
 pub items_tell : Tells items_bytes AreItems
 items_tell = one_spelled items_bytes AreItems items_at fields_are_spelled.items

@@ -14,7 +14,7 @@ use Rattle.vault_model.specs.Vault.{Vault}
 use Rattle.vault_model.proofs.Walks.{Rises, same_at}
 use Rattle.vault_model.proofs.Lists.{slice_get-front}
 use Rattle.vault_journal.specs.Spelling.{in_four, name_bytes}
-use Rattle.vault_store.specs.Snapshot.{versions_bytes, places_bytes}
+use Rattle.vault_store.specs.Snapshot.{versions_bytes, kind_bytes, places_bytes}
 use Rattle.vault_store.proofs.OneReading.{one_number}
 use Rattle.vault_store.proofs.SpelledLists.{name_tells, AreContents, versions_tell}
 
@@ -46,13 +46,16 @@ pub record AreTold (v w : Vault) (from : ℕ) (xs ys : List Place) (a b : List �
   pub versions : (p : ℕ) → from ≤ p → p < from + length xs → is_part v.tree p ≡ true → versions_of v.shelf p ≡ versions_of w.shelf p
 
 module _ (v w : Vault) (rises : Rises v.tree) (contents_v : (p : ℕ) → AreContents (versions_of v.shelf p)) (contents_w : (p : ℕ) → AreContents (versions_of w.shelf p)) where
-  -- the versions of one place
-  part_told : (n : ℕ) (b c : Bool) (s t : List ℕ) → is_part v.tree n ≡ b → b ≡ c
-      → (cond b (versions_bytes (versions_of v.shelf n)) []) ++ s ≡ (cond c (versions_bytes (versions_of w.shelf n)) []) ++ t → (b ≡ true → versions_of v.shelf n ≡ versions_of w.shelf n) × (s ≡ t)
-  part_told n true true s t is same told = let both = versions_tell (versions_of v.shelf n) (versions_of w.shelf n) s t (contents_v n) (contents_w n) told in (λ yes. both.0, both.1)
-  part_told n false false s t is same told = (λ yes. absurd (cc), told)
-  part_told n true false s t is same told = absurd (cc)
-  part_told n false true s t is same told = absurd (cc)
+  -- the kind and the versions of one place
+  part_told : (n : ℕ) (b c : Bool) (s t : List ℕ) → b ≡ c
+      → kind_bytes b (versions_of v.shelf n) ++ s ≡ kind_bytes c (versions_of w.shelf n) ++ t → (b ≡ true → versions_of v.shelf n ≡ versions_of w.shelf n) × (s ≡ t)
+  part_told n true true s t same told =
+      let behind : versions_bytes (versions_of v.shelf n) ++ s ≡ versions_bytes (versions_of w.shelf n) ++ t = cc in
+      let both = versions_tell (versions_of v.shelf n) (versions_of w.shelf n) s t (contents_v n) (contents_w n) behind in
+      (λ yes. both.0, both.1)
+  part_told n false false s t same told = let behind : s ≡ t = cc in (λ yes. absurd (cc), behind)
+  part_told n true false s t same told = absurd (cc)
+  part_told n false true s t same told = absurd (cc)
 
   regroup : (p m c r a : List ℕ) → ((p ++ (m ++ c)) ++ r) ++ a ≡ p ++ (m ++ (c ++ (r ++ a)))
   regroup p m c r a = simp append_assoc
@@ -69,8 +72,8 @@ module _ (v w : Vault) (rises : Rises v.tree) (contents_v : (p : ℕ) → AreCon
       let n = suc (length front) in
       let s = places_bytes v (suc n) xs ++ a in
       let t = places_bytes w (suc n) ys ++ b in
-      let of_v = cond (is_part v.tree n) (versions_bytes (versions_of v.shelf n)) [] in
-      let of_w = cond (is_part w.tree n) (versions_bytes (versions_of w.shelf n)) [] in
+      let of_v = kind_bytes (is_part v.tree n) (versions_of v.shelf n) in
+      let of_w = kind_bytes (is_part w.tree n) (versions_of w.shelf n) in
       let first_x = All-head HasPlace x xs has_xs in
       let first_y = All-head HasPlace y ys has_ys in
       let whole = sym (regroup (in_four x.parent) (name_bytes x.name) of_v (places_bytes v (suc n) xs) a) ∙ same ∙ regroup (in_four y.parent) (name_bytes y.name) of_w (places_bytes w (suc n) ys) b in
@@ -81,7 +84,7 @@ module _ (v w : Vault) (rises : Rises v.tree) (contents_v : (p : ℕ) → AreCon
       let v_too : v.tree ≡ (front ++ x ∷ []) ++ xs = v_is ∙ sym (append_assoc front (x ∷ []) xs) in
       let w_too : w.tree ≡ (front ++ x ∷ []) ++ ys = w_is ∙ ap (λ (z : Place). front ++ z ∷ ys) (sym place_is) ∙ sym (append_assoc front (x ∷ []) ys) in
       let parts = part_same v.tree w.tree (front ++ x ∷ []) xs ys n v_too w_too rises (omega (arith, longer)) in
-      let told = part_told n (is_part v.tree n) (is_part w.tree n) s t refl parts names.1 in
+      let told = part_told n (is_part v.tree n) (is_part w.tree n) s t parts names.1 in
       let others =
       places_tell (front ++ x ∷ []) xs ys a b v_too w_too (omega (arith, size)) (All-tail HasPlace x xs has_xs) (All-tail HasPlace y ys has_ys)
       (subst (λ (k : ℕ). places_bytes v (suc k) xs ++ a ≡ places_bytes w (suc k) ys ++ b) (sym longer) told.1) in

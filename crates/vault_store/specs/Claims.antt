@@ -6,9 +6,10 @@ use Rattle.vault_model.specs.declared.claims.Owner.TheVariants as owners
 use Rattle.vault_model.specs.declared.ids.ClaimId.TheVariants.{Long}
 use Rattle.vault_model.specs.Limits.{longest_content, most_drafts, most_claims}
 use Rattle.vault_model.specs.Name.{IsName}
+use Rattle.vault_model.specs.Note.{IsNote}
 use Rattle.vault_model.specs.Shelf.{Draft}
 use Rattle.vault_model.specs.Drafts.{SavedDraft, drafts_of}
-use Rattle.vault_journal.specs.Spelling.{in_two, in_four, name_bytes, items_bytes, AreItems}
+use Rattle.vault_journal.specs.Spelling.{in_two, in_four, name_bytes, items_bytes, note_bytes, AreItems}
 use Rattle.vault_store.specs.Snapshot.{draft_bytes, drafts_bytes, number_of, designer_of}
 
 -- a draft that is spelled
@@ -21,7 +22,8 @@ abbrev pub Drafted : Type 0
 Drafted = Claim × List Draft
 
 abbrev pub drafted_bytes : Drafted → List ℕ
-drafted_bytes x = in_four (number_of x.0.id) ++ name_bytes (designer_of x.0.owner) ++ items_bytes x.0.items ++ drafts_bytes x.1
+drafted_bytes x = in_four (number_of x.0.id) ++ name_bytes (designer_of x.0.owner) ++ note_bytes x.0.note ++ items_bytes x.0.items
+    ++ drafts_bytes x.1
 
 -- the claims of a line with their drafts
 abbrev pub drafted : List SavedDraft → Claim → Drafted
@@ -33,6 +35,7 @@ pub record HasClaim (x : Drafted) : Type 0 where
   pub fits : number_of x.0.id < 2 ^ 32
   pub designer : x.0.owner ≡ owners.Designer (designer_of x.0.owner)
   pub name : IsName (designer_of x.0.owner)
+  pub note : IsNote x.0.note
   pub items : AreItems x.0.items
   pub drafts : All HasDraft x.1
 

@@ -25,7 +25,7 @@ mark = codes "LLVAULT"
 
 -- the version that is written today
 abbrev pub version : ℕ
-version = 1
+version = 2
 
 -- the most bytes of a frame's records
 abbrev pub most_records : ℕ

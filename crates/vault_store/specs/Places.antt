@@ -1,5 +1,5 @@
 -- The places of a snapshot, and what the functions that read them answer, part by part. This project's own.
-use Rattle.std.specs.Prelude.{◌≡◌, ◌≢◌, ℕ, suc, ◌+◌, ◌≤◌, List, [], ◌∷◌, ◌++◌, length, All}
+use Rattle.std.specs.Prelude.{◌≡◌, ◌≢◌, ℕ, suc, ◌+◌, ◌≤◌, ◌==◌, Bool, if◌then◌else◌, List, [], ◌∷◌, ◌++◌, length, Option, None, Some, All}
 use Rattle.vault_model.specs.declared.place.Place.{Place}
 use Rattle.vault_model.specs.Limits.{longest_content}
 use Rattle.vault_model.specs.Name.{IsName}
@@ -11,7 +11,7 @@ use Rattle.design_tree.specs.declared.tree.AddError.{AddError}
 use Rattle.design_tree.specs.declared.tree.AddError.TheVariants as unmade
 use Rattle.vault_store.specs.declared.snapshot.SnapshotError.{SnapshotError}
 use Rattle.vault_store.specs.declared.snapshot.SnapshotError.TheVariants.{NotWellFormed, NoMemory}
-use Rattle.vault_store.specs.Snapshot.{versions_bytes, place_bytes, places_bytes}
+use Rattle.vault_store.specs.Snapshot.{versions_bytes, kind_byte, place_bytes, places_bytes}
 
 -- the vault of these places and versions, and of nothing else
 abbrev pub vault_with : List Place → List (List (List ℕ)) → Vault
@@ -90,6 +90,11 @@ pub record IsPlaceAdded (old new : List Place) (bytes rest : List ℕ) : Type 0 
 abbrev pub BeginsWithNoName : List Place → List ℕ → Type 0
 BeginsWithNoName tree bytes = (place : Place) (rest : List ℕ) → IsTree (tree ++ place ∷ []) → IsName place.name
     → bytes ≢ (in_four place.parent ++ name_bytes place.name) ++ rest
+
+-- what stands behind the kind of a place, where its kind is the first byte
+abbrev pub behind_kind : Bool → List ℕ → Option (List ℕ)
+behind_kind part [] = None
+behind_kind part (kind ∷ rest) = if kind == kind_byte part then Some rest else None
 
 -- one place was read, with its versions where it is a part; the versions of the places before it stay
 pub record IsPlaceRead (tree : List Place) (shelf : List (List (List ℕ))) (tree_new : List Place) (shelf_new : List (List (List ℕ)))

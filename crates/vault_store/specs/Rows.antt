@@ -5,6 +5,7 @@ use Rattle.vault_model.specs.declared.ids.Intent.TheVariants.{Change}
 use Rattle.vault_model.specs.Vault.{Vault, new_vault}
 use Rattle.vault_model.specs.Tree.{new_place}
 use Rattle.vault_model.specs.Claims.{new_check_out}
+use Rattle.vault_model.specs.Changes.{with_owner, with_note}
 use Rattle.vault_store.specs.Snapshot.{snapshot_of}
 use Rattle.vault_store.specs.Files.{frame_of}
 use Rattle.vault_store.specs.Create.{new_front, new_file}
@@ -13,14 +14,14 @@ use Rattle.vault_store.specs.Create.{new_front, new_file}
 abbrev pub NewVault : Type 0
 NewVault =
     new_file
-    ≡ 1 ∷ 76 ∷ 76 ∷ 86 ∷ 65 ∷ 85 ∷ 76 ∷ 84 ∷ 0 ∷ 0 ∷ 0 ∷ 1 ∷ 0 ∷ 0 ∷ 0 ∷ 0 ∷ 0 ∷ 0 ∷ 0 ∷ 1
+    ≡ 1 ∷ 76 ∷ 76 ∷ 86 ∷ 65 ∷ 85 ∷ 76 ∷ 84 ∷ 0 ∷ 0 ∷ 0 ∷ 2 ∷ 0 ∷ 0 ∷ 0 ∷ 0 ∷ 0 ∷ 0 ∷ 0 ∷ 1
     ∷ 0 ∷ 0 ∷ 0 ∷ 10 ∷ 0 ∷ 0 ∷ 0 ∷ 0 ∷ 0 ∷ 0 ∷ 0 ∷ 1 ∷ 0 ∷ 0 ∷ 0 ∷ []
 
 -- 47 bytes, once a project is committed
 abbrev pub OneProject : Type 0
 OneProject =
     new_front ++ frame_of (effects.Made 0 (codes "e") ∷ []) ++ 0 ∷ []
-    ≡ 1 ∷ 76 ∷ 76 ∷ 86 ∷ 65 ∷ 85 ∷ 76 ∷ 84 ∷ 0 ∷ 0 ∷ 0 ∷ 1 ∷ 0 ∷ 0 ∷ 0 ∷ 0 ∷ 0 ∷ 0 ∷ 0 ∷ 1
+    ≡ 1 ∷ 76 ∷ 76 ∷ 86 ∷ 65 ∷ 85 ∷ 76 ∷ 84 ∷ 0 ∷ 0 ∷ 0 ∷ 2 ∷ 0 ∷ 0 ∷ 0 ∷ 0 ∷ 0 ∷ 0 ∷ 0 ∷ 1
     ∷ 0 ∷ 0 ∷ 0 ∷ 10 ∷ 0 ∷ 0 ∷ 0 ∷ 0 ∷ 0 ∷ 0 ∷ 0 ∷ 1 ∷ 0 ∷ 0
     ∷ 1 ∷ 0 ∷ 0 ∷ 0 ∷ 7 ∷ 1 ∷ 0 ∷ 0 ∷ 0 ∷ 0 ∷ 1 ∷ 101 ∷ 0 ∷ []
 
@@ -33,15 +34,26 @@ checked_out =
       last_long = 1;
     }
 
--- its snapshot has 32 bytes
+-- its snapshot has 34 bytes
 abbrev pub OneCheckOut : Type 0
 OneCheckOut =
     snapshot_of checked_out
-    ≡ 0 ∷ 0 ∷ 0 ∷ 1 ∷ 0 ∷ 0 ∷ 0 ∷ 2 ∷ 0 ∷ 0 ∷ 0 ∷ 0 ∷ 1 ∷ 101 ∷ 0 ∷ 1
-    ∷ 0 ∷ 0 ∷ 0 ∷ 1 ∷ 4 ∷ 97 ∷ 110 ∷ 110 ∷ 97 ∷ 1 ∷ 1 ∷ 0 ∷ 0 ∷ 0 ∷ 1 ∷ 0 ∷ []
+    ≡ 0 ∷ 0 ∷ 0 ∷ 1 ∷ 0 ∷ 0 ∷ 0 ∷ 2 ∷ 0 ∷ 0 ∷ 0 ∷ 0 ∷ 1 ∷ 101 ∷ 0 ∷ 0 ∷ 1
+    ∷ 0 ∷ 0 ∷ 0 ∷ 1 ∷ 4 ∷ 97 ∷ 110 ∷ 110 ∷ 97 ∷ 0 ∷ 1 ∷ 1 ∷ 0 ∷ 0 ∷ 0 ∷ 1 ∷ 0 ∷ []
+
+-- the same once the check-out has a note: ben's name and the note stand there, one behind the other
+abbrev pub given_and_noted : Vault
+given_and_noted = with_note (with_owner checked_out 1 (codes "ben")) 1 (codes "ab")
+
+abbrev pub OneNote : Type 0
+OneNote =
+    snapshot_of given_and_noted
+    ≡ 0 ∷ 0 ∷ 0 ∷ 1 ∷ 0 ∷ 0 ∷ 0 ∷ 2 ∷ 0 ∷ 0 ∷ 0 ∷ 0 ∷ 1 ∷ 101 ∷ 0 ∷ 0 ∷ 1
+    ∷ 0 ∷ 0 ∷ 0 ∷ 1 ∷ 3 ∷ 98 ∷ 101 ∷ 110 ∷ 2 ∷ 97 ∷ 98 ∷ 1 ∷ 1 ∷ 0 ∷ 0 ∷ 0 ∷ 1 ∷ 0 ∷ []
 
 -- all of them
 pub record Rows : Type 0 where
   pub new_vault_is : NewVault
   pub one_project : OneProject
   pub one_check_out : OneCheckOut
+  pub one_note : OneNote

@@ -50,7 +50,7 @@ impl From<NoMemory> for CreateError {
 //   offset  bytes
 //        0      1  the head gate, written last
 //        1      7  `LLVAULT`
-//        8      4  version 1
+//        8      4  version 2
 //       12      8  generation 1
 //       20      4  the snapshot's length, 10
 //       24     10  the snapshot: no check-out was numbered, one place, no check-out stands
@@ -59,7 +59,7 @@ impl From<NoMemory> for CreateError {
 // What stands behind the head gate of a new vault's file: the mark, the version, the generation, the snapshot of a vault with the
 // library alone behind its length, and a closed tail gate.
 const NEW_FILE_BEHIND_GATE: [u8; 34] = [
-    b'L', b'L', b'V', b'A', b'U', b'L', b'T', 0, 0, 0, 1, 0, 0, 0, 0, 0, 0, 0, 1, 0, 0, 0, 10, 0,
+    b'L', b'L', b'V', b'A', b'U', b'L', b'T', 0, 0, 0, 2, 0, 0, 0, 0, 0, 0, 0, 1, 0, 0, 0, 10, 0,
     0, 0, 0, 0, 0, 0, 1, 0, 0, 0,
 ];
 

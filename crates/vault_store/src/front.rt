@@ -11,7 +11,7 @@ pub const HEADER: u64 = 24;
 
 const MAGIC: [u8; 7] = *b"LLVAULT";
 
-const VERSION: [u8; 4] = [0, 0, 0, 1];
+const VERSION: [u8; 4] = [0, 0, 0, 2];
 
 /// What the head of a file is.
 #[derive(Clone, Copy, Debug, PartialEq, Eq)]
@@ -29,7 +29,7 @@ pub enum Head {
 //   offset  bytes
 //        0      1  the head gate: 1 is open, any other value closed
 //        1      7  the mark, `LLVAULT`
-//        8      4  the version, 1
+//        8      4  the version, 2
 //       12      8  the generation, 1 or more
 //       20      4  the length of the snapshot, which begins at 24
 //

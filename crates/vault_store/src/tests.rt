@@ -17,7 +17,7 @@ use test_memory::Refusing;
 use vault_device::{Device, MemDevice, Pick};
 
 // A new vault, and what a commit of `make /e` puts into its tail gate and behind it.
-const NEW: &[u8; 35] = b"\x01LLVAULT\0\0\0\x01\0\0\0\0\0\0\0\x01\0\0\0\x0a\0\0\0\0\0\0\0\x01\0\0\0";
+const NEW: &[u8; 35] = b"\x01LLVAULT\0\0\0\x02\0\0\0\0\0\0\0\x01\0\0\0\x0a\0\0\0\0\0\0\0\x01\0\0\0";
 
 const BODY: &[u8; 12] = b"\0\0\0\x07\x01\0\0\0\0\x01e\0";
 
@@ -151,11 +151,11 @@ fn refused_memory(rt: HostRuntime) {
 
 // The new vault and a commit of `make /e`, 47 bytes.
 const WITH_E: &[u8; 47] =
-    b"\x01LLVAULT\0\0\0\x01\0\0\0\0\0\0\0\x01\0\0\0\x0a\0\0\0\0\0\0\0\x01\0\0\x01\0\0\0\x07\x01\0\0\0\0\x01e\0";
+    b"\x01LLVAULT\0\0\0\x02\0\0\0\0\0\0\0\x01\0\0\0\x0a\0\0\0\0\0\0\0\x01\0\0\x01\0\0\0\x07\x01\0\0\0\0\x01e\0";
 
 // A vault of generation 2 with anna's check-out of `/e`, in the second file.
-const SECOND: &[u8; 57] =
-    b"\x01LLVAULT\0\0\0\x01\0\0\0\0\0\0\0\x02\0\0\0\x20\0\0\0\x01\0\0\0\x02\0\0\0\0\x01e\0\x01\0\0\0\x01\x04anna\x01\x01\0\0\0\x01\0\0";
+const SECOND: &[u8; 59] =
+    b"\x01LLVAULT\0\0\0\x02\0\0\0\0\0\0\0\x02\0\0\0\x22\0\0\0\x01\0\0\0\x02\0\0\0\0\x01e\0\0\x01\0\0\0\x01\x04anna\0\x01\x01\0\0\0\x01\0\0";
 
 #[test]
 fn opened(rt: HostRuntime) {
@@ -181,7 +181,14 @@ fn opened_damaged(rt: HostRuntime) {
     let alloc = rt.alloc();
     let first = |offset| Err(damaged(File::First, offset));
     let second = |offset| Err(damaged(File::Second, offset));
-    for (at, byte, offset) in [(1, 0, 1), (7, 0, 1), (8, 1, 8), (11, 2, 8), (19, 0, 12)] {
+    for (at, byte, offset) in [
+        (1, 0, 1),
+        (7, 0, 1),
+        (8, 1, 8),
+        (11, 1, 8),
+        (11, 3, 8),
+        (19, 0, 12),
+    ] {
         let bytes = with(NEW, at, byte);
         assert!(rt;
             opens(&rt, alloc, &bytes, b"", first(offset))
@@ -233,10 +240,10 @@ fn committed_in_the_second_file(rt: HostRuntime) {
 }
 
 // What a snapshot of `/e` alone writes behind the head gate, for generation 2.
-const REST: &[u8; 40] =
-    b"LLVAULT\0\0\0\x01\0\0\0\0\0\0\0\x02\0\0\0\x10\0\0\0\0\0\0\0\x02\0\0\0\0\x01e\0\0\0";
+const REST: &[u8; 41] =
+    b"LLVAULT\0\0\0\x02\0\0\0\0\0\0\0\x02\0\0\0\x11\0\0\0\0\0\0\0\x02\0\0\0\0\x01e\0\0\0\0";
 
-const SEVENS: &[u8; 40] = &[7; 40];
+const SEVENS: &[u8; 41] = &[7; 41];
 
 // Whether so many steps of a snapshot over this spare leave these for three picks.
 fn snapshot_leaves(
@@ -293,11 +300,11 @@ fn snapshot_settled(rt: HostRuntime) {
     assert!(rt; renewed_and_committed(&rt, rt.alloc(), WITH_E));
 }
 
-// 65,695 bytes of a snapshot with 24 before them, in pieces of 65,536; with one version less there is one piece.
+// 65,698 bytes of a snapshot with 24 before them, in pieces of 65,536; with one version less there is one piece.
 #[test]
 fn snapshot_in_pieces(rt: HostRuntime) {
-    assert!(rt; first_piece(&rt, rt.alloc(), 64) == (Phase::Writing(65_719), Phase::Writing(183)));
-    assert!(rt; first_piece(&rt, rt.alloc(), 63) == (Phase::Writing(64_693), Phase::Filled));
+    assert!(rt; first_piece(&rt, rt.alloc(), 64) == (Phase::Writing(65_722), Phase::Writing(186)));
+    assert!(rt; first_piece(&rt, rt.alloc(), 63) == (Phase::Writing(64_696), Phase::Filled));
 }
 
 #[test]

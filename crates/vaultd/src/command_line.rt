@@ -20,6 +20,8 @@ A line is '@K LINE' for a connection K of 1 to 64, and LINE is one of:
   save CLAIM PART HEX   saves a draft of a part for a held check-out: its bytes in hexadecimal, or - for none
   checkin CLAIM         makes versions of a check-out's drafts, and gives it up
   abandon CLAIM         gives up a check-out, as c1
+  give CLAIM NAME       gives a check-out to another designer, with its drafts
+  note CLAIM [HEX]      shows the note of a check-out, or sets it: up to 64 bytes
   hold ITEM ..          asks for a claim that ends with the session
   release CLAIM         gives up such a claim, as h1
   state CLAIM           says whether a claim is held, or behind which one it is queued

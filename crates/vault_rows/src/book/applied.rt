@@ -5,7 +5,7 @@ use std::alloc::{Allocator, Global};
 use std::process::Abort;
 use test_memory::Refusing;
 use vault_checkout::{ApplyError, Book};
-use vault_model::{Effect, Intent, Item, Items, Listing, Name, PlaceId, Standing};
+use vault_model::{Effect, Intent, Item, Items, Listing, Name, Note, PlaceId, Standing};
 
 fn name(rt: &impl Abort, text: &str) -> Name {
     Name::read(text.as_bytes()).expect(rt, "a name")
@@ -130,6 +130,10 @@ fn drafts_are_durable(rt: HostRuntime) {
         (1, "checkout w:/e/b/p2"),
         (1, "save c3 /e/b/p2 65"),
         (1, "abandon c3"),
+        (1, "note c2 6162"),
+        (1, "give c2 ben"),
+        (0, "hello ben"),
+        (2, "note c2 63"),
     ];
     let (mut talk, durable) = told_and_applied(&rt, rt.alloc(), &lines);
     assert!(rt; are_alike(&talk.book, &durable));
@@ -139,7 +143,10 @@ fn drafts_are_durable(rt: HostRuntime) {
         (1, "count /e/b/p1", "OK versions 1"),
         (1, "fetch /e/b/p1 1", "OK content 63"),
         (1, "fetch /e/b/p2 1", "OK content -"),
-        (1, "checkin c2", "OK checked in 1"),
+        (1, "note c2", "OK note 63"),
+        (1, "checkin c2", "ERR 31"),
+        (0, "hello ben", "OK session 2"),
+        (2, "checkin c2", "OK checked in 1"),
         (1, "fetch /e/b/p1 2", "OK content 64"),
         (1, "count /e/b/p2", "OK versions 1"),
     ];
@@ -189,6 +196,8 @@ fn what_is_not_applicable_changes_nothing(rt: HostRuntime) {
         Effect::Extended(1, items(&rt, &look)),
         Effect::Extended(1, items(&rt, &[(Intent::Look, 5)])),
         Effect::Abandoned(9),
+        Effect::Given(9, name(&rt, "ben")),
+        Effect::Noted(9, Note::new()),
     ];
     assert!(rt; are_refused(&mut book, &effects));
     assert_eq!(rt; (book.tree().len(), book.line().len()), (5, 4));
@@ -277,9 +286,13 @@ fn each_request_of_an_effect_is_refused(rt: HostRuntime) {
         rt.alloc(),
         &asked(&rt, 4, &[(Intent::Look, 1)]),
     ));
-    assert_eq!(rt;
-        requests(&rt, &memory, rt.alloc(), &Effect::Abandoned(1)),
-        0
-    );
+    let effects = [
+        Effect::Abandoned(1),
+        Effect::Given(1, name(&rt, "ben")),
+        Effect::Noted(1, Note::new()),
+    ];
+    for effect in &effects {
+        assert_eq!(rt; requests(&rt, &memory, rt.alloc(), effect), 0);
+    }
     assert!(rt; total < 9);
 }

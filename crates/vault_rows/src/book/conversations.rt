@@ -51,6 +51,32 @@ fn the_line_moves_up(rt: HostRuntime) {
 }
 
 #[test]
+fn a_check_out_given_away(rt: HostRuntime) {
+    let mut talk = started(&rt, rt.alloc());
+    let lines = [
+        (1, "checkout w:/e/b", "OK held c1"),
+        (1, "note c1 6162", "OK noted"),
+        (1, "save c1 /e/b/p1 00", "OK saved"),
+        (2, "checkout r:/e", "OK queued c2 behind c1"),
+        (2, "note c2 6e657874", "OK noted"),
+        (2, "give c2 anna", "OK given"),
+        (1, "give c1 ben", "OK given"),
+        (1, "save c1 /e/b/p2 00", "ERR 31"),
+        (1, "state c2", "OK queued c2 behind c1"),
+        (2, "note c1", "OK note 6162"),
+        (2, "note c1 -", "OK noted"),
+        (1, "note c1", "OK note -"),
+        (2, "checkin c1", "OK checked in 1"),
+        (2, "state c2", "OK held c2"),
+        (2, "abandon c2", "ERR 31"),
+        (1, "note c2", "OK note 6e657874"),
+        (1, "abandon c2", "OK abandoned"),
+    ];
+    talk.hear(&rt, &lines);
+    drop(talk);
+}
+
+#[test]
 fn extension_in_the_way(rt: HostRuntime) {
     let mut talk = started(&rt, rt.alloc());
     let lines = [

@@ -1,7 +1,7 @@
 //! What a session's end and a restart leave.
 
 use super::{C1, C2, H1, started};
-use vault_model::{Claim, Owner, Standing};
+use vault_model::{Claim, Note, Owner, Standing};
 
 #[test]
 fn holds_end_with_their_session(rt: HostRuntime) {
@@ -80,10 +80,16 @@ fn the_line_is_read(rt: HostRuntime) {
     assert_eq!(rt; line.standing(C2), None);
     assert!(rt; line.get(C2).is_none());
     assert!(rt; line.at(2).is_none());
-    let Claim { id, owner, items } = *line.at(1).expect(&rt, "a claim");
+    let Claim {
+        id,
+        owner,
+        items,
+        note,
+    } = *line.at(1).expect(&rt, "a claim");
     assert_eq!(rt; id, H1);
     assert_eq!(rt; owner, Owner::Session(2));
     assert_eq!(rt; items.len(), 2);
+    assert!(rt; note == Note::new());
     assert_eq!(rt; line.get(H1).expect(&rt, "a claim").items, items);
     drop(talk);
 }

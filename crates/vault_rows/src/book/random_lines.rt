@@ -69,14 +69,25 @@ fn speaker(claim: &Claim) -> u32 {
     }
 }
 
+/// A check-out given to one of the two designers; a hold is released.
+fn gift(rt: &impl Abort, claim: &Claim, dice: &mut Dice) -> Command {
+    let designers = ["anna", "ben"];
+    let text = designers.get(dice.roll(2) as usize).expect(rt, "a name");
+    let designer = Name::read(text.as_bytes()).expect(rt, "a name");
+    match claim.id {
+        ClaimId::Long(number) => Command::Give(number, designer),
+        ClaimId::Short(number) => Command::Release(number),
+    }
+}
+
 /// A session, and what it says. Up to forty claims are asked for.
 fn chance(rt: &impl Abort, talk: &Talk, dice: &mut Dice) -> (u32, Command) {
     let line = talk.book.line();
     let count = u32::try_from(line.len()).expect(rt, "few claims");
     let session = 1 + dice.roll(3);
     let kind = match count {
-        0..40 => dice.roll(12),
-        _ => 6 + dice.roll(6),
+        0..40 => dice.roll(13),
+        _ => 6 + dice.roll(7),
     };
     let wanted = wanted(rt, talk.memory, dice);
     let chosen = line.at(dice.roll(count) as usize);
@@ -84,6 +95,7 @@ fn chance(rt: &impl Abort, talk: &Talk, dice: &mut Dice) -> (u32, Command) {
         (0..3, _) => (session, Command::CheckOut(wanted)),
         (3..6, _) | (_, None) => (session, Command::Hold(wanted)),
         (6..10, Some(claim)) => (speaker(claim), Command::Extend(claim.id, wanted)),
+        (12, Some(claim)) => (speaker(claim), gift(rt, claim, dice)),
         (_, Some(claim)) => match claim.id {
             ClaimId::Long(number) => (speaker(claim), Command::Abandon(number)),
             ClaimId::Short(number) => (speaker(claim), Command::Release(number)),
@@ -181,6 +193,7 @@ fn random_lines_stand_as_pairs_say(rt: HostRuntime) {
     let mut extended = false;
     let mut stopped = false;
     let mut covered = false;
+    let mut given = false;
     for turn in 0..200u8 {
         let (session, command) = chance(&rt, &talk, &mut dice);
         let before = claims_of(&rt, rt.alloc(), &talk.book);
@@ -193,7 +206,8 @@ fn random_lines_stand_as_pairs_say(rt: HostRuntime) {
         covered |= make_one(&rt, &mut talk, &claims, &mut dice, new);
         extended |= matches!((&command, &reply), (Command::Extend(_, _), Reply::Held(_)));
         stopped |= matches!(reply, Reply::Refused(Refusal::Overlaps(_)));
+        given |= reply == Reply::Given;
     }
-    assert!(rt; covered && extended && stopped);
+    assert!(rt; covered && extended && stopped && given);
     drop(talk);
 }

@@ -3,7 +3,7 @@
 use super::{C1, C2, H1, H2, Talk, started};
 use std::alloc::Global;
 use std::process::Abort;
-use vault_model::Refusal::{ItemCount, NoClaim, NoSession, NotHeld, NotYours};
+use vault_model::Refusal::{ItemCount, Limit, NoClaim, NoSession, NotHeld, NotYours};
 use vault_model::{ClaimId, Command, Listing, PathItem, Refusal, Reply};
 
 /// No items, which no line spells.
@@ -112,6 +112,30 @@ fn claims_are_refused_in_order(rt: HostRuntime) {
         (2, "state h1", "ERR 30"),
     ];
     talk.hear(&rt, &lines);
+    drop(talk);
+}
+
+#[test]
+fn gifts_and_notes_are_refused_in_order(rt: HostRuntime) {
+    let mut talk = started(&rt, rt.alloc());
+    let lines = [
+        (0, "give c1 ben", "ERR 11"),
+        (1, "give c1 ben", "ERR 30"),
+        (1, "note c1 00", "ERR 30"),
+        (1, "note c1", "ERR 30"),
+        (1, "checkout w:/e/b", "OK held c1"),
+        (2, "checkout r:/e", "OK queued c2 behind c1"),
+        (2, "give c1 ben", "ERR 31"),
+        (2, "note c1 00", "ERR 31"),
+        (1, "give c2 anna", "ERR 31"),
+        (2, "note c1", "OK note -"),
+    ];
+    talk.hear(&rt, &lines);
+    let text = Vec::from_slice(rt.alloc(), &[7; 65]).expect(&rt, "memory");
+    let too_long = Command::Note(1, Listing::from_vec(text));
+    refused(&rt, &mut talk, 2, &too_long, NotYours);
+    refused(&rt, &mut talk, 1, &too_long, Limit);
+    drop(too_long);
     drop(talk);
 }
 

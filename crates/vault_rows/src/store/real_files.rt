@@ -11,7 +11,7 @@ use vault_store::Store;
 
 // What the first one holds then, 47 bytes.
 const WITH_E: &[u8; 47] =
-    b"\x01LLVAULT\0\0\0\x01\0\0\0\0\0\0\0\x01\0\0\0\x0a\0\0\0\0\0\0\0\x01\0\0\x01\0\0\0\x07\x01\0\0\0\0\x01e\0";
+    b"\x01LLVAULT\0\0\0\x02\0\0\0\0\0\0\0\x01\0\0\0\x0a\0\0\0\0\0\0\0\x01\0\0\x01\0\0\0\x07\x01\0\0\0\0\x01e\0";
 
 const FIRST: &str = "first_of_a_test";
 

@@ -2,8 +2,9 @@
 use crate::store::{new_store, note_within, settled_after};
 use std::alloc::Global;
 use std::process::Abort;
+use vault_checkout::Book;
 use vault_device::{MemDevice, Pick};
-use vault_model::{Effect, EffectIn, Intent, Item, Items, Name, PlaceId};
+use vault_model::{ClaimId, Effect, EffectIn, Intent, Item, Items, Name, Note, Owner, PlaceId};
 use vault_store::{Phase, Store};
 
 // Whether a project of this name is noted.
@@ -29,14 +30,36 @@ fn asked(store: &mut Store<MemDevice>) -> bool {
     is_noted
 }
 
-// How many places and claims there are, and bytes of frames, in what the files open as after a crash.
-fn left(alloc: Global, store: Store<MemDevice>, pick: Pick) -> Option<(usize, usize, u64)> {
+// Whether a gift of it to ben, and its note, are noted.
+fn given(store: &mut Store<MemDevice>) -> bool {
+    let (Some(ben), Some(note)) = (Name::read(b"ben"), Note::read(b"ab")) else {
+        return false;
+    };
+    note_within(store, &Effect::Given(1, ben)) && note_within(store, &Effect::Noted(1, note))
+}
+
+// Whether a book has the check-out as ben's, with the note.
+fn is_given(book: &Book) -> bool {
+    let (Some(ben), Some(claim)) = (Name::read(b"ben"), book.line().get(ClaimId::Long(1))) else {
+        return false;
+    };
+    claim.owner == Owner::Designer(ben) && Note::read(b"ab") == Some(claim.note)
+}
+
+// How many places and claims there are, whether ben has the check-out, and how many bytes of frames there are, in what the
+// files open as after a crash.
+fn left(alloc: Global, store: Store<MemDevice>, pick: Pick) -> Option<(usize, usize, bool, u64)> {
     let (mut first, mut second) = store.into_devices();
     first.fail_at(0);
     first.crash(pick);
     second.crash(pick);
     let (store, book) = Store::open(alloc, first, second).ok()?;
-    let counts = (book.tree().len(), book.line().len(), store.journal_len());
+    let counts = (
+        book.tree().len(),
+        book.line().len(),
+        is_given(&book),
+        store.journal_len(),
+    );
     drop(store);
     drop(book);
     Some(counts)
@@ -53,14 +76,18 @@ fn leaves(
 ) -> bool {
     let mut store = new_store(rt, alloc, failing);
     let first = made(&mut store, b"e") && settled_after(&mut store, 4);
-    let second = made(&mut store, b"f") && asked(&mut store);
+    let second = made(&mut store, b"f") && asked(&mut store) && given(&mut store);
     let mut faults = 0u8;
     for _ in 0..steps {
         faults = faults.saturating_add(u8::from(store.advance().is_err()));
     }
     let stops = store.phase() == phase && (faults == 1) == (5..=8).contains(&failing);
     let lost = made(&mut store, b"g");
-    let expected = if all { (3, 1, 40) } else { (2, 0, 12) };
+    let expected = if all {
+        (3, 1, true, 57)
+    } else {
+        (2, 0, false, 12)
+    };
     let is_left = left(alloc, store, pick) == Some(expected);
     first && second && stops && lost && is_left
 }

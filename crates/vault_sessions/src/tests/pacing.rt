@@ -85,8 +85,11 @@ fn sleeper_is_woken_once(rt: HostRuntime) {
     assert!(rt; !pace.staged(3, true));
     let asks: CommandIn<Global> = Command::State(ClaimId::Long(1));
     assert!(rt; !may_change(&asks));
+    let reads: CommandIn<Global> = Command::ReadNote(1);
+    assert!(rt; !may_change(&reads));
     let gives_up: CommandIn<Global> = Command::Abandon(1);
     assert!(rt; may_change(&gives_up));
     drop(asks);
+    drop(reads);
     drop(gives_up);
 }

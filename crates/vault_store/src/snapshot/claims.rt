@@ -5,7 +5,7 @@ ghost use Rattle.vault_store.specs.Claims.{IsDraftRead, BeginsWithNoDraft, AreDr
 
 use crate::snapshot::SnapshotError;
 use std::alloc::Allocator;
-use vault_journal::{content_at, items_at, name_at, u8_at, u16_at, u32_at};
+use vault_journal::{content_at, items_at, name_at, note_at, u8_at, u16_at, u32_at};
 use vault_model::{
     Claim, ClaimId, Draft, DraftIn, Drafts, Listing, MOST_CLAIMS, MOST_DRAFTS, Owner, PlaceId,
 };
@@ -17,6 +17,7 @@ use vault_model::{
 //          then of each:
 //       4  its number
 //   1 + n  its owner's name: n, 1 to 32, and n bytes
+//   1 + n  its note: n, at most 64, and n bytes
 //       1  how many items it has, 1 to 8
 //       5  each item: 0 to look or 1 to change, and its place in 4
 //       1  how many drafts it has, at most 64
@@ -85,7 +86,10 @@ fn read_claim<'a, A: Allocator + Copy>(
     let Some(named) = name_at(rest) else {
         return Err(SnapshotError::NotWellFormed);
     };
-    let Some(held) = items_at(named.1) else {
+    let Some(noted) = note_at(named.1) else {
+        return Err(SnapshotError::NotWellFormed);
+    };
+    let Some(held) = items_at(noted.1) else {
         return Err(SnapshotError::NotWellFormed);
     };
     let mut own = Vec::new(alloc);
@@ -94,6 +98,7 @@ fn read_claim<'a, A: Allocator + Copy>(
         id: ClaimId::Long(number),
         owner: Owner::Designer(named.0),
         items: held.0,
+        note: noted.0,
     })?;
     drafts.push(Listing::from_vec(own))?;
     Ok(after)

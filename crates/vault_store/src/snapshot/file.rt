@@ -18,9 +18,9 @@ const LENGTH_AT: usize = 19;
 const SNAPSHOT_AT: usize = 23;
 
 // The most bytes that a place has beside its versions, a check-out beside its drafts, and a draft beside its content.
-const MOST_OF_PLACE: usize = 39;
+const MOST_OF_PLACE: usize = 40;
 
-const MOST_OF_CLAIM: usize = 79;
+const MOST_OF_CLAIM: usize = 144;
 
 const MOST_OF_DRAFT: usize = 6;
 
@@ -69,7 +69,7 @@ fn put_front<A: Allocator>(out: &mut Vec<u8, A>, generation: u64) -> Result<(), 
     ensures { Adds out.old.items out.new.items (mark ++ in_four version ++ in_eight generation ++ in_four 0) result }
 {
     put(out, b"LLVAULT")?;
-    put_u32(out, 1)?;
+    put_u32(out, 2)?;
     put(out, &generation.to_be_bytes())?;
     put_u32(out, 0)
 }

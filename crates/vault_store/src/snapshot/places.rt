@@ -4,13 +4,15 @@ ghost use Rattle.vault_model.specs.Shelf.{IsShelf};
 ghost use Rattle.vault_model.specs.Tree.{IsTree};
 ghost use Rattle.vault_model.specs.Vault.{AreVersions};
 ghost use Rattle.vault_store.specs.declared.snapshot.SnapshotError.TheVariants.{NotWellFormed};
-ghost use Rattle.vault_store.specs.Places.{told_of, ArePlacesAt, BeginsWithNoPlaces, IsVersionRead, BeginsWithNoVersion, AreVersionsRead, BeginsWithNoVersions, IsPlaceAdded, BeginsWithNoName, IsPlaceRead, BeginsWithNoPlace};
+ghost use Rattle.vault_store.specs.Places.{told_of, ArePlacesAt, BeginsWithNoPlaces, IsVersionRead, BeginsWithNoVersion, AreVersionsRead, BeginsWithNoVersions, IsPlaceAdded, BeginsWithNoName, behind_kind, IsPlaceRead, BeginsWithNoPlace};
+ghost use Rattle.vault_journal.specs.Reading.{Reads};
 
 use crate::snapshot::SnapshotError;
+use crate::snapshot::spelling::kind_byte;
 use design_tree::{AddError, Tree};
 use part_versions::{NotAppended, Shelf};
 use std::alloc::Allocator;
-use vault_journal::{content_at, name_at, u16_at, u32_at};
+use vault_journal::{content_at, name_at, u8_at, u16_at, u32_at};
 use vault_model::{Draft, Listing, PlaceId};
 
 /// The places of a snapshot, the versions of their parts, and the bytes behind them.
@@ -41,7 +43,8 @@ impl From<AddError> for SnapshotError {
 //          then of each place from number 1 on:
 //       4  its parent, which has a smaller number
 //   1 + n  its name: n, 1 to 32, and n bytes
-//          and of a part, which is a place three names below the library:
+//       1  its kind: 1 of a part, which is a place three names below the library, and 0 of another
+//          and of a part:
 //       2  how many versions it has
 //   2 + n  each version: n, at most 1,024, and n bytes
 
@@ -114,6 +117,17 @@ fn read_name<'a, A: Allocator + Copy>(
     Ok(named.1)
 }
 
+// The bytes behind the kind of a place, where its kind stands there.
+fn behind_kind(is_part: bool, bytes: &[u8]) -> Option<&[u8]>
+    ensures { Reads (λ x. x.now) result (behind_kind is_part bytes.now) }
+{
+    let (kind, rest) = u8_at(bytes)?;
+    if kind != kind_byte(is_part) {
+        return None;
+    }
+    Some(rest)
+}
+
 // Reads the place of this number, with its versions where it is a part, and answers the bytes behind it.
 fn read_place<'a, A: Allocator + Copy>(
     alloc: A,
@@ -127,8 +141,12 @@ fn read_place<'a, A: Allocator + Copy>(
     ensures read { IfOk result (λ rest. IsPlaceRead tree.old shelf.old tree.new shelf.new bytes.now rest.now) }
     ensures refused { result ≡ Err NotWellFormed → BeginsWithNoPlace tree.old shelf.old bytes.now }
 {
-    let rest = read_name(tree, bytes)?;
-    if !tree.is_part(place) {
+    let named = read_name(tree, bytes)?;
+    let is_part = tree.is_part(place);
+    let Some(rest) = behind_kind(is_part, named) else {
+        return Err(SnapshotError::NotWellFormed);
+    };
+    if !is_part {
         return Ok(rest);
     }
     read_versions(alloc, place, shelf, rest)

@@ -5,19 +5,19 @@ ghost use Rattle.std.specs.Prelude.{◌≡◌, ◌<◌, ◌≤◌, ◌-◌, ◌�
 ghost use Rattle.std.specs.List.{flat_map};
 ghost use Rattle.vault_model.specs.Limits.{longest_content, most_drafts};
 ghost use Rattle.vault_model.specs.Shelf.{Draft, numbered, versions_of};
-ghost use Rattle.vault_journal.specs.Spelling.{in_two, in_four, name_bytes, item_bytes, items_bytes, content_bytes};
+ghost use Rattle.vault_journal.specs.Spelling.{in_two, in_four, name_bytes, item_bytes, items_bytes, content_bytes, note_bytes};
 ghost use Rattle.vault_model.specs.Claims.{without_short};
-ghost use Rattle.vault_model.specs.Tree.{IsTree};
+ghost use Rattle.vault_model.specs.Tree.{IsTree, is_part};
 ghost use Rattle.vault_model.specs.Vault.{AreDrafts, IsVault, durable};
 ghost use Rattle.vault_model.specs.declared.place.Place.{Place};
-ghost use Rattle.vault_store.specs.Snapshot.{snapshot_of, claim_bytes, designer_of, draft_bytes, drafts_bytes, number_of, place_bytes, places_bytes, versions_bytes};
+ghost use Rattle.vault_store.specs.Snapshot.{snapshot_of, claim_bytes, designer_of, draft_bytes, drafts_bytes, kind_byte, kind_bytes, number_of, place_bytes, places_bytes, versions_bytes};
 ghost use Rattle.vault_store.specs.Adds.{Adds};
 
 use design_tree::Tree;
 use part_versions::Shelf;
 use std::alloc::Allocator;
 use vault_checkout::Book;
-use vault_model::{Claim, ClaimId, DraftIn, Intent, Item, Name, NoMemory, Owner, PlaceId};
+use vault_model::{Claim, ClaimId, DraftIn, Intent, Item, Name, NoMemory, Note, Owner, PlaceId};
 
 /// Adds bytes.
 pub fn put<A: Allocator>(out: &mut Vec<u8, A>, bytes: &[u8]) -> Result<(), NoMemory>
@@ -46,6 +46,15 @@ fn put_name<A: Allocator>(out: &mut Vec<u8, A>, name: &Name) -> Result<(), NoMem
     ensures { Adds out.old.items out.new.items (name_bytes name.now) result }
 {
     let bytes = name.as_bytes();
+    put(out, &[bytes.len() as u8])?;
+    put(out, bytes)
+}
+
+// Adds a note.
+fn put_note<A: Allocator>(out: &mut Vec<u8, A>, note: &Note) -> Result<(), NoMemory>
+    ensures { Adds out.old.items out.new.items (note_bytes note.now) result }
+{
+    let bytes = note.as_bytes();
     put(out, &[bytes.len() as u8])?;
     put(out, bytes)
 }
@@ -163,6 +172,29 @@ fn put_versions<A: Allocator, B: Allocator>(
     put_each_version(out, shelf, place)
 }
 
+/// The kind of a place, by whether it is a part.
+pub fn kind_byte(is_part: bool) -> u8
+    ensures { result ≡ kind_byte is_part }
+{
+    if is_part { 1 } else { 0 }
+}
+
+// Adds what stands behind a place's name: its kind and, of a part, its versions.
+fn put_kind<A: Allocator, B: Allocator + Copy>(
+    out: &mut Vec<u8, A>,
+    book: &Book<B>,
+    place: PlaceId,
+) -> Result<(), NoMemory>
+    requires { place ≤ length book.now.tree }
+    ensures { Adds out.old.items out.new.items (kind_bytes (is_part book.now.tree place) (versions_of book.now.shelf place)) result }
+{
+    if !book.tree().is_part(place) {
+        return put(out, &[kind_byte(false)]);
+    }
+    put(out, &[kind_byte(true)])?;
+    put_versions(out, book.shelf(), place)
+}
+
 // The place of this number.
 fn place_at<B: Allocator + Copy>(tree: &Tree<B>, number: u32) -> (PlaceId, Name)
     requires some { 0 < number }
@@ -187,11 +219,7 @@ fn put_place<A: Allocator, B: Allocator + Copy>(
     let (parent, name) = place_at(book.tree(), number);
     put_u32(out, parent.number())?;
     put_name(out, &name)?;
-    let place = PlaceId(number);
-    if !book.tree().is_part(place) {
-        return Ok(());
-    }
-    put_versions(out, book.shelf(), place)
+    put_kind(out, book, PlaceId(number))
 }
 
 // Adds each place from 1 on.
@@ -239,6 +267,7 @@ fn put_claim<A: Allocator, B: Allocator + Copy>(
     let number = number_of(claim.id);
     put_u32(out, number)?;
     put_owner(out, &claim.owner)?;
+    put_note(out, &claim.note)?;
     put_items(out, claim.items.as_slice())?;
     put_drafts(out, book.drafts(number))
 }

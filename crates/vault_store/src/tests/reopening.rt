@@ -130,7 +130,7 @@ pub fn with<const N: usize>(bytes: &[u8; N], at: usize, byte: u8) -> [u8; N] {
 }
 
 /// Whether the second file is the active one, with c1 held, and a commit of `make /f` is written behind its tail gate.
-pub fn committed(rt: &impl Abort, alloc: Global, first: &[u8; 47], second: &[u8; 57]) -> bool {
+pub fn committed(rt: &impl Abort, alloc: Global, first: &[u8; 47], second: &[u8; 59]) -> bool {
     let opened = Store::open(alloc, holding(rt, alloc, first), holding(rt, alloc, second));
     let (mut store, book) = opened.ok().expect(rt, "a vault");
     assert_eq!(rt;
@@ -143,7 +143,7 @@ pub fn committed(rt: &impl Abort, alloc: Global, first: &[u8; 47], second: &[u8;
     let (mut one, mut other) = store.into_devices();
     let frame = b"\0\0\0\x07\x01\0\0\0\0\x01f\0";
     let written = shows(rt, alloc, &mut one, &[first])
-        && shows(rt, alloc, &mut other, &[&second[..56], &[1], frame]);
+        && shows(rt, alloc, &mut other, &[&second[..58], &[1], frame]);
     drop(one);
     drop(other);
     settled && written

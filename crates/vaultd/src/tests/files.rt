@@ -14,7 +14,7 @@ use std::time::Clock;
 use vault_inspector::print;
 
 // The first file of a new vault.
-const NEW: &[u8; 35] = b"\x01LLVAULT\0\0\0\x01\0\0\0\0\0\0\0\x01\0\0\0\x0a\0\0\0\0\0\0\0\x01\0\0\0";
+const NEW: &[u8; 35] = b"\x01LLVAULT\0\0\0\x02\0\0\0\0\0\0\0\x01\0\0\0\x0a\0\0\0\0\0\0\0\x01\0\0\0";
 
 const NEW_TEXT: &[u8] =
     b"file a: open, generation 1, frames 0, tail 34\nfile b: closed\nplaces 1, versions 0, claims 0, drafts 0\n";

@@ -2,8 +2,8 @@
 
 use super::{Talk, content, item, name, path};
 use Command::{
-    Abandon, CheckIn, CheckOut, Count, Extend, Fetch, Hold, Join, Leave, List, Make, Release, Save,
-    State,
+    Abandon, CheckIn, CheckOut, Count, Extend, Fetch, Give, Hold, Join, Leave, List, Make, Note,
+    ReadNote, Release, Save, State,
 };
 use std::alloc::{Allocator, Global};
 use std::process::Abort;
@@ -152,6 +152,9 @@ fn each_request_of_memory_is_refused(rt: HostRuntime) {
         Release(1),
         State(Short(1)),
         Count(path(&rt, "/e/b/p")),
+        Give(2, name(&rt, "ben")),
+        Note(2, content(&rt, memory, "a note")),
+        ReadNote(2),
         Leave,
     ];
     for last in &lines {

@@ -12,7 +12,8 @@ use vault_checkout::{Book, FromPartsError};
 use vault_model::ClaimId::{Long, Short};
 use vault_model::Intent::{Change, Look};
 use vault_model::{
-    Claim, ClaimId, Command, Draft, DraftIn, Drafts, Item, Items, Listing, Owner, PlaceId, Standing,
+    Claim, ClaimId, Command, Draft, DraftIn, Drafts, Item, Items, Listing, Note, Owner, PlaceId,
+    Standing,
 };
 
 /// The parts that a book is made of.
@@ -226,7 +227,12 @@ fn with_claim(
         intent: Look,
         place: PlaceId(place),
     });
-    let claim = Claim { id, owner, items };
+    let claim = Claim {
+        id,
+        owner,
+        items,
+        note: Note::new(),
+    };
     parts.last_long = 5;
     assert!(rt; parts.claims.push(claim).is_ok());
     assert!(rt;

@@ -1,4 +1,5 @@
-use Rattle.std.proofs.Common.{subst, sym}
+use Rattle.std.proofs.Common.{ℕ, ◌+◌, List, [], ◌∷◌, ◌++◌, ap, subst, sym, ◌∙◌}
+use Rattle.vault_model.specs.Claims.{new_check_out}
 use Rattle.long_locks.specs.Lines.{LineSeen, IsGrownFrom}
 use Rattle.long_locks.proofs.LinesKept.{weighed_grown, new_long, line_long}
 use Rattle.long_locks.proofs.line.Line.ask_long.Goals as goal
@@ -14,6 +15,8 @@ put_last-requires-clause-new g c = new_long _ c.self.inside.table c.self.invaria
 pub invariant_of-self-2 : goal.invariant_of-self-2
 invariant_of-self-2 g c =
     let grown = subst (λ (l : LineSeen). IsGrownFrom l.tree c.args.tree.now) (sym c.self.view_is) c.requires.grown in
-    let zip = rw c.in_ok-standing.ensures.asked at c.in_ok-standing.ensures.table in
-    rw (c.in_ok-standing.ensures.asked, c.of-self-inside.ensures)
+    let noted = λ (note : List ℕ). c.self.inside.claims.claims ++ record (new_check_out (c.self.inside.last_long + 1) c.args.owner c.args.items) { note = note } ∷ [] in
+    let asked = c.in_ok-standing.ensures.asked ∙ ap noted c.new.ensures in
+    let zip = rw asked at c.in_ok-standing.ensures.table in
+    rw (asked, c.of-self-inside.ensures)
     (line_long _ c.self.inside.table c.self.invariant c.args.tree.now c.see_whole.ensures grown c.args.items c.requires.items c.put_last.new.table c.args.owner zip)

@@ -1,0 +1,18 @@
+use Rattle.std.proofs.Common.{refl}
+use Rattle.vault_model.specs.declared.ids.ClaimId.TheVariants.{Long}
+use Rattle.vault_model.specs.Claims.{noted_as}
+use Rattle.vault_model.proofs.InPlace.{kept_noted}
+use Rattle.vault_checkout.specs.Seen.{vault_of}
+use Rattle.vault_checkout.proofs.Agreeing.{agrees_changed}
+use Rattle.vault_checkout.proofs.book.Book.set_note.Goals as goal
+
+pub invariant_of-self : goal.invariant_of-self
+invariant_of-self g c =
+    rw c.set_note.ensures (
+      kept_noted (vault_of c.self.inside) c.self.invariant.0 c.args.number c.args.note c.as_bytes.ensures.short,
+      c.self.invariant.1,
+      agrees_changed (vault_of c.self.inside) c.self.invariant.0 c.self.inside.check_outs.items c.self.invariant.2 (Long c.args.number) (noted_as c.args.note) (λ x. refl) (λ x. refl),
+    )
+
+pub returns : goal.returns
+returns g c = rw (← c.self.view_is, c.set_note.ensures) refl

@@ -1,0 +1,5 @@
+use Rattle.vault_journal.proofs.Behind.{then}
+use Rattle.vault_journal.proofs.records.put_noted.Goals as goal
+
+pub returns : goal.returns
+returns c = then _ _ _ _ _ _ _ _ c.put_claim-at.ensures c.put_note.ensures
