@@ -3,7 +3,7 @@ ghost use Rattle.std.specs.Prelude.{◌≡◌, ◌≤◌, length};
 use super::*;
 use std::alloc::{Allocator, Global};
 use std::process::Abort;
-use test_memory::Refusing;
+use test_memory::{Refusing, Tried, requests};
 use vault_model::{Kind, Name, NoMemory, Path, PlaceId};
 
 fn name(rt: &impl Abort, text: &[u8]) -> Name {
@@ -175,142 +175,171 @@ fn additions_are_refused_in_order(rt: HostRuntime) {
     drop(tree);
 }
 
-#[test]
-fn new_is_refused_each_request_in_turn(rt: HostRuntime) {
-    let memory = Refusing::new(rt.alloc());
-    memory.refuse(1);
-    assert!(rt; Tree::new(&memory).is_err() && !memory.is_waiting());
-    memory.refuse(2);
-    let tree = Tree::new(&memory).expect(&rt, "memory");
-    assert_eq!(rt; tree.len(), 1);
-    assert!(rt; memory.is_waiting());
+// Tries to make a tree.
+fn makes_tree(memory: &Refusing<Global>, number: u64) -> Tried {
+    memory.refuse(number);
+    let made = Tree::new(memory);
+    let has_refused = memory.has_refused();
+    match made {
+        Ok(tree) => {
+            let is_new = tree.len() == 1;
+            drop(tree);
+            Tried::done(!has_refused && is_new)
+        }
+        Err(NoMemory) => Tried::refused(has_refused),
+    }
+}
+
+// Tries to list the children of the assembly.
+fn lists_children(rt: &impl Abort, memory: &Refusing<Global>, number: u64) -> Tried {
+    let tree = small_tree(rt, memory);
+    memory.refuse(number);
+    let listed = tree.children(PlaceId(2));
+    let has_refused = memory.has_refused();
+    let tried = match listed {
+        Ok(children) => {
+            let are_all = children.as_slice() == [PlaceId(3), PlaceId(4)].as_slice();
+            drop(children);
+            Tried::done(!has_refused && are_all)
+        }
+        Err(NoMemory) => Tried::refused(has_refused),
+    };
     drop(tree);
+    tried
 }
 
-// Whether these are the names under a place.
-fn are_names<A: Allocator + Copy>(tree: &Tree<A>, place: PlaceId, want: &[Name]) -> Option<bool>
-    requires { place ≤ length tree.now }
-{
-    let names = tree.names_under(place).ok()?;
-    let are_all = names.as_slice() == want;
-    drop(names);
-    Some(are_all)
-}
-
-#[test]
-fn names_stand_under_their_parent(rt: HostRuntime) {
-    let memory = Refusing::new(rt.alloc());
-    let tree = small_tree(&rt, &memory);
-    let parts = [name(&rt, b"p1"), name(&rt, b"p2")];
-    memory.refuse(1);
-    assert_eq!(rt; are_names(&tree, PlaceId(2), &parts), None);
-    assert!(rt; !memory.is_waiting());
-    memory.refuse(2);
-    assert_eq!(rt; are_names(&tree, PlaceId(2), &parts), Some(true));
-    assert!(rt; memory.is_waiting());
-    assert_eq!(rt; are_names(&tree, PlaceId(4), &[]), Some(true));
-    drop(tree);
-}
-
-#[test]
-fn children_are_refused_each_request_in_turn(rt: HostRuntime) {
-    let memory = Refusing::new(rt.alloc());
-    let tree = small_tree(&rt, &memory);
-    let same = small_tree(&rt, rt.alloc());
-    memory.refuse(1);
-    assert!(rt; tree.children(PlaceId(2)).is_err() && !memory.is_waiting());
-    assert!(rt; is_same(&rt, &tree, &same));
-    memory.refuse(2);
-    assert!(rt; are_children(&rt, &tree, PlaceId(2), &[PlaceId(3), PlaceId(4)]));
-    assert!(rt; memory.is_waiting());
-    drop(tree);
-    drop(same);
-}
-
-// Whether the nth request of a copy is refused; else the copy is the same.
-fn refuses_a_copy(
+// Tries to list the names under a place.
+fn lists_names(
     rt: &impl Abort,
     memory: &Refusing<Global>,
-    tree: &Tree<&Refusing<Global>>,
-    ample: &Tree,
     number: u64,
-) -> bool {
+    place: u32,
+    want: &[Name],
+) -> Tried
+    requires { place ≤ 4 }
+{
+    let tree = small_tree(rt, memory);
+    memory.refuse(number);
+    let listed = tree.names_under(PlaceId(place));
+    let has_refused = memory.has_refused();
+    let tried = match listed {
+        Ok(names) => {
+            let are_all = names.as_slice() == want;
+            drop(names);
+            Tried::done(!has_refused && are_all)
+        }
+        Err(NoMemory) => Tried::refused(has_refused),
+    };
+    drop(tree);
+    tried
+}
+
+// Tries to copy a tree.
+fn copies(rt: &impl Abort, memory: &Refusing<Global>, alloc: Global, number: u64) -> Tried {
+    let tree = small_tree(rt, memory);
+    let ample = small_tree(rt, alloc);
     memory.refuse(number);
     let copy = tree.copy();
-    let is_waiting = memory.is_waiting();
-    memory.refuse(0);
-    assert!(rt; is_same(rt, tree, ample));
-    match copy {
+    let has_refused = memory.has_refused();
+    let is_kept = is_same(rt, &tree, &ample);
+    let tried = match copy {
         Ok(copy) => {
-            assert!(rt; is_waiting && is_same(rt, &copy, ample));
+            let is_like = is_same(rt, &copy, &ample);
             drop(copy);
-            false
+            Tried::done(!has_refused && is_kept && is_like)
         }
-        Err(NoMemory) => {
-            assert!(rt; !is_waiting);
-            true
-        }
-    }
-}
-
-#[test]
-fn copies_are_refused_each_request_in_turn(rt: HostRuntime) {
-    let memory = Refusing::new(rt.alloc());
-    let tree = small_tree(&rt, &memory);
-    let ample = small_tree(&rt, rt.alloc());
-    let mut refused = 0;
-    for number in 1..10u64 {
-        if refuses_a_copy(&rt, &memory, &tree, &ample, number) {
-            refused = number;
-        }
-    }
-    assert_eq!(rt;
-        refused,
-        5,
-        "the places, the lists, and three that have children"
-    );
+        Err(NoMemory) => Tried::refused(has_refused && is_kept),
+    };
     drop(tree);
     drop(ample);
+    tried
 }
 
-// How many requests of an addition are refused until it is made; each leaves the tree as it was.
-fn refused_additions(
+// A new tree with so many projects.
+fn projects<A: Allocator + Copy>(rt: &impl Abort, alloc: A, count: u8) -> Tree<A> {
+    let mut tree = Tree::new(alloc).expect(rt, "memory");
+    for number in 0..count.min(20) {
+        let project = name(rt, &[b'a' + number]);
+        assert!(rt; tree.add(PlaceId(0), project).is_ok());
+    }
+    tree
+}
+
+// Adds a project, or pushes it.
+fn takes_project<A: Allocator + Copy>(
+    rt: &impl Abort,
+    tree: &mut Tree<A>,
+    is_push: bool,
+) -> Result<PlaceId, AddError> {
+    let project = name(rt, b"z");
+    if !is_push {
+        return tree.add(PlaceId(0), project);
+    }
+    assert!(rt; !tree.is_part(PlaceId(0)) && !tree.is_full(PlaceId(0)));
+    assert!(rt; tree.child(PlaceId(0), &project).is_none());
+    match tree.push(PlaceId(0), project) {
+        Ok(place) => Ok(place),
+        Err(NoMemory) => Err(AddError::NoMemory),
+    }
+}
+
+// Tries to add a project behind so many, or to push it.
+fn adds(
     rt: &impl Abort,
     memory: &Refusing<Global>,
-    tree: &mut Tree<&Refusing<Global>>,
-    ample: &Tree,
-    child: Name,
-) -> u32 {
-    for number in 1..10u32 {
-        memory.refuse(u64::from(number));
-        let added = tree.add(PlaceId(0), child);
-        let is_waiting = memory.is_waiting();
-        memory.refuse(0);
-        if added.is_ok() {
-            assert!(rt; is_waiting);
-            return number - 1;
-        }
-        assert_eq!(rt; added, Err(AddError::NoMemory));
-        assert!(rt; !is_waiting && is_same(rt, tree, ample));
-    }
-    0
+    alloc: Global,
+    number: u64,
+    count: u8,
+    is_push: bool,
+) -> Tried {
+    let mut tree = projects(rt, memory, count);
+    let mut ample = projects(rt, alloc, count);
+    memory.refuse(number);
+    let added = takes_project(rt, &mut tree, is_push);
+    let has_refused = memory.has_refused();
+    let tried = if added.is_ok() {
+        Tried::done(!has_refused)
+    } else {
+        let is_kept = is_same(rt, &tree, &ample) && added == Err(AddError::NoMemory);
+        Tried::refused(has_refused && is_kept && takes_project(rt, &mut tree, is_push).is_ok())
+    };
+    assert!(rt; takes_project(rt, &mut ample, is_push).is_ok());
+    let is_like = is_same(rt, &tree, &ample);
+    drop(tree);
+    drop(ample);
+    if is_like { tried } else { Tried::Wrong }
 }
 
 #[test]
-fn additions_are_refused_each_request_in_turn(rt: HostRuntime) {
+fn each_request_of_a_tree_is_refused(rt: HostRuntime) {
     let memory = Refusing::new(rt.alloc());
-    let mut tree = Tree::new(&memory).expect(&rt, "memory");
-    let mut ample = Tree::new(rt.alloc()).expect(&rt, "memory");
-    let mut refused = 0u32;
-    for child in b"abcdefghi" {
-        let child = name(&rt, &[*child]);
-        refused = refused.saturating_add(refused_additions(&rt, &memory, &mut tree, &ample, child));
-        assert!(rt; ample.add(PlaceId(0), child).is_ok());
-        assert!(rt; is_same(&rt, &tree, &ample));
-    }
+    let made = requests(|number| makes_tree(&memory, number));
+    assert_eq!(rt; made, Some(1), "Tree::new");
+    let made = requests(|number| lists_children(&rt, &memory, number));
+    assert_eq!(rt; made, Some(1), "Tree::children");
+    let parts = [name(&rt, b"p1"), name(&rt, b"p2")];
+    let made = requests(|number| lists_names(&rt, &memory, number, 2, &parts));
+    assert_eq!(rt; made, Some(1), "Tree::names_under");
+    let made = requests(|number| lists_names(&rt, &memory, number, 4, &[]));
+    assert_eq!(rt; made, Some(0), "Tree::names_under, none");
+    // The places, the lists, and three that have children.
+    let made = requests(|number| copies(&rt, &memory, rt.alloc(), number));
+    assert_eq!(rt; made, Some(5), "Tree::copy");
+}
 
-    // Each of the three lists had to grow: the places, the lists of children and the library's.
-    assert!(rt; refused >= 3);
-    drop(tree);
-    drop(ample);
+#[test]
+fn each_request_of_an_addition_is_refused(rt: HostRuntime) {
+    let memory = Refusing::new(rt.alloc());
+    let rows = [
+        ("Tree::add", 4, false, 2),
+        ("Tree::push", 4, true, 2),
+        ("Tree::add, behind none", 0, false, 2),
+        ("Tree::add, behind 1", 1, false, 0),
+        ("Tree::add, behind 3", 3, false, 1),
+        ("Tree::push, behind 16", 16, true, 2),
+    ];
+    for (call, count, is_push, wanted) in rows {
+        let made = requests(|number| adds(&rt, &memory, rt.alloc(), number, count, is_push));
+        assert_eq!(rt; made, Some(wanted), "{call}");
+    }
 }

@@ -10,13 +10,13 @@ use given::{
     is_stranger, is_there, joins, made_by_two, make, new_vault, questioned, refusal, saved,
     stays_broken, stopped, takes_none,
 };
-use memory::refused_in_turn;
+use memory::{creates, opens, redeems, stages, starts};
 use past::{inside_a_pump, inside_an_opening, three_lives, two_lives};
 use renewing::{is_renewed, is_renewed_around, saves_a_frame};
 use retiring::{makes_room, retires};
 use std::alloc::Global;
 use std::process::Abort;
-use test_memory::Refusing;
+use test_memory::{Refusing, requests};
 use vault_device::{Device, MemDevice, Pick};
 use vault_model::Reply;
 
@@ -148,11 +148,19 @@ fn no_vault_to_open(rt: HostRuntime) {
     assert!(rt; refusal(rt.alloc(), &[1; 24]) == Some(damaged));
 }
 
-// Each request for memory is refused in turn, and what asked for it is done once there is some.
 #[test]
-fn refused_memory(rt: HostRuntime) {
+fn each_request_of_a_vault_is_refused(rt: HostRuntime) {
     let memory = Refusing::new(rt.alloc());
-    assert_eq!(rt; refused_in_turn(&rt, rt.alloc(), &memory), (4, 1, 8));
+    let made = requests(|number| creates(&rt, &memory, rt.alloc(), number));
+    assert_eq!(rt; made, Some(4), "Vault::create");
+    let made = requests(|number| opens(&rt, &memory, rt.alloc(), number));
+    assert_eq!(rt; made, Some(8), "Vault::open");
+    let made = requests(|number| stages(&rt, &memory, rt.alloc(), number));
+    assert_eq!(rt; made, Some(1), "Vault::stage");
+    let made = requests(|number| redeems(&rt, &memory, rt.alloc(), number));
+    assert_eq!(rt; made, Some(1), "Vault::redeem");
+    let made = requests(|number| starts(&rt, &memory, rt.alloc(), number));
+    assert_eq!(rt; made, Some(1), "Vault::start_snapshot");
 }
 
 // Whether this is a new life, behind which a receipt was kept for that reply.

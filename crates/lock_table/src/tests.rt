@@ -9,7 +9,7 @@ use design_tree::Tree;
 use lock_modes::Mode;
 use std::alloc::{Allocator, Global};
 use std::process::Abort;
-use test_memory::Refusing;
+use test_memory::{Refusing, Tried, requests};
 use vault_model::{ClaimId, Intent, Item, Items, Name, NoMemory, PlaceId, Standing};
 
 fn look(place: u32) -> Item {

@@ -4,11 +4,11 @@ use crate::{FromClaimsError, Line};
 use design_tree::Tree;
 use std::alloc::{Allocator, Global};
 use std::process::Abort;
-use test_memory::Refusing;
+use test_memory::{Refusing, Tried, requests};
 use vault_model::{Claim, ClaimId, Item, Items, Name, NoMemory, Note, Owner, Standing};
 
-// Whether two lines answer alike.
-fn is_same<A: Allocator, B: Allocator>(one: &Line<A>, other: &Line<B>) -> bool {
+/// Whether two lines answer alike.
+pub(crate) fn is_same<A: Allocator, B: Allocator>(one: &Line<A>, other: &Line<B>) -> bool {
     let numbers = (one.len(), one.last_long(), one.last_short());
     if numbers != (other.len(), other.last_long(), other.last_short()) {
         return false;
@@ -39,43 +39,33 @@ fn small_line<A: Allocator + Copy>(rt: &impl Abort, alloc: A) -> Line<A> {
     line
 }
 
-// Whether a copy is refused. Else it answers as the other line does.
-fn is_copy_refused<A: Allocator + Copy, B: Allocator>(
-    rt: &impl Abort,
-    line: &Line<A>,
-    other: &Line<B>,
-) -> bool {
-    match line.copy() {
+// Tries to copy a line.
+fn copies(rt: &impl Abort, memory: &Refusing<Global>, alloc: Global, number: u64) -> Tried {
+    let line = small_line(rt, memory);
+    let ample = small_line(rt, alloc);
+    memory.refuse(number);
+    let copy = line.copy();
+    let has_refused = memory.has_refused();
+    let is_kept = is_same(&line, &ample);
+    let tried = match copy {
         Ok(copy) => {
-            assert!(rt; is_same(&copy, other));
+            let is_like = is_same(&copy, &ample);
             drop(copy);
-            false
+            Tried::done(!has_refused && is_kept && is_like)
         }
-        Err(NoMemory) => true,
-    }
+        Err(NoMemory) => Tried::refused(has_refused && is_kept),
+    };
+    drop(line);
+    drop(ample);
+    tried
 }
 
 #[test]
-fn copies_are_refused_each_request_in_turn(rt: HostRuntime) {
+fn each_request_of_a_copy_is_refused(rt: HostRuntime) {
     let memory = Refusing::new(rt.alloc());
-    let line = small_line(&rt, &memory);
-    let ample = small_line(&rt, rt.alloc());
-    let mut refused = 0u64;
-    for number in 1..24u64 {
-        memory.refuse(number);
-        let is_refused = is_copy_refused(&rt, &line, &ample);
-        assert!(rt; memory.is_waiting() == !is_refused);
-        memory.refuse(0);
-        assert!(rt; is_same(&line, &ample));
-        if is_refused {
-            assert!(rt; number == refused.saturating_add(1));
-            refused = number;
-        }
-    }
     // Four requests for the claims, thirteen for their modes.
-    assert_eq!(rt; refused, 17);
-    drop(ample);
-    drop(line);
+    let made = requests(|number| copies(&rt, &memory, rt.alloc(), number));
+    assert_eq!(rt; made, Some(17), "Line::copy");
 }
 
 // The check-out of this number, of Anna.
@@ -170,30 +160,32 @@ fn claims_of_no_line_are_refused(rt: HostRuntime) {
     drop(tree);
 }
 
-#[test]
-fn a_line_of_claims_is_refused_each_request_in_turn(rt: HostRuntime) {
-    let memory = Refusing::new(rt.alloc());
-    let tree = small_tree(&rt, &memory);
-    let claims = three_claims(&rt);
-    let mut refused = 0u64;
-    for number in 1..24u64 {
-        let list = Vec::from_slice(&memory, &claims).expect(&rt, "memory");
-        memory.refuse(number);
-        let made = made_of(&tree, &memory, 7, list);
-        let is_waiting = memory.is_waiting();
-        memory.refuse(0);
-        if is_waiting {
-            assert!(rt; made == Ok(3));
-        } else {
-            assert!(rt; made == Err(FromClaimsError::NoMemory));
-            assert!(rt; number == refused.saturating_add(1));
-            refused = number;
-        }
+// Tries to make a line of three claims.
+fn makes_of_claims(rt: &impl Abort, memory: &Refusing<Global>, number: u64) -> Tried {
+    let tree = small_tree(rt, memory);
+    let claims = three_claims(rt);
+    let list = Vec::from_slice(memory, &claims).expect(rt, "memory");
+    memory.refuse(number);
+    let made = made_of(&tree, memory, 7, list);
+    let has_refused = memory.has_refused();
+    drop(tree);
+    if made == Err(FromClaimsError::NoMemory) {
+        Tried::refused(has_refused)
+    } else {
+        Tried::done(!has_refused && made == Ok(3))
     }
+}
+
+#[test]
+fn each_request_of_a_line_of_claims_is_refused(rt: HostRuntime) {
+    let memory = Refusing::new(rt.alloc());
     // Four requests for the claims, twelve for their modes.
-    assert_eq!(rt; refused, 16);
+    let made = requests(|number| makes_of_claims(&rt, &memory, number));
+    assert_eq!(rt; made, Some(16), "Line::from_claims");
 
     // What no line has is told, though no memory is there.
+    let tree = small_tree(&rt, &memory);
+    let claims = three_claims(&rt);
     let list = Vec::from_slice(&memory, &claims).expect(&rt, "memory");
     memory.refuse(1);
     let told = made_of(&tree, &memory, 4, list);

@@ -7,11 +7,12 @@ mod giving;
 
 use super::*;
 use crate::from_claims::are_there;
+use crate::same_lines::is_same;
 use design_tree::Tree;
 use lock_table::Extension;
 use std::alloc::{Allocator, Global};
 use std::process::Abort;
-use test_memory::Refusing;
+use test_memory::{Refusing, Tried, requests};
 use vault_model::{ClaimId, Intent, Item, Items, Name, NoMemory, PlaceId, Standing};
 
 const C1: ClaimId = ClaimId::Long(1);
@@ -352,113 +353,83 @@ fn held_claims_cover_places(rt: HostRuntime) {
     drop(tree);
 }
 
-#[test]
-fn a_new_line_is_refused_its_memory(rt: HostRuntime) {
-    let memory = Refusing::new(rt.alloc());
-    memory.refuse(1);
-    assert!(rt; Line::new(&memory).is_err());
-    assert!(rt; !memory.is_waiting());
-    let line = new_line(&rt, &memory);
-    assert_eq!(rt; line.len(), 0);
-    drop(line);
-}
-
-// Whether a row is refused its memory, where this request is refused. If so, some rows still hold, and
-// the next try succeeds. None where the line answers otherwise.
-fn is_refused<A: Allocator + Copy>(
-    rt: &impl Abort,
-    memory: &Refusing<Global>,
-    number: u64,
-    line: &mut Line<A>,
-    tree: &Tree<A>,
-    row: &Row,
-    still: &[Row],
-) -> Option<bool>
-    requires { IsGrownFrom line.old.tree tree.now }
-    ensures { IsGrownFrom line.new.tree tree.now }
-{
+// Tries to make a line.
+fn makes_line(memory: &Refusing<Global>, number: u64) -> Tried {
     memory.refuse(number);
-    let told = act(rt, line, tree, row);
-    let is_waiting = memory.is_waiting();
-    memory.refuse(0);
-    if is_waiting && told == Ok(true) {
-        return Some(false);
-    }
-    let is_kept = !is_waiting && told.is_err() && act_all(rt, line, tree, still) == still.len();
-    (is_kept && act(rt, line, tree, row) == Ok(true)).then_some(true)
-}
-
-// The same behind these rows, over a new line.
-fn is_refused_behind<A: Allocator + Copy>(
-    rt: &impl Abort,
-    memory: &Refusing<Global>,
-    alloc: A,
-    number: u64,
-    tree: &Tree<A>,
-    rows: &[Row],
-    row: &Row,
-    still: &[Row],
-) -> Option<bool> {
-    let mut line = new_line(rt, alloc);
-    let count = act_all(rt, &mut line, tree, rows);
-    let told = is_refused(rt, memory, number, &mut line, tree, row, still);
-    drop(line);
-    if count == rows.len() { told } else { None }
-}
-
-// How many requests for memory a row makes behind these rows, each refused in turn.
-fn refused_in_turn<A: Allocator + Copy>(
-    rt: &impl Abort,
-    memory: &Refusing<Global>,
-    alloc: A,
-    tree: &Tree<A>,
-    rows: &[Row],
-    row: &Row,
-    still: &[Row],
-) -> Option<u64> {
-    let mut refused = 0u64;
-    for number in 1..24u64 {
-        if is_refused_behind(rt, memory, alloc, number, tree, rows, row, still)? {
-            refused = number;
+    let made = Line::new(memory);
+    let has_refused = memory.has_refused();
+    match made {
+        Ok(line) => {
+            let is_new = counts(&line) == (0, 0, 0);
+            drop(line);
+            Tried::done(!has_refused && is_new)
         }
+        Err(NoMemory) => Tried::refused(has_refused),
     }
-    Some(refused)
+}
+
+// Tries a row behind so many of these. Refused, the line is as one that only took those, and the next try succeeds.
+fn takes(
+    rt: &impl Abort,
+    memory: &Refusing<Global>,
+    alloc: Global,
+    number: u64,
+    before: (&[Row], usize),
+    row: &Row,
+) -> Tried {
+    let (rows, count) = before;
+    assert!(rt; count <= rows.len());
+    let rows = &rows[..count];
+    let tree = small_tree(rt, memory);
+    let mut line = new_line(rt, memory);
+    let ample_tree = small_tree(rt, alloc);
+    let mut ample = new_line(rt, alloc);
+    assert!(rt; act_all(rt, &mut line, &tree, rows) == rows.len());
+    assert!(rt; act_all(rt, &mut ample, &ample_tree, rows) == rows.len());
+    memory.refuse(number);
+    let told = act(rt, &mut line, &tree, row);
+    let has_refused = memory.has_refused();
+    let tried = if told.is_ok() {
+        Tried::done(!has_refused && told == Ok(true))
+    } else {
+        let is_kept = is_same(&line, &ample);
+        Tried::refused(has_refused && is_kept && act(rt, &mut line, &tree, row) == Ok(true))
+    };
+    assert!(rt; act(rt, &mut ample, &ample_tree, row) == Ok(true));
+    let is_like = is_same(&line, &ample);
+    drop(line);
+    drop(tree);
+    drop(ample);
+    drop(ample_tree);
+    if is_like { tried } else { Tried::Wrong }
 }
 
 #[test]
-fn each_request_of_memory_of_a_new_claim_is_refused(rt: HostRuntime) {
+fn each_request_of_a_line_is_refused(rt: HostRuntime) {
     let memory = Refusing::new(rt.alloc());
-    let tree = small_tree(&rt, &memory);
-    let still = [
-        Row::Counts(0, 0, 0),
-        Row::Stands(C1, None),
-        Row::Stands(H1, None),
+    let made = requests(|number| makes_line(&memory, number));
+    assert_eq!(rt; made, Some(1), "Line::new");
+    let asked = Row::CheckOut(one(look(1)), HELD);
+    let held = Row::Hold(1, one(look(1)), HELD);
+    let extended = Row::Extend(C2, one(look(2)), Extension::Done);
+    let put = Row::PutFirst(C2, two(look(1), change(3)));
+    let before = [asked; 32];
+    // Of the first claim four requests are for the claim, and six for its modes. Those of the front are all for its modes.
+    let rows = [
+        ("Line::ask_long", 0, asked, 10),
+        ("Line::ask_short", 0, held, 10),
+        ("Line::extend", 4, extended, 4),
+        ("Line::put_first", 4, put, 5),
+        ("Line::ask_long, behind 4", 4, asked, 5),
+        ("Line::ask_long, behind 16", 16, asked, 5),
+        ("Line::ask_long, behind 32", 32, asked, 5),
     ];
-    // Four requests for the claim, six for its modes.
-    let row = Row::CheckOut(one(look(1)), HELD);
-    let refused = refused_in_turn(&rt, &memory, &memory, &tree, &[], &row, &still);
-    assert_eq!(rt; refused, Some(10));
-    let row = Row::Hold(1, one(look(1)), HELD);
-    let refused = refused_in_turn(&rt, &memory, &memory, &tree, &[], &row, &still);
-    assert_eq!(rt; refused, Some(10));
-    drop(tree);
-}
-
-#[test]
-fn each_request_of_memory_for_the_front_is_refused(rt: HostRuntime) {
-    let memory = Refusing::new(rt.alloc());
-    let tree = small_tree(&rt, &memory);
-    let still = [Row::Stands(C1, Some(HELD)), Row::Counts(4, 4, 0)];
-    // All requests are for its modes.
-    let rows = [Row::CheckOut(one(look(1)), HELD); 4];
-    let row = Row::Extend(C2, one(look(2)), Extension::Done);
-    let refused = refused_in_turn(&rt, &memory, &memory, &tree, &rows, &row, &still);
-    assert_eq!(rt; refused, Some(4));
-    let rows = [Row::CheckOut(one(look(3)), HELD); 4];
-    let row = Row::PutFirst(C2, two(look(3), change(3)));
-    let refused = refused_in_turn(&rt, &memory, &memory, &tree, &rows, &row, &still);
-    assert_eq!(rt; refused, Some(5));
-    drop(tree);
+    for (call, count, row, wanted) in rows {
+        let made = requests(|number| {
+            takes(&rt, &memory, rt.alloc(), number, (&before, count), &row)
+        });
+        assert_eq!(rt; made, Some(wanted), "{call}");
+    }
 }
 
 #[test]
@@ -472,26 +443,4 @@ fn a_claim_put_first_is_not_weighed(rt: HostRuntime) {
         Row::Stands(C1, Some(behind(C2))),
     ];
     take_all(&rt, rt.alloc(), &rows);
-}
-
-#[test]
-fn a_growing_line_is_refused_its_memory(rt: HostRuntime) {
-    let memory = Refusing::new(rt.alloc());
-    let tree = small_tree(&rt, &memory);
-    let mut line = new_line(&rt, &memory);
-    let mut growths = 0u32;
-    let row = Row::CheckOut(one(look(1)), HELD);
-    for count in 0..40u32 {
-        // Each claim asks once for its modes, and again where something has to grow.
-        let still = Row::Counts(count as usize, count, 0);
-        let told = is_refused(&rt, &memory, 2, &mut line, &tree, &row, &[still]);
-        assert!(rt; told.is_some());
-        if told == Some(true) {
-            growths = growths.saturating_add(1);
-        }
-    }
-    assert_eq!(rt; line.len(), 40);
-    assert!(rt; 2 < growths && growths < 16);
-    drop(line);
-    drop(tree);
 }

@@ -1,7 +1,7 @@
 use super::*;
 use std::alloc::{Allocator, Global};
 use std::process::Abort;
-use test_memory::Refusing;
+use test_memory::{Refusing, Tried, requests};
 use vault_model::{Draft, Drafts, Listing, NoMemory, PlaceId};
 
 // Drafts of these places, with these contents.
@@ -201,101 +201,73 @@ fn comes_back<A: Allocator + Copy>(
     is_same
 }
 
-// Appends drafts where the request for memory with this number is refused. The answer is `None` where
-// something is wrong, and else whether the request came: then all stayed as it was, and the
-// drafts came back to be appended by the next call; and else all were appended.
-fn append_without(rt: &impl Abort, alloc: Global, number: u64) -> Option<bool> {
-    let memory = Refusing::new(alloc);
-    let mut shelf = Shelf::new(&memory);
+// Tries to append drafts behind others. Refused, all stayed as it was, and the drafts came back, to be appended by the next try.
+fn appends(rt: &impl Abort, memory: &Refusing<Global>, alloc: Global, number: u64) -> Tried {
+    let mut shelf = Shelf::new(memory);
     let mut ample = Shelf::new(alloc);
     assert!(rt; is_appended(&mut shelf, drafts_of(rt, alloc, &FIRST)));
     assert!(rt; is_appended(&mut ample, drafts_of(rt, alloc, &FIRST)));
     memory.refuse(number);
     let answer = shelf.append_all(drafts_of(rt, alloc, &SECOND));
-    let is_refused = !memory.is_waiting();
-    memory.refuse(0);
-    let mut is_right = answer.is_err() == is_refused;
-    if is_refused {
-        is_right &= is_same(&shelf, &ample);
-        is_right &= comes_back(&mut shelf, answer, drafts_of(rt, alloc, &SECOND));
-    } else {
+    let has_refused = memory.has_refused();
+    let tried = if answer.is_ok() {
         drop(answer);
-    }
-    is_right &= is_appended(&mut ample, drafts_of(rt, alloc, &SECOND));
-    is_right &= is_same(&shelf, &ample);
+        Tried::done(!has_refused)
+    } else {
+        let is_kept = is_same(&shelf, &ample);
+        let is_back = comes_back(&mut shelf, answer, drafts_of(rt, alloc, &SECOND));
+        Tried::refused(has_refused && is_kept && is_back)
+    };
+    assert!(rt; is_appended(&mut ample, drafts_of(rt, alloc, &SECOND)));
+    let is_like = is_same(&shelf, &ample);
     drop(shelf);
     drop(ample);
-    is_right.then_some(is_refused)
+    if is_like { tried } else { Tried::Wrong }
 }
 
-#[test]
-fn appends_are_refused_each_request_in_turn(rt: HostRuntime) {
-    let mut refused = 0u64;
-    for number in 1..100u64 {
-        let is_refused = append_without(&rt, rt.alloc(), number).expect(&rt, "all as it should be");
-        if !is_refused {
-            break;
-        }
-        refused = number;
-    }
-
-    // The bytes of place 3 grow twice, those of 5 and 7 begin, so do the ends of 5, 0 and 7, and the
-    // list of parts grows.
-    assert!(rt; refused >= 8 && refused < 99);
-}
-
-// Copies a shelf where the request for memory with this number is refused: whether it came, or
-// `None` where something is wrong.
-fn copy_without(rt: &impl Abort, alloc: Global, number: u64) -> Option<bool> {
+// Tries to copy a shelf.
+fn copies(rt: &impl Abort, memory: &Refusing<Global>, alloc: Global, number: u64) -> Tried {
     let rows: [(u32, &[u8]); 3] = [(3, b"ab"), (1, b""), (3, b"c")];
-    let memory = Refusing::new(alloc);
-    let mut shelf = Shelf::new(&memory);
+    let mut shelf = Shelf::new(memory);
     let mut ample = Shelf::new(alloc);
     assert!(rt; is_appended(&mut shelf, drafts_of(rt, alloc, &rows)));
     assert!(rt; is_appended(&mut ample, drafts_of(rt, alloc, &rows)));
     memory.refuse(number);
     let copy = shelf.copy();
-    let is_refused = !memory.is_waiting();
-    memory.refuse(0);
-    let is_right = match copy {
+    let has_refused = memory.has_refused();
+    let is_kept = is_same(&shelf, &ample);
+    let tried = match copy {
         Ok(copy) => {
-            let is_right = !is_refused & is_same(&copy, &ample);
+            let is_like = is_same(&copy, &ample);
             drop(copy);
-            is_right
+            Tried::done(!has_refused && is_kept && is_like)
         }
-        Err(NoMemory) => is_refused,
+        Err(NoMemory) => Tried::refused(has_refused && is_kept),
     };
-    let is_right = is_right & is_same(&shelf, &ample);
     drop(shelf);
     drop(ample);
-    is_right.then_some(is_refused)
+    tried
 }
 
-#[test]
-fn copies_are_refused_each_request_in_turn(rt: HostRuntime) {
-    let mut refused = 0;
-    for number in 1..10u64 {
-        let is_refused = copy_without(&rt, rt.alloc(), number).expect(&rt, "all as it should be");
-        if !is_refused {
-            break;
-        }
-        refused = number;
-    }
-    assert_eq!(rt;
-        refused,
-        4,
-        "the parts, the end of place 1, the bytes and the ends of place 3"
-    );
-}
-
-#[test]
-fn a_new_shelf_takes_no_memory(rt: HostRuntime) {
-    let memory = Refusing::new(rt.alloc());
-    memory.refuse(1);
-    let shelf = Shelf::new(&memory);
-    assert!(rt; memory.is_waiting());
-    let other = Shelf::new(rt.alloc());
-    assert!(rt; is_same(&shelf, &other));
+// Tries to make a shelf.
+fn makes_shelf(memory: &Refusing<Global>, number: u64) -> Tried {
+    memory.refuse(number);
+    let shelf = Shelf::new(memory);
+    let has_refused = memory.has_refused();
+    let is_new = (shelf.weight(), shelf.len()) == (0, 0);
     drop(shelf);
-    drop(other);
+    Tried::done(!has_refused && is_new)
+}
+
+#[test]
+fn each_request_of_a_shelf_is_refused(rt: HostRuntime) {
+    let memory = Refusing::new(rt.alloc());
+    let made = requests(|number| makes_shelf(&memory, number));
+    assert_eq!(rt; made, Some(0), "Shelf::new");
+    // The parts, the end of place 1, the bytes and the ends of place 3.
+    let made = requests(|number| copies(&rt, &memory, rt.alloc(), number));
+    assert_eq!(rt; made, Some(4), "Shelf::copy");
+    // The bytes of place 3 grow twice, those of 5 and 7 begin, so do the ends of 5, 0 and 7, and the list of parts grows.
+    let made = requests(|number| appends(&rt, &memory, rt.alloc(), number));
+    assert_eq!(rt; made, Some(8), "Shelf::append_all");
 }

@@ -4,10 +4,11 @@ mod short_file;
 use super::*;
 use opening::append_behind;
 use short_file::ShortFile;
-use std::alloc::{Allocator, Global};
+use std::alloc::{AllocError, Allocator, Global};
 use std::fs;
+use std::process::Abort;
 use std::test::Fail;
-use test_memory::Refusing;
+use test_memory::{Refusing, Tried, requests};
 
 // Whether the device shows these bytes.
 fn shows<D: Device>(alloc: Global, device: &mut D, expected: &[u8]) -> Result<bool, Fail> {
@@ -118,42 +119,62 @@ fn failing_calls(rt: HostRuntime) -> Result<(), Fail> {
     Ok(())
 }
 
-// Whether a write that grows all is answered without the request for memory with this number.
-fn grows_without(alloc: Global, memory: &Refusing<Global>, number: u64) -> Result<bool, Fail> {
-    let mut device = device_of(memory, b"o")?;
-    for at in 1..4u64 {
-        write(&mut device, at, b"o")?;
-        device.sync()?;
+// Tries to make a device.
+fn makes_device(memory: &Refusing<Global>, number: u64) -> Tried {
+    memory.refuse(number);
+    let made = MemDevice::new(memory);
+    let has_refused = memory.has_refused();
+    match made {
+        Ok(device) => {
+            let is_new = (device.calls(), device.refused()) == (0, 0);
+            drop(device);
+            Tried::done(!has_refused && is_new)
+        }
+        Err(AllocError) => Tried::refused(has_refused),
+    }
+}
+
+// Whether the device shows so many bytes: `oooo`, and behind it each is `n`.
+fn shows_first<D: Device>(device: &mut D, len: usize) -> bool {
+    let mut bytes = [b'n'; 104];
+    bytes[..4].copy_from_slice(b"oooo");
+    let mut read = [0; 104];
+    if len > 104 || device.len() != Ok(len as u64) {
+        return false;
+    }
+    device.read_at(0, &mut read[..len]).is_ok() && read[..len] == bytes[..len]
+}
+
+// Tries a write of 100 bytes that grows all. A refusal is a counted fault, and nothing was put; the next try puts all.
+fn grows(rt: &impl Abort, memory: &Refusing<Global>, number: u64) -> Tried {
+    let mut device = MemDevice::new(memory).expect(rt, "a device");
+    for at in 0..4u64 {
+        assert!(rt; write(&mut device, at, b"o").is_ok() && device.sync().is_ok());
     }
     let before = device.calls();
     memory.refuse(number);
     let answer = write(&mut device, 4, &[b'n'; 100]);
-    let waits = memory.is_waiting();
-    memory.refuse(0);
-    let counted = device.calls().checked_sub(before) == Some(2);
-    let told = device.refused() == u64::from(answer.is_err());
-    let kept = answer.is_ok() || shows(alloc, &mut device, b"oooo")?;
-    (counted && told && kept && answer.is_ok() == waits)
-        .then_some(waits)
-        .ok_or(Fault)?;
-    Ok(waits)
+    let has_refused = memory.has_refused();
+    let is_counted = device.calls().checked_sub(before) == Some(2);
+    let tried = if answer.is_ok() {
+        Tried::done(!has_refused && is_counted && device.refused() == 0)
+    } else {
+        let is_told = is_counted && device.refused() == 1 && shows_first(&mut device, 4);
+        Tried::refused(has_refused && is_told && write(&mut device, 4, &[b'n'; 100]).is_ok())
+    };
+    let is_put = shows_first(&mut device, 104);
+    drop(device);
+    if is_put { tried } else { Tried::Wrong }
 }
 
 #[test]
-fn refused_memory(rt: HostRuntime) -> Result<(), Fail> {
+fn each_request_of_a_device_is_refused(rt: HostRuntime) {
     let memory = Refusing::new(rt.alloc());
-    memory.refuse(1);
-    assert!(rt; MemDevice::new(&memory).is_err());
-    let mut refusals = 0u64;
-    for number in 1..100u64 {
-        if grows_without(rt.alloc(), &memory, number)? {
-            break;
-        }
-        refusals = number;
-    }
+    let made = requests(|number| makes_device(&memory, number));
+    assert_eq!(rt; made, Some(1), "MemDevice::new");
     // The write's bytes, what is shown, what will be settled, and the history.
-    assert_eq!(rt; refusals, 4);
-    Ok(())
+    let made = requests(|number| grows(&rt, &memory, number));
+    assert_eq!(rt; made, Some(4), "MemDevice::write_at");
 }
 
 #[test]

@@ -3,7 +3,7 @@ ghost use Rattle.std.specs.Prelude.{◌<◌, ◌≤◌, length};
 use super::*;
 use std::alloc::Global;
 use std::process::Abort;
-use test_memory::Refusing;
+use test_memory::{Refusing, Tried, requests};
 use vault_device::{Device, MemDevice};
 use vault_model::{EffectIn, Name, PlaceId};
 use vault_store::laws::what_is_noted_is_spelled;
@@ -201,29 +201,29 @@ fn each_device_call_fails(rt: HostRuntime) {
     assert_eq!(rt; failing(&rt, rt.alloc(), 10, 3), None);
 }
 
-// More requests than an inspection makes.
-const MANY: u64 = 40;
-
-// What an inspection answers whose nth request for memory is refused, where it is made.
-fn wanting(rt: &impl Abort, alloc: Global, request: u64) -> Option<Option<InspectError>> {
-    let memory = Refusing::new(alloc);
+// Tries an inspection of a vault.
+fn inspects(rt: &impl Abort, memory: &Refusing<Global>, alloc: Global, number: u64) -> Tried {
     let mut a = holding(rt, alloc, QUEUED);
     let mut b = holding(rt, alloc, NEW);
-    memory.refuse(request);
-    let end = inspect(&memory, &mut a, &mut b).err();
+    memory.refuse(number);
+    let report = inspect(memory, &mut a, &mut b);
+    let has_refused = memory.has_refused();
     drop(a);
     drop(b);
-    if memory.is_waiting() { None } else { Some(end) }
+    match report {
+        Ok(report) => {
+            let mut printed = Vec::new(alloc);
+            let is_printed = print(&report, &mut printed).is_ok();
+            drop(report);
+            Tried::done(!has_refused && is_printed && printed.as_slice() == QUEUED_TEXT.as_slice())
+        }
+        Err(error) => Tried::refused(has_refused && error == InspectError::NoMemory),
+    }
 }
 
 #[test]
-fn each_request_for_memory_is_refused(rt: HostRuntime) {
-    let mut requests = 0;
-    for request in 1..=MANY {
-        if let Some(end) = wanting(&rt, rt.alloc(), request) {
-            assert!(rt; end == Some(InspectError::NoMemory), "{request}");
-            requests = request;
-        }
-    }
-    assert!(rt; 10 < requests && requests < MANY);
+fn each_request_of_an_inspection_is_refused(rt: HostRuntime) {
+    let memory = Refusing::new(rt.alloc());
+    let made = requests(|number| inspects(&rt, &memory, rt.alloc(), number));
+    assert_eq!(rt; made, Some(29), "inspect");
 }

@@ -1,11 +1,14 @@
+ghost use Rattle.vault_journal.specs.Spelling.{HasRecord};
+
 mod committing;
 mod recording;
 
 use super::*;
 use committing::leaves;
 use recording::{full, is_recorded, is_spoiled, push_within, saved};
+use std::alloc::Global;
 use std::test::Fail;
-use test_memory::Refusing;
+use test_memory::{Refusing, Tried, requests};
 use vault_device::Pick;
 use vault_model::{Effect, Intent, Item, Items, Listing, Name, NoMemory, Note, PlaceId};
 
@@ -157,35 +160,76 @@ fn full_frame(rt: HostRuntime) -> Result<(), Fail> {
     Ok(())
 }
 
-#[test]
-fn refused_memory(rt: HostRuntime) -> Result<(), Fail> {
-    let memory = Refusing::new(rt.alloc());
-    memory.refuse(1);
-    assert!(rt; matches!(&Frame::new(&memory), Err(NoMemory)));
-    let mut frame = Frame::new(&memory)?;
-    memory.refuse(1);
-    assert!(rt; push_within(&mut frame, &saved(rt.alloc(), 5)?));
-    assert!(rt; memory.is_waiting());
+// Tries to make a frame.
+fn makes_frame(memory: &Refusing<Global>, number: u64) -> Tried {
+    memory.refuse(number);
+    let made = Frame::new(memory);
+    let has_refused = memory.has_refused();
+    match made {
+        Ok(frame) => {
+            let is_empty = frame.len() == 0;
+            drop(frame);
+            Tried::done(!has_refused && is_empty)
+        }
+        Err(NoMemory) => Tried::refused(has_refused),
+    }
+}
 
+// Tries to read these records, of which there are so many.
+fn reads(memory: &Refusing<Global>, records: &[u8], count: usize, number: u64) -> Tried {
+    memory.refuse(number);
+    let read = read_effects(memory, records);
+    let has_refused = memory.has_refused();
+    match read {
+        Ok(effects) => {
+            let is_all = effects.len() == count;
+            drop(effects);
+            Tried::done(!has_refused && is_all)
+        }
+        Err(damage) => Tried::refused(has_refused && damage == Damage::NoMemory),
+    }
+}
+
+// Tries to push an effect into a frame.
+fn pushes(
+    memory: &Refusing<Global>,
+    frame: &mut Frame<&Refusing<Global>>,
+    effect: &Effect,
+    number: u64,
+) -> Tried
+    requires { HasRecord effect.now }
+{
+    frame.clear();
+    memory.refuse(number);
+    let is_pushed = push_within(frame, effect);
+    let has_refused = memory.has_refused();
+    Tried::done(!has_refused && is_pushed && frame.len() == record_len(effect))
+}
+
+#[test]
+fn each_request_of_a_frame_is_refused(rt: HostRuntime) -> Result<(), Fail> {
+    let memory = Refusing::new(rt.alloc());
+    let made = requests(|number| makes_frame(&memory, number));
+    assert_eq!(rt; made, Some(1), "Frame::new");
+    let mut frame = Frame::new(&memory)?;
+    let effect = saved(rt.alloc(), 5)?;
+    assert!(rt;
+        pushes(&memory, &mut frame, &effect, 1) == Tried::Done,
+        "Frame::push_effect"
+    );
+    drop(frame);
+    drop(effect);
+    Ok(())
+}
+
+#[test]
+fn each_request_of_a_reading_is_refused(rt: HostRuntime) {
+    let memory = Refusing::new(rt.alloc());
     let records =
         b"\x04\0\0\0\x01\0\0\0\0\0\x04text\x05\0\0\0\x01\x05\0\0\0\x02\x05\0\0\0\x03\x05\0\0\0\x04\x05\0\0\0\x05\x06\0\0\0\x05";
-    let mut refusals = 0u64;
-    for number in 1..100u64 {
-        memory.refuse(number);
-        match read_effects(&memory, records) {
-            Ok(effects) => {
-                assert!(rt; memory.is_waiting() && effects.len() == 7);
-                break;
-            }
-            Err(damage) => {
-                assert!(rt; damage == Damage::NoMemory && !memory.is_waiting());
-                refusals = number;
-            }
-        }
-    }
-    // One content, and the list at least twice.
-    assert!(rt; 3 <= refusals && refusals < 99);
-    Ok(())
+    let made = requests(|number| reads(&memory, records, 7, number));
+    // One content, and the list, which grows once.
+    assert_eq!(rt; made, Some(3), "read_effects");
 }
 
 #[test]

@@ -1,8 +1,9 @@
 use super::*;
 use crate::split::cut;
-use std::alloc::AllocError;
+use std::alloc::{AllocError, Allocator, Global};
+use std::process::Abort;
 use std::test::Fail;
-use test_memory::Refusing;
+use test_memory::{Refusing, Tried, requests};
 
 #[test]
 fn names_are_read(rt: HostRuntime) -> Result<(), Fail> {
@@ -90,80 +91,200 @@ fn texts_are_cut(rt: HostRuntime) -> Result<(), Fail> {
     Ok(())
 }
 
-#[test]
-fn a_copy_is_refused_its_memory(rt: HostRuntime) -> Result<(), Fail> {
-    let list = Listing::from_vec(Vec::from_slice(rt.alloc(), b"abc")?);
-    let memory = Refusing::new(rt.alloc());
-    memory.refuse(1);
-    assert!(rt; matches!(&list.copy(&memory), Err(AllocError)));
-    assert!(rt; !memory.is_waiting());
-    let copy = list.copy(&memory)?;
-    assert!(rt; copy.as_slice() == b"abc".as_slice());
-    assert!(rt; list.into_vec().as_slice() == b"abc".as_slice());
-    Ok(())
+// Tries to copy a list.
+fn copies_list(memory: &Refusing<Global>, list: &Listing<u8>, number: u64) -> Tried {
+    memory.refuse(number);
+    let copy = list.copy(memory);
+    let has_refused = memory.has_refused();
+    match copy {
+        Ok(copy) => {
+            let is_same = copy.as_slice() == list.as_slice();
+            drop(copy);
+            Tried::done(!has_refused && is_same)
+        }
+        Err(AllocError) => Tried::refused(has_refused),
+    }
 }
 
 #[test]
-fn commands_are_copied(rt: HostRuntime) -> Result<(), Fail> {
+fn a_listing_is_copied_without_memory(rt: HostRuntime) {
+    let memory = Refusing::new(rt.alloc());
+    let list = Listing::from_vec(Vec::from_slice(rt.alloc(), b"abc").expect(&rt, "memory"));
+    let made = requests(|number| copies_list(&memory, &list, number));
+    assert_eq!(rt; made, Some(1), "Listing::copy");
+    assert!(rt; list.into_vec().as_slice() == b"abc".as_slice());
+}
+
+// Whether a command is this one.
+fn is_command<A: Allocator>(alloc: Global, copy: &CommandIn<A>, command: &Command) -> bool {
+    match copy.copy(alloc) {
+        Ok(again) => {
+            let is_same = again == *command;
+            drop(again);
+            is_same
+        }
+        Err(NoMemory) => false,
+    }
+}
+
+// Tries to copy a command.
+fn copies_command(
+    memory: &Refusing<Global>,
+    alloc: Global,
+    command: &Command,
+    number: u64,
+) -> Tried {
+    memory.refuse(number);
+    let copy = command.copy(memory);
+    let has_refused = memory.has_refused();
+    match copy {
+        Ok(copy) => {
+            let is_same = is_command(alloc, &copy, command);
+            drop(copy);
+            Tried::done(!has_refused && is_same)
+        }
+        Err(NoMemory) => Tried::refused(has_refused),
+    }
+}
+
+fn three_items(rt: &impl Abort, alloc: Global) -> Listing<PathItem> {
     let item = PathItem {
         intent: Intent::Change,
         path: Path::root(),
     };
-    let asked: Command = Command::CheckOut(Listing::from_vec(Vec::from_slice(
-        rt.alloc(),
-        &[item],
-    )?));
-    let held: Command = Command::Hold(Listing::from_vec(Vec::from_slice(rt.alloc(), &[item])?));
-    let left: Command = Command::Leave;
-    let memory = Refusing::new(rt.alloc());
-    memory.refuse(1);
-    assert!(rt; matches!(&asked.copy(&memory), Err(NoMemory)));
-    assert!(rt; !memory.is_waiting());
-    memory.refuse(2);
-    let copy = asked.copy(&memory)?;
-    assert!(rt; copy.copy(rt.alloc())? == asked && copy.copy(rt.alloc())? != held);
-    memory.refuse(1);
-    let copy = left.copy(&memory)?;
-    assert!(rt; memory.is_waiting());
-    assert!(rt; copy.copy(rt.alloc())? == left);
-    Ok(())
+    Listing::from_vec(Vec::from_slice(alloc, &[item; 3]).expect(rt, "memory"))
 }
 
 #[test]
-fn replies_are_copied(rt: HostRuntime) -> Result<(), Fail> {
-    let Some(name) = Name::read(b"e") else {
-        assert!(rt; false);
-        return Ok(());
-    };
-    let listed: Reply = Reply::Children(Listing::from_vec(Vec::from_slice(rt.alloc(), &[name])?));
-    let told: Reply = Reply::Refused(Refusal::Overlaps(ClaimId::Short(1)));
+fn commands_are_copied_without_memory(rt: HostRuntime) {
     let memory = Refusing::new(rt.alloc());
-    memory.refuse(1);
-    assert!(rt; matches!(&listed.copy(&memory), Err(NoMemory)));
-    assert!(rt; !memory.is_waiting());
-    let copy = listed.copy(&memory)?;
-    assert!(rt; copy.copy(rt.alloc())? == listed && copy.copy(rt.alloc())? != told);
-    memory.refuse(1);
-    let copy = told.copy(&memory)?;
-    assert!(rt; memory.is_waiting());
-    assert!(rt; copy.copy(rt.alloc())? == told);
-    Ok(())
+    let content = Listing::from_vec(Vec::from_slice(rt.alloc(), b"abc").expect(&rt, "memory"));
+    let commands: [(&str, Command, u64); 6] = [
+        (
+            "Command::copy, CheckOut",
+            Command::CheckOut(three_items(&rt, rt.alloc())),
+            1,
+        ),
+        (
+            "Command::copy, Extend",
+            Command::Extend(ClaimId::Long(1), three_items(&rt, rt.alloc())),
+            1,
+        ),
+        (
+            "Command::copy, Save",
+            Command::Save(1, Path::root(), content),
+            1,
+        ),
+        (
+            "Command::copy, Hold",
+            Command::Hold(three_items(&rt, rt.alloc())),
+            1,
+        ),
+        ("Command::copy, Leave", Command::Leave, 0),
+        (
+            "Command::copy, Make",
+            Command::Make(Path::root(), Some(1)),
+            0,
+        ),
+    ];
+    for (call, command, wanted) in &commands {
+        let made = requests(|number| copies_command(&memory, rt.alloc(), command, number));
+        assert_eq!(rt; made, Some(*wanted), "{call}");
+    }
+    drop(commands);
+}
+
+// Whether a reply is this one.
+fn is_reply<A: Allocator>(alloc: Global, copy: &ReplyIn<A>, reply: &Reply) -> bool {
+    match copy.copy(alloc) {
+        Ok(again) => {
+            let is_same = again == *reply;
+            drop(again);
+            is_same
+        }
+        Err(NoMemory) => false,
+    }
+}
+
+// Tries to copy a reply.
+fn copies_reply(memory: &Refusing<Global>, alloc: Global, reply: &Reply, number: u64) -> Tried {
+    memory.refuse(number);
+    let copy = reply.copy(memory);
+    let has_refused = memory.has_refused();
+    match copy {
+        Ok(copy) => {
+            let is_same = is_reply(alloc, &copy, reply);
+            drop(copy);
+            Tried::done(!has_refused && is_same)
+        }
+        Err(NoMemory) => Tried::refused(has_refused),
+    }
 }
 
 #[test]
-fn effects_are_copied(rt: HostRuntime) -> Result<(), Fail> {
-    let content = Listing::from_vec(Vec::from_slice(rt.alloc(), b"abc")?);
-    let saved: Effect = Effect::Saved(1, PlaceId(3), content);
-    let closed: Effect = Effect::CheckedIn(1);
+fn replies_are_copied_without_memory(rt: HostRuntime) {
     let memory = Refusing::new(rt.alloc());
-    memory.refuse(1);
-    assert!(rt; matches!(&saved.copy(&memory), Err(NoMemory)));
-    assert!(rt; !memory.is_waiting());
-    let copy = saved.copy(&memory)?;
-    assert!(rt; copy.copy(rt.alloc())? == saved && copy.copy(rt.alloc())? != closed);
-    memory.refuse(1);
-    let copy = closed.copy(&memory)?;
-    assert!(rt; memory.is_waiting());
-    assert!(rt; copy.copy(rt.alloc())? == closed);
-    Ok(())
+    let names = [Name::read(b"e").expect(&rt, "a name"); 3];
+    let names = Listing::from_vec(Vec::from_slice(rt.alloc(), &names).expect(&rt, "memory"));
+    let content = Listing::from_vec(Vec::from_slice(rt.alloc(), b"abc").expect(&rt, "memory"));
+    let replies: [(&str, Reply, u64); 3] = [
+        ("Reply::copy, Children", Reply::Children(names), 1),
+        ("Reply::copy, Content", Reply::Content(content), 1),
+        (
+            "Reply::copy, Refused",
+            Reply::Refused(Refusal::Overlaps(ClaimId::Short(1))),
+            0,
+        ),
+    ];
+    for (call, reply, wanted) in &replies {
+        let made = requests(|number| copies_reply(&memory, rt.alloc(), reply, number));
+        assert_eq!(rt; made, Some(*wanted), "{call}");
+    }
+    drop(replies);
+}
+
+// Whether an effect is this one.
+fn is_effect<A: Allocator>(alloc: Global, copy: &EffectIn<A>, effect: &Effect) -> bool {
+    match copy.copy(alloc) {
+        Ok(again) => {
+            let is_same = again == *effect;
+            drop(again);
+            is_same
+        }
+        Err(NoMemory) => false,
+    }
+}
+
+// Tries to copy an effect.
+fn copies_effect(memory: &Refusing<Global>, alloc: Global, effect: &Effect, number: u64) -> Tried {
+    memory.refuse(number);
+    let copy = effect.copy(memory);
+    let has_refused = memory.has_refused();
+    match copy {
+        Ok(copy) => {
+            let is_same = is_effect(alloc, &copy, effect);
+            drop(copy);
+            Tried::done(!has_refused && is_same)
+        }
+        Err(NoMemory) => Tried::refused(has_refused),
+    }
+}
+
+#[test]
+fn effects_are_copied_without_memory(rt: HostRuntime) {
+    let memory = Refusing::new(rt.alloc());
+    let content = Listing::from_vec(Vec::from_slice(rt.alloc(), b"abc").expect(&rt, "memory"));
+    let effects: [(&str, Effect, u64); 2] = [
+        (
+            "Effect::copy, Saved",
+            Effect::Saved(1, PlaceId(3), content),
+            1,
+        ),
+        ("Effect::copy, CheckedIn", Effect::CheckedIn(1), 0),
+    ];
+    for (call, effect, wanted) in &effects {
+        let made = requests(|number| copies_effect(&memory, rt.alloc(), effect, number));
+        assert_eq!(rt; made, Some(*wanted), "{call}");
+    }
+    drop(effects);
 }

@@ -6,14 +6,12 @@ mod renewing;
 mod reopening;
 
 use super::*;
-use committing::{
-    filled, is_made_again, left, makes, new_store, refused_creation, settled_after, shows,
-};
-use renewing::{asks_once, first_piece, noted_between, renewed, renewed_and_committed};
-use reopening::{committed, damaged, fails_at, opens, refusals, with};
+use committing::{filled, is_made_again, left, makes, new_store, settled_after, shows};
+use renewing::{first_piece, noted_between, renewed, renewed_and_committed, starts_without};
+use reopening::{committed, damaged, fails_at, opens, opens_without, with};
 use std::alloc::Global;
 use std::process::Abort;
-use test_memory::Refusing;
+use test_memory::{Refusing, Tried, requests};
 use vault_device::{Device, MemDevice, Pick};
 
 // A new vault, and what a commit of `make /e` puts into its tail gate and behind it.
@@ -132,23 +130,6 @@ fn created_twice(rt: HostRuntime) {
     assert!(rt; !is_made_again(&rt, rt.alloc()));
 }
 
-#[test]
-fn refused_memory(rt: HostRuntime) {
-    let memory = Refusing::new(rt.alloc());
-    let first = MemDevice::new(rt.alloc()).expect(&rt, "a device");
-    let second = MemDevice::new(rt.alloc()).expect(&rt, "a device");
-    memory.refuse(1);
-    let (why, first, second) = refused_creation(&rt, &memory, first, second);
-    assert!(rt; why == CreateError::NoMemory && !memory.is_waiting());
-    memory.refuse(2);
-    drop(
-        Store::create(&memory, first, second)
-            .ok()
-            .expect(&rt, "a new vault"),
-    );
-    assert!(rt; memory.is_waiting());
-}
-
 // The new vault and a commit of `make /e`, 47 bytes.
 const WITH_E: &[u8; 47] =
     b"\x01LLVAULT\0\0\0\x02\0\0\0\0\0\0\0\x01\0\0\0\x0a\0\0\0\0\0\0\0\x01\0\0\x01\0\0\0\x07\x01\0\0\0\0\x01e\0";
@@ -227,10 +208,38 @@ fn opened_with_a_failed_call(rt: HostRuntime) {
     assert!(rt; !fails_at(&rt, alloc, WITH_E, 13, 0) && !fails_at(&rt, alloc, WITH_E, 0, 4));
 }
 
+// Tries to create a vault. Refused, the devices come back, and are still empty.
+fn creates_without(
+    rt: &impl Abort,
+    memory: &Refusing<Global>,
+    alloc: Global,
+    number: u64,
+) -> Tried {
+    let first = MemDevice::new(alloc).expect(rt, "a device");
+    let second = MemDevice::new(alloc).expect(rt, "a device");
+    memory.refuse(number);
+    match Store::create(memory, first, second) {
+        Ok(store) => {
+            let is_done = !memory.has_refused() && store.journal_len() == 0;
+            drop(store);
+            Tried::done(is_done)
+        }
+        Err(refused) => {
+            let is_told = memory.has_refused() && refused.why == CreateError::NoMemory;
+            Tried::refused(Store::create(memory, refused.first, refused.second).is_ok() && is_told)
+        }
+    }
+}
+
 #[test]
-fn opened_without_memory(rt: HostRuntime) {
-    let alloc = rt.alloc();
-    assert_eq!(rt; refusals(&rt, alloc, WITH_E), 7);
+fn each_request_of_a_store_is_refused(rt: HostRuntime) {
+    let memory = Refusing::new(rt.alloc());
+    let made = requests(|number| creates_without(&rt, &memory, rt.alloc(), number));
+    assert_eq!(rt; made, Some(1), "Store::create");
+    let made = requests(|number| opens_without(&rt, &memory, rt.alloc(), WITH_E, number));
+    assert_eq!(rt; made, Some(7), "Store::open");
+    let made = requests(|number| starts_without(&rt, &memory, rt.alloc(), WITH_E, number));
+    assert_eq!(rt; made, Some(1), "Store::start_snapshot");
 }
 
 #[test]
@@ -311,9 +320,4 @@ fn snapshot_in_pieces(rt: HostRuntime) {
 fn noted_in_a_snapshot(rt: HostRuntime) {
     assert!(rt; noted_between(&rt, rt.alloc(), false) == (4, 0));
     assert!(rt; noted_between(&rt, rt.alloc(), true) == (5, 12));
-}
-
-#[test]
-fn snapshot_without_memory(rt: HostRuntime) {
-    assert!(rt; asks_once(&rt, rt.alloc(), WITH_E));
 }

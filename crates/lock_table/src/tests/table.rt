@@ -266,166 +266,151 @@ fn a_claim_sent_back_is_counted_as_held_no_more(rt: HostRuntime) {
     take_all(&rt, rt.alloc(), &rows);
 }
 
-// Whether a row is refused its memory, where this request is refused. If so, some rows still hold, and
-// the next try succeeds. None where the table answers otherwise.
-fn is_refused<A: Allocator + Copy>(
-    rt: &impl Abort,
-    memory: &Refusing<Global>,
-    number: u64,
-    tree: &Tree,
-    table: &mut Table<A>,
-    row: &Row,
-    still: &[Row],
-) -> Option<bool> {
-    memory.refuse(number);
-    let told = act(rt, tree, table, row);
-    let is_waiting = memory.is_waiting();
-    memory.refuse(0);
-    if is_waiting && told == Ok(true) {
-        return Some(false);
-    }
-    let is_kept = !is_waiting && told.is_err() && act_all(rt, tree, table, still) == still.len();
-    (is_kept && act(rt, tree, table, row) == Ok(true)).then_some(true)
-}
+const CLAIMS: [ClaimId; 4] = [C1, C2, C3, ClaimId::Long(4)];
 
-// The same behind these rows, over a new table.
-fn is_refused_behind(
-    rt: &impl Abort,
-    memory: &Refusing<Global>,
-    number: u64,
-    tree: &Tree,
-    rows: &[Row],
-    row: &Row,
-    still: &[Row],
-) -> Option<bool> {
-    let mut table = Table::new(memory).expect(rt, "memory");
-    let count = act_all(rt, tree, &mut table, rows);
-    let told = is_refused(rt, memory, number, tree, &mut table, row, still);
-    drop(table);
-    if count == rows.len() { told } else { None }
-}
-
-// How many requests for memory a row makes behind these rows, each refused in turn.
-fn refused_in_turn(
-    rt: &impl Abort,
-    memory: &Refusing<Global>,
-    tree: &Tree,
-    rows: &[Row],
-    row: &Row,
-    still: &[Row],
-) -> Option<u64> {
-    let mut refused = 0u64;
-    for number in 1..24u64 {
-        if is_refused_behind(rt, memory, number, tree, rows, row, still)? {
-            refused = number;
-        }
-    }
-    Some(refused)
-}
-
-#[test]
-fn each_request_of_memory_is_refused(rt: HostRuntime) {
-    let memory = Refusing::new(rt.alloc());
-    let tree = small_tree(&rt, rt.alloc());
-    let asked = Row::Ask(C1, one(look(1)), HELD);
-    let none = Row::Stands(C1, None);
-    let told = refused_in_turn(&rt, &memory, &tree, &[], &asked, &[none]);
-    assert_eq!(rt; told, Some(6), "for the entry and the queues of two places");
-    let extended = Row::Extend(C1, one(look(2)), Extension::Done);
-    let held = Row::Stands(C1, Some(HELD));
-    let told = refused_in_turn(&rt, &memory, &tree, &[asked], &extended, &[held]);
-    assert_eq!(rt; told, Some(2));
-    let first = Row::Ask(C1, one(look(3)), HELD);
-    let second = Row::Ask(C2, one(look(3)), HELD);
-    let put = Row::PutFirst(C2, one(change(3)));
-    let both = [Row::Stands(C1, Some(HELD)), Row::Stands(C2, Some(HELD))];
-    let told = refused_in_turn(&rt, &memory, &tree, &[first, second], &put, &both);
-    assert_eq!(rt; told, Some(1));
-    drop(tree);
-}
-
-#[test]
-fn a_growing_table_is_refused_its_memory(rt: HostRuntime) {
-    let memory = Refusing::new(rt.alloc());
-    let tree = small_tree(&rt, rt.alloc());
-    let mut table = Table::new(&memory).expect(&rt, "memory");
-    let mut growths = 0u32;
-    for number in 1..40u32 {
-        // Each claim asks once for its locks, and again where something has to grow.
-        let row = Row::Ask(ClaimId::Long(number), one(look(1)), HELD);
-        let still = Row::Stands(ClaimId::Long(number), None);
-        let told = is_refused(&rt, &memory, 2, &tree, &mut table, &row, &[still]);
-        assert!(rt; told.is_some());
-        if told == Some(true) {
-            growths = growths.saturating_add(1);
-        }
-    }
-    assert!(rt; 2 < growths && growths < 16);
-    let row = Row::Extend(C1, one(look(2)), Extension::Done);
-    let still = Row::Stands(C1, Some(HELD));
-    let told = is_refused(&rt, &memory, 2, &tree, &mut table, &row, &[still]);
-    assert_eq!(rt; told, Some(true));
-    drop(table);
-    drop(tree);
-}
-
-// Whether a copy of a table is refused.
-fn is_copy_refused<A: Allocator + Copy>(table: &Table<A>) -> bool {
-    match table.copy() {
-        Ok(copy) => {
-            drop(copy);
-            false
-        }
-        Err(NoMemory) => true,
-    }
-}
-
-// Whether a copy stands as these rows say, and goes its own way then.
-fn is_copied<A: Allocator + Copy>(
+// Whether two tables answer alike about four claims and all places.
+fn is_same<A: Allocator, B: Allocator>(
     rt: &impl Abort,
     tree: &Tree,
-    table: &Table<A>,
-    rows: &[Row],
+    one: &Table<A>,
+    other: &Table<B>,
 ) -> bool {
-    let mut copy = table.copy().expect(rt, "memory");
-    let count = act_all(rt, tree, &mut copy, rows);
-    copy.release(C1);
-    let is_apart = stands(&copy, C2, Some(HELD)) && stands(table, C2, Some(behind(C1)));
-    drop(copy);
-    is_apart && count == rows.len()
+    for id in CLAIMS {
+        if one.standing(id) != other.standing(id) || one.blocker(id) != other.blocker(id) {
+            return false;
+        }
+    }
+    for number in 0..5u32 {
+        let place = PlaceId(number);
+        if one.group_at(place).mode() != other.group_at(place).mode()
+            || one.held_at(place).mode() != other.held_at(place).mode()
+            || over(rt, tree, one, number) != over(rt, tree, other, number)
+        {
+            return false;
+        }
+    }
+    true
 }
 
-#[test]
-fn a_copy_is_refused_its_memory(rt: HostRuntime) {
-    let memory = Refusing::new(rt.alloc());
-    let tree = small_tree(&rt, rt.alloc());
-    let mut table = Table::new(&memory).expect(&rt, "memory");
+// Tries to make a table.
+fn makes_table(memory: &Refusing<Global>, number: u64) -> Tried {
+    memory.refuse(number);
+    let made = Table::new(memory);
+    let has_refused = memory.has_refused();
+    match made {
+        Ok(table) => {
+            let is_new = stands(&table, C1, None);
+            drop(table);
+            Tried::done(!has_refused && is_new)
+        }
+        Err(NoMemory) => Tried::refused(has_refused),
+    }
+}
+
+// A table that took so many claims for one place, with numbers from 100 down, and then these rows.
+fn table_behind<A: Allocator + Copy>(
+    rt: &impl Abort,
+    alloc: A,
+    tree: &Tree,
+    rows: &[Row],
+    count: u32,
+) -> Table<A> {
+    let mut table = Table::new(alloc).expect(rt, "memory");
+    for number in 0..count.min(40) {
+        let row = Row::Ask(ClaimId::Long(100 - number), one(look(1)), HELD);
+        assert!(rt; act(rt, tree, &mut table, &row) == Ok(true));
+    }
+    assert!(rt; act_all(rt, tree, &mut table, rows) == rows.len());
+    table
+}
+
+// Tries a row behind so many claims and these rows. Refused, the table is as one that only took those, and the next try succeeds.
+fn takes(
+    rt: &impl Abort,
+    memory: &Refusing<Global>,
+    alloc: Global,
+    number: u64,
+    (rows, count): (&[Row], u32),
+    row: &Row,
+) -> Tried {
+    let tree = small_tree(rt, alloc);
+    let mut table = table_behind(rt, memory, &tree, rows, count);
+    let mut ample = table_behind(rt, alloc, &tree, rows, count);
+    memory.refuse(number);
+    let told = act(rt, &tree, &mut table, row);
+    let has_refused = memory.has_refused();
+    let tried = if told.is_ok() {
+        Tried::done(!has_refused && told == Ok(true))
+    } else {
+        let is_kept = is_same(rt, &tree, &table, &ample);
+        Tried::refused(has_refused && is_kept && act(rt, &tree, &mut table, row) == Ok(true))
+    };
+    assert!(rt; act(rt, &tree, &mut ample, row) == Ok(true));
+    let is_like = is_same(rt, &tree, &table, &ample);
+    drop(table);
+    drop(ample);
+    drop(tree);
+    if is_like { tried } else { Tried::Wrong }
+}
+
+// Tries to copy a table of three claims, of which two are queued. The copy goes its own way then.
+fn copies(rt: &impl Abort, memory: &Refusing<Global>, alloc: Global, number: u64) -> Tried {
     let asked = [
         Row::Ask(C1, one(look(1)), HELD),
         Row::Ask(C2, one(change(2)), behind(C1)),
         Row::Ask(C3, one(look(2)), behind(C2)),
     ];
-    let standings = [
-        Row::Stands(C1, Some(HELD)),
-        Row::Stands(C2, Some(behind(C1))),
-        Row::Stands(C3, Some(behind(C2))),
-    ];
-    assert_eq!(rt; act_all(&rt, &tree, &mut table, &asked), 3);
-    let mut refused = 0u64;
-    for number in 1..40u64 {
-        memory.refuse(number);
-        if is_copy_refused(&table) {
-            assert!(rt; !memory.is_waiting());
-            assert!(rt; number == refused.saturating_add(1));
-            refused = number;
+    let tree = small_tree(rt, alloc);
+    let table = table_behind(rt, memory, &tree, &asked, 0);
+    let ample = table_behind(rt, alloc, &tree, &asked, 0);
+    memory.refuse(number);
+    let copy = table.copy();
+    let has_refused = memory.has_refused();
+    let tried = match copy {
+        Ok(mut copy) => {
+            let is_like = is_same(rt, &tree, &copy, &ample);
+            copy.release(C1);
+            let is_apart = stands(&copy, C2, Some(HELD));
+            drop(copy);
+            Tried::done(!has_refused && is_like && is_apart)
         }
-    }
-    memory.refuse(0);
-    assert!(rt; 2 < refused && refused < 39);
-    assert!(rt; is_copied(&rt, &tree, &table, &standings));
-    assert_eq!(rt; act_all(&rt, &tree, &mut table, &standings), 3);
+        Err(NoMemory) => Tried::refused(has_refused),
+    };
+    let is_kept = is_same(rt, &tree, &table, &ample);
     drop(table);
+    drop(ample);
     drop(tree);
+    if is_kept { tried } else { Tried::Wrong }
+}
+
+#[test]
+fn each_request_of_a_table_is_refused(rt: HostRuntime) {
+    let memory = Refusing::new(rt.alloc());
+    let made = requests(|number| makes_table(&memory, number));
+    assert_eq!(rt; made, Some(0), "Table::new");
+    let made = requests(|number| copies(&rt, &memory, rt.alloc(), number));
+    assert_eq!(rt; made, Some(9), "Table::copy");
+    let asked = Row::Ask(C1, one(look(1)), HELD);
+    let first = Row::Ask(C1, one(look(3)), HELD);
+    let second = Row::Ask(C2, one(look(3)), HELD);
+    let extended = Row::Extend(C1, one(look(2)), Extension::Done);
+    let put = Row::PutFirst(C2, one(change(3)));
+    let before = [first, second];
+    // Of the first claim the requests are for the entry and the queues of two places.
+    let rows = [
+        ("Table::ask", 0, 0, asked, 6),
+        ("Table::ask, behind 8", 8, 0, asked, 5),
+        ("Table::ask, behind 32", 32, 0, asked, 5),
+        ("Table::extend", 0, 1, extended, 1),
+        ("Table::put_first", 0, 2, put, 1),
+    ];
+    for (call, count, len, row, wanted) in rows {
+        let rows = &before[..len];
+        let made = requests(|number| {
+            takes(&rt, &memory, rt.alloc(), number, (rows, count), &row)
+        });
+        assert_eq!(rt; made, Some(wanted), "{call}");
+    }
 }
 
 fn item_of(seed: u32) -> Item {

@@ -3,7 +3,7 @@
 use super::{C1, C2, C3, Talk, command};
 use std::alloc::{Allocator, Global};
 use std::process::Abort;
-use test_memory::Refusing;
+use test_memory::{Refusing, Tried, requests};
 use vault_checkout::{ApplyError, Book};
 use vault_model::{Effect, Intent, Item, Items, Listing, Name, Note, PlaceId, Standing};
 
@@ -23,7 +23,7 @@ fn items(rt: &impl Abort, wanted: &[(Intent, u32)]) -> Items {
     items
 }
 
-/// Whether two books have as many places, and the same claims, which stand alike.
+/// Whether two durable books have as many places, and the same claims, which stand alike. Such a book has no session.
 fn are_alike<A: Allocator + Copy, B: Allocator + Copy>(book: &Book<A>, other: &Book<B>) -> bool {
     if book.tree().len() != other.tree().len() || book.line().len() != other.line().len() {
         return false;
@@ -230,69 +230,52 @@ fn drafts_that_are_not_applicable_change_nothing(rt: HostRuntime) {
     drop(book);
 }
 
-/// Whether the nth request of memory that an effect makes is refused: the book is then as it was.
-fn is_refused(
+/// Tries an effect on the durable book. Refused, the book is as it was, and the next try succeeds.
+fn applies(
     rt: &impl Abort,
     memory: &Refusing<Global>,
     ample: Global,
     effect: &Effect,
     number: u64,
-) -> bool {
+) -> Tried {
     let mut book = durable_book(rt, memory, ample);
+    let mut same = durable_book(rt, ample, ample);
     memory.refuse(number);
     let applied = book.apply(effect);
-    let is_waiting = memory.is_waiting();
-    memory.refuse(0);
-    if applied.is_ok() {
-        assert!(rt; is_waiting);
-        drop(book);
-        return false;
-    }
-    assert!(rt; applied == Err(ApplyError::NoMemory) && !is_waiting);
-    let same = durable_book(rt, ample, ample);
-    assert!(rt; are_alike(&book, &same));
-    drop(same);
-    assert_eq!(rt; book.apply(effect), Ok(()));
+    let has_refused = memory.has_refused();
+    let tried = if applied.is_ok() {
+        Tried::done(!has_refused)
+    } else {
+        let is_kept = applied == Err(ApplyError::NoMemory) && are_alike(&book, &same);
+        Tried::refused(has_refused && is_kept && book.apply(effect) == Ok(()))
+    };
+    assert_eq!(rt; same.apply(effect), Ok(()));
+    let is_like = are_alike(&book, &same);
     drop(book);
-    true
-}
-
-/// How many requests of memory an effect makes: each is refused in turn.
-fn requests(rt: &impl Abort, memory: &Refusing<Global>, ample: Global, effect: &Effect) -> u64 {
-    for number in 1..20u64 {
-        if !is_refused(rt, memory, ample, effect, number) {
-            return number - 1;
-        }
-    }
-    0
+    drop(same);
+    if is_like { tried } else { Tried::Wrong }
 }
 
 #[test]
 fn each_request_of_an_effect_is_refused(rt: HostRuntime) {
     let memory = Refusing::new(rt.alloc());
-    let extended: Effect = Effect::Extended(2, items(&rt, &[(Intent::Change, 3)]));
-    let effects = [
-        made(&rt, 2, "p3"),
-        saved(&rt, rt.alloc(), 3, 4, 2),
-        Effect::CheckedIn(3),
+    let rows: [(&str, Effect, u64); 8] = [
+        ("Book::apply, Made", made(&rt, 2, "p3"), 1),
+        ("Book::apply, Asked", asked(&rt, 4, &[(Intent::Look, 1)]), 1),
+        (
+            "Book::apply, Extended",
+            Effect::Extended(2, items(&rt, &[(Intent::Change, 3)])),
+            1,
+        ),
+        ("Book::apply, Saved", saved(&rt, rt.alloc(), 3, 4, 2), 1),
+        ("Book::apply, CheckedIn", Effect::CheckedIn(3), 3),
+        ("Book::apply, Abandoned", Effect::Abandoned(1), 0),
+        ("Book::apply, Given", Effect::Given(1, name(&rt, "ben")), 0),
+        ("Book::apply, Noted", Effect::Noted(1, Note::new()), 0),
     ];
-    for effect in &effects {
-        assert!(rt; requests(&rt, &memory, rt.alloc(), effect) > 0);
+    for (call, effect, wanted) in &rows {
+        let made = requests(|number| applies(&rt, &memory, rt.alloc(), effect, number));
+        assert_eq!(rt; made, Some(*wanted), "{call}");
     }
-    let mut total = requests(&rt, &memory, rt.alloc(), &extended);
-    total = total.saturating_add(requests(
-        &rt,
-        &memory,
-        rt.alloc(),
-        &asked(&rt, 4, &[(Intent::Look, 1)]),
-    ));
-    let effects = [
-        Effect::Abandoned(1),
-        Effect::Given(1, name(&rt, "ben")),
-        Effect::Noted(1, Note::new()),
-    ];
-    for effect in &effects {
-        assert_eq!(rt; requests(&rt, &memory, rt.alloc(), effect), 0);
-    }
-    assert!(rt; total < 9);
+    drop(rows);
 }

@@ -46,6 +46,14 @@ impl<A: Allocator + Copy> Talk<A> {
         }
     }
 
+    /// A book of its own that shows the same.
+    fn copy(&self, rt: &impl Abort) -> Talk<A> {
+        Talk {
+            book: self.book.copy().expect(rt, "memory"),
+            said: self.said,
+        }
+    }
+
     fn tell(
         &mut self,
         session: u32,

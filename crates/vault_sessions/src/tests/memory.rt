@@ -5,21 +5,11 @@ use crate::report::Ended;
 use crate::tally::Totals;
 use std::alloc::Global;
 use std::sync::Wait;
-use test_memory::Refusing;
+use test_memory::{Refusing, Tried, requests};
 
 const ASKED: &[u8] = b"hello anna\nmake /e\nlist /\n";
 
 const TOLD: &[u8] = b"OK session 1\nOK place 1\nOK list 1 e\n";
-
-// What a try shows.
-#[derive(Clone, Copy, PartialEq, Eq)]
-enum Shown {
-    // The refusal, as it should.
-    Refusal,
-    // That fewer requests are made, and all was told.
-    Whole,
-    Neither,
-}
 
 // Whether a refusal shows: no share was made, memory ended the conversation, or a line was answered so.
 fn shows_refusal(talk: Option<Talk>, held: &[u8]) -> bool {
@@ -38,35 +28,25 @@ fn is_whole(talk: Option<Talk>, held: &[u8]) -> bool {
     talk.is_some_and(|talk| talk.totals == totals) && held == TOLD
 }
 
-// What a conversation shows, a request for memory of which is refused behind the vault's creation.
-fn refused_at<H: Wait>(rt: &H, global: Global, memory: &Refusing<Global>, number: u64) -> Shown {
+// Tries a conversation over a new vault. A gate commits each entry in the worker's own thread, so the requests come in one order.
+fn talks<H: Wait>(rt: &H, global: Global, memory: &Refusing<Global>, number: u64) -> Tried {
     let Some(vault) = new_vault(global, memory, 0) else {
-        return Shown::Neither;
+        return Tried::Wrong;
     };
     let mut held = Vec::new(global);
     memory.refuse(number);
     let talk = converse(rt, memory, vault, &mut [ASKED], &mut held);
-    let is_waiting = memory.is_waiting();
-    memory.refuse(0);
-    if is_waiting && is_whole(talk, &held) {
-        return Shown::Whole;
+    if memory.has_refused() {
+        Tried::refused(shows_refusal(talk, &held))
+    } else {
+        Tried::done(is_whole(talk, &held))
     }
-    if !is_waiting && shows_refusal(talk, &held) {
-        return Shown::Refusal;
-    }
-    Shown::Neither
 }
 
 #[test]
-fn refused_in_turn(rt: HostRuntime) {
+fn each_request_of_a_conversation_is_refused(rt: HostRuntime) {
     let memory = Refusing::new(rt.alloc());
-    let mut refusals = 0u64;
-    for number in 1..200u64 {
-        match refused_at(&rt, rt.alloc(), &memory, number) {
-            Shown::Refusal => refusals = number,
-            Shown::Whole => break,
-            Shown::Neither => assert!(rt; false),
-        }
-    }
-    assert!(rt; 9 < refusals && refusals < 199);
+    // The first is for the share.
+    let made = requests(|number| talks(&rt, rt.alloc(), &memory, number));
+    assert_eq!(rt; made, Some(17), "serve_one");
 }

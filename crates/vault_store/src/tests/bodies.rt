@@ -5,7 +5,7 @@ use crate::tests::reopening::holding;
 use crate::{Body, BodyError, Head, read_body, read_head};
 use std::alloc::{Allocator, Global};
 use std::process::Abort;
-use test_memory::Refusing;
+use test_memory::{Refusing, Tried, requests};
 use vault_checkout::Book;
 use vault_device::MemDevice;
 use vault_model::{ClaimId, Note, PlaceId, Standing};
@@ -119,26 +119,22 @@ fn may_have_note(rt: &impl Abort, alloc: Global, count: u8) -> bool {
     !is_damaged(rt, alloc, &bytes[..end])
 }
 
-// Whether this request for memory is made and its refusal told.
-fn wants_at(rt: &impl Abort, alloc: Global, request: u64) -> bool {
-    let memory = Refusing::new(alloc);
+// Tries to read the body of a file of the line.
+fn reads_without(rt: &impl Abort, memory: &Refusing<Global>, alloc: Global, number: u64) -> Tried {
     let mut device = keeping(rt, alloc, LINE);
-    memory.refuse(request);
-    let body = read_body(&memory, &mut device);
-    let is_wanted = matches!(&body, Err(BodyError::NoMemory)) && !memory.is_waiting();
-    drop(body);
+    memory.refuse(number);
+    let body = read_body(memory, &mut device);
+    let has_refused = memory.has_refused();
     drop(device);
-    is_wanted
-}
-
-// How many requests are refused one after another, until the line is read and no more are made.
-fn refusals(rt: &impl Abort, alloc: Global) -> u64 {
-    for request in 1..99 {
-        if !wants_at(rt, alloc, request) {
-            return request - 1;
+    match body {
+        Ok(Body::Whole(book, frames, end)) => {
+            let is_so = (frames, end) == (0, 105) && is_line(&book);
+            drop(book);
+            Tried::done(!has_refused && is_so)
         }
+        Ok(Body::Damaged(_)) => Tried::Wrong,
+        Err(error) => Tried::refused(has_refused && error == BodyError::NoMemory),
     }
-    99
 }
 
 fn is_read(rt: &impl Abort, alloc: Global) -> bool {
@@ -202,6 +198,8 @@ fn damaged_snapshots(rt: HostRuntime) {
 }
 
 #[test]
-fn each_request_of_a_body_for_memory_is_refused(rt: HostRuntime) {
-    assert_eq!(rt; refusals(&rt, rt.alloc()), 29);
+fn each_request_of_a_body_is_refused(rt: HostRuntime) {
+    let memory = Refusing::new(rt.alloc());
+    let made = requests(|number| reads_without(&rt, &memory, rt.alloc(), number));
+    assert_eq!(rt; made, Some(29), "read_body");
 }

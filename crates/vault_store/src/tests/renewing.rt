@@ -5,7 +5,7 @@ use crate::tests::reopening::{counted, holding};
 use crate::{Phase, Started, Store, laws};
 use std::alloc::Global;
 use std::process::Abort;
-use test_memory::Refusing;
+use test_memory::{Refusing, Tried};
 use vault_device::{Device, MemDevice, Pick};
 use vault_model::{Effect, EffectIn, Intent, Item, Items, Listing, Name, NoMemory, PlaceId};
 
@@ -182,16 +182,21 @@ fn started_without(
     (started, phase)
 }
 
-/// Whether a snapshot asks for memory once, and without it nothing is begun.
-pub fn asks_once(rt: &impl Abort, alloc: Global, bytes: &[u8]) -> bool
+/// Tries to start a snapshot of these bytes. Without memory nothing is begun.
+pub fn starts_without(
+    rt: &impl Abort,
+    memory: &Refusing<Global>,
+    alloc: Global,
+    bytes: &[u8],
+    number: u64,
+) -> Tried
     requires { length bytes.now < 2000 }
 {
-    let memory = Refusing::new(alloc);
-    let refused = started_without(rt, alloc, &memory, bytes, 1);
-    let was_asked = !memory.is_waiting();
-    let begun = started_without(rt, alloc, &memory, bytes, 2);
-    refused == (Err(NoMemory), Phase::Idle)
-        && was_asked
-        && begun == (Ok(Started::Yes), Phase::Start)
-        && memory.is_waiting()
+    let answer = started_without(rt, alloc, memory, bytes, number);
+    let has_refused = memory.has_refused();
+    if answer == (Ok(Started::Yes), Phase::Start) {
+        Tried::done(!has_refused)
+    } else {
+        Tried::refused(has_refused && answer == (Err(NoMemory), Phase::Idle))
+    }
 }

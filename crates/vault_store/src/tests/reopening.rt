@@ -4,7 +4,7 @@ use crate::tests::committing::{makes, settled_after, shows};
 use crate::{File, OpenError, Store};
 use std::alloc::{Allocator, Global};
 use std::process::Abort;
-use test_memory::Refusing;
+use test_memory::{Refusing, Tried};
 use vault_device::{Device, MemDevice};
 use vault_model::{ClaimId, Standing};
 
@@ -96,28 +96,32 @@ pub fn fails_at(
     is_refused(alloc, (first, second), OpenError::Device)
 }
 
-// Whether a refused request for memory is answered so, and the same devices then open.
-fn wants_at(rt: &impl Abort, alloc: Global, bytes: &[u8], request: u64) -> bool
+/// Tries to open these bytes. Refused, the same devices then open.
+pub fn opens_without(
+    rt: &impl Abort,
+    memory: &Refusing<Global>,
+    alloc: Global,
+    bytes: &[u8],
+    number: u64,
+) -> Tried
     requires { length bytes.now < 2000 }
 {
-    let memory = Refusing::new(alloc);
     let first = holding(rt, alloc, bytes);
     let second = MemDevice::new(alloc).expect(rt, "a device");
-    memory.refuse(request);
-    let wants = is_refused(&memory, (first, second), OpenError::NoMemory);
-    wants && !memory.is_waiting()
-}
-
-/// How many requests for memory are refused one after another, until there are no more.
-pub fn refusals(rt: &impl Abort, alloc: Global, bytes: &[u8]) -> u64
-    requires { length bytes.now < 2000 }
-{
-    for request in 1..99 {
-        if !wants_at(rt, alloc, bytes, request) {
-            return request - 1;
+    memory.refuse(number);
+    match Store::open(memory, first, second) {
+        Ok((store, book)) => {
+            let is_done = !memory.has_refused()
+                && (book.tree().len(), store.journal_len()) == (2, 12);
+            drop(store);
+            drop(book);
+            Tried::done(is_done)
+        }
+        Err(refused) => {
+            let is_told = memory.has_refused() && refused.why == OpenError::NoMemory;
+            Tried::refused(counted(memory, refused.first, refused.second) == Ok((2, 12)) && is_told)
         }
     }
-    99
 }
 
 /// The bytes with another there.

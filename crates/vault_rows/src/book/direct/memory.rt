@@ -7,11 +7,11 @@ use Command::{
 };
 use std::alloc::{Allocator, Global};
 use std::process::Abort;
-use test_memory::Refusing;
+use test_memory::{Refusing, Tried, requests};
 use vault_checkout::Book;
 use vault_model::ClaimId::{Long, Short};
 use vault_model::Intent::{Change, Look};
-use vault_model::{Command, NoMemory, PlaceId, Reply};
+use vault_model::{Claim, Command, NoMemory, PlaceId, Reply};
 
 /// Whether two books show the same, beside their sessions.
 pub(super) fn are_alike<A: Allocator + Copy>(
@@ -46,65 +46,98 @@ pub(super) fn are_alike<A: Allocator + Copy>(
         && shelf.weight() == other_shelf.weight()
 }
 
-/// Whether the nth request of memory that a command makes after others is refused. The book is then as a twin that only heard
-/// the others, and the command is heard once memory is there. Else the twin hears the command, too, and is told the same.
-fn is_refused<'a>(
-    rt: &impl Abort,
-    refusing: &'a Refusing<Global>,
-    twin: &mut Talk<&'a Refusing<Global>>,
-    before: &[(u32, Command)],
-    number: u64,
-    last: (u32, &Command),
-) -> bool {
-    let (session, command) = last;
-    let mut talk = Talk::new(rt, refusing);
-    talk.hear(rt, before);
-    refusing.refuse(number);
-    let told = talk.tell(session, command);
-    let waits = refusing.is_waiting();
-    refusing.refuse(0);
-    match told {
-        Ok((reply, effect)) => {
-            let same = twin.say(rt, session, command);
-            assert!(rt; waits && reply == same && !matches!(same, Reply::Refused(_)));
-            drop(reply);
-            drop(effect);
-            drop(same);
-            assert!(rt; are_alike(rt, &talk.book, &twin.book));
-            drop(talk);
-            false
-        }
-        Err(NoMemory) => {
-            assert!(rt; !waits && are_alike(rt, &talk.book, &twin.book));
-            let reply = talk.say(rt, session, command);
-            drop(reply);
-            drop(talk);
-            true
-        }
-    }
+/// The last claim of a book's line.
+fn last_claim<A: Allocator + Copy>(book: &Book<A>) -> Option<&Claim> {
+    book.line().at(book.line().len().wrapping_sub(1))
 }
 
-/// How many requests of memory a command makes after others, if it ends. Each is refused in turn.
-fn requests(
+/// Whether a session's command is told the same by two books, and leaves the same claim last.
+fn is_told_alike<A: Allocator + Copy>(
     rt: &impl Abort,
-    memory: Global,
-    before: &[(u32, Command)],
+    talk: &Talk<A>,
+    other: &Talk<A>,
     session: u32,
     command: &Command,
-) -> Option<u64> {
-    let ample = Refusing::new(memory);
-    let refusing = Refusing::new(memory);
-    let mut twin = Talk::new(rt, &ample);
-    twin.hear(rt, before);
-    let mut found = None;
-    for number in 1..20u64 {
-        let last = (session, command);
-        if found.is_none() && !is_refused(rt, &refusing, &mut twin, before, number, last) {
-            found = Some(number - 1);
+) -> bool {
+    let mut one = talk.copy(rt);
+    let mut like = other.copy(rt);
+    let reply = one.say(rt, session, command);
+    let same = like.say(rt, session, command);
+    let is_alike = reply == same && last_claim(&one.book) == last_claim(&like.book);
+    drop(reply);
+    drop(same);
+    drop(one);
+    drop(like);
+    is_alike
+}
+
+/// Whether two books show the same, and know the same sessions: by the owners of what these would check out, and by the number
+/// that a new one would get.
+fn are_same<A: Allocator + Copy>(
+    rt: &impl Abort,
+    memory: Global,
+    talk: &Talk<A>,
+    other: &Talk<A>,
+) -> bool {
+    let wanted = CheckOut(item(rt, memory, Look, "/"));
+    for session in 0..4u32 {
+        if !is_told_alike(rt, talk, other, session, &wanted) {
+            drop(wanted);
+            return false;
         }
     }
+    drop(wanted);
+    let join = Join(name(rt, "zoe"));
+    let is_next = is_told_alike(rt, talk, other, 0, &join);
+    drop(join);
+    is_next && are_alike(rt, &talk.book, &other.book)
+}
+
+/// Tries a command after others. Refused, the book is as a twin that only heard the others, and the next try succeeds. At the end both
+/// heard the command and are the same.
+fn tells<'a>(
+    rt: &impl Abort,
+    memory: &'a Refusing<Global>,
+    ample: &'a Refusing<Global>,
+    alloc: Global,
+    before: &[(u32, Command)],
+    last: (u32, &Command),
+    number: u64,
+) -> Tried {
+    let (session, command) = last;
+    let mut talk = Talk::new(rt, memory);
+    let mut twin = Talk::new(rt, ample);
+    talk.hear(rt, before);
+    twin.hear(rt, before);
+    memory.refuse(number);
+    let is_refused = is_unheard(&mut talk, session, command);
+    let has_refused = memory.has_refused();
+    let tried = if is_refused {
+        let is_kept = are_same(rt, alloc, &talk, &twin);
+        drop(talk.say(rt, session, command));
+        Tried::refused(has_refused && is_kept)
+    } else {
+        Tried::done(!has_refused)
+    };
+    let reply = twin.say(rt, session, command);
+    assert!(rt; !matches!(&reply, Reply::Refused(_)));
+    drop(reply);
+    let is_like = are_same(rt, alloc, &talk, &twin);
+    drop(talk);
     drop(twin);
-    found
+    if is_like { tried } else { Tried::Wrong }
+}
+
+/// Whether a command is not heard for want of memory.
+fn is_unheard<A: Allocator + Copy>(talk: &mut Talk<A>, session: u32, command: &Command) -> bool {
+    match talk.tell(session, command) {
+        Ok((reply, effect)) => {
+            drop(reply);
+            drop(effect);
+            false
+        }
+        Err(NoMemory) => true,
+    }
 }
 
 fn save(rt: &impl Abort, memory: Global, claim: u32, text: &str) -> Command {
@@ -130,83 +163,103 @@ fn before(rt: &impl Abort, memory: Global) -> [(u32, Command); 12] {
 }
 
 #[test]
-fn each_request_of_memory_is_refused(rt: HostRuntime) {
-    let memory = rt.alloc();
-    let before = before(&rt, memory);
-    let lines = [
-        Make(path(&rt, "/f"), None),
-        Make(path(&rt, "/e/f"), Some(2)),
-        CheckOut(item(&rt, memory, Look, "/")),
-        Extend(Long(2), item(&rt, memory, Change, "/")),
-        save(&rt, memory, 2, "third"),
-        CheckIn(2),
-        Hold(item(&rt, memory, Look, "/")),
-        List(path(&rt, "/")),
-        Fetch(path(&rt, "/e/b/p"), 1),
+fn each_request_of_a_command_is_refused(rt: HostRuntime) {
+    let (alloc, memory) = (rt.alloc(), Refusing::new(rt.alloc()));
+    let ample = Refusing::new(alloc);
+    let before = before(&rt, alloc);
+    let rows: [(&str, Command, u64); 17] = [
+        ("Book::act, Make", Make(path(&rt, "/f"), None), 1),
+        (
+            "Book::act, Make in a check-out",
+            Make(path(&rt, "/e/f"), Some(2)),
+            1,
+        ),
+        (
+            "Book::act, CheckOut",
+            CheckOut(item(&rt, alloc, Look, "/")),
+            4,
+        ),
+        (
+            "Book::act, Extend",
+            Extend(Long(2), item(&rt, alloc, Change, "/")),
+            2,
+        ),
+        ("Book::act, Save", save(&rt, alloc, 2, "third"), 2),
+        ("Book::act, CheckIn", CheckIn(2), 1),
+        ("Book::act, Hold", Hold(item(&rt, alloc, Look, "/")), 4),
+        ("Book::act, List", List(path(&rt, "/")), 1),
+        ("Book::act, Fetch", Fetch(path(&rt, "/e/b/p"), 1), 1),
+        ("Book::act, Abandon", Abandon(2), 0),
+        ("Book::act, Release", Release(1), 0),
+        ("Book::act, State", State(Short(1)), 0),
+        ("Book::act, Count", Count(path(&rt, "/e/b/p")), 0),
+        ("Book::act, Give", Give(2, name(&rt, "ben")), 0),
+        (
+            "Book::act, Note",
+            Note(2, content(&rt, alloc, "a note")),
+            0,
+        ),
+        ("Book::act, ReadNote", ReadNote(2), 0),
+        ("Book::act, Leave", Leave, 0),
     ];
-    for last in &lines {
-        assert!(rt; matches!(requests(&rt, memory, &before, 1, last), Some(1..)));
+    for (call, command, wanted) in &rows {
+        let last = (1, command);
+        let made = requests(|number| tells(&rt, &memory, &ample, alloc, &before, last, number));
+        assert_eq!(rt; made, Some(*wanted), "{call}");
     }
-    let lines = [
-        Abandon(2),
-        Release(1),
-        State(Short(1)),
-        Count(path(&rt, "/e/b/p")),
-        Give(2, name(&rt, "ben")),
-        Note(2, content(&rt, memory, "a note")),
-        ReadNote(2),
-        Leave,
-    ];
-    for last in &lines {
-        assert_eq!(rt; requests(&rt, memory, &before, 1, last), Some(0));
-    }
+    drop(rows);
     let join = Join(name(&rt, "anna"));
-    assert!(rt; matches!(requests(&rt, memory, &[], 0, &join), Some(1..)));
+    let made = requests(|number| tells(&rt, &memory, &ample, alloc, &[], (0, &join), number));
+    assert_eq!(rt; made, Some(1), "Book::act, Join");
+    drop(join);
+    drop(before);
 }
 
-/// Whether the nth request of a new book is refused.
-fn is_not_made(rt: &impl Abort, memory: &Refusing<Global>, number: u64) -> bool {
+/// Tries to make a book.
+fn makes_book(memory: &Refusing<Global>, number: u64) -> Tried {
     memory.refuse(number);
-    let book = Book::new(memory);
-    let refused = book.is_err();
-    drop(book);
-    assert_eq!(rt; refused, !memory.is_waiting());
-    refused
+    let made = Book::new(memory);
+    let has_refused = memory.has_refused();
+    match made {
+        Ok(book) => {
+            let is_new = book.tree().len() == 1 && book.line().len() == 0;
+            drop(book);
+            Tried::done(!has_refused && is_new)
+        }
+        Err(NoMemory) => Tried::refused(has_refused),
+    }
 }
 
-/// Whether the nth request of a book's copy is refused.
-fn is_not_copied(
-    rt: &impl Abort,
+/// Tries to copy a book.
+fn copies(
     memory: &Refusing<Global>,
-    book: &Book<&Refusing<Global>>,
+    rt: &impl Abort,
+    talk: &Talk<&Refusing<Global>>,
     number: u64,
-) -> bool {
+) -> Tried {
     memory.refuse(number);
-    match book.copy() {
+    let copy = talk.book.copy();
+    let has_refused = memory.has_refused();
+    match copy {
         Ok(copy) => {
-            assert!(rt; memory.is_waiting() && are_alike(rt, book, &copy));
+            let is_like = are_alike(rt, &talk.book, &copy);
             drop(copy);
-            false
+            Tried::done(!has_refused && is_like)
         }
-        Err(NoMemory) => {
-            assert!(rt; !memory.is_waiting());
-            true
-        }
+        Err(NoMemory) => Tried::refused(has_refused),
     }
 }
 
 #[test]
-fn a_book_is_made_and_copied_in_refused_memory(rt: HostRuntime) {
+fn each_request_of_a_new_book_and_a_copy_is_refused(rt: HostRuntime) {
     let memory = Refusing::new(rt.alloc());
+    let made = requests(|number| makes_book(&memory, number));
+    assert_eq!(rt; made, Some(2), "Book::new");
     let before = before(&rt, rt.alloc());
     let mut talk = Talk::new(&rt, &memory);
     talk.hear(&rt, &before);
-    for number in 1..99u64 {
-        let refused = is_not_made(&rt, &memory, number);
-        assert!(rt; number > 1 || refused);
-        let refused = is_not_copied(&rt, &memory, &talk.book, number);
-        assert!(rt; number < 98 || !refused);
-    }
+    let made = requests(|number| copies(&memory, &rt, &talk, number));
+    assert_eq!(rt; made, Some(25), "Book::copy");
     drop(talk);
     drop(before);
 }

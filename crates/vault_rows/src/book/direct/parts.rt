@@ -7,7 +7,7 @@ use design_tree::Tree;
 use part_versions::Shelf;
 use std::alloc::{Allocator, Global};
 use std::process::Abort;
-use test_memory::Refusing;
+use test_memory::{Refusing, Tried, requests};
 use vault_checkout::{Book, FromPartsError};
 use vault_model::ClaimId::{Long, Short};
 use vault_model::Intent::{Change, Look};
@@ -294,41 +294,32 @@ fn parts_that_are_too_heavy_are_refused(rt: HostRuntime) {
     }
 }
 
-/// Whether the nth request of memory for a book of another's parts is refused.
-fn is_not_made<'a>(
+/// Tries to make a book of another's parts.
+fn makes_of_parts<'a>(
     rt: &impl Abort,
     memory: &'a Refusing<Global>,
     book: &Book<&'a Refusing<Global>>,
     number: u64,
-) -> bool {
+) -> Tried {
     let parts = parts_of(rt, memory, book);
     memory.refuse(number);
     let made = made(parts);
-    let is_waiting = memory.is_waiting();
-    memory.refuse(0);
+    let has_refused = memory.has_refused();
     match made {
         Ok(made) => {
-            assert!(rt; is_waiting && are_alike(rt, &made, book));
+            let is_like = are_alike(rt, &made, book);
             drop(made);
-            false
+            Tried::done(!has_refused && is_like)
         }
-        Err(error) => {
-            assert!(rt; error == FromPartsError::NoMemory && !is_waiting);
-            true
-        }
+        Err(error) => Tried::refused(has_refused && error == FromPartsError::NoMemory),
     }
 }
 
 #[test]
-fn each_request_of_memory_for_parts_is_refused(rt: HostRuntime) {
+fn each_request_of_a_book_of_parts_is_refused(rt: HostRuntime) {
     let memory = Refusing::new(rt.alloc());
     let talk = told(&rt, rt.alloc(), &memory);
-    let mut refused = 0;
-    for number in 1..99u64 {
-        if is_not_made(&rt, &memory, &talk.book, number) {
-            refused = number;
-        }
-    }
-    assert!(rt; 0 < refused && refused < 98);
+    let made = requests(|number| makes_of_parts(&rt, &memory, &talk.book, number));
+    assert_eq!(rt; made, Some(17), "Book::from_parts");
     drop(talk);
 }

@@ -1,0 +1,38 @@
+use super::*;
+use std::alloc::Global;
+
+// Tries to make a list of one byte, and to put another behind it.
+fn two_bytes(memory: &Refusing<Global>, number: u64) -> Tried {
+    memory.refuse(number);
+    let mut bytes = Vec::new(memory);
+    let is_made = bytes.push(1).is_ok() && bytes.push(2).is_ok();
+    let has_refused = memory.has_refused();
+    if is_made {
+        Tried::done(!has_refused && bytes.as_slice() == [1, 2].as_slice())
+    } else {
+        Tried::refused(has_refused && bytes.len() < 2)
+    }
+}
+
+// Tries what asks for no memory, and answers a refusal that did not come.
+fn nothing(memory: &Refusing<Global>, number: u64, told: Tried) -> Tried {
+    memory.refuse(number);
+    if memory.has_refused() {
+        Tried::Refused
+    } else {
+        told
+    }
+}
+
+#[test]
+fn requests_are_counted(rt: HostRuntime) {
+    let memory = Refusing::new(rt.alloc());
+    assert_eq!(rt; requests(|number| two_bytes(&memory, number)), Some(1));
+    for (told, count) in [
+        (Tried::Done, Some(0)),
+        (Tried::Wrong, None),
+        (Tried::Refused, None),
+    ] {
+        assert_eq!(rt; requests(|number| nothing(&memory, number, told)), count);
+    }
+}
