@@ -152,11 +152,6 @@ class Salvage(WithVault):
         self.assertIn("were " + b"NOVAULT".hex(), said)
         self.assertIn("claims 1, drafts 1", report)
 
-    def test_a_first_version(self) -> None:
-        """A file of the first version is left to the program that wrote it."""
-        damage(self.first, 8, 0, b"\x00\x00\x00\x01")
-        self.assertIn("is of version 1", self.tool("salvage", str(self.folder / "new"), status=1))
-
     def test_a_gate_of_the_head(self) -> None:
         damage(self.first, 0, 0, b"\x03")
         said, report = self.salvaged()
@@ -266,12 +261,12 @@ class Board(WithVault):
         self.assertEqual((claim.behind, claim.items, claim.note), ("c2", ("w:/e", "r:/e/b"), b"<b>"))
         self.assertIn("note: <q>&lt;b&gt;</q>", load_tool("board").page(report, "x"))
 
-    def test_a_note(self) -> None:
+    def test_a_given_check_out(self) -> None:
         self.anna.set_note("c1", "<bore> 80".encode())
         self.anna.give("c1", "ben")
         page = self.tool("board")
-        self.assertIn("<td>ben</td><td>c1</td><td>held</td>", page)
-        self.assertIn("<br>&lt;bore&gt; 80</td>", page)
+        self.assertIn('<td title="designer">ben</td><td title="claim">c1</td><td title="standing">held</td>', page)
+        self.assertIn("note: <q>&lt;bore&gt; 80</q></td>", page)
 
     def test_an_empty_line(self) -> None:
         self.anna.abandon("c1")

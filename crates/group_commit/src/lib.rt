@@ -38,8 +38,6 @@ mod redeeming;
 mod retiring;
 mod staging;
 mod starting;
-#[cfg(test)]
-mod tests;
 mod ticket;
 mod vault;
 mod window;

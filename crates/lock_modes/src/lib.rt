@@ -11,8 +11,6 @@
 mod group;
 pub mod laws;
 mod mode;
-#[cfg(test)]
-mod tests;
 
 pub use group::{Group, MOST_MEMBERS};
 pub use mode::Mode;

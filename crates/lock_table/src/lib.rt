@@ -24,8 +24,6 @@ mod entry;
 pub mod laws;
 mod locks;
 mod table;
-#[cfg(test)]
-mod tests;
 
 pub use entry::{Entry, Extension};
 pub use locks::{Lock, LockSet, MOST_LOCKS, lock_set};

@@ -18,7 +18,5 @@ pub mod laws;
 mod limits;
 mod part;
 mod shelf;
-#[cfg(test)]
-mod tests;
 
 pub use shelf::{NotAppended, Shelf};

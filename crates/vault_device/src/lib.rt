@@ -24,8 +24,6 @@ pub mod laws;
 mod mem_device;
 mod memory;
 mod raw_file;
-#[cfg(test)]
-mod tests;
 
 pub use device::{Device, Fault};
 pub use file_device::FileDevice;

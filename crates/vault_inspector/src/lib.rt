@@ -18,8 +18,6 @@ pub mod laws;
 mod output;
 mod printing;
 mod report;
-#[cfg(test)]
-mod tests;
 
 pub use inspecting::{InspectError, inspect};
 pub use output::PrintError;

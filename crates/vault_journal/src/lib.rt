@@ -20,8 +20,6 @@ mod gate;
 pub mod laws;
 mod reading;
 mod records;
-#[cfg(test)]
-mod tests;
 mod whole_commit;
 mod writing;
 

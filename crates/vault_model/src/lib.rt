@@ -36,8 +36,6 @@ mod place;
 mod replies;
 mod session;
 pub mod split;
-#[cfg(test)]
-mod tests;
 
 pub use claims::{Claim, Item, Owner, PathItem, Standing};
 pub use commands::{Command, CommandIn};

@@ -14,8 +14,8 @@ ghost use Rattle.vault_sessions.specs.Pumping.{IsPumped, IsAtRest};
 ghost use Rattle.vault_sessions.specs.declared.flusher.Flushed.TheVariants as Flushed;
 
 use crate::flusher::Flushed;
-use crate::pace::Pace;
 use crate::tally::{Share, Tally};
+use flusher_pace::Pace;
 use group_commit::{Forgotten, Phase, Pumped, Redeemed, Retired, Started, Ticket, Vault};
 use std::alloc::{Allocator, Global};
 use std::marker::Model;

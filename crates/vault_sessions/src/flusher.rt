@@ -1,9 +1,9 @@
 //! The flusher commits what the workers staged.
 
 use crate::gate::{Gate, Point};
-use crate::pace::{Commit, LOOKS};
 use crate::shared::Shared;
 use crate::tally::Tally;
+use flusher_pace::{Commit, LOOKS};
 use group_commit::{Pumped, Retired, Started};
 use std::alloc::Allocator;
 use std::sync::Wait;

@@ -23,7 +23,7 @@
 //! `Shared::new` and `serve_one` for memory, refused.
 //! Neither: that anybody is served or woken; fairness, time; what the channel of connections delivers, and what a TCP peer gets;
 //! whom a name belongs to; `run_server` under refused memory.
-//! Start at: desk.rt (what is done under the lock), serve.rt (one connection), flusher.rt and pace.rt (when), server.rt.
+//! Start at: desk.rt (what is done under the lock), serve.rt (one connection), flusher.rt (when, by `flusher_pace`), server.rt.
 #![tactic(auto)]
 
 mod desk;
@@ -31,15 +31,12 @@ mod flusher;
 mod gate;
 mod inlet;
 mod outlet;
-mod pace;
 mod report;
 mod serve;
 mod server;
 mod shared;
 mod stream;
 mod tally;
-#[cfg(test)]
-mod tests;
 
 pub use desk::Desk;
 pub use flusher::{Flushed, run_flusher};

@@ -39,8 +39,6 @@ mod renewal;
 mod snapshot;
 mod starting;
 mod store;
-#[cfg(test)]
-mod tests;
 
 pub use body::{Body, BodyError, read_body};
 pub use calls::settle_both;

@@ -194,11 +194,7 @@ fn each_request_of_a_command_is_refused(rt: HostRuntime) {
         ("Book::act, State", State(Short(1)), 0),
         ("Book::act, Count", Count(path(&rt, "/e/b/p")), 0),
         ("Book::act, Give", Give(2, name(&rt, "ben")), 0),
-        (
-            "Book::act, Note",
-            Note(2, content(&rt, alloc, "a note")),
-            0,
-        ),
+        ("Book::act, Note", Note(2, content(&rt, alloc, "a note")), 0),
         ("Book::act, ReadNote", ReadNote(2), 0),
         ("Book::act, Leave", Leave, 0),
     ];

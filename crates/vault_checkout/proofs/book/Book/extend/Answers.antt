@@ -28,7 +28,7 @@ move_first-requires-clause-there g c =
 pub returns-in-Ok-InTheWay-clause-told : goal.returns-in-Ok-InTheWay-clause-told
 returns-in-Ok-InTheWay-clause-told g c =
     let few : (length c.args.wanted.now == 0) || nat_lt most_items (length c.in_ok-claim.claim.items + length c.args.wanted.now) ≡ false =
-        (let not_empty = c.if-is_empty.false in let empty = c.if-is_empty.ensures in let long = c.if-wanted-len.false in let len = c.len.ensures.len in let own = c.len.ensures.few in grind (arith, nat_tests, not_empty, empty, long, len, own)) in
+    (let not_empty = c.if-is_empty.false in let empty = c.if-is_empty.ensures in let long = c.if-wanted-len.false in let len = c.len.ensures.len in let own = c.len.ensures.few in grind (arith, nat_tests, not_empty, empty, long, len, own)) in
     let used : Step.usable c.args.self.now c.args.session.now c.args.id ≡ Ok c.in_ok-claim.claim = sym c.in_ok-claim.ensures.decided in
     let found : Step.placed c.args.self.now.tree c.args.wanted.now ≡ Some c.in-Some.items = rw (← c.self.view_is) (sym c.in-Some.ensures.placed) in
     let way : in_way_of c.args.self.now.tree c.args.self.now.line c.args.id (c.in_ok-claim.claim.items ++ c.in-Some.items) ≡ Some c.in-Ok-InTheWay.other = who_is_in_the_way _ c.in-Ok-InTheWay.other (rw c.joined.ensures at (sym c.in-Ok-InTheWay.field-0-is ∙ c.in-Ok-InTheWay.ensures.answer)) in

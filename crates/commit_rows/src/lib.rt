@@ -1,0 +1,12 @@
+//! Tests of the vault with its history, and of the inspector, through their public calls.
+//!
+//! Promises: nothing; it has no public function.
+//! Only tested: worked commits, tickets and pasts, retiring, snapshots, reports on two files, refused memory.
+//! Stands on: group_commit, vault_inspector, and what these stand on.
+//! Start at: vault.rt; vault/past.rt for a past of several lives.
+#![tactic(auto)]
+
+#[cfg(test)]
+mod inspector;
+#[cfg(test)]
+mod vault;

@@ -1,0 +1,13 @@
+//! When the flusher of a server sleeps, for how many it waits, and for how long. It decides when something is done, and never what.
+//!
+//! Promises: what each call answers, and what it leaves; nothing of time.
+//! Only tested: the rule itself, over worked orders of calls.
+//! Stands on: vault_store, for what a pump and the start of a snapshot answer. Must not know: a lock, a thread, an entry.
+//! Start at: `Pace::gathers`.
+#![tactic(auto)]
+
+mod commit;
+mod pace;
+
+pub use commit::{Commit, LOOKS};
+pub use pace::{Pace, UnderWay, may_change};

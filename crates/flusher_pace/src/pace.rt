@@ -1,0 +1,168 @@
+//! When the flusher sleeps, and for how many it waits.
+ghost use Rattle.std.specs.Prelude.{◌≡◌, ◌==◌, ◌&&◌, ◌||◌, nat_lt, not, ℕ, true, false, if◌then◌else◌, None, Some, Ok};
+ghost use Rattle.vault_store.specs.declared.phase.Advanced.TheVariants as Advanced;
+ghost use Rattle.vault_store.specs.declared.starting.Started.TheVariants as Started;
+ghost use Rattle.flusher_pace.specs.declared.pace.UnderWay.TheVariants as UnderWay;
+
+use vault_device::Fault;
+use vault_model::{Command, CommandIn, NoMemory};
+use vault_store::{Advanced, Started};
+
+/// Whether a command may change the vault. What only asks needs no device, so it isn't kept waiting for others. A wrong answer
+/// would cost time alone.
+pub fn may_change<W, C>(command: &Command<W, C>) -> bool {
+    !matches!(
+        command,
+        Command::Join(_)
+            | Command::Hold(_)
+            | Command::Release(_)
+            | Command::State(_)
+            | Command::List(_)
+            | Command::Fetch(_, _)
+            | Command::Count(_)
+            | Command::ReadNote(_)
+            | Command::Leave
+    )
+}
+
+/// What the flusher and the workers know of each other, under the lock. It says when something is done, and never what.
+#[derive(Debug, Clone, Copy, PartialEq, Eq)]
+pub struct Pace {
+    /// From how many waiting entries on the flusher is woken, where it sleeps.
+    pub wake_from: Option<u64>,
+    /// How many entries waited when the last commit ended.
+    pub group: u64,
+    /// Whether an entry that waits, and isn't sealed, may have changed the vault.
+    pub has_change: bool,
+    /// What the next pump goes on with.
+    pub under_way: UnderWay,
+    /// Whether a worker waits for room in the history.
+    pub is_asked_for_room: bool,
+}
+
+/// What was begun at the devices, and isn't settled.
+#[derive(Debug, Clone, Copy, PartialEq, Eq)]
+pub enum UnderWay {
+    /// All is settled, or only staged.
+    Nothing,
+    /// A commit, which somebody waits for.
+    Commit,
+    /// A snapshot.
+    Snapshot,
+}
+
+impl Pace {
+    /// Nothing was staged yet.
+    pub fn new() -> Pace
+        ensures { result ≡ record {
+          wake_from = None;
+          group = 0;
+          has_change = false;
+          under_way = UnderWay.Nothing;
+          is_asked_for_room = false;
+        } }
+    {
+        Pace {
+            wake_from: None,
+            group: 0,
+            has_change: false,
+            under_way: UnderWay::Nothing,
+            is_asked_for_room: false,
+        }
+    }
+
+    /// A worker waits for room in the history.
+    pub fn asks_for_room(&mut self)
+        ensures { self.new ≡ record self.old { is_asked_for_room = true } }
+    {
+        self.is_asked_for_room = true;
+    }
+
+    /// Whether one has begun to wait for it since this was asked last.
+    pub fn wants_room(&mut self) -> bool
+        ensures asked { result ≡ self.old.is_asked_for_room }
+        ensures left { self.new ≡ record self.old { is_asked_for_room = false } }
+    {
+        let is_asked = self.is_asked_for_room;
+        self.is_asked_for_room = false;
+        is_asked
+    }
+
+    /// A command was staged, and so many entries wait now. Whether the flusher sleeps and has to be woken: it is, by as many as it sleeps
+    /// for, and by a question where nothing that waits is a change.
+    pub fn staged(&mut self, waiting: u64, may_change: bool) -> bool
+        ensures awake { self.old.wake_from ≡ None → result ≡ false }
+        ensures asleep { (least : ℕ) → self.old.wake_from ≡ Some least
+            → result ≡ (not (nat_lt waiting least) || not (self.old.has_change || may_change)) }
+        ensures changed { self.new ≡ record self.old {
+          has_change = self.old.has_change || may_change;
+          wake_from = if result then None else self.old.wake_from;
+        } }
+    {
+        self.has_change = self.has_change || may_change;
+        let Some(least) = self.wake_from else {
+            return false;
+        };
+        if waiting < least && self.has_change {
+            return false;
+        }
+        self.wake_from = None;
+        true
+    }
+
+    /// Whether the flusher sleeps on, where it sleeps until so many entries wait.
+    pub fn sleeps(&mut self, is_early: bool, least: u64) -> bool
+        ensures early { result ≡ is_early }
+        ensures left { self.new ≡ record self.old { wake_from = if is_early then Some least else None } }
+    {
+        self.wake_from = if is_early { Some(least) } else { None };
+        is_early
+    }
+
+    /// Whether the flusher waits for more entries: those who waited for the last commit aren't all back, and nobody asks who needs
+    /// no device.
+    pub fn gathers(&mut self, waiting: u64) -> bool
+        ensures waits { result ≡ (nat_lt 1 self.old.group && nat_lt waiting self.old.group && ((waiting == 0) || self.old.has_change)) }
+        ensures left { self.new ≡ record self.old { wake_from = if result then Some self.old.group else None } }
+    {
+        let is_early = self.group > 1 && waiting < self.group && (waiting == 0 || self.has_change);
+        self.sleeps(is_early, self.group)
+    }
+
+    /// A snapshot was begun, which seals what waits, or it wasn't. It is no commit: it takes longer, and nobody is waited for behind
+    /// it.
+    pub fn started(&mut self, started: Result<Started, NoMemory>)
+        ensures begun { started ≡ Ok Started.Yes → self.new ≡ record self.old { has_change = false; under_way = UnderWay.Snapshot } }
+        ensures not_begun { (started ≡ Ok Started.Yes → ⊥) → self.new ≡ self.old }
+    {
+        if started == Ok(Started::Yes) {
+            self.has_change = false;
+            self.under_way = UnderWay::Snapshot;
+        }
+    }
+
+    /// A pump was made, before which so many entries waited.
+    pub fn pumped(&mut self, waiting: u64, pumped: Result<Advanced, Fault>)
+        ensures begun { self.old.under_way ≡ UnderWay.Nothing → pumped ≡ Ok Advanced.Moved
+            → self.new ≡ record self.old { has_change = false; under_way = UnderWay.Commit } }
+        ensures committed { self.old.under_way ≡ UnderWay.Commit → pumped ≡ Ok Advanced.Settled
+            → self.new ≡ record self.old { group = waiting; under_way = UnderWay.Nothing } }
+        ensures renewed { self.old.under_way ≡ UnderWay.Snapshot → pumped ≡ Ok Advanced.Settled
+            → self.new ≡ record self.old { under_way = UnderWay.Nothing } }
+        ensures same { (self.new.wake_from ≡ self.old.wake_from) × (self.new.is_asked_for_room ≡ self.old.is_asked_for_room) }
+    {
+        match (self.under_way, pumped) {
+            (UnderWay::Nothing, Ok(Advanced::Moved)) => {
+                self.has_change = false;
+                self.under_way = UnderWay::Commit;
+            }
+            (_, Ok(Advanced::Moved)) => {}
+            (UnderWay::Commit, Ok(Advanced::Settled)) => {
+                self.group = waiting;
+                self.under_way = UnderWay::Nothing;
+            }
+            (UnderWay::Snapshot, Ok(Advanced::Settled)) => self.under_way = UnderWay::Nothing,
+            _ => self.has_change = false,
+        }
+    }
+}

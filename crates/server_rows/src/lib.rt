@@ -1,0 +1,33 @@
+//! Tests of the running server, through its public calls: conversations in memory, a flusher beside workers, and a server over
+//! TCP on this machine.
+//!
+//! Promises: nothing; it has no public function.
+//! Only tested: what `vault_sessions` says is only tested.
+//! Stands on: vault_sessions, and what it stands on.
+//! Start at: connections.rt for a conversation, serving.rt for a server.
+#![tactic(auto)]
+
+#[cfg(test)]
+mod connections;
+#[cfg(test)]
+mod devices;
+#[cfg(test)]
+mod flushing;
+#[cfg(test)]
+mod limits;
+#[cfg(test)]
+mod memory;
+#[cfg(test)]
+mod pacing;
+#[cfg(test)]
+mod refusing;
+#[cfg(test)]
+mod renewing;
+#[cfg(test)]
+mod serving;
+#[cfg(test)]
+mod talk;
+#[cfg(test)]
+mod tcp;
+#[cfg(test)]
+mod turns;
