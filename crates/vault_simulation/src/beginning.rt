@@ -1,0 +1,102 @@
+//! The beginning of a run: sessions, places and more.
+
+use crate::line::Line;
+use crate::mood::Beginning;
+use crate::run::Run;
+use crate::speech::PARTS;
+use group_commit::Vault;
+use vault_device::MemDevice;
+use vault_judge::Judge;
+
+// What most runs begin with.
+const PLACES: [&str; 12] = [
+    "make /e",
+    "make /f",
+    "make /e/b",
+    "make /e/c",
+    "make /f/b",
+    "make /e/b/p",
+    "make /e/b/q",
+    "make /e/b/r",
+    "make /e/c/p",
+    "make /e/c/q",
+    "make /f/b/p",
+    "make /f/b/q",
+];
+
+// How many versions of seven parts are more than one piece of a snapshot.
+const VERSIONS: u32 = 10;
+
+// How many drafts of the greatest length are more than a buffer has room for, and how many make a long journal.
+const BUFFER: u32 = 256;
+
+const JOURNAL: u32 = 1030;
+
+// More entries than are kept.
+const ENTRIES: u32 = 4099;
+
+// A session saves a draft of the greatest length of each part.
+fn save_all(judge: &mut Judge, vault: &mut Vault<MemDevice>, line: &mut Line, claim: u32) {
+    for part in &PARTS {
+        line.save(claim, part, 1024, b'x');
+        judge.say(vault, 1, line.as_slice());
+    }
+}
+
+/// Session 1 makes a few versions of the greatest length of each part.
+pub(crate) fn fill(judge: &mut Judge, vault: &mut Vault<MemDevice>, line: &mut Line) {
+    for _ in 0..VERSIONS {
+        judge.say(vault, 1, b"checkout w:/");
+        let claim = judge.history.book().line().last_long();
+        save_all(judge, vault, line, claim);
+        line.of_check_out("checkin", claim);
+        judge.say(vault, 1, line.as_slice());
+    }
+}
+
+/// Session 1 makes the places.
+pub(crate) fn make_places(judge: &mut Judge, vault: &mut Vault<MemDevice>) {
+    for place in &PLACES {
+        judge.say(vault, 1, place.as_bytes());
+    }
+    judge.commit(vault);
+}
+
+impl Run {
+    // Session 1 saves a draft of the greatest length, so many times. Where it commits, no save is refused.
+    fn save_often(&mut self, vault: &mut Vault<MemDevice>, times: u32, commits: bool) {
+        self.tell(vault, 1, "checkout w:/e/b/p");
+        let claim = self.judge.history.book().line().last_long();
+        for _ in 0..times {
+            if commits && self.judge.world.refusal().is_some() {
+                self.judge.commit(vault);
+            }
+            self.line.save(claim, "/e/b/p", 1024, b'y');
+            self.say(vault, 1);
+        }
+    }
+
+    // The door asks so many questions, and the tickets are given up.
+    fn ask_often(&mut self, vault: &mut Vault<MemDevice>, times: u32) {
+        for _ in 0..times {
+            self.tell(vault, 0, "state c1");
+            self.judge.forget_first(vault);
+        }
+    }
+
+    /// Two sessions, and what the mood has the run begin with.
+    pub(crate) fn furnish(&mut self, vault: &mut Vault<MemDevice>) {
+        self.tell(vault, 0, "hello anna");
+        self.tell(vault, 0, "hello ben");
+        if self.mood.beginning != Beginning::Bare {
+            make_places(&mut self.judge, vault);
+        }
+        match self.mood.beginning {
+            Beginning::Bare | Beginning::Places => {}
+            Beginning::Versions => fill(&mut self.judge, vault, &mut self.line),
+            Beginning::FullBuffer => self.save_often(vault, BUFFER, false),
+            Beginning::LongJournal => self.save_often(vault, JOURNAL, true),
+            Beginning::FullHistory => self.ask_often(vault, ENTRIES),
+        }
+    }
+}

@@ -1,0 +1,181 @@
+//! The parts of the simulation, each run and reported.
+
+use crate::files::{judge_bytes, judge_changes, judge_cuts};
+use crate::limits::Limit;
+use crate::long_run::Start;
+use crate::run::Run;
+use crate::stops::{Covered, judge_calls};
+use group_commit::File;
+use std::alloc::Global;
+use std::io;
+use vault_judge::{COUNTED, Counts, Verdict};
+
+/// So many random runs of so many commands each, with the seeds from this one on.
+#[derive(Clone, Copy)]
+pub(crate) struct Runs {
+    pub(crate) seed: u64,
+    pub(crate) runs: u64,
+    pub(crate) commands: u32,
+    /// Whether what was covered is printed.
+    pub(crate) prints: bool,
+}
+
+/// The parts of the long run: its start, and the file whose device calls it is stopped inside.
+const STOPS: [(&str, Start, File); 4] = [
+    ("spare empty, file a", Start::EmptySpare, File::First),
+    ("spare empty, file b", Start::EmptySpare, File::Second),
+    ("spare closed, file a", Start::ClosedSpare, File::First),
+    ("spare closed, file b", Start::ClosedSpare, File::Second),
+];
+
+/// Says what was covered, or the difference: whether there is none.
+fn said(rt: &impl Print, verdict: &Verdict, words: &str) -> io::Result<bool> {
+    match verdict.found {
+        Some(difference) => {
+            println!(rt; "{words}: {difference}")?;
+            Ok(false)
+        }
+        None => {
+            println!(rt; "{words}: no difference")?;
+            Ok(true)
+        }
+    }
+}
+
+/// Prints what was covered.
+fn print_counts(rt: &impl Print, counts: &Counts) -> io::Result<()> {
+    for (tally, name) in counts.tallies().iter().zip(&COUNTED) {
+        if *tally > 0 {
+            println!(rt; "{tally} {name}")?;
+        }
+    }
+    Ok(())
+}
+
+/// The runs up to the first that finds a difference: what was found and covered, its seed, and how many commands were said.
+#[derive(Clone, Copy)]
+struct Outcome {
+    verdict: Verdict,
+    seed: u64,
+    said: u32,
+}
+
+/// The run of a seed. What was found and covered goes on from here.
+fn run_of(alloc: Global, seed: u64, commands: u32, verdict: Verdict) -> Outcome {
+    match Run::new(alloc, seed, commands, verdict) {
+        Some(mut run) => {
+            run.lives();
+            let (verdict, left) = run.close();
+            let said = commands.saturating_sub(left);
+            Outcome {
+                verdict,
+                seed,
+                said,
+            }
+        }
+        None => Outcome {
+            verdict,
+            seed,
+            said: 0,
+        },
+    }
+}
+
+/// Random runs, up to the first that finds a difference.
+fn outcome_of(alloc: Global, runs: Runs) -> Outcome {
+    let mut outcome = Outcome {
+        verdict: Verdict::new(Counts::new()),
+        seed: runs.seed,
+        said: 0,
+    };
+    for number in 0..runs.runs {
+        let seed = runs.seed.wrapping_add(number);
+        outcome = run_of(alloc, seed, runs.commands, outcome.verdict);
+        if !outcome.verdict.is_sound() {
+            return outcome;
+        }
+    }
+    outcome
+}
+
+/// Random runs, up to the first that finds a difference: whether none does.
+pub(crate) fn report_random(rt: &impl Print, alloc: Global, runs: Runs) -> io::Result<bool> {
+    let Outcome {
+        verdict,
+        seed,
+        said,
+    } = outcome_of(alloc, runs);
+    if let Some(difference) = verdict.found {
+        println!(rt; "seed {seed}, command {said}: {difference}")?;
+        return Ok(false);
+    }
+    if runs.prints {
+        print_counts(rt, &verdict.counts)?;
+    }
+    let Runs {
+        seed,
+        runs,
+        commands,
+        prints: _,
+    } = runs;
+    println!(rt;
+        "random: {runs} runs of {commands} commands each, from seed {seed} on: no difference"
+    )?;
+    Ok(true)
+}
+
+fn print_covered(rt: &impl Print, words: &str, covered: &Covered) -> io::Result<()> {
+    let Covered {
+        calls,
+        pairs,
+        sealed,
+        told,
+    } = *covered;
+    println!(rt;
+        "{words}: stopped inside {calls} device calls, {pairs} pairs opened, \
+         {sealed} of them as the sealed prefix, with {told} told commands"
+    )
+}
+
+/// The long run from one start, stopped inside each device call of one file.
+fn report_stops(
+    rt: &impl Print,
+    alloc: Global,
+    words: &str,
+    start: Start,
+    which: File,
+) -> io::Result<bool> {
+    let mut verdict = Verdict::new(Counts::new());
+    let covered = judge_calls(&mut verdict, alloc, start, which);
+    print_covered(rt, words, &covered)?;
+    said(rt, &verdict, words)
+}
+
+/// The long run from both starts, stopped inside each device call: whether there is no difference.
+pub(crate) fn report_all_stops(rt: &impl Print, alloc: Global) -> io::Result<bool> {
+    let mut sound = true;
+    for (words, start, which) in STOPS {
+        sound = report_stops(rt, alloc, words, start, which)? && sound;
+    }
+    Ok(sound)
+}
+
+/// Files that are cut or changed: whether each is told.
+pub(crate) fn report_files(rt: &impl Print, alloc: Global) -> io::Result<bool> {
+    let mut verdict = Verdict::new(Counts::new());
+    judge_cuts(&mut verdict, alloc);
+    judge_changes(&mut verdict, alloc);
+    judge_bytes(&mut verdict, alloc);
+    said(rt, &verdict, "files cut, and changed in one field or byte")
+}
+
+/// Each limit is reached: whether what passes it is refused.
+pub(crate) fn report_limits(rt: &impl Print, alloc: Global, limits: &[Limit]) -> io::Result<bool> {
+    let mut sound = true;
+    for limit in limits {
+        let mut verdict = Verdict::new(Counts::new());
+        limit.judge(&mut verdict, alloc);
+        sound = said(rt, &verdict, limit.words())? && sound;
+    }
+    Ok(sound)
+}

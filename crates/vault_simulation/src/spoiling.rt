@@ -1,0 +1,85 @@
+//! Spoiled files, on which opening and inspecting have to agree.
+
+use crate::dice::Dice;
+use std::alloc::Global;
+use vault_judge::{Bytes, Files, Met, Verdict, agree};
+
+// Bytes that stand for something in a file, and others.
+const BYTES: [u32; 10] = [0, 1, 2, 7, 8, 10, 63, 127, 128, 255];
+
+// Where a header's generation ends.
+const GENERATION: usize = 19;
+
+// A place in a file, mostly near its beginning.
+fn place(dice: &mut Dice, len: usize) -> usize {
+    if dice.one_in(2) {
+        return dice.place(len.min(64));
+    }
+    dice.place(len)
+}
+
+// A byte that stands for something, or any.
+fn byte(dice: &mut Dice) -> u8 {
+    if dice.one_in(3) {
+        return dice.byte();
+    }
+    (dice.number(&BYTES) & 0xff) as u8
+}
+
+// Spoils a file once.
+fn spoil_once(dice: &mut Dice, bytes: &mut Vec<u8>) {
+    let at = place(dice, bytes.len());
+    let byte = byte(dice);
+    match dice.below(8) {
+        0 => bytes.truncate(at),
+        1 => {
+            let _ = bytes.push(byte);
+        }
+        2 => {
+            let _ = bytes.insert(at.min(bytes.len()), byte);
+        }
+        _ => {
+            if let Some(old) = bytes.get_mut(at) {
+                *old = byte;
+            }
+        }
+    }
+}
+
+// Spoils a file up to three times.
+fn spoil_one(dice: &mut Dice, bytes: &mut Vec<u8>) {
+    for _ in 0..dice.below(4) {
+        spoil_once(dice, bytes);
+    }
+}
+
+// Makes a file one that goes with the other, or leaves it.
+fn pair(dice: &mut Dice, one: &[u8], other: &mut Vec<u8>) {
+    if dice.one_in(2) {
+        return;
+    }
+    other.clear();
+    let _ = other.extend_from_slice(one);
+    if let Some(generation) = other.get_mut(GENERATION) {
+        *generation = (dice.below(3) & 0xff) as u8;
+    }
+}
+
+/// Copies of two files, spoiled here and there: opening and inspecting agree on them.
+pub(crate) fn spoil(verdict: &mut Verdict, dice: &mut Dice, alloc: Global, files: &mut Files) {
+    verdict.counts.up(Met::Spoiled);
+    let Bytes {
+        first: mut one,
+        second: mut other,
+    } = files.bytes(alloc);
+    pair(dice, one.as_slice(), &mut other);
+    spoil_one(dice, &mut one);
+    spoil_one(dice, &mut other);
+    let _ = if dice.one_in(2) {
+        agree(verdict, alloc, one.as_slice(), other.as_slice())
+    } else {
+        agree(verdict, alloc, other.as_slice(), one.as_slice())
+    };
+    drop(one);
+    drop(other);
+}
