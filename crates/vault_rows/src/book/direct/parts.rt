@@ -295,31 +295,27 @@ fn parts_that_are_too_heavy_are_refused(rt: HostRuntime) {
 }
 
 /// Tries to make a book of another's parts.
-fn makes_of_parts<'a>(
-    rt: &impl Abort,
-    memory: &'a Refusing<Global>,
-    book: &Book<&'a Refusing<Global>>,
-    number: u64,
-) -> Tried {
-    let parts = parts_of(rt, memory, book);
+fn makes_of_parts(rt: &impl Abort, alloc: Global, memory: &Refusing<Global>, number: u64) -> Tried {
+    let talk = told(rt, alloc, memory);
+    let parts = parts_of(rt, memory, &talk.book);
     memory.refuse(number);
     let made = made(parts);
     let has_refused = memory.has_refused();
-    match made {
+    let tried = match made {
         Ok(made) => {
-            let is_like = are_alike(rt, &made, book);
+            let is_like = are_alike(rt, &made, &talk.book);
             drop(made);
             Tried::done(!has_refused && is_like)
         }
         Err(error) => Tried::refused(has_refused && error == FromPartsError::NoMemory),
-    }
+    };
+    drop(talk);
+    tried
 }
 
 #[test]
 fn each_request_of_a_book_of_parts_is_refused(rt: HostRuntime) {
     let memory = Refusing::new(rt.alloc());
-    let talk = told(&rt, rt.alloc(), &memory);
-    let made = requests(|number| makes_of_parts(&rt, &memory, &talk.book, number));
+    let made = requests(|number| makes_of_parts(&rt, rt.alloc(), &memory, number));
     assert_eq!(rt; made, Some(17), "Book::from_parts");
-    drop(talk);
 }
