@@ -5,7 +5,7 @@
 //! a connection has its answer at its place, a receipt shows the line's command, and what is written is the texts of the
 //! answers (`serve_one`). The shares of all workers sum to what the history grew by (`gather`), which is what a server says
 //! (`run_server`). A pump, the start of a snapshot and the retiring of an entry are one act of the vault each, and count nothing
-//! (`Desk`). Of `run_flusher` and `Shared::close` safety alone is proved.
+//! (`Desk`). Of `run_flusher` and of `Shared`'s `close`, `pump` and `retire` safety alone is proved.
 //! Stands on: group_commit, vault_protocol, and what they stand on. Must not know: what a command does, what a file holds.
 //!
 //! Invariants:
@@ -20,9 +20,9 @@
 //! that comes back, goes on without one that doesn't, and stays until it is closed; it begins a snapshot where one is wanted,
 //! and, refused its memory, commits and begins it then; one pump a holding; a round over TCP; a client that reads late is told
 //! all; a silent one is ended after the idle time; an accept fault; more commands than a history keeps; each request of
-//! `Shared::new` and `serve_one` for memory, refused.
+//! `Shared::new`, `serve_one` and `run_server` for memory, refused.
 //! Neither: that anybody is served or woken; fairness, time; what the channel of connections delivers, and what a TCP peer gets;
-//! whom a name belongs to; `run_server` under refused memory.
+//! whom a name belongs to.
 //! Start at: desk.rt (what is done under the lock), serve.rt (one connection), flusher.rt (when, by `flusher_pace`), server.rt.
 #![tactic(auto)]
 
