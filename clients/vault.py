@@ -111,6 +111,12 @@ def make(client: Client, words: Words, _output: Output) -> Told:
     return f"{words.place} is there.", {"place": words.place}
 
 
+def nest(client: Client, words: Words, _output: Output) -> Told:
+    """Makes an assembly inside an assembly."""
+    client.nest(words.place, words.claim)
+    return f"{words.place} is there.", {"place": words.place}
+
+
 def told_standing(standing: Standing) -> Told:
     """A standing, and what to do where it is queued."""
     wait = "" if standing.held else f" `vault wait {standing.claim}` waits."
@@ -350,9 +356,9 @@ def still(client: Client, standing: Standing) -> Standing:
 
 
 COMMANDS: Dict[str, Callable[[Client, Words, Output], Told]] = {
-    "hello": hello, "tree": tree, "make": make, "checkout": checkout, "extend": extend, "put": put, "get": get, "history": history,
-    "checkin": checkin, "abandon": abandon, "give": give, "note": note, "wait": wait, "mine": mine, "hold": hold, "drafts": drafts,
-    "forget": forget,
+    "hello": hello, "tree": tree, "make": make, "nest": nest, "checkout": checkout, "extend": extend, "put": put, "get": get,
+    "history": history, "checkin": checkin, "abandon": abandon, "give": give, "note": note, "wait": wait, "mine": mine,
+    "hold": hold, "drafts": drafts, "forget": forget,
 }
 
 
@@ -403,7 +409,8 @@ NAMED = ("--claim", {"default": "", "metavar": "CLAIM", "help": "the check-out t
 def add_of_places(commands: Any) -> None:
     """Adds the commands that name a place."""
     add(commands, "tree", "shows the places beneath one", ("place", {"nargs": "?", "default": "/", "metavar": "PLACE"}))
-    add(commands, "make", "makes a place", PLACE, NAMED)
+    add(commands, "make", "makes a place: a project, an assembly in it, or a part", PLACE, NAMED)
+    add(commands, "nest", "makes an assembly inside an assembly", PLACE, NAMED)
     add(commands, "put", "saves a file as the draft of a part", PLACE, ("file", {"metavar": "FILE"}), NAMED)
     add(commands, "get", "writes a version of a part, the last where none is named", PLACE,
         ("version", {"nargs": "?", "type": int, "metavar": "VERSION"}),

@@ -14,7 +14,7 @@ from typing import Callable, Dict, Iterator, List, Optional, Sequence, Tuple
 from vault_connection import Connection, Link, Patience, quiet
 from vault_memory import Claim, Command, Draft, Memory, by_number, shown, state_folder
 from vault_recovery import ANOTHERS, GONE, MINE, SENT_AGAIN, Recovery, not_known, whose
-from vault_words import (CONTENT_BYTES, GREATEST, NAME, NOTE_BYTES, SENTENCES, Lost, Misused, Refused, Reply, Standing, Unreachable,
+from vault_words import (CONTENT_BYTES, GREATEST, NAME, NAMES, NOTE_BYTES, SENTENCES, Lost, Misused, Refused, Reply, Standing, Unreachable,
                          checked, checkout_word, claim_word, item_words, place_word, standing_of, under)
 
 READ_AT_ONCE = 64
@@ -46,8 +46,11 @@ class Client:
 
     def make(self, place: str, claim: str = "") -> None:
         """Makes a place, in a check-out's name if one is given."""
-        words = ["make", place_word(place)] + ([checkout_word(claim)] if claim else [])
-        self._change(Command("make", " ".join(words), claim, place))
+        self._make("make", place, claim)
+
+    def nest(self, place: str, claim: str = "") -> None:
+        """Makes an assembly inside an assembly, in a check-out's name if one is given."""
+        self._make("nest", place, claim)
 
     def checkout(self, items: List[str]) -> Standing:
         """Asks for a check-out."""
@@ -344,6 +347,10 @@ class Client:
         code = self.link.read(whose(claim)).code
         return replace(standing, gone=standing.gone or code == GONE, anothers=code == ANOTHERS)
 
+    def _make(self, kind: str, place: str, claim: str) -> None:
+        words = [kind, place_word(place)] + ([checkout_word(claim)] if claim else [])
+        self._change(Command(kind, " ".join(words), claim, place))
+
     def _count(self, place: str) -> int:
         reply = self.link.read("count " + place)
         if not reply.ok:
@@ -357,7 +364,7 @@ class Client:
         for name in reply.words[2:]:
             child = place.rstrip("/") + "/" + name
             yield child
-            if child.count("/") < 3:
+            if child.count("/") < NAMES:
                 yield from self._beneath(child)
 
 

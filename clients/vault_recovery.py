@@ -13,6 +13,7 @@ BATCH = 32
 MINE = (22, 32)
 ANOTHERS = 31
 GONE = 30
+NO_PART = 22
 
 
 def whose(claim: str) -> str:
@@ -57,6 +58,8 @@ class Recovery:
             parent, _, name = command.place.rpartition("/")
             listed = self.link.read("list " + (parent or "/"))
             return Reply(True, ("place",)) if listed.ok and name in listed.words[2:] else None
+        if command.kind == "nest":
+            return Reply(True, ("place",)) if self.link.read("count " + command.place).code == NO_PART else None
         if command.kind == "give":
             return self._found_given(command)
         if command.kind == "note":
@@ -72,6 +75,8 @@ class Recovery:
             return self._found_given(command) or reply
         if command.kind == "make" and reply.code == 21:
             return Reply(True, ("place",))
+        if command.kind == "nest" and reply.code == 21:
+            return self.find_out(command) or reply
         if command.kind == "extend" and reply.code == 36:
             had = self.memory.claims.get(command.claim)
             if had is not None and len(had.items) + len(command.items) <= ITEMS:

@@ -8,10 +8,11 @@ CONTENT_BYTES = 1024
 NOTE_BYTES = 64
 GREATEST = 2 ** 32 - 1
 ITEMS = 8
+NAMES = 7
 
 NAME = re.compile(r"[a-z0-9_-]{1,32}")
-PLACE = re.compile(r"/|(/[a-z0-9_-]{1,32}){1,3}")
-ITEM = re.compile(r"[rw]:(/|(/[a-z0-9_-]{1,32}){1,3})")
+PLACE = re.compile(r"/|(/[a-z0-9_-]{1,32}){1,%d}" % NAMES)
+ITEM = re.compile(r"[rw]:(/|(/[a-z0-9_-]{1,32}){1,%d})" % NAMES)
 CLAIM = re.compile(r"[ch][1-9][0-9]{0,9}")
 CHECKOUT = re.compile(r"c[1-9][0-9]{0,9}")
 
@@ -22,7 +23,8 @@ SENTENCES: Dict[int, str] = {
     12: "This connection has a session already. Run the command again.",
     20: "There is no such place. Look with `vault tree`.",
     21: "That place is there already. Look with `vault tree`.",
-    22: "That is not possible there: only parts, three names deep, have versions, and nothing stands beneath a part.",
+    22: "That is not possible there: only parts have versions, nothing stands beneath a part, and an assembly inside an assembly has three"
+        " to six names.",
     23: "{claim} covers the place above it. Wait until it is gone, or, if it is yours, add `--claim {claim}`.",
     30: "There is no such check-out: it was checked in or given up. `vault mine` shows yours.",
     31: "That check-out is another designer's. `vault mine` shows yours.",
@@ -148,7 +150,7 @@ def checked(pattern: "re.Pattern[str]", word: str, what: str) -> str:
 
 def place_word(word: str) -> str:
     """A place as it is written."""
-    return checked(PLACE, word, "place: write `/` or up to three names of a-z, 0-9, _ and -, as /engine/block/piston")
+    return checked(PLACE, word, "place: write `/` or up to seven names of a-z, 0-9, _ and -, as /engine/block/piston")
 
 
 def claim_word(word: str) -> str:

@@ -152,6 +152,13 @@ class Salvage(WithVault):
         self.assertIn("were " + b"NOVAULT".hex(), said)
         self.assertIn("claims 1, drafts 1", report)
 
+    def test_a_first_version(self) -> None:
+        """A file of the first version opens as it is: a new vault's snapshot has the same bytes in both."""
+        damage(self.first, 8, 0, b"\x00\x00\x00\x01")
+        said, report = self.salvaged()
+        self.assertIn("nothing is given up", said)
+        self.assertIn(", version 1\n", report)
+
     def test_a_gate_of_the_head(self) -> None:
         damage(self.first, 0, 0, b"\x03")
         said, report = self.salvaged()

@@ -65,6 +65,29 @@ fn reports_on_vaults(rt: HostRuntime) {
     assert!(rt; tells(&rt, alloc, QUEUED, NEW, QUEUED_TEXT));
 }
 
+// The same two files as version 1 wrote them.
+const OLD_WITH_E: &[u8; 47] =
+    b"\x01LLVAULT\0\0\0\x01\0\0\0\0\0\0\0\x01\0\0\0\x0a\0\0\0\0\0\0\0\x01\0\0\x01\0\0\0\x07\x01\0\0\0\0\x01e\0";
+
+const OLD_CHECKED_OUT: &[u8; 57] =
+    b"\x01LLVAULT\0\0\0\x01\0\0\0\0\0\0\0\x02\0\0\0\x20\0\0\0\x01\0\0\0\x02\0\0\0\0\x01e\0\x01\0\0\0\x01\x04anna\x01\x01\0\0\0\x01\0\0";
+
+// The version is told of the active file alone.
+#[test]
+fn reports_on_files_of_version_1(rt: HostRuntime) {
+    let alloc = rt.alloc();
+    let text =
+        b"file a: open, generation 1, frames 1, tail 46, version 1\nfile b: closed\nplaces 2, versions 0, claims 0, drafts 0\n";
+    assert!(rt; tells(&rt, alloc, OLD_WITH_E, b"", text));
+    let text =
+        b"file a: older, generation 1\nfile b: open, generation 2, frames 0, tail 56, version 1\nplaces 2, versions 0, claims 1, drafts 0\nc1 anna held w:/e\n";
+    assert!(rt; tells(&rt, alloc, OLD_WITH_E, OLD_CHECKED_OUT, text));
+    assert!(rt; tells(&rt, alloc, WITH_E, OLD_CHECKED_OUT, text));
+    let text =
+        b"file a: older, generation 1\nfile b: open, generation 2, frames 0, tail 58\nplaces 2, versions 0, claims 1, drafts 0\nc1 anna held w:/e\n";
+    assert!(rt; tells(&rt, alloc, OLD_WITH_E, CHECKED_OUT, text));
+}
+
 // Both devices behind a snapshot of their vault, and a project in a frame behind it.
 fn renewed(
     rt: &impl Abort,
@@ -132,7 +155,7 @@ fn reports_on_no_vault(rt: HostRuntime) {
     let text = b"file a: damaged at 34\nfile b: closed\nno vault\n";
     assert!(rt; tells(&rt, alloc, &WITH_E[..40], b"", text));
     let mut other = *NEW;
-    other[11] = 1;
+    other[11] = 3;
     let text = b"file a: damaged at 8\nfile b: open, generation 1, frames 0, tail 34\nno vault\n";
     assert!(rt; tells(&rt, alloc, &other, NEW, text));
     let text = b"file a: open, generation 1, frames 1, tail 46\nfile b: damaged at 8\nno vault\n";

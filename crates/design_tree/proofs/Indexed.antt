@@ -9,8 +9,8 @@ use Rattle.std.proofs.lemmas.Bool.Decides.{nat_tests}
 use Rattle.vault_model.specs.declared.place.Place.{Place}
 use Rattle.std.proofs.Math.Seq.{map-set_same}
 use Rattle.std.proofs.lemmas.List.{map-append, map-set, get_or-map}
-use Rattle.vault_model.specs.Tree.{depth, is_part, child, is_full, children_of}
-use Rattle.vault_model.specs.Limits.{greatest_depth}
+use Rattle.vault_model.specs.Tree.{may_have, child, is_full, children_of}
+use Rattle.vault_model.proofs.Depths.{had}
 use Rattle.vault_model.proofs.Walks.{Rises}
 use Rattle.vault_model.proofs.Growth.{slice_get-push_old, slice_get-push_new, IsTree-push}
 use Rattle.design_tree.specs.Index.{IsIndexed, IsSoundTree, with_child}
@@ -69,9 +69,9 @@ module _ (tree : List Place) (x : Place) (lists : List (List ℕ)) where
           ap (slice_get (with_child lists x.parent (length tree + 1))) (sym same) ∙ at_new ∙ ap (λ n. Some (children_of (tree ++ x ∷ []) n)) same
 
   -- what a tree keeps, it keeps with a place more
-  pub IsSoundTree-push : IsSoundTree tree lists → x.parent ≤ length tree → is_part tree x.parent ≡ false → child tree x.parent x.name ≡ None → is_full tree x.parent ≡ false → IsSoundTree (tree ++ x ∷ []) (with_child lists x.parent (length tree + 1))
+  pub IsSoundTree-push : IsSoundTree tree lists → x.parent ≤ length tree → may_have tree x.parent x.kind ≡ true → child tree x.parent x.name ≡ None → is_full tree x.parent ≡ false → IsSoundTree (tree ++ x ∷ []) (with_child lists x.parent (length tree + 1))
   IsSoundTree-push kept there kind fresh room = record {
-    tree_is = let low : depth tree x.parent < greatest_depth = grind (arith, nat_tests, kind) in IsTree-push tree x kept.tree_is there low kind fresh room;
+    tree_is = let both = had tree x.parent x.kind kind in IsTree-push tree x kept.tree_is there both.1 both.0 fresh room;
     indexed = IsIndexed-push kept.tree_is.parents there kept.indexed;
   }
 

@@ -1,14 +1,16 @@
 -- Why a place is not made. This project's own.
-use Rattle.std.specs.Prelude.{ℕ, List, Option, None, Some, is_some, if◌then◌else◌}
+use Rattle.std.specs.Prelude.{ℕ, not, List, Option, None, Some, is_some, if◌then◌else◌}
 use Rattle.vault_model.specs.declared.place.Place.{Place}
-use Rattle.vault_model.specs.Tree.{is_part, child, is_full}
+use Rattle.vault_model.specs.declared.place.Kind.{Kind}
+use Rattle.vault_model.specs.Tree.{may_have, child, is_full}
 use Rattle.design_tree.specs.declared.tree.AddError.{AddError}
 use Rattle.design_tree.specs.declared.tree.AddError.TheVariants.{WrongKind, Exists, Limit, NoMemory}
 
--- what forbids a place by this name under the parent: the parent is a part, has a child of the name, or there is no room
-abbrev pub refusal : List Place → ℕ → List ℕ → Option AddError
-refusal tree parent name =
-    if is_part tree parent then Some WrongKind
+-- what forbids a place by this name and of this kind under the parent: the parent may not have one of the kind, has a child of the name, or
+-- there is no room
+abbrev pub refusal : List Place → ℕ → List ℕ → Kind → Option AddError
+refusal tree parent name kind =
+    if not (may_have tree parent kind) then Some WrongKind
     else if is_some (child tree parent name) then Some Exists
     else if is_full tree parent then Some Limit
     else None

@@ -1,12 +1,13 @@
 //! The tree.
-ghost use Rattle.std.specs.Prelude.{◌≡◌, ℕ, ◌+◌, ◌-◌, ◌<◌, ◌≤◌, false, None, List, [], ◌∷◌, ◌++◌, length, IfOk, IfErr, IfSome, OnOk, OnErr, All};
-ghost use Rattle.vault_model.specs.Tree.{new_place, parent_of, name_of, path_of, is_under, is_part, kind_of, child, find_below, find_place, children_of, names_under, is_full, IsTree};
+ghost use Rattle.std.specs.Prelude.{◌≡◌, ℕ, suc, ◌+◌, ◌-◌, ◌<◌, ◌≤◌, true, false, None, List, [], ◌∷◌, ◌++◌, length, IfOk, IfErr, IfSome, OnOk, OnErr, All};
+ghost use Rattle.vault_model.specs.Tree.{new_place, parent_of, name_of, path_of, is_under, depth, is_part, kind_of, may_have, kind_under, may_nest_under, child, find_below, find_place, children_of, names_under, is_full, IsTree};
+ghost use Rattle.vault_model.specs.declared.place.Kind.TheVariants.{Assembly};
 ghost use Rattle.design_tree.specs.Added.{refusal, refusal_told};
 
 use crate::index::enter;
 use crate::walk::{
-    depth_in, first_named, is_part_in, is_under_in, kind_of_depth, name_in, names_in, parent_in,
-    path_in,
+    depth_in, first_named, is_between, is_part_kind, is_under_in, kind_at, kind_in, may_stand,
+    name_in, names_in, parent_in, path_in,
 };
 use std::alloc::{Allocator, Global};
 use std::marker::Model;
@@ -37,7 +38,7 @@ impl<A: Allocator> Model for Tree<A> {
 /// Why a place was not made.
 #[derive(Clone, Copy, Debug, PartialEq, Eq, Error)]
 pub enum AddError {
-    #[error("nothing stands under a part")]
+    #[error("no place of the kind stands there")]
     WrongKind,
     #[error("a sibling has the name")]
     Exists,
@@ -137,12 +138,12 @@ impl<A: Allocator> Tree<A> {
         path_in(&self.places, place)
     }
 
-    /// What a place is. The work grows with its depth alone.
+    /// What a place is.
     pub fn kind(&self, place: PlaceId) -> Kind
         requires { place ≤ length self.now }
         ensures { result ≡ kind_of self.now place }
     {
-        kind_of_depth(depth_in(&self.places, place))
+        kind_in(&self.places, place)
     }
 
     /// Whether a place is a part, under which there are no places.
@@ -150,7 +151,44 @@ impl<A: Allocator> Tree<A> {
         requires { place ≤ length self.now }
         ensures { result ≡ is_part self.now place }
     {
-        is_part_in(&self.places, place)
+        is_part_kind(self.kind(place))
+    }
+
+    /// How deep a child of a place would stand. The work grows with the place's depth alone.
+    fn depth_under(&self, parent: PlaceId) -> usize
+        requires { parent ≤ length self.now }
+        ensures depth { result ≡ suc (depth self.now parent) }
+        ensures tree { IsTree self.now }
+    {
+        depth_in(&self.places, parent) + 1
+    }
+
+    /// Whether a place may have a child of a kind. The work grows with the place's depth alone.
+    pub fn may_have(&self, parent: PlaceId, kind: Kind) -> bool
+        requires { parent ≤ length self.now }
+        ensures may { result ≡ may_have self.now parent kind }
+        ensures tree { IsTree self.now }
+    {
+        let depth = self.depth_under(parent);
+        !self.is_part(parent) && may_stand(kind, depth)
+    }
+
+    /// What is made under a place where nothing else is asked for. The work grows with the place's depth alone.
+    pub fn kind_under(&self, parent: PlaceId) -> Kind
+        requires { parent ≤ length self.now }
+        ensures kind { result ≡ kind_under self.now parent }
+        ensures may_have { is_part self.now parent ≡ false → may_have self.now parent result ≡ true }
+    {
+        kind_at(self.depth_under(parent))
+    }
+
+    /// Whether an assembly may be asked for under a place. The work grows with the place's depth alone.
+    pub fn may_nest_under(&self, parent: PlaceId) -> bool
+        requires { parent ≤ length self.now }
+        ensures nests { result ≡ may_nest_under self.now parent }
+        ensures may_have { result ≡ true → is_part self.now parent ≡ false → may_have self.now parent Assembly ≡ true }
+    {
+        is_between(self.depth_under(parent))
     }
 
     /// Whether a place is another, or lies under it. The work grows with the place's depth alone.
@@ -217,37 +255,37 @@ impl<A: Allocator + Copy> Tree<A> {
 
     /// Makes a place where nothing forbids it, which the caller has tested. Room is asked for
     /// before anything changes.
-    pub fn push(&mut self, parent: PlaceId, name: Name) -> Result<PlaceId, NoMemory>
+    pub fn push(&mut self, parent: PlaceId, name: Name, kind: Kind) -> Result<PlaceId, NoMemory>
         requires there { parent ≤ length self.old }
-        requires kind { is_part self.old parent ≡ false }
+        requires kind { may_have self.old parent kind ≡ true }
         requires fresh { child self.old parent name ≡ None }
         requires room { is_full self.old parent ≡ false }
         ensures tree { IsTree self.new }
         ensures made { IfOk result (λ place. place ≡ length self.old + 1) }
-        ensures ok { OnOk result (self.new ≡ self.old ++ new_place parent name ∷ []) }
+        ensures ok { OnOk result (self.new ≡ self.old ++ new_place parent name kind ∷ []) }
         ensures err { OnErr result (self.new ≡ self.old) }
     {
         let place = PlaceId(self.places.len() as u32 + 1);
         self.places.reserve(1).map_err(|_| NoMemory)?;
         enter(&mut self.children, parent, place).map_err(|_| NoMemory)?;
-        self.places.push(Place { parent, name }).unwrap();
+        self.places.push(Place { parent, name, kind }).unwrap();
         Ok(place)
     }
 
     /// Makes a place, or says why there is none. The refusals are tried in the order of
     /// `AddError`, and want of memory comes last.
-    pub fn add(&mut self, parent: PlaceId, name: Name) -> Result<PlaceId, AddError>
+    pub fn add(&mut self, parent: PlaceId, name: Name, kind: Kind) -> Result<PlaceId, AddError>
         requires { parent ≤ length self.old }
         ensures tree { IsTree self.new }
         ensures made { IfOk result (λ place. place ≡ length self.old + 1) }
-        ensures ok { OnOk result (self.new ≡ self.old ++ new_place parent name ∷ []) }
+        ensures ok { OnOk result (self.new ≡ self.old ++ new_place parent name kind ∷ []) }
         ensures err { OnErr result (self.new ≡ self.old) }
 
         // What refuses comes first, and memory is wanted only where nothing does.
-        ensures allowed { OnOk result (refusal self.old parent name ≡ None) }
-        ensures refused { IfErr result (λ e. refusal self.old parent name ≡ refusal_told e) }
+        ensures allowed { OnOk result (refusal self.old parent name kind ≡ None) }
+        ensures refused { IfErr result (λ e. refusal self.old parent name kind ≡ refusal_told e) }
     {
-        if is_part_in(&self.places, parent) {
+        if !self.may_have(parent, kind) {
             return Err(AddError::WrongKind);
         }
         if self.child(parent, &name).is_some() {
@@ -256,6 +294,6 @@ impl<A: Allocator + Copy> Tree<A> {
         if self.is_full(parent) {
             return Err(AddError::Limit);
         }
-        Ok(self.push(parent, name)?)
+        Ok(self.push(parent, name, kind)?)
     }
 }

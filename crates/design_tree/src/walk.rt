@@ -1,11 +1,12 @@
 //! Walks over the places, each under its parent.
 ghost use Rattle.std.specs.Prelude.{◌≡◌, ℕ, ◌+◌, ◌-◌, ◌<◌, ◌≤◌, ◌==◌, List, length, slice_get, IfSome, IfOk, All};
 ghost use Rattle.std.specs.List.{find, filter_map};
-ghost use Rattle.vault_model.specs.Tree.{parent_of, name_of, is_under, depth, is_part, kind_of_depth, path_of, IsTree};
+ghost use Rattle.vault_model.specs.Tree.{parent_of, name_of, is_under, depth, kind_of, is_part_kind, is_between, may_stand, kind_at, path_of, IsTree};
+ghost use Rattle.vault_model.specs.Limits.{greatest_depth};
 ghost use Rattle.design_tree.specs.Index.{has_name};
 
 use std::alloc::Allocator;
-use vault_model::{Kind, Name, NoMemory, PART_DEPTH, Path, Place, PlaceId};
+use vault_model::{GREATEST_DEPTH, Kind, Name, NoMemory, PART_DEPTH, Path, Place, PlaceId};
 
 /// The parent of a place.
 pub fn parent_in(places: &[Place], place: PlaceId) -> Option<PlaceId>
@@ -92,7 +93,8 @@ pub fn is_under_in(places: &[Place], place: PlaceId, top: PlaceId) -> bool
 pub fn depth_in(places: &[Place], place: PlaceId) -> usize
     requires tree { IsTree places.now }
     requires there { place ≤ length places.now }
-    ensures { result ≡ depth places.now place }
+    ensures depth { result ≡ depth places.now place }
+    ensures shallow { result ≤ greatest_depth }
 {
     let mut at = place;
     let mut steps = 0;
@@ -103,27 +105,51 @@ pub fn depth_in(places: &[Place], place: PlaceId) -> usize
     steps
 }
 
-/// Whether a place is as deep as places are.
-pub fn is_part_in(places: &[Place], place: PlaceId) -> bool
-    requires tree { IsTree places.now }
-    requires there { place ≤ length places.now }
-    ensures { result ≡ is_part places.now place }
+/// What a place is.
+pub fn kind_in(places: &[Place], place: PlaceId) -> Kind
+    requires { place ≤ length places.now }
+    ensures { result ≡ kind_of places.now place }
 {
-    depth_in(places, place) >= PART_DEPTH
+    if place.number() == 0 {
+        return Kind::Library;
+    }
+    places[place.number() as usize - 1].kind
 }
 
-/// What the depth makes of a place.
-pub fn kind_of_depth(depth: usize) -> Kind
-    ensures { result ≡ kind_of_depth depth }
+/// Whether a kind is that of parts.
+pub fn is_part_kind(kind: Kind) -> bool
+    ensures { result ≡ is_part_kind kind }
 {
-    if depth == 0 {
-        Kind::Library
-    } else if depth >= PART_DEPTH {
-        Kind::Part
-    } else if depth == 1 {
-        Kind::Project
-    } else {
-        Kind::Assembly
+    matches!(kind, Kind::Part)
+}
+
+/// Whether an assembly may stand at a depth where parts may stand, too.
+pub fn is_between(depth: usize) -> bool
+    ensures { result ≡ is_between depth }
+{
+    PART_DEPTH <= depth && depth < GREATEST_DEPTH
+}
+
+/// Whether a place of a kind may stand at a depth.
+pub fn may_stand(kind: Kind, depth: usize) -> bool
+    ensures { result ≡ may_stand kind depth }
+{
+    match kind {
+        Kind::Library => depth == 0,
+        Kind::Project => depth == 1,
+        Kind::Assembly => depth == 2 || is_between(depth),
+        Kind::Part => is_between(depth) || depth == GREATEST_DEPTH,
+    }
+}
+
+/// What is made at a depth where nothing else is asked for.
+pub fn kind_at(depth: usize) -> Kind
+    ensures { result ≡ kind_at depth }
+{
+    match depth {
+        1 => Kind::Project,
+        2 => Kind::Assembly,
+        _ => Kind::Part,
     }
 }
 

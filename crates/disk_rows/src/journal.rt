@@ -51,6 +51,13 @@ fn records(rt: HostRuntime) -> Result<(), Fail> {
     let one = Items::new().with(change);
     let two = one.with(look);
     assert!(rt; is_recorded(alloc, &Effect::Made(PlaceId(0), e), b"\x01\0\0\0\0\x01e")?);
+    assert!(rt;
+        is_recorded(
+            alloc,
+            &Effect::Nested(PlaceId(2), e),
+            b"\x09\0\0\0\x02\x01e"
+        )?
+    );
     let asked = b"\x02\0\0\0\x01\x04anna\x01\x01\0\0\0\x01";
     assert!(rt; is_recorded(alloc, &Effect::Asked(1, anna, one), asked)?);
     let extended = b"\x03\x01\x02\x03\x04\x02\x01\0\0\0\x01\0\0\0\x01\x02";

@@ -2,6 +2,7 @@ ghost use Rattle.std.specs.Prelude.{◌<◌, length};
 
 mod bodies;
 mod committing;
+mod migrating;
 mod renewing;
 mod reopening;
 
@@ -166,7 +167,7 @@ fn opened_damaged(rt: HostRuntime) {
         (1, 0, 1),
         (7, 0, 1),
         (8, 1, 8),
-        (11, 1, 8),
+        (11, 0, 8),
         (11, 3, 8),
         (19, 0, 12),
     ] {

@@ -40,5 +40,5 @@ turned (Err r) P Q is turn = turn r is
 
 -- the files are read as the vault that begins over them
 pub read_over : {D : Type 0} (x y : List ℕ) (store : StoreSeen D) (book : Vault) (new : VaultSeen D) (life : ℕ) → AreRead x y (settled_reading store (at_rest book)) → IsBegun store book life new
-    → AreRead x y (record { vault = new.view.base; generation = new.store.generation; tail = new.store.tail; journal_length = new.store.journal_length })
-read_over x y store book new life read is = subst (AreRead x y) (λ i. record { vault = (sym is.view_is i).base; generation = (sym is.store_is i).generation; tail = (sym is.store_is i).tail; journal_length = (sym is.store_is i).journal_length }) read
+    → AreRead x y (record { vault = new.view.base; version = new.store.version; generation = new.store.generation; tail = new.store.tail; journal_length = new.store.journal_length })
+read_over x y store book new life read is = subst (AreRead x y) (λ i. record { vault = (sym is.view_is i).base; version = (sym is.store_is i).version; generation = (sym is.store_is i).generation; tail = (sym is.store_is i).tail; journal_length = (sym is.store_is i).journal_length }) read

@@ -19,7 +19,7 @@ use Rattle.vault_model.proofs.Stays.{own_id, claim_there}
 use Rattle.vault_model.specs.Drafts.{new_draft}
 use Rattle.vault_model.proofs.WellFormed.{not_last}
 use Rattle.vault_model.proofs.Shelves.{true_le}
-use Rattle.vault_model.proofs.Transitions.{CanExtend, Transition, made, asked, extended, saved, checked_in, abandoned, given, noted, by_transition}
+use Rattle.vault_model.proofs.Transitions.{CanExtend, Transition, made, nested, asked, extended, saved, checked_in, abandoned, given, noted, by_transition}
 use Rattle.vault_journal.specs.Spelling.{IsClaimNumber, ItemFits, HasRecord}
 use Rattle.group_commit.specs.Written.{IsOfItsType}
 
@@ -58,6 +58,7 @@ module _ (v : Vault) (kept : IsVault v) where
   -- the effect of each change has a record
   transition_has : (effect : Option Effect) (w : Vault) → Transition v effect w → HasOne effect
   transition_has effect w (made parent name can) = λ typed. (fits_there parent can.there, typed)
+  transition_has effect w (nested parent name can between) = λ typed. (fits_there parent can.there, typed)
   transition_has effect w (asked designer items can) = λ typed. (record { positive = omega arith; fits = omega (arith, not_last v.last_long kept.numbers.long can.unspent) }, typed, record { some = can.some; few = can.few; fit = items_fit items can.there })
   transition_has effect w (extended id claim items can) = extended_has id claim items can
   transition_has effect w (saved claim number place content can) = λ typed. (numbered number claim can.used.found, fits_there place can.there, short_enough v number place content can.limits)

@@ -15,6 +15,7 @@ use Rattle.vault_store.specs.Files.{header, frame_extra}
 use Rattle.vault_store.specs.Step.{IsStep, IsAtMostOneCall, MayBeLeft, renews as store_renews, gained as store_gained, AreNumbers as AreStoreNumbers}
 use Rattle.vault_store.specs.Phases.{Waiting, DeviceCall, NoCall, Write, Sync, NoMore, TheSealed, All, Row, row, rests, ends, seals, is_idle, is_snapshot, settled_by, after_fault}
 use Rattle.vault_store.specs.State.{StoreState, waiting_in, row_of, advanced, failed}
+use Rattle.vault_store.specs.Snapshot.{current_version}
 use Rattle.vault_store.specs.Seen.{StoreSeen, other, first_of, second_of, Keeps, IsLeftInside}
 use Rattle.vault_store.proofs.Asides.{length-behind}
 use Rattle.group_commit.specs.Entries.{Kept}
@@ -270,6 +271,7 @@ module _ {D : Type 0} (disk : D → Disk) (seen : VaultSeen D) (book : Vault) (k
   numbers_are : (settled sealed : ℕ) (broken : Bool) (result answer : Result Pumped DeviceFault) → Made result → AnswersAlike result answer → AreNumbers seen (after_step disk seen book k store settled sealed broken) answer
   numbers_are settled sealed broken result answer made alike = record {
     which = made.numbers.which ∙ ap (λ b. cond b (other seen.store.which) seen.store.which) alike.renewed;
+    version = made.numbers.version ∙ ap (λ b. cond b current_version seen.store.version) alike.renewed;
     generation = made.numbers.generation ∙ ap (λ b. cond b (seen.store.generation + 1) seen.store.generation) alike.renewed;
     tail =
         made.numbers.tail

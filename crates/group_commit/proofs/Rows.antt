@@ -2,7 +2,7 @@
 use Rattle.std.specs.Prelude.{◌<◌, ◌≢◌, true, false, Some, refl}
 use Rattle.std.proofs.Common.{arith}
 use Rattle.vault_model.specs.Claims.{overlap}
-use Rattle.vault_model.specs.Step.{step, decide, chained, join, make, permitted, check_out, hold, state, list}
+use Rattle.vault_model.specs.Step.{step, decide, chained, join, make, admitted, permitted, check_out, hold, state, list}
 use Rattle.group_commit.specs.declared.mark.Mark.TheVariants.{Open, Told}
 use Rattle.vault_store.specs.Phases.{NoCall, Write}
 use Rattle.group_commit.specs.Rows.{pumps_of, Rows, TwoSessionsOneFrame, NothingForGood, TornGateClosed, TornGateOpen, ToldStands, HoldGoes, SnapshotTornClosed, SnapshotTornOpen, SnapshotSettled, FailedWrite}
@@ -34,7 +34,7 @@ broken : true ≢ false
 broken e = cc
 
 two_sessions_one_frame : TwoSessionsOneFrame
-unfolding pumps_of step decide chained join make permitted overlap
+unfolding pumps_of step decide chained join make admitted permitted overlap
 two_sessions_one_frame = record {
   is_run =
       refl & refl & refl & refl & refl & refl & refl & refl & refl
@@ -60,7 +60,7 @@ of_two : 1 < 2
 of_two = omega arith
 
 torn_gate_closed : TornGateClosed
-unfolding pumps_of step decide chained join make permitted list overlap
+unfolding pumps_of step decide chained join make admitted permitted list overlap
 torn_gate_closed = record {
   is_run = refl & refl & refl & refl & refl & refl & (of_two, refl) & refl & refl & refl & refl & tt & refl & refl & tt;
   calls = refl;
@@ -69,7 +69,7 @@ torn_gate_closed = record {
 }
 
 torn_gate_open : TornGateOpen
-unfolding pumps_of step decide chained join make permitted list overlap
+unfolding pumps_of step decide chained join make admitted permitted list overlap
 torn_gate_open = record {
   is_run = refl & refl & refl & refl & refl & refl & (of_two, refl) & refl & refl & refl & refl & tt & refl & refl & tt;
   calls = refl;
@@ -78,11 +78,11 @@ torn_gate_open = record {
 }
 
 told_stands : ToldStands
-unfolding step decide chained join make permitted list overlap
+unfolding step decide chained join make admitted permitted list overlap
 told_stands = refl
 
 hold_goes : HoldGoes
-unfolding pumps_of step decide chained join make permitted check_out hold state overlap
+unfolding pumps_of step decide chained join make admitted permitted check_out hold state overlap
 hold_goes = record {
   is_run = refl & refl & refl & refl & refl & refl & refl & refl & refl & tt & refl & refl & refl & tt;
   calls = refl;
@@ -91,7 +91,7 @@ hold_goes = record {
 }
 
 snapshot_torn_closed : SnapshotTornClosed
-unfolding pumps_of step decide chained join make permitted list overlap
+unfolding pumps_of step decide chained join make admitted permitted list overlap
 snapshot_torn_closed = record {
   is_run = refl & refl & refl & refl & refl & refl & refl & (refl, refl) & refl & refl & refl & refl & refl & tt & refl & refl & tt;
   calls = refl;
@@ -100,7 +100,7 @@ snapshot_torn_closed = record {
 }
 
 snapshot_torn_open : SnapshotTornOpen
-unfolding pumps_of step decide chained join make permitted list overlap
+unfolding pumps_of step decide chained join make admitted permitted list overlap
 snapshot_torn_open = record {
   is_run = refl & refl & refl & refl & refl & refl & refl & (refl, refl) & refl & refl & refl & refl & refl & tt & refl & refl & tt;
   calls = refl;
@@ -109,7 +109,7 @@ snapshot_torn_open = record {
 }
 
 snapshot_settled : SnapshotSettled
-unfolding pumps_of step decide chained join make permitted list overlap
+unfolding pumps_of step decide chained join make admitted permitted list overlap
 snapshot_settled = record {
   is_run = refl & refl & refl & refl & refl & refl & refl & (refl, refl) & refl & refl & refl & refl & refl & refl & tt & refl & refl & tt;
   calls = refl;
@@ -121,7 +121,7 @@ unsettled : 2 < 2 → ⊥
 unsettled h = omega arith
 
 failed_write : FailedWrite
-unfolding pumps_of step decide chained join make permitted list overlap
+unfolding pumps_of step decide chained join make admitted permitted list overlap
 failed_write = record {
   no_stage = broken;
   no_pump = broken;

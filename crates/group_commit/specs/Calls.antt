@@ -10,6 +10,7 @@ use Rattle.vault_store.specs.declared.phase.Advanced.{Advanced as Pumped}
 use Rattle.vault_store.specs.declared.phase.Advanced.TheVariants as answers
 use Rattle.vault_store.specs.Files.{header, frame_extra}
 use Rattle.vault_store.specs.Phases.{is_idle, is_snapshot}
+use Rattle.vault_store.specs.Snapshot.{current_version}
 use Rattle.vault_store.specs.Seen.{StoreSeen, other, has_room}
 use Rattle.group_commit.specs.declared.answers.Redeemed.{Redeemed}
 use Rattle.group_commit.specs.declared.answers.Redeemed.TheVariants as redeemed
@@ -61,11 +62,12 @@ tail_after v result tail = if renews v result then behind_snapshot v else tail +
 abbrev pub generation_after : View → Result Pumped DeviceFault → ℕ → ℕ
 generation_after v result generation = if renews v result then generation + 1 else generation
 
--- The active file and its numbers after a pump: the last one of a commit moves the tail gate behind the frame; the last one of a
--- snapshot exchanges the files, and the tail gate then stands behind the snapshot; the first one of a commit empties the buffer, also
--- where its device call fails; no other changes them.
+-- The active file, its version and its numbers after a pump: the last one of a commit moves the tail gate behind the frame; the last one
+-- of a snapshot exchanges the files, of which the new active one is of today's version, and the tail gate then stands behind the snapshot;
+-- the first one of a commit empties the buffer, also where its device call fails; no other changes them.
 pub record AreNumbers {D : Type 0} (old new : VaultSeen D) (result : Result Pumped DeviceFault) : Type 0 where
   pub which : new.store.which ≡ (if renews old.view result then other old.store.which else old.store.which)
+  pub version : new.store.version ≡ (if renews old.view result then current_version else old.store.version)
   pub generation : new.store.generation ≡ generation_after old.view result old.store.generation
   pub tail : new.store.tail ≡ tail_after old.view result old.store.tail
   pub journal_length : new.store.journal_length ≡ (if renews old.view result then 0 else old.store.journal_length + gained old.view result)

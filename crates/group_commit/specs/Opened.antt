@@ -8,12 +8,15 @@ use Rattle.vault_store.specs.Create.{IsNotMade, ShowTheSame}
 use Rattle.vault_store.specs.declared.refused.Refused.{Refused}
 use Rattle.vault_store.specs.declared.opening.OpenError.{OpenError}
 use Rattle.vault_store.specs.declared.opening.OpenError.TheVariants as open_errors
+use Rattle.vault_store.specs.Snapshot.{current_version}
 use Rattle.vault_store.specs.Seen.{StoreSeen, first_of, second_of}
 use Rattle.group_commit.specs.View.{opened_view}
 use Rattle.group_commit.specs.Seen.{VaultSeen}
 
--- the numbers of an active file: its generation, its tail gate, and how many bytes of frames it has; nothing waits in the buffer
+-- the numbers of an active file of today's version: its generation, its tail gate, and how many bytes of frames it has; nothing waits in
+-- the buffer
 pub record Begins {D : Type 0} (store : StoreSeen D) (generation tail journal_length : ℕ) : Type 0 where
+  pub version_is : store.version ≡ current_version
   pub generation_is : store.generation ≡ generation
   pub tail_is : store.tail ≡ tail
   pub journal_is : store.journal_length ≡ journal_length

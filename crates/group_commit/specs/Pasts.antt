@@ -70,6 +70,7 @@ pub record IsOpenedOn {D : Type 0} (x y : List ℕ) (new : VaultSeen D) : Type 0
   pub begins : new.view ≡ opened_view new.view.base
   pub read : AreRead x y (record {
     vault = new.view.base;
+    version = new.store.version;
     generation = new.store.generation;
     tail = new.store.tail;
     journal_length = new.store.journal_length;

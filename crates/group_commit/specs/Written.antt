@@ -1,11 +1,12 @@
 -- What an effect has by its type alone. This project's own.
 use Rattle.vault_model.specs.Name.{IsName}
 use Rattle.vault_model.specs.Said.{Effect}
-use Rattle.vault_model.specs.declared.effects.Effect.TheVariants.{Made, Asked, Given}
+use Rattle.vault_model.specs.declared.effects.Effect.TheVariants.{Made, Nested, Asked, Given}
 
 -- a name is a name
 abbrev pub IsOfItsType : Effect → Type 0
 IsOfItsType (Made parent child) = IsName child
+IsOfItsType (Nested parent child) = IsName child
 IsOfItsType (Asked claim owner items) = IsName owner
 IsOfItsType (Given claim designer) = IsName designer
 IsOfItsType _ = Unit {0}

@@ -18,7 +18,10 @@ fn see_name<A: Allocator>(effect: &EffectIn<A>)
     ensures { IsOfItsType effect.now }
 {
     match effect {
-        Effect::Made(_, name) | Effect::Asked(_, name, _) | Effect::Given(_, name) => {
+        Effect::Made(_, name)
+        | Effect::Nested(_, name)
+        | Effect::Asked(_, name, _)
+        | Effect::Given(_, name) => {
             let _ = name.as_bytes();
         }
         _ => {}

@@ -56,6 +56,7 @@ impl<D: Device, A: Allocator + Copy> Vault<D, A> {
             → IfOk result (λ vault. AreRead (D.disk first).shown (D.disk second).shown
             (record {
               vault = vault.view.base;
+              version = vault.store.version;
               generation = vault.store.generation;
               tail = vault.store.tail;
               journal_length = vault.store.journal_length;

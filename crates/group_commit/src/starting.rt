@@ -17,7 +17,7 @@ use vault_store::laws::what_is_noted_is_spelled;
 
 impl<D: Device, A: Allocator + Copy> Vault<D, A> {
     /// Whether a snapshot is wanted: nothing is under way, and frames of 1,048,576 bytes or more stand in the active file, which an
-    /// opening would read.
+    /// opening would read, or that file isn't of today's version.
     pub fn wants_snapshot(&self) -> bool
         ensures { result ≡ wants_snapshot self.now.store }
     {

@@ -56,10 +56,8 @@ pub(crate) fn make<A: Allocator + Copy>(
     let parent = PlaceId(parent);
     assert!(rt; (parent.number() as usize) < tree.len());
     let name = Name::read(name.as_bytes()).expect(rt, "a name");
-    assert!(rt; !tree.is_part(parent));
-    assert!(rt; tree.child(parent, &name).is_none());
-    assert!(rt; !tree.is_full(parent));
-    tree.push(parent, name).expect(rt, "memory").number()
+    let kind = tree.kind_under(parent);
+    tree.add(parent, name, kind).expect(rt, "a place").number()
 }
 
 // The library, a project, an assembly in it, and two parts.

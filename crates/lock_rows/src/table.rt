@@ -1,4 +1,4 @@
-ghost use Rattle.std.specs.Prelude.{◌≡◌, ◌↔◌, IsTrue, [], ◌∷◌};
+ghost use Rattle.std.specs.Prelude.{◌≡◌, ◌≤◌, ◌↔◌, IsTrue, [], ◌∷◌, length};
 
 mod calls;
 
@@ -10,7 +10,7 @@ use lock_table::{Extension, LockSet, Table, lock_set};
 use std::alloc::{Allocator, Global};
 use std::process::Abort;
 use test_memory::{Refusing, Tried, requests};
-use vault_model::{ClaimId, Intent, Item, Items, Name, NoMemory, PlaceId, Standing};
+use vault_model::{ClaimId, Intent, Item, Items, Kind, Name, NoMemory, PlaceId, Standing};
 
 fn look(place: u32) -> Item {
     Item {
@@ -45,11 +45,15 @@ fn locks_of(rt: &impl Abort, tree: &Tree, items: &[Item]) -> LockSet {
 fn make(rt: &impl Abort, tree: &mut Tree, parent: u32, name: &str) -> u32 {
     let parent = PlaceId(parent);
     assert!(rt; (parent.number() as usize) < tree.len());
+    let kind = tree.kind_under(parent);
+    make_kind(rt, tree, parent, name, kind)
+}
+
+fn make_kind(rt: &impl Abort, tree: &mut Tree, parent: PlaceId, name: &str, kind: Kind) -> u32
+    requires { parent ≤ length tree.old }
+{
     let name = Name::read(name.as_bytes()).expect(rt, "a name");
-    assert!(rt; !tree.is_part(parent));
-    assert!(rt; tree.child(parent, &name).is_none());
-    assert!(rt; !tree.is_full(parent));
-    tree.push(parent, name).expect(rt, "memory").number()
+    tree.add(parent, name, kind).expect(rt, "a place").number()
 }
 
 // The library, a project, an assembly in it, and two parts.
@@ -87,11 +91,15 @@ fn look_at_assembly_and_change_of_part(rt: HostRuntime) {
 
 const NAMES: [&str; 8] = ["a", "b", "c", "d", "e", "f", "g", "h"];
 
-// A part in an assembly of a project of its own, all of one name.
+// A part as deep as parts are, in assemblies in a project of its own, all of one name.
 fn make_part(rt: &impl Abort, tree: &mut Tree, name: &str) -> u32 {
-    let project = make(rt, tree, 0, name);
-    let assembly = make(rt, tree, project, name);
-    make(rt, tree, assembly, name)
+    let mut place = make(rt, tree, 0, name);
+    place = make(rt, tree, place, name);
+    for _ in 3..7 {
+        assert!(rt; (place as usize) < tree.len());
+        place = make_kind(rt, tree, PlaceId(place), name, Kind::Assembly);
+    }
+    make(rt, tree, place, name)
 }
 
 #[test]
@@ -102,8 +110,8 @@ fn eight_parts_fill_the_room(rt: HostRuntime) {
         items[index] = look(make_part(&rt, &mut tree, NAMES[index]));
     }
     let locks = locks_of(&rt, &tree, &items);
-    assert_eq!(rt; locks.as_slice().len(), 25);
-    assert!(rt; has_modes(&locks, &[(0, Some(IS)), (24, Some(S))]));
+    assert_eq!(rt; locks.as_slice().len(), 57);
+    assert!(rt; has_modes(&locks, &[(0, Some(IS)), (55, Some(IS)), (56, Some(S))]));
     drop(locks);
     drop(tree);
 }

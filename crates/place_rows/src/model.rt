@@ -43,7 +43,7 @@ fn notes_are_read(rt: HostRuntime) {
 
 #[test]
 fn paths_are_read(rt: HostRuntime) -> Result<(), Fail> {
-    let words: [(&[u8], Option<usize>); 12] = [
+    let words: [(&[u8], Option<usize>); 13] = [
         (b"/", Some(0)),
         (b"/e", Some(1)),
         (b"/e/b", Some(2)),
@@ -54,7 +54,8 @@ fn paths_are_read(rt: HostRuntime) -> Result<(), Fail> {
         (b"/e/", None),
         (b"/e//b", None),
         (b"/e/B", None),
-        (b"/e/b/p1/x", None),
+        (b"/a/b/c/d/e/f/g", Some(7)),
+        (b"/a/b/c/d/e/f/g/h", None),
         (b"/abcdefghijklmnopqrstuvwxyz0123456", None),
     ];
     for (word, count) in words {

@@ -19,10 +19,18 @@ fn small_tree<A: Allocator + Copy>(rt: &impl Abort, alloc: A) -> Tree<A>
     ensures { length result ≡ 4 }
 {
     let mut tree = Tree::new(alloc).expect(rt, "memory");
-    let project = tree.add(PlaceId(0), name(rt, b"e")).expect(rt, "a project");
-    let assembly = tree.add(project, name(rt, b"b")).expect(rt, "an assembly");
-    let _ = tree.add(assembly, name(rt, b"p1")).expect(rt, "a part");
-    let _ = tree.add(assembly, name(rt, b"p2")).expect(rt, "a part");
+    let project = tree
+        .add(PlaceId(0), name(rt, b"e"), Kind::Project)
+        .expect(rt, "a project");
+    let assembly = tree
+        .add(project, name(rt, b"b"), Kind::Assembly)
+        .expect(rt, "an assembly");
+    let _ = tree
+        .add(assembly, name(rt, b"p1"), Kind::Part)
+        .expect(rt, "a part");
+    let _ = tree
+        .add(assembly, name(rt, b"p2"), Kind::Part)
+        .expect(rt, "a part");
     tree
 }
 
@@ -139,10 +147,52 @@ fn children_stand_under_their_parent(rt: HostRuntime) {
 fn a_place_is_pushed(rt: HostRuntime) {
     let mut tree = small_tree(&rt, rt.alloc());
     let (parent, third) = (PlaceId(2), name(&rt, b"p3"));
-    assert!(rt; !tree.is_part(parent) && !tree.is_full(parent));
+    assert!(rt; tree.may_have(parent, Kind::Part) && !tree.is_full(parent));
     assert!(rt; tree.child(parent, &third).is_none());
-    assert_eq!(rt; tree.push(parent, third), Ok(PlaceId(5)));
+    assert_eq!(rt; tree.push(parent, third, Kind::Part), Ok(PlaceId(5)));
     assert_eq!(rt; tree.find(&path(&rt, b"/e/b/p3")), Some(PlaceId(5)));
+    drop(tree);
+}
+
+// Makes a child, an assembly where one may be asked for, and says whether all is as it has to be at this depth.
+fn goes_down<A: Allocator + Copy>(
+    rt: &impl Abort,
+    tree: &mut Tree<A>,
+    parent: PlaceId,
+    depth: u32,
+) -> bool
+    requires { parent ≤ length tree.old }
+    ensures { length tree.old ≤ length tree.new }
+{
+    let is_between = 3 <= depth && depth < 7;
+    if tree.may_nest_under(parent) != is_between
+        || tree.may_have(parent, Kind::Part) != (3 <= depth)
+    {
+        return false;
+    }
+    let made = tree.kind_under(parent);
+    let wanted = match depth {
+        1 => Kind::Project,
+        2 => Kind::Assembly,
+        _ => Kind::Part,
+    };
+    let kind = if is_between { Kind::Assembly } else { made };
+    made == wanted && tree.add(parent, name(rt, b"x"), kind).is_ok()
+}
+
+#[test]
+fn assemblies_stand_down_to_the_sixth_name(rt: HostRuntime) {
+    let mut tree = Tree::new(rt.alloc()).expect(&rt, "memory");
+    for depth in 1..8u32 {
+        let parent = PlaceId(depth - 1);
+        assert!(rt; tree.len() == depth as usize);
+        assert!(rt; goes_down(&rt, &mut tree, parent, depth), "{depth}");
+    }
+    assert_eq!(rt; tree.len(), 8);
+    assert!(rt; tree.is_part(PlaceId(7)) && !tree.is_part(PlaceId(6)));
+    assert!(rt; !tree.may_have(PlaceId(7), Kind::Part));
+    assert_eq!(rt; tree.path_of(PlaceId(7)), path(&rt, b"/x/x/x/x/x/x/x"));
+    assert!(rt; tree.is_under(PlaceId(7), PlaceId(1)));
     drop(tree);
 }
 
@@ -150,8 +200,27 @@ fn a_place_is_pushed(rt: HostRuntime) {
 fn additions_are_refused_in_order(rt: HostRuntime) {
     let mut tree = small_tree(&rt, rt.alloc());
     let (other, first) = (name(&rt, b"x"), name(&rt, b"p1"));
-    assert_eq!(rt; tree.add(PlaceId(3), other), Err(AddError::WrongKind));
-    assert_eq!(rt; tree.add(PlaceId(2), first), Err(AddError::Exists));
+    for (parent, kind) in [
+        (3, Kind::Part),
+        (3, Kind::Assembly),
+        (0, Kind::Library),
+        (0, Kind::Assembly),
+        (0, Kind::Part),
+        (1, Kind::Project),
+        (1, Kind::Part),
+        (2, Kind::Library),
+        (2, Kind::Project),
+    ] {
+        assert!(rt; parent < 4 && tree.len() == 5);
+        assert_eq!(rt;
+            tree.add(PlaceId(parent), first, kind),
+            Err(AddError::WrongKind)
+        );
+    }
+    assert_eq!(rt;
+        tree.add(PlaceId(2), first, Kind::Part),
+        Err(AddError::Exists)
+    );
     let same = small_tree(&rt, rt.alloc());
     assert!(rt; is_same(&rt, &tree, &same));
     drop(same);
@@ -160,12 +229,15 @@ fn additions_are_refused_in_order(rt: HostRuntime) {
     for number in 1..64u8 {
         let child = name(&rt, &[b'a' + number / 8, b'0' + number % 8]);
         let place = PlaceId(u32::from(number) + 4);
-        assert_eq!(rt; tree.add(PlaceId(0), child), Ok(place));
+        assert_eq!(rt; tree.add(PlaceId(0), child, Kind::Project), Ok(place));
     }
     assert!(rt; tree.is_full(PlaceId(0)));
-    assert_eq!(rt; tree.add(PlaceId(0), other), Err(AddError::Limit));
     assert_eq!(rt;
-        tree.add(PlaceId(0), name(&rt, b"e")),
+        tree.add(PlaceId(0), other, Kind::Project),
+        Err(AddError::Limit)
+    );
+    assert_eq!(rt;
+        tree.add(PlaceId(0), name(&rt, b"e"), Kind::Project),
         Err(AddError::Exists)
     );
     let children = tree.children(PlaceId(0)).expect(&rt, "memory");
@@ -260,7 +332,7 @@ fn projects<A: Allocator + Copy>(rt: &impl Abort, alloc: A, count: u8) -> Tree<A
     let mut tree = Tree::new(alloc).expect(rt, "memory");
     for number in 0..count.min(20) {
         let project = name(rt, &[b'a' + number]);
-        assert!(rt; tree.add(PlaceId(0), project).is_ok());
+        assert!(rt; tree.add(PlaceId(0), project, Kind::Project).is_ok());
     }
     tree
 }
@@ -273,11 +345,11 @@ fn takes_project<A: Allocator + Copy>(
 ) -> Result<PlaceId, AddError> {
     let project = name(rt, b"z");
     if !is_push {
-        return tree.add(PlaceId(0), project);
+        return tree.add(PlaceId(0), project, Kind::Project);
     }
-    assert!(rt; !tree.is_part(PlaceId(0)) && !tree.is_full(PlaceId(0)));
+    assert!(rt; tree.may_have(PlaceId(0), Kind::Project) && !tree.is_full(PlaceId(0)));
     assert!(rt; tree.child(PlaceId(0), &project).is_none());
-    match tree.push(PlaceId(0), project) {
+    match tree.push(PlaceId(0), project, Kind::Project) {
         Ok(place) => Ok(place),
         Err(NoMemory) => Err(AddError::NoMemory),
     }

@@ -1,4 +1,4 @@
-//! A flusher over a file with so many frames that a snapshot is wanted.
+//! A flusher over a file of which a snapshot is wanted: it has so many frames, or version 1.
 
 ghost use Rattle.std.specs.Prelude.{◌≡◌};
 ghost use Rattle.group_commit.specs.View.{length_of};
@@ -11,7 +11,7 @@ use std::sync::Wait;
 use std::sync::ledger::Blank;
 use std::time::Clock;
 use test_memory::Refusing;
-use vault_device::MemDevice;
+use vault_device::{Device, MemDevice};
 use vault_model::{Command, CommandIn, Listing, Path};
 use vault_protocol::read_line_of;
 use vault_sessions::{Flushed, OpenGate, Shared, Tally, gather, run_flusher};
@@ -213,4 +213,31 @@ fn refused_snapshot_is_begun_later(rt: HostRuntime) {
     assert_eq!(rt; flushed, Flushed::Closed);
     assert_eq!(rt; first, CREATION + 4 * COMMITS + 4);
     assert_eq!(rt; second, CREATION_BESIDE + 6);
+}
+
+// The vault with anna's check-out of `/e`, as version 1 wrote it.
+const VERSION_1: &[u8; 57] =
+    b"\x01LLVAULT\0\0\0\x01\0\0\0\0\0\0\0\x02\0\0\0\x20\0\0\0\x01\0\0\0\x02\0\0\0\0\x01e\0\x01\0\0\0\x01\x04anna\x01\x01\0\0\0\x01\0\0";
+
+// The vault that stands in one file, beside an empty one.
+fn opened(alloc: Global, bytes: &[u8; 57]) -> Option<Vault<MemDevice>> {
+    let mut first = MemDevice::new(alloc).ok()?;
+    let second = MemDevice::new(alloc).ok()?;
+    if first.write_at(0, bytes).is_err() || first.sync().is_err() {
+        drop(first);
+        drop(second);
+        return None;
+    }
+    Vault::open(alloc, first, second, 1).ok()
+}
+
+// Nothing is staged, and the vault is written into the other file all the same: three calls open that, and six write it.
+#[test]
+fn flusher_writes_version_1_anew(rt: HostRuntime) {
+    let vault = opened(rt.alloc(), VERSION_1).expect(&rt, "a vault");
+    assert!(rt; vault.wants_snapshot());
+    let (flushed, first, second) = closed(&rt, rt.alloc(), vault).expect(&rt, "a flusher");
+    assert_eq!(rt; flushed, Flushed::Closed);
+    assert_eq!(rt; first, 11);
+    assert_eq!(rt; second, 3 + 6);
 }

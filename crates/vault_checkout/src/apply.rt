@@ -1,6 +1,6 @@
 //! Effects, made on a book as the journal tells them.
 ghost use Rattle.std.specs.Prelude.{◌≡◌, ◌+◌, ◌==◌, ◌&&◌, not, nat_le, length, Some};
-ghost use Rattle.vault_model.specs.After.{may_make, may_ask, are_there, after_made, after_asked, after_extended, after_saved, after_checked_in, after_abandoned, after_given, after_noted, after};
+ghost use Rattle.vault_model.specs.After.{may_make, may_ask, are_there, after_made, after_nested, after_asked, after_extended, after_saved, after_checked_in, after_abandoned, after_given, after_noted, after};
 ghost use Rattle.vault_model.specs.Tree.{is_part};
 ghost use Rattle.vault_model.specs.Claims.{change_set};
 ghost use Rattle.vault_model.specs.Limits.{most_items};
@@ -15,8 +15,8 @@ use long_locks::Line;
 use std::alloc::Allocator;
 use thiserror::Error;
 use vault_model::{
-    Claim, ClaimId, Effect, EffectIn, Item, Items, MOST_CLAIMS, MOST_ITEMS, Name, NoMemory, Note,
-    PlaceId,
+    Claim, ClaimId, Effect, EffectIn, Item, Items, Kind, MOST_CLAIMS, MOST_ITEMS, Name, NoMemory,
+    Note, PlaceId,
 };
 
 /// Why an effect was not applied.
@@ -98,7 +98,24 @@ impl<A: Allocator + Copy> Book<A> {
         if !may_make(&self.tree, parent, &name) {
             return Err(ApplyError::NotApplicable);
         }
-        match self.add_place(parent, name) {
+        let kind = self.tree.kind_under(parent);
+        match self.add_place(parent, name, kind) {
+            Ok(_) => Ok(()),
+            Err(NoMemory) => Err(ApplyError::NoMemory),
+        }
+    }
+
+    #[tactic(auto, unfolding(vault_model::specs::After::after_nested))]
+    fn apply_nested(&mut self, parent: PlaceId, name: Name) -> Result<(), ApplyError>
+        ensures { Applies self.old result self.new (after_nested self.old parent name) }
+    {
+        if !may_make(&self.tree, parent, &name) {
+            return Err(ApplyError::NotApplicable);
+        }
+        if !self.tree.may_nest_under(parent) {
+            return Err(ApplyError::NotApplicable);
+        }
+        match self.add_place(parent, name, Kind::Assembly) {
             Ok(_) => Ok(()),
             Err(NoMemory) => Err(ApplyError::NoMemory),
         }
@@ -214,6 +231,7 @@ impl<A: Allocator + Copy> Book<A> {
     {
         match effect {
             Effect::Made(parent, name) => self.apply_made(*parent, *name),
+            Effect::Nested(parent, name) => self.apply_nested(*parent, *name),
             Effect::Asked(number, designer, items) => self.apply_asked(*number, *designer, items),
             Effect::Extended(number, items) => self.apply_extended(*number, items),
             Effect::Saved(number, place, content) => {

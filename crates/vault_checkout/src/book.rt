@@ -4,7 +4,7 @@ ghost use Rattle.std.specs.Option.{option_copied};
 ghost use Rattle.vault_model.specs.Vault.{Vault, IsVault, CountsBelow, session_of, one_more, counted, counted_in, new_vault, durable};
 ghost use Rattle.vault_model.specs.Claims.{claim_of, standing_of, is_held};
 ghost use Rattle.vault_model.specs.Drafts.{drafts_of};
-ghost use Rattle.vault_model.specs.Step.{usable, permitted, join, make, check_out, extend, abandon, asked, extension, in_session, decide, step};
+ghost use Rattle.vault_model.specs.Step.{usable, join, check_out, extend, abandon, asked, extension, in_session, decide, step};
 ghost use Rattle.vault_model.specs.declared.session.Session.{Session};
 ghost use Rattle.vault_model.specs.declared.claims.Standing.TheVariants as standings;
 ghost use Rattle.long_locks.specs.Lines.{IsGrownFrom};
@@ -15,7 +15,7 @@ ghost use Rattle.vault_checkout.specs.Done.{Follows};
 use crate::check_outs::{AnyCheckOut, check_out_at, drafts_at, grant_held};
 use crate::done::{Done, Stop};
 use crate::owners::{is_designer, is_owned_by};
-use crate::places::{is_changed_by, joined, places_of};
+use crate::places::{joined, places_of};
 use design_tree::Tree;
 use lock_table::Extension;
 use long_locks::Line;
@@ -231,54 +231,6 @@ impl<A: Allocator + Copy> Book<A> {
         Ok(*claim)
     }
 
-    /// Whether a place may be made under a parent, in the name of a claim if there is one.
-    #[tactic(auto, unfolding(vault_model::specs::Step::permitted, vault_model::specs::Step::chained))]
-    fn permit(&self, session: &Session, parent: PlaceId, claim: Option<u32>) -> Result<(), Refusal>
-        requires { parent ≤ length self.now.tree }
-        ensures { result ≡ permitted self.now session.now parent claim }
-    {
-        let Some(number) = claim else {
-            return match self.line.covers(&self.tree, parent) {
-                Some(id) => Err(Refusal::Covered(id)),
-                None => Ok(()),
-            };
-        };
-        let claim = self.usable(session, ClaimId::Long(number))?;
-        if is_changed_by(&self.tree, claim.items.as_slice(), parent) {
-            Ok(())
-        } else {
-            Err(Refusal::NotCovered)
-        }
-    }
-
-    #[tactic(auto, unfolding(vault_model::specs::Step::make, vault_model::specs::Step::chained))]
-    fn make(&mut self, session: &Session, path: &Path, claim: Option<u32>) -> Result<Done<A>, Stop>
-        ensures told { Follows self.old result self.new (make self.old session.now path.now claim) }
-        ensures counts { (bound : ℕ) → CountsBelow bound self.old → CountsBelow bound self.new }
-    {
-        let Some((name, above)) = path.split_last() else {
-            return Err(Stop::Refused(Refusal::Exists));
-        };
-        let Some(parent) = self.tree.find_names(above) else {
-            return Err(Stop::Refused(Refusal::NoPlace));
-        };
-        if self.tree.is_part(parent) {
-            return Err(Stop::Refused(Refusal::WrongKind));
-        }
-        if self.tree.child(parent, &name).is_some() {
-            return Err(Stop::Refused(Refusal::Exists));
-        }
-        self.permit(session, parent, claim)?;
-        if self.tree.is_full(parent) {
-            return Err(Stop::Refused(Refusal::Limit));
-        }
-        let place = self.add_place(parent, name)?;
-        Ok(Done {
-            reply: Reply::Place(place.number()),
-            effect: Some(Effect::Made(parent, name)),
-        })
-    }
-
     #[tactic(auto, unfolding(vault_model::specs::Step::abandon, vault_model::specs::Step::chained))]
     fn abandon(&mut self, designer: Name, number: u32) -> Result<Done<A>, Stop>
         ensures told { Follows self.old result self.new (abandon self.old designer number) }
@@ -377,6 +329,7 @@ impl<A: Allocator + Copy> Book<A> {
         match command {
             Command::Join(_) => Err(Stop::Refused(Refusal::Joined)),
             Command::Make(path, claim) => self.make(session, path, *claim),
+            Command::Nest(path, claim) => self.nest(session, path, *claim),
             Command::CheckOut(wanted) => self.check_out(session.name, wanted.as_slice()),
             Command::Extend(id, wanted) => self.extend(session, *id, wanted.as_slice()),
             Command::Save(claim, path, content) => {

@@ -4,7 +4,7 @@ ghost use Rattle.vault_model.specs.declared.claims.Claim.{Claim};
 ghost use Rattle.vault_model.specs.declared.claims.Item.{Item};
 ghost use Rattle.vault_model.specs.declared.claims.Standing.TheVariants as standings;
 ghost use Rattle.vault_model.specs.declared.ids.ClaimId.TheVariants.{Long, Short};
-ghost use Rattle.vault_model.specs.Tree.{child, is_part, is_full};
+ghost use Rattle.vault_model.specs.Tree.{child, is_part, may_have, is_full};
 ghost use Rattle.vault_model.specs.Claims.{claim_of, put_first, overlap, in_way_of, change_set, standing_of, standing_behind};
 ghost use Rattle.vault_model.specs.Limits.{most_items, most_claims, last_number};
 ghost use Rattle.vault_model.specs.Shelf.{is_shelvable};
@@ -27,7 +27,9 @@ use crate::weights::may_save;
 use design_tree::Tree;
 use lock_table::{Extension, lock_set};
 use std::alloc::Allocator;
-use vault_model::{Claim, ClaimId, Draft, Items, Listing, Name, NoMemory, Note, PlaceId, Standing};
+use vault_model::{
+    Claim, ClaimId, Draft, Items, Kind, Listing, Name, NoMemory, Note, PlaceId, Standing,
+};
 
 pub(crate) fn overlaps<A: Allocator>(tree: &Tree<A>, items: &Items, others: &Items) -> bool
     requires items { AreThere tree.now items.now }
@@ -47,16 +49,21 @@ pub(crate) fn copied<A: Allocator>(alloc: A, content: &[u8]) -> Result<Listing<u
 
 impl<A: Allocator + Copy> Book<A> {
     /// Makes a place.
-    pub(crate) fn add_place(&mut self, parent: PlaceId, name: Name) -> Result<PlaceId, NoMemory>
+    pub(crate) fn add_place(
+        &mut self,
+        parent: PlaceId,
+        name: Name,
+        kind: Kind,
+    ) -> Result<PlaceId, NoMemory>
         requires there { parent ≤ length self.old.tree }
-        requires kind { is_part self.old.tree parent ≡ false }
+        requires kind { may_have self.old.tree parent kind ≡ true }
         requires fresh { child self.old.tree parent name ≡ None }
         requires room { is_full self.old.tree parent ≡ false }
         ensures place { IfOk result (λ place. place ≡ length self.old.tree + 1) }
-        ensures made { OnOk result (self.new ≡ with_place self.old parent name) }
+        ensures made { OnOk result (self.new ≡ with_place self.old parent name kind) }
         ensures unchanged { OnErr result (self.new ≡ self.old) }
     {
-        let place = self.tree.push(parent, name)?;
+        let place = self.tree.push(parent, name, kind)?;
         Ok(place)
     }
 

@@ -31,6 +31,7 @@ mod drafting;
 mod from_parts;
 mod giving;
 mod holding;
+mod making;
 mod owners;
 mod parts;
 mod places;

@@ -6,10 +6,10 @@ use Rattle.vault_store.specs.declared.front.Head.TheVariants as heads
 use Rattle.vault_store.specs.declared.body.BodyError.{BodyError}
 use Rattle.vault_store.specs.declared.body.BodyError.TheVariants as body_errors
 use Rattle.vault_store.specs.Faults.{IsBodyFault}
-use Rattle.vault_store.specs.Files.{version}
 use Rattle.vault_store.specs.Parts.{IsWhole}
 use Rattle.vault_inspector.specs.declared.report.FileState.{FileState}
 use Rattle.vault_inspector.specs.declared.report.FileState.TheVariants.{Closed, Open, Older, Damaged}
+use Rattle.vault_inspector.specs.declared.inspecting.Right.{Right}
 use Rattle.vault_inspector.specs.declared.inspecting.Active.{Active}
 use Rattle.vault_inspector.specs.declared.inspecting.Active.TheVariants.{Neither, First, Second}
 use Rattle.vault_inspector.specs.declared.inspecting.InspectError.{InspectError}
@@ -20,18 +20,18 @@ abbrev pub told : BodyError → InspectError
 told body_errors.Device = errors.Device
 told body_errors.NoMemory = errors.NoMemory
 
--- the generation in a right head
-abbrev pub generation_in : Head → Option ℕ
-generation_in heads.Closed = None
-generation_in (heads.Open version generation) = Some generation
-generation_in (heads.Damaged offset) = None
+-- what a head tells, where it is right
+abbrev pub right_in : Head → Option Right
+right_in heads.Closed = None
+right_in (heads.Open version generation) = Some (record { version = version; generation = generation })
+right_in (heads.Damaged offset) = None
 
 -- the file of the greater generation, and the first where both are equal
-abbrev pub active_among : Option ℕ → Option ℕ → Active
+abbrev pub active_among : Option Right → Option Right → Active
 active_among None None = Neither
 active_among None (Some other) = Second other
 active_among (Some own) None = First own
-active_among (Some own) (Some other) = if nat_lt own other then Second other else First own
+active_among (Some own) (Some other) = if nat_lt own.generation other.generation then Second other else First own
 
 -- what a file is by its head alone, where that isn't right
 abbrev pub head_state : Head → FileState
@@ -48,12 +48,13 @@ beside (heads.Damaged offset) active = Damaged offset
 -- the vault of the active file, where nothing is wrong with the other
 abbrev pub found : Option Vault → FileState → Option Vault
 found vault Closed = vault
-found vault (Open generation frames tail) = vault
+found vault (Open generation frames tail version) = vault
 found vault (Older generation) = vault
 found vault (Damaged offset) = None
 
--- what an active file of this generation is read as: whole, with its vault, or with a fault and without one
-abbrev pub IsActiveRead : ℕ → List ℕ → FileState → Option Vault → Type 0
-IsActiveRead generation file (Open own frames tail) (Some vault) = (own ≡ generation) × IsWhole version generation file vault frames tail
-IsActiveRead generation file (Damaged offset) None = IsBodyFault file offset
-IsActiveRead generation file _ _ = ⊥
+-- what an active file, whose head tells this, is read as: whole, with its vault, or with a fault and without one
+abbrev pub IsActiveRead : Right → List ℕ → FileState → Option Vault → Type 0
+IsActiveRead right file (Open generation frames tail version) (Some vault) =
+    (version ≡ right.version) × (generation ≡ right.generation) × IsWhole right.version right.generation file vault frames tail
+IsActiveRead right file (Damaged offset) None = IsBodyFault right.version file offset
+IsActiveRead right file _ _ = ⊥

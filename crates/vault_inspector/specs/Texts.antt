@@ -17,6 +17,8 @@ use Rattle.vault_model.specs.Tree.{path_of}
 use Rattle.vault_model.specs.Path.{path_text}
 use Rattle.vault_model.specs.Claims.{standing_of}
 use Rattle.vault_model.specs.Vault.{Vault}
+use Rattle.vault_store.specs.declared.front.FileVersion.{FileVersion}
+use Rattle.vault_store.specs.declared.front.FileVersion.TheVariants.{One, Two}
 use Rattle.vault_inspector.specs.declared.report.FileState.{FileState}
 use Rattle.vault_inspector.specs.declared.report.FileState.TheVariants.{Closed, Open, Older, Damaged}
 use Rattle.vault_inspector.specs.Counts.{version_count, draft_count}
@@ -29,6 +31,11 @@ newline = 10 ∷ []
 unfoldable pub numbered : List ℕ → ℕ → List ℕ
 numbered words n = words ++ decimal n
 
+-- the version of a file, where it isn't today's
+abbrev pub version_text : FileVersion → List ℕ
+version_text One = codes ", version 1"
+version_text Two = []
+
 -- of the active file its generation, how many frames it has, and where its tail gate stands
 abbrev pub open_text : ℕ → ℕ → ℕ → List ℕ
 open_text generation frames tail =
@@ -37,7 +44,7 @@ open_text generation frames tail =
 -- the state of a file
 abbrev pub state_text : FileState → List ℕ
 state_text Closed = codes "closed"
-state_text (Open generation frames tail) = open_text generation frames tail
+state_text (Open generation frames tail version) = open_text generation frames tail ++ version_text version
 state_text (Older generation) = numbered (codes "older, generation ") generation
 state_text (Damaged offset) = numbered (codes "damaged at ") offset
 

@@ -1,9 +1,9 @@
 //! Reading two files for a report.
 ghost use Rattle.std.specs.Prelude.{◌≡◌, ◌⊎◌, IsTrue, IfOk, IfErr};
 ghost use Rattle.vault_store.specs.Calls.{HasCause, IsQuiet, AreQuiet};
-ghost use Rattle.vault_store.specs.Files.{HasCurrentHead};
+ghost use Rattle.vault_store.specs.Files.{HasHead};
 ghost use Rattle.vault_store.specs.Read.{AreReads};
-ghost use Rattle.vault_inspector.specs.Found.{IsActiveRead, active_among, beside, found, generation_in, head_state};
+ghost use Rattle.vault_inspector.specs.Found.{IsActiveRead, active_among, beside, found, head_state, right_in};
 ghost use Rattle.vault_inspector.specs.States.{IsFirstState, IsSecondState, IsVaultFound};
 ghost use Rattle.vault_inspector.specs.declared.inspecting.InspectError.TheVariants.{Device as DeviceFailed, NoMemory as Wanted};
 
@@ -12,7 +12,7 @@ use std::alloc::Allocator;
 use thiserror::Error;
 use vault_checkout::Book;
 use vault_device::{Device, Fault};
-use vault_store::{Body, BodyError, Head, read_body, read_head};
+use vault_store::{Body, BodyError, FileVersion, Head, read_body, read_head};
 
 /// Why two files were not inspected.
 #[derive(Clone, Copy, Debug, PartialEq, Eq, Error)]
@@ -44,12 +44,19 @@ impl From<BodyError> for InspectError {
     }
 }
 
-/// The file that is read as the active one, with its generation.
+/// What a right head tells.
+#[derive(Clone, Copy)]
+struct Right {
+    version: FileVersion,
+    generation: u64,
+}
+
+/// The file that is read as the active one, with what its head tells.
 #[derive(Clone, Copy)]
 enum Active {
     Neither,
-    First(u64),
-    Second(u64),
+    First(Right),
+    Second(Right),
 }
 
 /// What is read of the active file.
@@ -59,25 +66,28 @@ struct Read<A: Allocator> {
     book: Option<Book<A>>,
 }
 
-// The generation in a right head.
-fn generation_in(head: Head) -> Option<u64>
-    ensures { result ≡ generation_in head }
+// What a head tells, where it is right.
+fn right_in(head: Head) -> Option<Right>
+    ensures { result ≡ right_in head }
 {
     match head {
         Head::Open {
-            version: _,
+            version,
             generation,
-        } => Some(generation),
+        } => Some(Right {
+            version,
+            generation,
+        }),
         Head::Closed | Head::Damaged(_) => None,
     }
 }
 
 // The file of the greater generation; the first where both are equal.
-fn active_among(first: Option<u64>, second: Option<u64>) -> Active
+fn active_among(first: Option<Right>, second: Option<Right>) -> Active
     ensures { result ≡ active_among first second }
 {
     match (first, second) {
-        (Some(own), Some(other)) if own < other => Active::Second(other),
+        (Some(own), Some(other)) if own.generation < other.generation => Active::Second(other),
         (Some(own), _) => Active::First(own),
         (None, Some(other)) => Active::Second(other),
         (None, None) => Active::Neither,
@@ -121,24 +131,25 @@ fn found<A: Allocator>(book: Option<Book<A>>, other: FileState) -> Option<Book<A
     }
 }
 
-// Reads the active file, which is of this generation.
+// Reads the active file, whose head tells this.
 fn read_active<D: Device, A: Allocator + Copy>(
     alloc: A,
     device: &mut D,
-    generation: u64,
+    right: Right,
 ) -> Result<Read<A>, InspectError>
     ensures reads { AreReads (D.disk device.old) (D.disk device.new) }
-    ensures read { IsTrue (D.disk device.old).honest → HasCurrentHead generation (D.disk device.old).shown
-        → IfOk result (λ read. IsActiveRead generation (D.disk device.old).shown read.state read.book) }
+    ensures read { IsTrue (D.disk device.old).honest → HasHead right.version right.generation (D.disk device.old).shown
+        → IfOk result (λ read. IsActiveRead right (D.disk device.old).shown read.state read.book) }
     ensures cause { IfErr result (λ why. why ≡ DeviceFailed → HasCause (D.disk device.old) (D.disk device.new)) }
     ensures memory { IfErr result (λ why. why ≡ Wanted → IsQuiet (D.disk device.old) (D.disk device.new)) }
 {
     match read_body(alloc, device)? {
         Body::Whole(book, frames, tail) => Ok(Read {
             state: FileState::Open {
-                generation,
+                generation: right.generation,
                 frames,
                 tail,
+                version: right.version,
             },
             book: Some(book),
         }),
@@ -172,19 +183,19 @@ pub fn inspect<D: Device, A: Allocator + Copy>(
 {
     let a = read_head(first)?;
     let b = read_head(second)?;
-    match active_among(generation_in(a), generation_in(b)) {
-        Active::First(generation) => {
-            let Read { state, book } = read_active(alloc, first, generation)?;
-            let other = beside(b, generation);
+    match active_among(right_in(a), right_in(b)) {
+        Active::First(right) => {
+            let Read { state, book } = read_active(alloc, first, right)?;
+            let other = beside(b, right.generation);
             Ok(Report {
                 first: state,
                 second: other,
                 book: found(book, other),
             })
         }
-        Active::Second(generation) => {
-            let Read { state, book } = read_active(alloc, second, generation)?;
-            let other = beside(a, generation);
+        Active::Second(right) => {
+            let Read { state, book } = read_active(alloc, second, right)?;
+            let other = beside(a, right.generation);
             Ok(Report {
                 first: other,
                 second: state,

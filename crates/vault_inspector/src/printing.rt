@@ -4,7 +4,7 @@
 ghost use Rattle.std.specs.Prelude.{OnOk, OnErr, Some};
 ghost use Rattle.std.specs.Io.KnownBytes.{Appends};
 ghost use Rattle.vault_inspector.specs.Output.{GetsPart, Writes};
-ghost use Rattle.vault_inspector.specs.Texts.{counts_line, counts_text, file_line, open_text, report_text, state_text, vault_text};
+ghost use Rattle.vault_inspector.specs.Texts.{counts_line, counts_text, file_line, open_text, report_text, state_text, vault_text, version_text};
 
 use crate::claims::print_claims;
 use crate::counts::{draft_count, version_count};
@@ -13,6 +13,17 @@ use crate::{FileState, Report};
 use std::alloc::Allocator;
 use std::io::Write;
 use vault_checkout::Book;
+use vault_store::FileVersion;
+
+// Writes the version of a file, where it isn't today's.
+fn print_version<W: Write>(writer: &mut W, version: FileVersion) -> Result<(), PrintError>
+    ensures { Writes (W.contents writer.old) (W.contents writer.new) (version_text version) result }
+{
+    match version {
+        FileVersion::One => put(writer, b", version 1"),
+        FileVersion::Two => put(writer, b""),
+    }
+}
 
 // Writes that a file is the active one.
 fn print_open<W: Write>(
@@ -38,12 +49,16 @@ fn print_state<W: Write>(writer: &mut W, state: FileState) -> Result<(), PrintEr
             generation,
             frames,
             tail,
-        } => print_open(
-            writer,
-            u128::from(generation),
-            u128::from(frames),
-            u128::from(tail),
-        ),
+            version,
+        } => {
+            print_open(
+                writer,
+                u128::from(generation),
+                u128::from(frames),
+                u128::from(tail),
+            )?;
+            print_version(writer, version)
+        }
         FileState::Older { generation } => {
             put_number(writer, b"older, generation ", u128::from(generation))
         }

@@ -2,17 +2,20 @@
 
 use std::alloc::{Allocator, Global};
 use vault_checkout::Book;
+use vault_store::FileVersion;
 
 /// What one of the two files is found to be.
 #[derive(Clone, Copy, Debug, PartialEq, Eq)]
 pub enum FileState {
     /// It has no whole header, or its head gate is closed.
     Closed,
-    /// It is read as the active one, and is whole: its generation, how many frames it has, and the offset of its tail gate.
+    /// It is read as the active one, and is whole: its generation, how many frames it has, the offset of its tail gate, and its
+    /// version.
     Open {
         generation: u64,
         frames: u64,
         tail: u64,
+        version: FileVersion,
     },
     /// Its head is right, and of a smaller generation than the other's.
     Older {

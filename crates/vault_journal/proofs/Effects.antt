@@ -2,10 +2,10 @@
 use Rattle.std.proofs.Common.{◌≡◌, ℕ, true, cond, eqb, List, ◌∷◌, ◌++◌, Option, Some, None, sym, ap, subst, ◌∙◌, append_assoc, inl, inr}
 use Rattle.std.proofs.lemmas.Bool.{eqb-true}
 use Rattle.vault_model.specs.Said.{Effect}
-use Rattle.vault_model.specs.declared.effects.Effect.TheVariants.{Made, Asked, Extended, Saved, CheckedIn, Abandoned, Given, Noted}
+use Rattle.vault_model.specs.declared.effects.Effect.TheVariants.{Made, Nested, Asked, Extended, Saved, CheckedIn, Abandoned, Given, Noted}
 use Rattle.vault_model.specs.declared.claims.Item.{Item}
 use Rattle.vault_journal.specs.Spelling.{in_four, name_bytes, items_bytes, content_bytes, note_bytes, record_of, HasRecord}
-use Rattle.vault_journal.specs.Reading.{◌>>=◌, u8_at, u32_at, name_at, items_at, content_at, note_at, claim_at, made_at, asked_at, extended_at, saved_at, checked_in_at, abandoned_at, given_at, noted_at, effect_of_kind, effect_at}
+use Rattle.vault_journal.specs.Reading.{◌>>=◌, u8_at, u32_at, name_at, items_at, content_at, note_at, claim_at, made_at, asked_at, extended_at, saved_at, checked_in_at, abandoned_at, given_at, noted_at, nested_at, effect_of_kind, effect_at}
 use Rattle.vault_journal.specs.Laws.{AreBytes}
 use Rattle.vault_journal.proofs.Takes.{bind_some, guard_passed, some_is, chosen, Takes, Takes-then, Takes-behind}
 use Rattle.vault_journal.proofs.Fields.{u8_takes, u32_takes, u32_again, name_takes, name_again, items_take, items_again, content_takes, content_again, note_takes, note_again, claim_takes, claim_again}
@@ -93,9 +93,22 @@ noted_takes bytes f rest fits e =
     let all = Takes-then bytes (in_four a.0.0) a.0.1 (note_bytes b.0.0) b.0.1 t.0 u.0 in
     subst (IsRead 8 bytes) (some_is (Noted a.0.0 b.0.0, b.0.1) (f, rest) b.2) (Takes-behind 8 bytes (in_four a.0.0 ++ note_bytes b.0.0) b.0.1 all, (t.1, u.1))
 
+nested_takes : (bytes : List ℕ) (f : Effect) (rest : List ℕ) → AreBytes bytes → nested_at bytes ≡ Some (f, rest) → IsRead 9 bytes (f, rest)
+unfolding nested_at
+nested_takes bytes f rest fits e =
+    let a = bind_some (u32_at bytes) (λ parent. name_at parent.1 >>= λ child. Some (Nested parent.0 child.0, child.1)) (f, rest) e in
+    let b = bind_some (name_at a.0.1) (λ child. Some (Nested a.0.0 child.0, child.1)) (f, rest) a.2 in
+    let t = u32_takes bytes a.0.0 a.0.1 fits a.1 in
+    let u = name_takes a.0.1 b.0.0 b.0.1 t.0.rest_fits b.1 in
+    let joined = Takes-behind 9 bytes (in_four a.0.0 ++ name_bytes b.0.0) b.0.1 (Takes-then bytes (in_four a.0.0) a.0.1 (name_bytes b.0.0) b.0.1 t.0 u.0) in
+    subst (IsRead 9 bytes) (some_is (Nested a.0.0 b.0.0, b.0.1) (f, rest) b.2) (joined, (t.1, u.1))
+
 -- the kinds that are left, from each on
+abbrev from_nine : ℕ → List ℕ → Option (Effect × List ℕ)
+from_nine kind bytes = cond (eqb kind 9) (nested_at bytes) None
+
 abbrev from_eight : ℕ → List ℕ → Option (Effect × List ℕ)
-from_eight kind bytes = cond (eqb kind 8) (noted_at bytes) None
+from_eight kind bytes = cond (eqb kind 8) (noted_at bytes) (from_nine kind bytes)
 
 abbrev from_seven : ℕ → List ℕ → Option (Effect × List ℕ)
 from_seven kind bytes = cond (eqb kind 7) (given_at bytes) (from_eight kind bytes)
@@ -119,8 +132,11 @@ module _ (kind : ℕ) (bytes : List ℕ) (f : Effect) (rest : List ℕ) (fits : 
   as_kind : (k : ℕ) → eqb kind k ≡ true → IsRead k bytes (f, rest) → IsRead kind bytes (f, rest)
   as_kind k is read = subst (λ (t : ℕ). IsRead t bytes (f, rest)) (sym (eqb-true kind k is)) read
 
+  nine : from_nine kind bytes ≡ Some (f, rest) → IsRead kind bytes (f, rest)
+  nine e = let g = guard_passed (eqb kind 9) (nested_at bytes) (f, rest) e in as_kind 9 g.0 (nested_takes bytes f rest fits g.1)
+
   eight : from_eight kind bytes ≡ Some (f, rest) → IsRead kind bytes (f, rest)
-  eight e = let g = guard_passed (eqb kind 8) (noted_at bytes) (f, rest) e in as_kind 8 g.0 (noted_takes bytes f rest fits g.1)
+  eight e = elim (chosen (eqb kind 8) (noted_at bytes) (from_nine kind bytes) (Some (f, rest)) e) [ inl g ↦ as_kind 8 g.0 (noted_takes bytes f rest fits g.1) | inr g ↦ nine g.1 ]
 
   seven : from_seven kind bytes ≡ Some (f, rest) → IsRead kind bytes (f, rest)
   seven e = elim (chosen (eqb kind 7) (given_at bytes) (from_eight kind bytes) (Some (f, rest)) e) [ inl g ↦ as_kind 7 g.0 (given_takes bytes f rest fits g.1) | inr g ↦ eight g.1 ]
@@ -154,12 +170,17 @@ effect_takes bytes f rest fits e =
 
 -- the record of an effect is read again, whatever follows
 pub effect_again : (e : Effect) (rest : List ℕ) → HasRecord e → effect_at (record_of e ++ rest) ≡ Some (e, rest)
-unfolding effect_at effect_of_kind made_at asked_at extended_at saved_at checked_in_at abandoned_at given_at noted_at
+unfolding effect_at effect_of_kind made_at asked_at extended_at saved_at checked_in_at abandoned_at given_at noted_at nested_at
 effect_again (Made parent child) rest has =
     let regrouped : (in_four parent ++ name_bytes child) ++ rest ≡ in_four parent ++ (name_bytes child ++ rest) = append_assoc (in_four parent) (name_bytes child) rest in
     ap (λ (l : List ℕ). made_at l) regrouped
     ∙ ap (λ (r : Option (ℕ × List ℕ)). r >>= λ parent. name_at parent.1 >>= λ child. Some (Made parent.0 child.0, child.1)) (u32_again parent (name_bytes child ++ rest) has.0)
     ∙ ap (λ (r : Option (List ℕ × List ℕ)). r >>= λ child. Some (Made parent child.0, child.1)) (name_again child rest has.1)
+effect_again (Nested parent child) rest has =
+    let regrouped : (in_four parent ++ name_bytes child) ++ rest ≡ in_four parent ++ (name_bytes child ++ rest) = append_assoc (in_four parent) (name_bytes child) rest in
+    ap (λ (l : List ℕ). nested_at l) regrouped
+    ∙ ap (λ (r : Option (ℕ × List ℕ)). r >>= λ parent. name_at parent.1 >>= λ child. Some (Nested parent.0 child.0, child.1)) (u32_again parent (name_bytes child ++ rest) has.0)
+    ∙ ap (λ (r : Option (List ℕ × List ℕ)). r >>= λ child. Some (Nested parent child.0, child.1)) (name_again child rest has.1)
 effect_again (Asked claim owner items) rest has =
     let regrouped : (in_four claim ++ name_bytes owner ++ items_bytes items) ++ rest ≡ in_four claim ++ (name_bytes owner ++ (items_bytes items ++ rest)) =
     append_assoc (in_four claim ++ name_bytes owner) (items_bytes items) rest ∙ append_assoc (in_four claim) (name_bytes owner) (items_bytes items ++ rest) in

@@ -6,7 +6,7 @@ use Rattle.std.proofs.lemmas.List.Concat.{flat_map-cons}
 use Rattle.std.proofs.lemmas.Bool.Decides.{nat_tests}
 use Rattle.vault_model.specs.Name.{IsName, is_name}
 use Rattle.vault_model.specs.Said.{Effect}
-use Rattle.vault_model.specs.declared.effects.Effect.TheVariants.{Made, Asked, Extended, Saved, CheckedIn, Abandoned, Given, Noted}
+use Rattle.vault_model.specs.declared.effects.Effect.TheVariants.{Made, Nested, Asked, Extended, Saved, CheckedIn, Abandoned, Given, Noted}
 use Rattle.vault_journal.specs.Spelling.{record_of, records_of, HasRecord}
 use Rattle.vault_journal.specs.Reading.{effect_at}
 use Rattle.vault_journal.specs.Rows.{AreRecordsOf, IsFirstFault}
@@ -37,6 +37,7 @@ name_is_short name is = let known : is_name name ≡ true = is in grind (arith, 
 
 pub records_are_short : RecordsAreShort
 records_are_short (Made parent child) has = omega (arith, record_size (Made parent child), name_is_short child has.1)
+records_are_short (Nested parent child) has = omega (arith, record_size (Nested parent child), name_is_short child has.1)
 records_are_short (Asked claim owner items) has = omega (arith, record_size (Asked claim owner items), name_is_short owner has.1, has.2.few)
 records_are_short (Extended claim items) has = omega (arith, record_size (Extended claim items), has.1.few)
 records_are_short (Saved claim place content) has = omega (arith, record_size (Saved claim place content), has.2)
@@ -48,6 +49,7 @@ records_are_short (Noted claim note) has = omega (arith, record_size (Noted clai
 -- a record has a byte
 pub record_some : (e : Effect) → 1 ≤ length (record_of e)
 record_some (Made parent child) = omega (arith, record_size (Made parent child))
+record_some (Nested parent child) = omega (arith, record_size (Nested parent child))
 record_some (Asked claim owner items) = omega (arith, record_size (Asked claim owner items))
 record_some (Extended claim items) = omega (arith, record_size (Extended claim items))
 record_some (Saved claim place content) = omega (arith, record_size (Saved claim place content))

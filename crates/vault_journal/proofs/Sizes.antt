@@ -3,7 +3,7 @@ use Rattle.std.proofs.Common.{◌≡◌, ℕ, ◌+◌, ◌*◌, List, [], ◌∷
 use Rattle.std.specs.List.{flat_map}
 use Rattle.std.proofs.lemmas.List.Concat.{flat_map-cons}
 use Rattle.vault_model.specs.Said.{Effect}
-use Rattle.vault_model.specs.declared.effects.Effect.TheVariants.{Made, Asked, Extended, Saved, CheckedIn, Abandoned, Given, Noted}
+use Rattle.vault_model.specs.declared.effects.Effect.TheVariants.{Made, Nested, Asked, Extended, Saved, CheckedIn, Abandoned, Given, Noted}
 use Rattle.vault_model.specs.declared.claims.Item.{Item}
 use Rattle.vault_journal.specs.Spelling.{in_four, name_bytes, item_bytes, items_bytes, record_of}
 
@@ -14,6 +14,7 @@ flat_map-item_bytes (i ∷ is) = omega (arith, flat_map-item_bytes is, ap length
 -- how many bytes a record has, by its parts
 abbrev pub size_of : Effect → ℕ
 size_of (Made parent child) = 6 + length child
+size_of (Nested parent child) = 6 + length child
 size_of (Asked claim owner items) = 7 + length owner + 5 * length items
 size_of (Extended claim items) = 6 + 5 * length items
 size_of (Saved claim place content) = 11 + length content
@@ -24,6 +25,7 @@ size_of (Noted claim note) = 6 + length note
 
 pub record_size : (effect : Effect) → length (record_of effect) ≡ size_of effect
 record_size (Made parent child) = omega arith
+record_size (Nested parent child) = omega arith
 record_size (Asked claim owner items) = omega (arith, length-append (2 ∷ in_four claim ++ name_bytes owner) (items_bytes items), length-append (2 ∷ in_four claim) (name_bytes owner), flat_map-item_bytes items)
 record_size (Extended claim items) = omega (arith, flat_map-item_bytes items)
 record_size (Saved claim place content) = omega arith

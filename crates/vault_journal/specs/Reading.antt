@@ -5,7 +5,7 @@ use Rattle.vault_model.specs.Name.{is_name}
 use Rattle.vault_model.specs.Note.{is_note}
 use Rattle.vault_model.specs.Limits.{most_items}
 use Rattle.vault_model.specs.Said.{Effect}
-use Rattle.vault_model.specs.declared.effects.Effect.TheVariants.{Made, Asked, Extended, Saved, CheckedIn, Abandoned, Given, Noted}
+use Rattle.vault_model.specs.declared.effects.Effect.TheVariants.{Made, Nested, Asked, Extended, Saved, CheckedIn, Abandoned, Given, Noted}
 use Rattle.vault_model.specs.declared.ids.Intent.TheVariants.{Look, Change}
 use Rattle.vault_model.specs.declared.claims.Item.{Item}
 use Rattle.vault_journal.specs.declared.records.ReadError.{ReadError}
@@ -148,6 +148,12 @@ noted_at bytes = do
   note ← note_at claim.1
   Some (Noted claim.0 note.0, note.1)
 
+unfoldable pub nested_at : List ℕ → Option (Effect × List ℕ)
+nested_at bytes = do
+  parent ← u32_at bytes
+  child ← name_at parent.1
+  Some (Nested parent.0 child.0, child.1)
+
 -- the effect whose kind this is
 unfoldable pub effect_of_kind : ℕ → List ℕ → Option (Effect × List ℕ)
 effect_of_kind kind bytes =
@@ -159,6 +165,7 @@ effect_of_kind kind bytes =
     else if kind == 6 then abandoned_at bytes
     else if kind == 7 then given_at bytes
     else if kind == 8 then noted_at bytes
+    else if kind == 9 then nested_at bytes
     else None
 
 -- the effect whose record stands at the front, and the bytes behind it; none where the front is no record

@@ -7,7 +7,7 @@ use Rattle.vault_model.specs.Note.{IsNote}
 use Rattle.vault_model.specs.Limits.{most_items}
 pub use Rattle.vault_model.specs.Limits.{longest_content}
 use Rattle.vault_model.specs.Said.{Effect}
-use Rattle.vault_model.specs.declared.effects.Effect.TheVariants.{Made, Asked, Extended, Saved, CheckedIn, Abandoned, Given, Noted}
+use Rattle.vault_model.specs.declared.effects.Effect.TheVariants.{Made, Nested, Asked, Extended, Saved, CheckedIn, Abandoned, Given, Noted}
 use Rattle.vault_model.specs.declared.ids.Intent.{Intent}
 use Rattle.vault_model.specs.declared.ids.Intent.TheVariants.{Look, Change}
 use Rattle.vault_model.specs.declared.claims.Item.{Item}
@@ -60,6 +60,7 @@ record_of (CheckedIn claim) = 5 ∷ in_four claim
 record_of (Abandoned claim) = 6 ∷ in_four claim
 record_of (Given claim designer) = 7 ∷ in_four claim ++ name_bytes designer
 record_of (Noted claim note) = 8 ∷ in_four claim ++ note_bytes note
+record_of (Nested parent child) = 9 ∷ in_four parent ++ name_bytes child
 
 -- the records of effects, one behind another
 abbrev pub records_of : List Effect → List ℕ
@@ -94,3 +95,4 @@ HasRecord (CheckedIn claim) = IsClaimNumber claim
 HasRecord (Abandoned claim) = IsClaimNumber claim
 HasRecord (Given claim designer) = IsClaimNumber claim × IsName designer
 HasRecord (Noted claim note) = IsClaimNumber claim × IsNote note
+HasRecord (Nested parent child) = (parent < 2 ^ 32) × IsName child

@@ -1,10 +1,10 @@
 //! The record of each effect, written and read.
 ghost use Rattle.std.specs.Prelude.{◌≡◌, ◌≤◌, ◌<◌, ◌+◌, ◌*◌, ◌∷◌, ◌++◌, IfOk, IfErr, length};
 ghost use Rattle.vault_model.specs.Limits.{most_items};
-ghost use Rattle.vault_model.specs.declared.effects.Effect.TheVariants.{Made, Asked, Extended, Saved, Given, Noted};
-ghost use Rattle.vault_journal.specs.Spelling.{record_of, in_four, longest_content, longest_record, HasRecord};
+ghost use Rattle.vault_model.specs.declared.effects.Effect.TheVariants.{Asked, Extended, Saved, Given, Noted};
+ghost use Rattle.vault_journal.specs.Spelling.{record_of, in_four, name_bytes, longest_content, longest_record, HasRecord};
 ghost use Rattle.vault_journal.specs.Written.{IsWritten};
-ghost use Rattle.vault_journal.specs.Reading.{Reads, Gives, claim_at, made_at, asked_at, extended_at, saved_at, checked_in_at, abandoned_at, given_at, noted_at, effect_at};
+ghost use Rattle.vault_journal.specs.Reading.{Reads, Gives, claim_at, made_at, asked_at, extended_at, saved_at, checked_in_at, abandoned_at, given_at, noted_at, nested_at, effect_at};
 ghost use Rattle.vault_journal.specs.Rows.{AreRecordsOf};
 ghost use Rattle.vault_journal.specs.Damage.{IsDamage};
 ghost use Rattle.vault_journal.specs.declared.records.ReadError.TheVariants.{Memory};
@@ -29,6 +29,7 @@ pub const LONGEST_RECORD: usize = 1035;
 //   abandoned   1 kind, 6 · 4 claim
 //   given       1 kind, 7 · 4 claim · 1 + n designer's name
 //   noted       1 kind, 8 · 4 claim · 1 + n note
+//   nested      1 kind, 9 · 4 parent · 1 + n name
 //
 // A name is n, 1 to 32, in 1 byte and n bytes. A note is n, 0 to 64, in 1 byte and n bytes. An item is 1 byte, 0 to look and
 // 1 to change, and its place in 4.
@@ -42,11 +43,12 @@ fn put_claim(out: &mut [u8], at: usize, kind: u8, claim: u32) -> usize
     put_u32(out, at, claim)
 }
 
-fn put_made(out: &mut [u8], at: usize, parent: PlaceId, child: &Name) -> usize
+// Writes a record's kind, the place under which a place was made, and its name.
+fn put_child(out: &mut [u8], at: usize, kind: u8, parent: PlaceId, child: &Name) -> usize
     requires { at + 6 + length child.now ≤ length out.old }
-    ensures { IsWritten at (record_of (Made parent child.now)) result out.old out.new }
+    ensures { IsWritten at (kind ∷ in_four parent ++ name_bytes child.now) result out.old out.new }
 {
-    let at = put_u8(out, at, 1);
+    let at = put_u8(out, at, kind);
     let at = put_u32(out, at, parent.number());
     put_name(out, at, child)
 }
@@ -102,7 +104,8 @@ pub fn put_effect<A: Allocator>(out: &mut [u8], at: usize, effect: &EffectIn<A>)
     ensures { IsWritten at (record_of effect.now) result out.old out.new }
 {
     match effect {
-        Effect::Made(parent, child) => put_made(out, at, *parent, child),
+        Effect::Made(parent, child) => put_child(out, at, 1, *parent, child),
+        Effect::Nested(parent, child) => put_child(out, at, 9, *parent, child),
         Effect::Asked(claim, owner, items) => put_asked(out, at, *claim, owner, items),
         Effect::Extended(claim, items) => put_extended(out, at, *claim, items),
         Effect::Saved(claim, place, content) => {
@@ -123,7 +126,7 @@ pub fn record_len<A: Allocator>(effect: &EffectIn<A>) -> usize
     ensures longest { result ≤ longest_record }
 {
     match effect {
-        Effect::Made(_, child) => 6 + child.as_bytes().len(),
+        Effect::Made(_, child) | Effect::Nested(_, child) => 6 + child.as_bytes().len(),
         Effect::Asked(_, owner, items) => 7 + owner.as_bytes().len() + 5 * items.len(),
         Effect::Extended(_, items) => 6 + 5 * items.len(),
         Effect::Saved(_, _, content) => 11 + content.as_slice().len(),
@@ -248,6 +251,17 @@ fn noted_at<A: Allocator>(bytes: &[u8]) -> Option<(EffectIn<A>, &[u8])>
     Some((Effect::Noted(claim, note), rest))
 }
 
+#[tactic(auto, unfolding(crate::specs::Reading::nested_at))]
+fn nested_at<A: Allocator>(bytes: &[u8]) -> Option<(EffectIn<A>, &[u8])>
+    ensures { Reads (λ x. (x.0, x.1.now)) result (nested_at bytes.now) }
+{
+    let (parent, rest) = u32_at(bytes)?;
+    let Some((child, rest)) = name_at(rest) else {
+        return None;
+    };
+    Some((Effect::Nested(PlaceId(parent), child), rest))
+}
+
 // The effect whose record stands at the front, and what is behind it.
 #[tactic(auto, unfolding(crate::specs::Reading::effect_at, crate::specs::Reading::effect_of_kind))]
 fn effect_at<A: Allocator>(alloc: A, bytes: &[u8]) -> Result<(EffectIn<A>, &[u8]), ReadError>
@@ -263,6 +277,7 @@ fn effect_at<A: Allocator>(alloc: A, bytes: &[u8]) -> Result<(EffectIn<A>, &[u8]
         6 => abandoned_at(rest).ok_or(ReadError::NotOne),
         7 => given_at(rest).ok_or(ReadError::NotOne),
         8 => noted_at(rest).ok_or(ReadError::NotOne),
+        9 => nested_at(rest).ok_or(ReadError::NotOne),
         _ => Err(ReadError::NotOne),
     }
 }

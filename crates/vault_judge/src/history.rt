@@ -29,7 +29,7 @@ pub struct History {
 /// How many bytes a record has beside its text and its items, how many its text has, and how many items there are.
 fn parts_of(effect: &Effect) -> (u64, usize, usize) {
     match effect {
-        Effect::Made(_, name) => (6, name.as_bytes().len(), 0),
+        Effect::Made(_, name) | Effect::Nested(_, name) => (6, name.as_bytes().len(), 0),
         Effect::Asked(_, name, items) => (7, name.as_bytes().len(), items.len()),
         Effect::Extended(_, items) => (6, 0, items.len()),
         Effect::Saved(_, _, content) => (11, content.as_slice().len(), 0),

@@ -4,6 +4,7 @@ use group_commit::{File, Phase, Pumped, Retired, Started};
 use vault_device::Pick;
 use vault_inspector::FileState;
 use vault_model::Outside;
+use vault_store::FileVersion;
 
 // The most entries that are kept.
 const MOST_KEPT: u64 = 4096;
@@ -398,6 +399,7 @@ impl World {
                 generation: self.active.generation,
                 frames: self.active.frames,
                 tail: self.active.tail,
+                version: FileVersion::Two,
             };
         }
         match self.spare.older {

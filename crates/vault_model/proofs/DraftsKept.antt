@@ -1,15 +1,14 @@
 -- What the drafts of a vault keep, through each change of the tree, the line and themselves.
-use Rattle.std.specs.Prelude.{◌≡◌, ℕ, ◌+◌, ◌<◌, ◌≤◌, ◌==◌, ◌&&◌, nat_lt, nat_le, Bool, true, false, not, List, [], ◌∷◌, ◌++◌, length, filter, Option, None, Some, is_some, All, ◌⊎◌, refl}
+use Rattle.std.specs.Prelude.{◌≡◌, ℕ, ◌+◌, ◌<◌, ◌≤◌, ◌==◌, ◌&&◌, nat_lt, Bool, true, false, not, List, [], ◌∷◌, ◌++◌, length, filter, Option, None, Some, is_some, All, ◌⊎◌, refl}
 use Rattle.std.proofs.Common.{sym, subst, ap, ◌∙◌, cond, arith, length-append, inl, inr}
 use Rattle.std.specs.List.{IsDistinct, AllByRecursion}
-use Rattle.std.specs.Option.{option_map, option_map_or}
+use Rattle.std.specs.Option.{option_map_or}
 use Rattle.std.proofs.lemmas.Bool.Decides.{nat_tests}
 use Rattle.std.proofs.lemmas.List.{length-map}
 use Rattle.std.proofs.lemmas.List.Elements.{All-nil, All-cons, All-head, All-tail, All-filter, All-append, filter-append}
 use Rattle.vault_model.specs.declared.place.Place.{Place}
 use Rattle.vault_model.specs.declared.claims.Item.{Item}
 use Rattle.vault_model.specs.declared.claims.Claim.{Claim}
-use Rattle.vault_model.specs.declared.claims.Standing.{Standing}
 use Rattle.vault_model.specs.declared.claims.Standing.TheVariants.{Held}
 use Rattle.vault_model.specs.declared.ids.ClaimId.{ClaimId}
 use Rattle.vault_model.specs.declared.ids.ClaimId.TheVariants.{Long}
@@ -139,7 +138,7 @@ module _ (tree : List Place) (x : Place) (rises : Rises tree) (parent : x.parent
         held = standing_of-grown tree x rises parent line (Long d.claim) there ∙ h.held;
         changed = λ c found. changed_grown c.items d.draft.place h.there ∙ h.changed c found;
         there = let longer = length-append tree (x ∷ []) in let within = h.there in omega arith;
-        part = is_part-push tree x d.draft.place rises h.there ∙ h.part;
+        part = is_part-push tree x d.draft.place h.there ∙ h.part;
         short = h.short;
       }
 

@@ -8,7 +8,8 @@ use Rattle.std.proofs.lemmas.List.Elements.{filter-append, All-weaker, All-head,
 use Rattle.std.proofs.lemmas.List.Sums.{length-filter, count_by-le-length}
 use Rattle.vault_model.specs.Limits.{most_items, most_claims, last_number}
 use Rattle.vault_model.specs.Note.{is_note}
-use Rattle.vault_model.specs.Tree.{child, is_part, is_full}
+use Rattle.vault_model.specs.declared.place.Kind.TheVariants.{Assembly}
+use Rattle.vault_model.specs.Tree.{child, is_part, is_full, kind_under, may_nest_under}
 use Rattle.vault_model.specs.Said.{Effect}
 use Rattle.vault_model.specs.declared.effects.Effect.TheVariants as effects
 use Rattle.vault_model.specs.declared.place.Place.{Place}
@@ -24,13 +25,13 @@ use Rattle.vault_model.specs.Step.{extension, may_save}
 use Rattle.vault_model.specs.Shelf.{is_shelvable}
 use Rattle.vault_model.proofs.Shelves.{true_le}
 use Rattle.vault_model.specs.Drafts.{new_draft, drafts_of, without_drafts}
-use Rattle.vault_model.specs.After.{only_if, are_there, may_make, may_ask, may_extend, after_made, after_asked, drafts_held, after_extended, after_saved, after_checked_in, after_abandoned, after_given, after_noted, after, IsDurable, IsDurableChange}
+use Rattle.vault_model.specs.After.{only_if, are_there, may_make, may_ask, may_extend, after_made, after_nested, after_asked, drafts_held, after_extended, after_saved, after_checked_in, after_abandoned, after_given, after_noted, after, IsDurable, IsDurableChange}
 use Rattle.vault_model.specs.Laws.{EffectIsTheDurableChange, DurableStays}
 use Rattle.vault_model.proofs.Overlaps.{and_both, and_intro, eq_from, eq_itself}
 use Rattle.vault_model.proofs.Stays.{own_id, claim_of-kept, held_kept, kept_there, claim_there}
 use Rattle.vault_model.proofs.Fronts.{held_claim, stands_held}
 use Rattle.vault_model.proofs.Kept.{kept_first, kept_without, kept_checked_in, kept_durable}
-use Rattle.vault_model.proofs.Transitions.{CanMake, CanExtend, Transition, answered, joined, left, made, asked, taken, extended, saved, checked_in, abandoned, given, noted, released, by_transition, by_count}
+use Rattle.vault_model.proofs.Transitions.{CanMake, CanExtend, Transition, answered, joined, left, made, nested, asked, taken, extended, saved, checked_in, abandoned, given, noted, released, by_transition, by_count}
 use Rattle.vault_model.proofs.InPlace.{one_id, filter-changed, kept_given, kept_noted}
 use Rattle.vault_model.specs.Changes.{gone, with_place, with_check_out, with_items, with_content, with_versions, without_check_out, with_owner, with_note}
 use Rattle.vault_model.proofs.DraftsKept.{all_held, drafts_put_first}
@@ -113,9 +114,13 @@ counted_change v n None w change = counted_durable n w ∙ change
 counted_change v n (Some effect) w change = change ∙ ap Some (sym (counted_durable n w))
 
 -- each effect, where it may be made
-makes : (w : Vault) (parent : ℕ) (name : List ℕ) → CanMake w.tree parent name → after w (effects.Made parent name) ≡ Some (with_place w parent name)
+makes : (w : Vault) (parent : ℕ) (name : List ℕ) → CanMake w.tree parent name → after w (effects.Made parent name) ≡ Some (with_place w parent name (kind_under w.tree parent))
 unfolding after after_made
 makes w parent name can = let there = can.there in let near : nat_le parent (length w.tree) ≡ true = grind (arith, nat_tests, there) in rw (near, can.above, can.fresh, can.room) refl
+
+nests : (w : Vault) (parent : ℕ) (name : List ℕ) → CanMake w.tree parent name → may_nest_under w.tree parent ≡ true → after w (effects.Nested parent name) ≡ Some (with_place w parent name Assembly)
+unfolding after after_nested
+nests w parent name can between = let there = can.there in let near : nat_le parent (length w.tree) ≡ true = grind (arith, nat_tests, there) in rw (near, can.above, can.fresh, can.room, between) refl
 
 asks_for : (w : Vault) (designer : List ℕ) (items : List Item) → 0 < length items → length items ≤ most_items → AreThere w.tree items → length w.line < most_claims → w.last_long < last_number
     → after w (effects.Asked (w.last_long + 1) designer items)
@@ -237,6 +242,7 @@ module _ (v : Vault) (kept : IsVault v) where
   transition_durable effect w (joined name room unspent) = refl
   transition_durable effect w (left session) = gone_durable session
   transition_durable effect w (made parent name can) = makes (durable v) parent name can
+  transition_durable effect w (nested parent name can between) = nests (durable v) parent name can between
   transition_durable effect w (asked designer items can) =
       let room = can.room in
       let shorter = length-filter lasts v.line in
@@ -266,15 +272,25 @@ effect_is_the_durable_change v n command kept = by_transition (λ effect w. IsDu
 
 -- a line of durable claims has no short ones
 module _ (w : Vault) (kept : IsVault w) where
+  can_make : (parent : ℕ) (name : List ℕ) → may_make w parent name ≡ true → CanMake w.tree parent name
+  can_make parent name may =
+      let all = four (nat_le parent (length w.tree)) (not (is_part w.tree parent)) (not (is_some (child w.tree parent name))) (not (is_full w.tree parent)) may in
+      record { there = grind (arith, nat_tests, all.0); above = not_false (is_part w.tree parent) all.1; fresh = not_false _ all.2; room = not_false (is_full w.tree parent) all.3 }
+
   made_stays : (parent : ℕ) (name : List ℕ) (next : Vault) → after_made w parent name ≡ Some next → IsVault next × (IsDurable w → IsDurable next)
   unfolding after_made
   made_stays parent name next e =
       let is = only_if_some (may_make w parent name) _ next e in
-      let all = four (nat_le parent (length w.tree)) (not (is_part w.tree parent)) (not (is_some (child w.tree parent name))) (not (is_full w.tree parent)) is.0 in
-      let there : parent ≤ length w.tree = grind (arith, nat_tests, all.0) in
-      let above = not_false (is_part w.tree parent) all.1 in
       subst (λ (x : Vault). IsVault x × (IsDurable w → IsDurable x)) is.1
-      (transition_keeps w kept _ _ (made parent name (record { there = there; above = above; fresh = not_false _ all.2; room = not_false (is_full w.tree parent) all.3 })), stays w kept (λ x. with_place x parent name) refl)
+      (transition_keeps w kept _ _ (made parent name (can_make parent name is.0)), stays w kept (λ x. with_place x parent name (kind_under w.tree parent)) refl)
+
+  nested_stays : (parent : ℕ) (name : List ℕ) (next : Vault) → after_nested w parent name ≡ Some next → IsVault next × (IsDurable w → IsDurable next)
+  unfolding after_nested
+  nested_stays parent name next e =
+      let is = only_if_some (may_make w parent name && may_nest_under w.tree parent) _ next e in
+      let both = and_both (may_make w parent name) (may_nest_under w.tree parent) is.0 in
+      subst (λ (x : Vault). IsVault x × (IsDurable w → IsDurable x)) is.1
+      (transition_keeps w kept _ _ (nested parent name (can_make parent name both.0) both.1), stays w kept (λ x. with_place x parent name Assembly) refl)
 
   asked_stays : (number : ℕ) (designer : List ℕ) (items : List Item) (next : Vault) → after_asked w number designer items ≡ Some next → IsVault next × (IsDurable w → IsDurable next)
   unfolding after_asked
@@ -389,6 +405,7 @@ module _ (w : Vault) (kept : IsVault w) where
 pub durable_stays : DurableStays
 unfolding after
 durable_stays w next (effects.Made parent name) kept e = made_stays w kept parent name next e
+durable_stays w next (effects.Nested parent name) kept e = nested_stays w kept parent name next e
 durable_stays w next (effects.Asked number designer items) kept e = asked_stays w kept number designer items next e
 durable_stays w next (effects.Extended number items) kept e = extended_stays w kept number items next e
 durable_stays w next (effects.Saved number place content) kept e = saved_stays w kept number place content next e

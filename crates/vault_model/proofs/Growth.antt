@@ -11,10 +11,13 @@ use Rattle.std.proofs.lemmas.Slice.Eq.{bytes_eq-Decides}
 use Rattle.std.proofs.lemmas.Bool.{cases_lt}
 use Rattle.std.proofs.lemmas.Bool.Decides.{nat_tests}
 use Rattle.vault_model.specs.declared.place.Place.{Place}
+use Rattle.vault_model.specs.declared.place.Kind.{Kind}
+use Rattle.vault_model.specs.declared.place.Kind.TheVariants.{Library}
 use Rattle.vault_model.specs.declared.claims.Item.{Item}
-use Rattle.vault_model.specs.Tree.{parent_of, is_under_within, is_under, depth_within, depth, is_part, is_child, child, find_below, find_place, children_count, is_full, IsTree}
-use Rattle.vault_model.specs.Limits.{greatest_depth, part_depth, most_places, most_children}
+use Rattle.vault_model.specs.Tree.{parent_of, is_under_within, is_under, depth_within, depth, kind_of, is_part_kind, is_part, may_stand, is_child, child, find_below, find_place, children_count, is_full, IsTree}
+use Rattle.vault_model.specs.Limits.{most_places, most_children}
 use Rattle.vault_model.specs.Vault.{AreThere}
+use Rattle.vault_model.proofs.Depths.{stands_shallow}
 use Rattle.vault_model.proofs.Walks.{Rises, same_at, depth-step, depth-top}
 
 pub slice_get-push_old : {X : Type 0} (xs : List X) (y : X) (i : ℕ) → i < length xs → slice_get (xs ++ y ∷ []) i ≡ slice_get xs i
@@ -88,9 +91,20 @@ module _ (tree : List Place) (x : Place) where
       depth-step grown (suc (length tree)) x.parent (Rises-push rises there) parent_of-push_new
       ∙ ap suc (depth-push x.parent rises there)
 
-  -- nor a part of one of them
-  pub is_part-push : (p : ℕ) → Rises tree → p ≤ length tree → is_part grown p ≡ is_part tree p
-  is_part-push p rises h = ap (nat_le part_depth) (depth-push p rises h)
+  -- nor the kind of one of them
+  pub kind_of-push : (p : ℕ) → p ≤ length tree → kind_of grown p ≡ kind_of tree p
+  kind_of-push zero h = refl
+  kind_of-push (suc n) h = ap (λ o. option_map_or (λ (place : Place). place.kind) o Library) (slice_get-push_old tree x n (omega arith))
+
+  pub kind_of-push_new : kind_of grown (suc (length tree)) ≡ x.kind
+  kind_of-push_new = ap (λ o. option_map_or (λ (place : Place). place.kind) o Library) (slice_get-push_new tree x)
+
+  kind_of-push_past : (p : ℕ) → suc (length tree) < p → kind_of grown p ≡ Library
+  kind_of-push_past zero h = refl
+  kind_of-push_past (suc n) h = ap (λ o. option_map_or (λ (place : Place). place.kind) o Library) (slice_get-push_past tree x n (omega arith))
+
+  pub is_part-push : (p : ℕ) → p ≤ length tree → is_part grown p ≡ is_part tree p
+  is_part-push p h = ap is_part_kind (kind_of-push p h)
 
   -- under a place that is no part, it leaves no part above a place
   pub no_parts_above-push : Rises tree → x.parent ≤ length tree → is_part tree x.parent ≡ false → ((p parent : ℕ) → parent_of tree p ≡ Some parent → is_part tree parent ≡ false)
@@ -100,23 +114,30 @@ module _ (tree : List Place) (x : Place) where
       by_place : (p < suc (length tree)) ⊎ (suc (length tree) ≤ p) → (p < suc (suc (length tree))) ⊎ (suc (suc (length tree)) ≤ p) → is_part grown parent ≡ false
       by_place (inl h) other =
           let old : parent_of tree p ≡ Some parent = sym (parent_of-push_old p (omega (arith, h))) ∙ e in
-          is_part-push parent rises (omega (arith, rises p parent old, h)) ∙ none p parent old
+          is_part-push parent (omega (arith, rises p parent old, h)) ∙ none p parent old
       by_place (inr h) (inl g) =
           let last : p ≡ suc (length tree) = omega (arith, h, g) in
           let known : parent_of grown p ≡ Some x.parent = rw last parent_of-push_new in
           let same : x.parent ≡ parent = cc in
-          rw (← same) (is_part-push x.parent rises there ∙ above)
+          rw (← same) (is_part-push x.parent there ∙ above)
       by_place (inr h) (inr g) = let past = parent_of-push_past p (omega (arith, g)) in cc
 
-  pub shallow-push : Rises tree → x.parent ≤ length tree → depth tree x.parent < greatest_depth → ((p : ℕ) → depth tree p ≤ greatest_depth) → (p : ℕ) → depth grown p ≤ greatest_depth
-  shallow-push rises there low shallow p = by_place (cases_lt p (suc (length tree)))
+  -- one that may stand under its parent leaves each kind at its depths
+  pub kinds-push : Rises tree → x.parent ≤ length tree → may_stand x.kind (suc (depth tree x.parent)) ≡ true → ((p : ℕ) → may_stand (kind_of tree p) (depth tree p) ≡ true)
+      → (p : ℕ) → may_stand (kind_of grown p) (depth grown p) ≡ true
+  kinds-push rises there stands kinds p = by_place (cases_lt p (suc (length tree)))
     where
-      by_rest : (p < suc (suc (length tree))) ⊎ (suc (suc (length tree)) ≤ p) → suc (length tree) ≤ p → depth grown p ≤ greatest_depth
-      by_rest (inl h) k = let same : p ≡ suc (length tree) = omega arith in rw (same, depth-push_new rises there) (omega arith)
-      by_rest (inr h) k = rw (depth-top grown p (parent_of-push_past p (omega arith))) (omega arith)
+      by_parts : {k l : Kind} {c d : ℕ} → k ≡ l → c ≡ d → may_stand l d ≡ true → may_stand k c ≡ true
+      by_parts same_kind same_depth known = rw (same_kind, same_depth) known
 
-      by_place : (p < suc (length tree)) ⊎ (suc (length tree) ≤ p) → depth grown p ≤ greatest_depth
-      by_place (inl h) = rw (depth-push p rises (omega arith)) (shallow p)
+      by_rest : (p < suc (suc (length tree))) ⊎ (suc (suc (length tree)) ≤ p) → suc (length tree) ≤ p → may_stand (kind_of grown p) (depth grown p) ≡ true
+      by_rest (inl h) k =
+          let same : p ≡ suc (length tree) = omega arith in
+          by_parts (ap (kind_of grown) same ∙ kind_of-push_new) (ap (depth grown) same ∙ depth-push_new rises there) stands
+      by_rest (inr h) k = by_parts (kind_of-push_past p (omega arith)) (depth-top grown p (parent_of-push_past p (omega arith))) refl
+
+      by_place : (p < suc (length tree)) ⊎ (suc (length tree) ≤ p) → may_stand (kind_of grown p) (depth grown p) ≡ true
+      by_place (inl h) = by_parts (kind_of-push p (omega arith)) (depth-push p rises (omega arith)) (kinds p)
       by_place (inr h) = by_rest (cases_lt p (suc (suc (length tree)))) h
 
 -- no element passes where `position` finds none
@@ -182,16 +203,20 @@ module _ (tree : List Place) (x : Place) where
       by_places (inr g) (inl h) = absurd (none_alike none i a g (parents ∙ ap (λ (y : Place). y.parent) h.1) (names ∙ ap (λ (y : Place). y.name) h.1))
       by_places (inr g) (inr h) = differ i j a b g h parents names
 
-  pub IsTree-push : IsTree tree → x.parent ≤ length tree → depth tree x.parent < greatest_depth → is_part tree x.parent ≡ false → child tree x.parent x.name ≡ None → is_full tree x.parent ≡ false → IsTree (grown tree x)
-  IsTree-push h there low above none room = record {
+  pub IsTree-push : IsTree tree → x.parent ≤ length tree → may_stand x.kind (suc (depth tree x.parent)) ≡ true → is_part tree x.parent ≡ false → child tree x.parent x.name ≡ None → is_full tree x.parent ≡ false → IsTree (grown tree x)
+  IsTree-push h there stands above none room = record {
     few = let longer = length-append tree (x ∷ []) in grind (arith, nat_tests, free.0);
     parents = Rises-push tree x h.parents there;
-    shallow = shallow-push tree x h.parents there low h.shallow;
+    shallow = λ p. stands_shallow (kind_of (grown tree x) p) (depth (grown tree x) p) (kinds p);
     no_parts_above = no_parts_above-push tree x h.parents there above h.no_parts_above;
     siblings = siblings-push none h.siblings;
     narrow = λ p. rw (children_count-push p) (by_parent p (x.parent == p) refl);
+    kinds = kinds;
   }
     where
+      kinds : (p : ℕ) → may_stand (kind_of (grown tree x) p) (depth (grown tree x) p) ≡ true
+      kinds = kinds-push tree x h.parents there stands h.kinds
+
       both_false : (a b : Bool) → (a || b) ≡ false → (a ≡ false) × (b ≡ false)
       both_false true b e = cc
       both_false false b e = (refl, e)

@@ -1,5 +1,5 @@
 -- A claim that is held and still stands after a step is held there.
-use Rattle.std.specs.Prelude.{◌++◌, Option, ◌≡◌, Bool, true, false, not, List, [], ◌∷◌, Some, is_some, find, ◌⊎◌, refl}
+use Rattle.std.specs.Prelude.{◌++◌, Option, ◌≡◌, Bool, true, false, not, List, [], ◌∷◌, All, Some, is_some, find, ◌⊎◌, refl}
 use Rattle.std.proofs.Common.{sym, subst, ◌∙◌, cond, inl, inr}
 use Rattle.std.proofs.lemmas.List.Elements.{All-weaker}
 use Rattle.vault_model.specs.declared.place.Place.{Place}
@@ -10,13 +10,14 @@ use Rattle.vault_model.specs.declared.ids.ClaimId.TheVariants.{Long, Short}
 use Rattle.vault_model.specs.Claims.{given_to, noted_as, is_session, is_short, same_id, overlap, standing_behind, claim_of, before, standing_of}
 use Rattle.vault_model.specs.Vault.{Vault, AreThere, IsClaim, IsVault}
 use Rattle.vault_model.specs.Said.{Effect}
-use Rattle.vault_model.specs.Tree.{new_place}
+use Rattle.vault_model.specs.declared.place.Kind.TheVariants.{Assembly}
+use Rattle.vault_model.specs.Tree.{new_place, kind_under}
 use Rattle.vault_model.specs.Laws.{HeldStays, HeldIsDurable, HeldAreApart}
 use Rattle.vault_model.proofs.Grown.{standing_of-grown}
 use Rattle.vault_model.proofs.Stays.{held_there, stood, take_while-cons, standing_of-push, find-filter, held_none, held_kept, kept_there, same_id_is}
 use Rattle.vault_model.proofs.Fronts.{none_passes, held_front}
 use Rattle.vault_model.proofs.Meetings.{symmetric}
-use Rattle.vault_model.proofs.Transitions.{Transition, left, made, asked, taken, extended, checked_in, abandoned, given, noted, released, by_transition, by_count}
+use Rattle.vault_model.proofs.Transitions.{Transition, left, made, nested, asked, taken, extended, checked_in, abandoned, given, noted, released, by_transition, by_count}
 use Rattle.vault_model.proofs.InPlace.{standing_of-changed}
 
 -- a claim is held, if it stands
@@ -25,9 +26,14 @@ IsHeldIn id w = is_some (claim_of w.line id) ≡ true → standing_of w.tree w.l
 
 -- held stays held under each change
 module _ (v : Vault) (id : ClaimId) (kept : IsVault v) (held : standing_of v.tree v.line id ≡ Some Held) where
+  all_there : All (λ (c : Claim). AreThere v.tree c.items) v.line
+  all_there = All-weaker (IsClaim v.tree v.sessions v.last_long v.last_short) (λ (c : Claim). AreThere v.tree c.items) (λ c h. h.there) v.line kept.claims
+
   transition_held : (effect : Option Effect) (w : Vault) → Transition v effect w → IsHeldIn id w
   transition_held effect w (made parent name can) stands =
-      standing_of-grown v.tree (new_place parent name) kept.tree.parents can.there v.line id (All-weaker (IsClaim v.tree v.sessions v.last_long v.last_short) (λ (c : Claim). AreThere v.tree c.items) (λ c h. h.there) v.line kept.claims) ∙ held
+      standing_of-grown v.tree (new_place parent name (kind_under v.tree parent)) kept.tree.parents can.there v.line id all_there ∙ held
+  transition_held effect w (nested parent name can between) stands =
+      standing_of-grown v.tree (new_place parent name Assembly) kept.tree.parents can.there v.line id all_there ∙ held
   transition_held effect w (asked designer items can) stands = standing_of-push v.tree v.line _ id (held_there v.tree v.line id held) ∙ held
   transition_held effect w (taken session items owner can) stands = standing_of-push v.tree v.line _ id (held_there v.tree v.line id held) ∙ held
   transition_held effect w (extended first claim items can) stands = held_front v.tree v.line first (claim.items ++ items) kept.apart (rw can.used.found refl) can.free id held

@@ -1,5 +1,5 @@
 -- What every vault keeps, through each change.
-use Rattle.std.specs.Prelude.{◌≡◌, ◌≢◌, ℕ, zero, suc, Option, None, Some, is_some, ◌+◌, ◌<◌, ◌≤◌, ◌==◌, Bool, true, false, not, nat_eq, nat_le, List, [], ◌∷◌, ◌++◌, length, map, filter, All, refl}
+use Rattle.std.specs.Prelude.{◌≡◌, ◌≢◌, ℕ, zero, suc, Option, None, Some, is_some, ◌+◌, ◌<◌, ◌≤◌, ◌==◌, Bool, true, false, not, nat_eq, List, [], ◌∷◌, ◌++◌, length, map, filter, All, refl}
 use Rattle.std.proofs.Common.{arith, ap, sym, subst, cond, length-append, ◌∙◌}
 use Rattle.std.proofs.lemmas.List.{length-map}
 use Rattle.std.proofs.lemmas.List.Elements.{All-nil, All-cons, All-head, All-tail, All-weaker, All-filter, All-push, All-map}
@@ -13,7 +13,8 @@ use Rattle.vault_model.specs.declared.claims.Claim.{Claim}
 use Rattle.vault_model.specs.declared.claims.Owner.{Owner}
 use Rattle.vault_model.specs.declared.claims.Owner.TheVariants as owners
 use Rattle.vault_model.specs.declared.session.Session.{Session}
-use Rattle.vault_model.specs.Tree.{IsTree, is_part, parent_of, find_place}
+use Rattle.vault_model.specs.declared.place.Kind.TheVariants.{Library}
+use Rattle.vault_model.specs.Tree.{IsTree, kind_of, is_part, parent_of, find_place}
 use Rattle.vault_model.proofs.Walks.{depth-top}
 use Rattle.std.specs.List.{IsDistinct, AllByRecursion}
 use Rattle.vault_model.specs.Changes.{with_check_out, with_hold}
@@ -200,7 +201,7 @@ module _ (v : Vault) (kept : IsVault v) where
           let old = kept.versions.parts place some in
           let within = old.0 in
           let longer = length-append v.tree (x ∷ []) in
-          (omega arith, is_part-push v.tree x place kept.tree.parents old.0 ∙ old.1);
+          (omega arith, is_part-push v.tree x place old.0 ∙ old.1);
     };
     drafts = drafts_grown v.tree x kept.tree.parents parent v.line (All-weaker (IsClaim v.tree v.sessions v.last_long v.last_short) (λ (c : Claim). AreThere v.tree c.items) (λ c h. h.there) v.line kept.claims) v.drafts kept.drafts;
     light = kept.light;
@@ -510,6 +511,7 @@ tree_new = record {
   parents = λ p parent e. nowhere p parent e;
   shallow = λ p. rw (depth-top [] p (no_parent p)) (omega arith);
   no_parts_above = λ p parent e. let none = no_parent p in cc;
+  kinds = λ p. rw (no_kind p, depth-top [] p (no_parent p)) refl;
   siblings = λ i j a b e. cc;
   narrow = λ p. omega arith;
 }
@@ -517,6 +519,10 @@ tree_new = record {
     no_parent : (p : ℕ) → parent_of [] p ≡ None
     no_parent zero = refl
     no_parent (suc p) = refl
+
+    no_kind : (p : ℕ) → kind_of [] p ≡ Library
+    no_kind zero = refl
+    no_kind (suc p) = refl
 
     nowhere : (p parent : ℕ) → parent_of [] p ≡ Some parent → parent < p
     nowhere p parent e = let none = no_parent p in cc

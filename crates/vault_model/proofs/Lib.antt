@@ -1,6 +1,8 @@
+pub mod Depths
 pub mod Walks
 pub mod Distinct
 pub mod FirstPart
+pub mod Filled
 pub mod Paths
 pub mod Growth
 pub mod Overlaps

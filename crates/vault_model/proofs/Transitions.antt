@@ -6,7 +6,8 @@ use Rattle.std.proofs.lemmas.Bool.Decides.{nat_tests}
 use Rattle.std.proofs.lemmas.List.Elements.{All-nil, All-cons}
 use Rattle.vault_model.specs.Limits.{most_items, most_claims, most_sessions, last_number}
 use Rattle.vault_model.specs.Note.{is_note}
-use Rattle.vault_model.specs.Tree.{find_place, child, is_part, is_full}
+use Rattle.vault_model.specs.declared.place.Kind.TheVariants.{Assembly}
+use Rattle.vault_model.specs.Tree.{find_place, child, is_part, is_full, kind_under, may_nest_under}
 use Rattle.vault_model.specs.Said.{Command, Effect}
 use Rattle.vault_model.specs.declared.commands.Command.TheVariants as commands
 use Rattle.vault_model.specs.declared.effects.Effect.TheVariants as effects
@@ -18,16 +19,20 @@ use Rattle.vault_model.specs.declared.ids.ClaimId.{ClaimId}
 use Rattle.vault_model.specs.declared.ids.ClaimId.TheVariants.{Long}
 use Rattle.vault_model.specs.declared.session.Session.{Session}
 use Rattle.vault_model.specs.declared.replies.Refusal.{Refusal}
-use Rattle.vault_model.specs.declared.replies.Refusal.TheVariants.{NoSession, NoClaim, NotYours, NotHeld}
+use Rattle.vault_model.specs.declared.replies.Refusal.TheVariants.{NoSession, Exists, NoClaim, NotYours, NotHeld, Limit}
 use Rattle.vault_model.specs.Claims.{change_set, claim_of, is_held, in_way_of}
 use Rattle.vault_model.specs.Shelf.{is_shelvable}
 use Rattle.vault_model.specs.Drafts.{new_draft, drafts_of}
 use Rattle.vault_model.specs.Vault.{Vault, AreThere, session_of, counted, counted_in}
 use Rattle.vault_model.specs.Changes.{with_session, gone, with_place, with_check_out, with_hold, with_items, with_content, with_versions, without_check_out, with_owner, with_note, without_hold}
-use Rattle.vault_model.specs.Step.{Outcome, ◌>>=◌, chained, refuse_if, refuse_by, is_owned_by, placed, owned, usable, join, make, check_out, extension, extend, abandon, hold, release, state, list, may_save, save, check_in, fetch, count, give, note, read_note, at_door, in_session, decide, outcome_of, step}
+use Rattle.vault_model.specs.Step.{Outcome, ◌>>=◌, chained, refuse_if, refuse_by, is_owned_by, placed, owned, usable, join, permitted, admitted, make, nest, check_out, extension, extend, abandon, hold, release, state, list, may_save, save, check_in, fetch, count, give, note, read_note, at_door, in_session, decide, outcome_of, step}
 use Rattle.vault_model.proofs.Overlaps.{neither}
 use Rattle.vault_model.proofs.Growth.{find_place_there}
 use Rattle.vault_model.proofs.Kept.{length-placed, session_stands}
+
+affirmed : (b : Bool) → not b ≡ false → b ≡ true
+affirmed true e = refl
+affirmed false e = cc
 
 -- What the guards of a command leave: that a place may be made
 pub record CanMake (tree : List Place) (parent : ℕ) (name : List ℕ) : Type 0 where
@@ -74,7 +79,9 @@ pub data Transition (v : Vault) : Option Effect → Vault → Type 0 where
   left : (session : ℕ)
       → Transition v None (gone v session)
   made : (parent : ℕ) (name : List ℕ) → CanMake v.tree parent name
-      → Transition v (Some (effects.Made parent name)) (with_place v parent name)
+      → Transition v (Some (effects.Made parent name)) (with_place v parent name (kind_under v.tree parent))
+  nested : (parent : ℕ) (name : List ℕ) → CanMake v.tree parent name → may_nest_under v.tree parent ≡ true
+      → Transition v (Some (effects.Nested parent name)) (with_place v parent name Assembly)
   asked : (designer : List ℕ) (items : List Item) → CanAsk v v.last_long items
       → Transition v (Some (effects.Asked (v.last_long + 1) designer items)) (with_check_out v (v.last_long + 1) designer items)
   taken : (session : ℕ) (items : List Item) → is_some (session_of v.sessions session) ≡ true → CanAsk v v.last_short items
@@ -167,6 +174,18 @@ module _ (v : Vault) where
           by_test false = tt
           by_test true = next c found
 
+  -- a place of this name may be made under a parent
+  admits : (session : Session) (parent : ℕ) (name : List ℕ) (claim : Option ℕ) (f : Unit {0} → Result Outcome Refusal) → (is_some (child v.tree parent name) ≡ false → is_full v.tree parent ≡ false → Decided v (f tt)) → Decided v (admitted v session parent name claim >>= f)
+  unfolding admitted chained Decided
+  admits session parent name claim f next = by_tests (is_some (child v.tree parent name)) refl (permitted v session parent claim) (is_full v.tree parent) refl
+    where
+      by_tests : (a : Bool) → is_some (child v.tree parent name) ≡ a → (p : Result (Unit {0}) Refusal) (b : Bool) → is_full v.tree parent ≡ b
+          → Decided v ((refuse_if a Exists >>= λ _. p >>= λ _. refuse_if b Limit) >>= f)
+      by_tests true fresh p b room = tt
+      by_tests false fresh (Err e) b room = tt
+      by_tests false fresh (Ok x) true room = tt
+      by_tests false fresh (Ok x) false room = next fresh room
+
   -- a claim may be used
   uses : (session : Session) (id : ClaimId) (f : Claim → Result Outcome Refusal) → ((claim : Claim) → IsUsed v id claim → Decided v (f claim)) → Decided v (usable v session id >>= f)
   unfolding usable chained Decided
@@ -206,11 +225,15 @@ module _ (v : Vault) where
       joined name (grind (arith, nat_tests, free.0)) free.1)
 
   session_is : (session : Session) → is_some (session_of v.sessions session.number) ≡ true → (command : Command) → Decided v (in_session v session command)
-  unfolding Decided make check_out extend save check_in abandon hold release state list fetch count give note read_note
+  unfolding Decided make nest check_out extend save check_in abandon hold release state list fetch count give note read_note
   session_is session stands (commands.Join name) = tt
   session_is session stands (commands.Make path claim) =
-      finds _ _ _ (λ name _. finds_place _ _ _ (λ parent there. passes _ _ _ (λ above. passes _ _ _ (λ fresh. follows _ _ (λ _ _. passes _ _ _ (λ room.
-      made parent name (record { there = there; above = above; fresh = fresh; room = room })))))))
+      finds _ _ _ (λ name _. finds_place _ _ _ (λ parent there. passes _ _ _ (λ above. admits _ _ _ _ _ (λ fresh room.
+      made parent name (record { there = there; above = above; fresh = fresh; room = room })))))
+  session_is session stands (commands.Nest path claim) =
+      finds _ _ _ (λ name _. finds_place _ _ _ (λ parent there. passes _ _ _ (λ kinds. admits _ _ _ _ _ (λ fresh room.
+      let both = neither (is_part v.tree parent) (not (may_nest_under v.tree parent)) kinds in
+      nested parent name (record { there = there; above = both.0; fresh = fresh; room = room }) (affirmed (may_nest_under v.tree parent) both.1)))))
   session_is session stands (commands.CheckOut wanted) = passes _ _ _ (λ number. finds _ _ _ (λ items found. passes _ _ _ (λ room.
       asked session.name items (can_ask wanted items v.last_long number found room))))
   session_is session stands (commands.Hold wanted) = passes _ _ _ (λ number. finds _ _ _ (λ items found. passes _ _ _ (λ room.

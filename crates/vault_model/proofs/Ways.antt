@@ -1,13 +1,14 @@
 -- The way to a place, and back.
-use Rattle.std.specs.Prelude.{◌≡◌, ℕ, zero, suc, ◌+◌, ◌<◌, ◌≤◌, ◌==◌, true, false, List, [], ◌∷◌, ◌++◌, length, Option, None, Some, slice_get, slice_index_or, position, refl}
-use Rattle.std.proofs.Common.{sym, ap, subst, ◌∙◌, arith, rules}
+use Rattle.std.specs.Prelude.{◌≡◌, ℕ, zero, suc, ◌+◌, ◌<◌, ◌≤◌, ◌==◌, true, List, [], ◌∷◌, ◌++◌, length, Option, None, Some, slice_get, slice_index_or, position, refl}
+use Rattle.std.proofs.Common.{sym, ap, subst, ◌∙◌, arith}
 use Rattle.std.specs.Option.{option_map, option_map_or, option_and_then}
 use Rattle.std.specs.Str.{bytes_eq}
-use Rattle.std.proofs.lemmas.Option.{slice_get-get_or, slice_get_within}
+use Rattle.std.proofs.lemmas.Option.{slice_get-get_or}
 use Rattle.std.proofs.lemmas.List.Quantifiers.{position-Some}
 use Rattle.std.proofs.lemmas.Slice.Eq.{bytes_eq-Decides}
 use Rattle.vault_model.specs.declared.place.Place.{Place}
-use Rattle.vault_model.specs.Tree.{new_place, parent_of, is_child, child, find_below, find_place, path_within, path_of, IsTree}
+use Rattle.vault_model.specs.declared.place.Kind.TheVariants.{Library}
+use Rattle.vault_model.specs.Tree.{new_place, is_child, child, find_below, find_place, path_within, path_of, IsTree}
 use Rattle.vault_model.specs.Laws.{PathLeadsBack}
 use Rattle.vault_model.proofs.Walks.{Rises, same_at}
 use Rattle.vault_model.proofs.Growth.{none_passes}
@@ -64,12 +65,16 @@ find_below-last tree at (first ∷ names) name p q led next = by_child (child tr
 pub path_leads_back : PathLeadsBack
 path_leads_back tree place is there = within place place (omega arith) there
   where
+    -- any place, to stand for one past the end
+    none : Place
+    none = new_place 0 [] Library
+
     within : (n p : ℕ) → p ≤ n → p ≤ length tree → find_place tree (path_of tree p) ≡ Some p
     within n zero below inside = refl
     within zero (suc p) below inside = absurd (omega (arith, below))
     within (suc n) (suc p) below inside =
-        let x = slice_index_or tree p (new_place 0 []) in
-        let read : slice_get tree p ≡ Some x = slice_get-get_or tree p (new_place 0 []) (omega (arith, inside)) in
+        let x = slice_index_or tree p none in
+        let read : slice_get tree p ≡ Some x = slice_get-get_or tree p none (omega (arith, inside)) in
         let lower : x.parent < suc p = is.parents (suc p) x.parent (ap (option_map (λ (y : Place). y.parent)) read) in
         subst (λ way. find_place tree way ≡ Some (suc p)) (sym (path_of-step tree p x is.parents read))
         (find_below-last tree 0 (path_of tree x.parent) x.name x.parent (suc p) (within n x.parent (omega (arith, lower, below)) (omega (arith, lower, inside))) (child_is tree p x is read))

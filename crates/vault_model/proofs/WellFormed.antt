@@ -1,10 +1,11 @@
 -- A well-formed vault stays well formed under each step.
-use Rattle.std.specs.Prelude.{◌≡◌, ℕ, ◌+◌, ◌<◌, ◌≤◌, ◌==◌, ◌&&◌, nat_le, Bool, true, false, ◌++◌, length, Option, None, Some, is_some, refl}
+use Rattle.std.specs.Prelude.{◌≡◌, ℕ, suc, ◌+◌, ◌<◌, ◌≤◌, ◌==◌, nat_le, true, false, ◌++◌, length, Option, None, Some, is_some, refl}
 use Rattle.std.proofs.Common.{arith, length-append, sym, subst, ◌∙◌}
 use Rattle.std.proofs.lemmas.Bool.Decides.{nat_tests}
 use Rattle.std.proofs.lemmas.List.Elements.{All-append}
-use Rattle.vault_model.specs.Limits.{greatest_depth, last_number, most_items, longest_content, most_drafts, most_weight}
-use Rattle.vault_model.specs.Tree.{depth}
+use Rattle.vault_model.specs.Limits.{last_number, most_items, longest_content, most_drafts, most_weight}
+use Rattle.vault_model.specs.Tree.{depth, kind_of}
+use Rattle.vault_model.proofs.Depths.{stands_above, kind_at_stands, between_stands}
 use Rattle.vault_model.specs.Said.{Command, Effect}
 use Rattle.vault_model.specs.declared.claims.Item.{Item}
 use Rattle.vault_model.specs.declared.claims.Claim.{Claim}
@@ -21,7 +22,7 @@ use Rattle.vault_model.proofs.Shelves.{true_le}
 use Rattle.vault_model.proofs.Fronts.{stands_held}
 use Rattle.vault_model.proofs.DraftsKept.{drafts_first}
 use Rattle.vault_model.proofs.Stays.{claim_there}
-use Rattle.vault_model.proofs.Transitions.{Transition, answered, joined, left, made, asked, taken, extended, saved, checked_in, abandoned, given, noted, released, by_transition, by_count}
+use Rattle.vault_model.proofs.Transitions.{Transition, answered, joined, left, made, nested, asked, taken, extended, saved, checked_in, abandoned, given, noted, released, by_transition, by_count}
 use Rattle.vault_model.proofs.InPlace.{kept_given, kept_noted}
 use Rattle.vault_model.proofs.Lists.{three}
 
@@ -45,9 +46,10 @@ transition_keeps v kept effect w answered = kept
 transition_keeps v kept effect w (joined name room unspent) = kept_joined v kept _ refl (not_last v.last_session kept.numbers.session unspent) room
 transition_keeps v kept effect w (left session) = kept_gone v kept session
 transition_keeps v kept effect w (made parent name can) =
-    let above = can.above in
-    let low : depth v.tree parent < greatest_depth = grind (arith, nat_tests, above) in
-    kept_made v kept _ (IsTree-push v.tree _ kept.tree can.there low above (absent _ can.fresh) can.room) can.there
+    let low = stands_above (kind_of v.tree parent) (depth v.tree parent) (kept.tree.kinds parent) can.above in
+    kept_made v kept _ (IsTree-push v.tree _ kept.tree can.there (kind_at_stands (depth v.tree parent) low) can.above (absent _ can.fresh) can.room) can.there
+transition_keeps v kept effect w (nested parent name can between) =
+    kept_made v kept _ (IsTree-push v.tree _ kept.tree can.there (between_stands (suc (depth v.tree parent)) between) can.above (absent _ can.fresh) can.room) can.there
 transition_keeps v kept effect w (asked designer items can) = kept_asked_long v kept designer items (not_last v.last_long kept.numbers.long can.unspent) can.room can.some can.few can.there
 transition_keeps v kept effect w (taken session items stands can) = kept_asked_short v kept session items stands (not_last v.last_short kept.numbers.short can.unspent) can.room can.some can.few can.there
 transition_keeps v kept effect w (extended id claim items can) =

@@ -10,7 +10,8 @@ use Rattle.vault_model.specs.declared.claims.Claim.{Claim}
 use Rattle.vault_model.specs.declared.ids.ClaimId.TheVariants.{Long}
 use Rattle.vault_model.specs.Limits.{most_items, most_claims, last_number}
 use Rattle.vault_model.specs.Note.{is_note}
-use Rattle.vault_model.specs.Tree.{child, is_part, is_full}
+use Rattle.vault_model.specs.declared.place.Kind.TheVariants.{Assembly}
+use Rattle.vault_model.specs.Tree.{child, is_part, is_full, kind_under, may_nest_under}
 use Rattle.vault_model.specs.Claims.{claim_of, is_held, change_set, put_first}
 use Rattle.vault_model.specs.Shelf.{is_shelvable}
 use Rattle.vault_model.specs.Drafts.{SavedDraft, new_draft, drafts_of}
@@ -50,7 +51,12 @@ drafts_held tree line drafts =
     list_all (λ (x : SavedDraft). option_map_or (λ c. is_held tree line c) (claim_of line (Long x.claim)) false) drafts
 
 unfoldable pub after_made : Vault → ℕ → List ℕ → Option Vault
-after_made w parent name = only_if (may_make w parent name) (with_place w parent name)
+after_made w parent name = only_if (may_make w parent name) (with_place w parent name (kind_under w.tree parent))
+
+-- an assembly may be made where a place may be made, and an assembly may be asked for
+unfoldable pub after_nested : Vault → ℕ → List ℕ → Option Vault
+after_nested w parent name =
+    only_if (may_make w parent name && may_nest_under w.tree parent) (with_place w parent name Assembly)
 
 unfoldable pub after_asked : Vault → ℕ → List ℕ → List Item → Option Vault
 after_asked w number designer items =
@@ -101,6 +107,7 @@ after_noted w number note = only_if (is_some (claim_of w.line (Long number)) && 
 -- The durable vault after an effect, where that is applicable.
 unfoldable pub after : Vault → Effect → Option Vault
 after w (effects.Made parent name) = after_made w parent name
+after w (effects.Nested parent name) = after_nested w parent name
 after w (effects.Asked number designer items) = after_asked w number designer items
 after w (effects.Extended number items) = after_extended w number items
 after w (effects.Saved number place content) = after_saved w number place content

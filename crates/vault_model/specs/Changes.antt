@@ -3,6 +3,7 @@ use Rattle.std.specs.Prelude.{ℕ, ◌+◌, ◌==◌, not, List, [], ◌∷◌, 
 use Rattle.vault_model.specs.declared.claims.Item.{Item}
 use Rattle.vault_model.specs.declared.ids.ClaimId.{ClaimId}
 use Rattle.vault_model.specs.declared.ids.ClaimId.TheVariants.{Long, Short}
+use Rattle.vault_model.specs.declared.place.Kind.{Kind}
 use Rattle.vault_model.specs.declared.session.Session.{Session}
 use Rattle.vault_model.specs.Tree.{new_place}
 use Rattle.vault_model.specs.Claims.{new_check_out, new_hold, without, without_session, put_first, changed, given_to, noted_as}
@@ -22,9 +23,9 @@ abbrev pub gone : Vault → ℕ → Vault
 gone v session =
     record v { line = without_session session v.line; sessions = filter (λ (s : Session). not (s.number == session)) v.sessions }
 
--- a place was made
-abbrev pub with_place : Vault → ℕ → List ℕ → Vault
-with_place v parent name = record v { tree = v.tree ++ new_place parent name ∷ [] }
+-- a place of a kind was made
+abbrev pub with_place : Vault → ℕ → List ℕ → Kind → Vault
+with_place v parent name kind = record v { tree = v.tree ++ new_place parent name kind ∷ [] }
 
 -- a check-out of this number was asked for
 abbrev pub with_check_out : Vault → ℕ → List ℕ → List Item → Vault

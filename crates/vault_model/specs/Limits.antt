@@ -10,7 +10,7 @@ greatest_depth = GREATEST_DEPTH
 abbrev pub most_names : ℕ
 most_names = MOST_NAMES
 
--- the depth of parts
+-- the least depth of a part
 abbrev pub part_depth : ℕ
 part_depth = PART_DEPTH
 

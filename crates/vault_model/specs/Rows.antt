@@ -1,7 +1,7 @@
 -- Conversations worked out by hand, which the definitions have to give.
 use Rattle.std.specs.Prelude.{◌≡◌, ℕ, List, [], ◌∷◌, ◌++◌, None, Some, codes, replicate}
 use Rattle.vault_model.specs.Said.{Command, Reply}
-use Rattle.vault_model.specs.declared.commands.Command.TheVariants.{Join, Make, CheckOut, Extend, Save, CheckIn, Abandon, Hold, Release, State, List as Names, Fetch, Count, Give, Note, ReadNote, Leave}
+use Rattle.vault_model.specs.declared.commands.Command.TheVariants.{Join, Make, Nest, CheckOut, Extend, Save, CheckIn, Abandon, Hold, Release, State, List as Names, Fetch, Count, Give, Note, ReadNote, Leave}
 use Rattle.vault_model.specs.declared.replies.Reply.TheVariants.{Session, Place, Held, Queued, Saved, CheckedIn, Abandoned, Released, Children, Content, Versions, Given, Noted, NoteIs, Left, Refused}
 use Rattle.vault_model.specs.declared.replies.Refusal.TheVariants.{NoSession, Joined, NoPlace, Exists, WrongKind, Covered, NoClaim, NotYours, NotHeld, Overlaps, NotCovered, ItemCount, NoVersion, Limit}
 use Rattle.vault_model.specs.declared.claims.PathItem.{PathItem}
@@ -203,6 +203,51 @@ DraftsAndPlaceStay =
     ∷ NoteIs (codes "next") ∷ CheckedIn 1 ∷ Held (Long 2) ∷ Content (codes "ab") ∷ Noted ∷ NoteIs [] ∷ Refused NoClaim ∷ Refused NoClaim
     ∷ Refused NoSession ∷ [])
 
+-- an assembly in the assembly
+abbrev pub path_s : List (List ℕ)
+path_s = codes "e" ∷ codes "b" ∷ codes "s" ∷ []
+
+-- a part in that
+abbrev pub path_sp : List (List ℕ)
+path_sp = codes "e" ∷ codes "b" ∷ codes "s" ∷ codes "p" ∷ []
+
+-- an assembly stands in an assembly beside parts, and is covered and saved to like any other; nothing stands in a part, and no assembly
+-- beside projects
+abbrev pub NestedAssemblies : Type 0
+NestedAssemblies =
+    Told
+    ((1, Nest path_s None) ∷ (1, Make path_sp None) ∷ (1, Make (path_p1 ++ codes "x" ∷ []) None) ∷ (1, Nest (codes "f" ∷ []) None)
+    ∷ (1, CheckOut (change path_s ∷ [])) ∷ (2, CheckOut (look path_sp ∷ [])) ∷ (2, CheckOut (change path_p1 ∷ []))
+    ∷ (1, Save 1 path_s (0 ∷ [])) ∷ (1, Save 1 path_sp (0 ∷ [])) ∷ [])
+    (Place 5 ∷ Place 6 ∷ Refused WrongKind ∷ Refused WrongKind ∷ Held (Long 1) ∷ Queued (Long 2) (Long 1) ∷ Held (Long 3)
+    ∷ Refused WrongKind ∷ Saved ∷ [])
+
+-- assemblies stand in one another down to the sixth name; at the seventh there are parts alone
+abbrev pub DeepestPaths : Type 0
+DeepestPaths =
+    let a = codes "a" ∷ [] in
+    let b = a ++ codes "b" ∷ [] in
+    let c = b ++ codes "c" ∷ [] in
+    let d = c ++ codes "d" ∷ [] in
+    let e = d ++ codes "e" ∷ [] in
+    let f = e ++ codes "f" ∷ [] in
+    let g = f ++ codes "g" ∷ [] in
+    replies_of new_vault ((0, Join anna) ∷ (1, Make a None) ∷ (1, Make b None) ∷ (1, Nest c None) ∷ (1, Nest d None) ∷ (1, Nest e None)
+    ∷ (1, Nest f None) ∷ (1, Nest g None) ∷ (1, Make g None) ∷ (1, Make (g ++ codes "h" ∷ []) None) ∷ [])
+    ≡ Session 1 ∷ Place 1 ∷ Place 2 ∷ Place 3 ∷ Place 4 ∷ Place 5 ∷ Place 6 ∷ Refused WrongKind ∷ Place 7 ∷ Refused WrongKind ∷ []
+
+-- each refusal of `nest` but the limits, where two apply the first
+abbrev pub NestRefusals : Type 0
+NestRefusals =
+    Told
+    ((1, CheckOut (look path_e ∷ [])) ∷ (0, Nest path_s None) ∷ (1, Nest [] None) ∷ (1, Nest (codes "x" ∷ codes "y" ∷ []) None)
+    ∷ (1, Nest path_e None) ∷ (1, Nest path_b None) ∷ (1, Nest (path_p1 ++ codes "q" ∷ []) None) ∷ (1, Nest path_p1 None)
+    ∷ (2, Nest path_s None) ∷ (2, Nest path_s (Some 9)) ∷ (2, Nest path_s (Some 1)) ∷ (1, Nest path_s (Some 1))
+    ∷ (1, Extend (Long 1) (change path_b ∷ [])) ∷ (1, Nest path_s (Some 1)) ∷ (1, Nest path_s (Some 1)) ∷ [])
+    (Held (Long 1) ∷ Refused NoSession ∷ Refused Exists ∷ Refused NoPlace ∷ Refused WrongKind ∷ Refused WrongKind ∷ Refused WrongKind
+    ∷ Refused Exists ∷ Refused (Covered (Long 1)) ∷ Refused NoClaim ∷ Refused NotYours ∷ Refused NotCovered ∷ Held (Long 1) ∷ Place 5
+    ∷ Refused Exists ∷ [])
+
 -- all of them
 pub record Rows : Type 0 where
   pub two_designers : TwoDesigners
@@ -221,3 +266,6 @@ pub record Rows : Type 0 where
   pub draft_refusals : DraftRefusals
   pub given_away : GivenAway
   pub drafts_and_place_stay : DraftsAndPlaceStay
+  pub nested_assemblies : NestedAssemblies
+  pub deepest_paths : DeepestPaths
+  pub nest_refusals : NestRefusals

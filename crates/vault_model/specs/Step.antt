@@ -25,7 +25,8 @@ use Rattle.vault_model.specs.Limits.{most_items, most_claims, most_sessions, las
 use Rattle.vault_model.specs.Note.{is_note}
 use Rattle.vault_model.specs.Shelf.{versions_of, numbered, is_shelvable}
 use Rattle.vault_model.specs.Drafts.{SavedDraft, new_draft, with_draft, drafts_of}
-use Rattle.vault_model.specs.Tree.{find_place, child, names_under, is_part, is_full}
+use Rattle.vault_model.specs.declared.place.Kind.TheVariants.{Assembly}
+use Rattle.vault_model.specs.Tree.{find_place, child, names_under, is_part, is_full, kind_under, may_nest_under}
 use Rattle.vault_model.specs.Claims.{claim_of, is_held, is_session, in_way_of, change_set, covering, standing_behind, standing_of}
 use Rattle.vault_model.specs.Vault.{Vault, weight_of, session_of, counted}
 use Rattle.vault_model.specs.Changes.{with_session, gone, with_place, with_check_out, with_hold, with_items, with_content, with_versions, without_check_out, with_owner, with_note, without_hold}
@@ -98,19 +99,37 @@ permitted v session parent (Some number) = do
   claim ← usable v session (Long number)
   refuse_if (not (change_set v.tree claim.items parent)) NotCovered
 
+-- a parent may have a child of this name: none is there yet, it may be made under this parent, and there is room
+unfoldable pub admitted : Vault → Session → ℕ → List ℕ → Option ℕ → Result (Unit {0}) Refusal
+admitted v session parent name claim = do
+  _ ← refuse_if (is_some (child v.tree parent name)) Exists
+  _ ← permitted v session parent claim
+  refuse_if (is_full v.tree parent) Limit
+
 -- `make`: a new place at the end of a path, below a place that is there and isn't a part, alone or in a check-out's name
 unfoldable pub make : Vault → Session → List (List ℕ) → Option ℕ → Result Outcome Refusal
 make v session path claim = do
   name ← ok_or (last path) Exists
   parent ← ok_or (find_place v.tree (front path)) NoPlace
   _ ← refuse_if (is_part v.tree parent) WrongKind
-  _ ← refuse_if (is_some (child v.tree parent name)) Exists
-  _ ← permitted v session parent claim
-  _ ← refuse_if (is_full v.tree parent) Limit
+  _ ← admitted v session parent name claim
   Ok (record {
     reply = replies.Place (length v.tree + 1);
-    vault = with_place v parent name;
+    vault = with_place v parent name (kind_under v.tree parent);
     effect = Some (effects.Made parent name);
+  })
+
+-- `nest`: as `make`, but an assembly, where `make` would make a part above the greatest depth
+unfoldable pub nest : Vault → Session → List (List ℕ) → Option ℕ → Result Outcome Refusal
+nest v session path claim = do
+  name ← ok_or (last path) Exists
+  parent ← ok_or (find_place v.tree (front path)) NoPlace
+  _ ← refuse_if (is_part v.tree parent || not (may_nest_under v.tree parent)) WrongKind
+  _ ← admitted v session parent name claim
+  Ok (record {
+    reply = replies.Place (length v.tree + 1);
+    vault = with_place v parent name Assembly;
+    effect = Some (effects.Nested parent name);
   })
 
 -- the items' places
@@ -322,6 +341,7 @@ at_door v command = do
 abbrev pub in_session : Vault → Session → Command → Result Outcome Refusal
 in_session v session (commands.Join name) = Err Joined
 in_session v session (commands.Make path claim) = make v session path claim
+in_session v session (commands.Nest path claim) = nest v session path claim
 in_session v session (commands.CheckOut items) = check_out v session.name items
 in_session v session (commands.Extend id items) = extend v session id items
 in_session v session (commands.Save number path content) = save v session number path content

@@ -1,5 +1,5 @@
 -- The tree of places. This project's own, after the hierarchies of Gray, Lorie, Putzolu and Traiger (1976). Place 0 is the library; the list has the others, by number from 1 on.
-use Rattle.std.specs.Prelude.{◌≡◌, ℕ, zero, suc, ◌+◌, ◌<◌, ◌≤◌, Bool, false, ◌||◌, ◌&&◌, ◌==◌, nat_le, if◌then◌else◌, List, [], ◌∷◌, length, ◌++◌, Option, None, Some, slice_get, count_by, position, filter}
+use Rattle.std.specs.Prelude.{◌≡◌, ℕ, zero, suc, ◌+◌, ◌<◌, ◌≤◌, Bool, true, false, not, ◌||◌, ◌&&◌, ◌==◌, nat_le, nat_lt, if◌then◌else◌, List, [], ◌∷◌, length, ◌++◌, Option, None, Some, slice_get, count_by, position, filter}
 use Rattle.std.specs.List.{range_with_len, filter_map}
 use Rattle.std.specs.Option.{option_map, option_map_or, option_and_then}
 use Rattle.std.specs.Str.{bytes_eq}
@@ -8,9 +8,9 @@ use Rattle.vault_model.specs.declared.place.Kind.{Kind}
 use Rattle.vault_model.specs.declared.place.Kind.TheVariants.{Library, Project, Assembly, Part}
 use Rattle.vault_model.specs.Limits.{greatest_depth, part_depth, most_places, most_children}
 
--- a place by its parent and its name
-abbrev pub new_place : ℕ → List ℕ → Place
-new_place parent name = record { parent = parent; name = name }
+-- a place by its parent, its name and its kind
+abbrev pub new_place : ℕ → List ℕ → Kind → Place
+new_place parent name kind = record { parent = parent; name = name; kind = kind }
 
 -- the parent of a place; the library has none
 abbrev pub parent_of : List Place → ℕ → Option ℕ
@@ -39,21 +39,52 @@ depth tree p = depth_within p tree p
 abbrev pub is_child : ℕ → List ℕ → Place → Bool
 is_child parent name place = (place.parent == parent) && bytes_eq place.name name
 
--- whether a place is as deep as parts are
-abbrev pub is_part : List Place → ℕ → Bool
-is_part tree p = nat_le part_depth (depth tree p)
-
--- the library, then projects, parts as deep as parts are, and assemblies between
-abbrev pub kind_of_depth : ℕ → Kind
-kind_of_depth d =
-    if d == 0 then Library
-    else if nat_le part_depth d then Part
-    else if d == 1 then Project
-    else Assembly
-
--- what the depth makes of a place
+-- what a place is; place 0 is the library
 abbrev pub kind_of : List Place → ℕ → Kind
-kind_of tree p = kind_of_depth (depth tree p)
+kind_of tree zero = Library
+kind_of tree (suc n) = option_map_or (λ (place : Place). place.kind) (slice_get tree n) Library
+
+-- whether a kind is that of parts
+abbrev pub is_part_kind : Kind → Bool
+is_part_kind Library = false
+is_part_kind Project = false
+is_part_kind Assembly = false
+is_part_kind Part = true
+
+-- whether a place is a part
+abbrev pub is_part : List Place → ℕ → Bool
+is_part tree p = is_part_kind (kind_of tree p)
+
+-- whether an assembly may stand at a depth where parts may stand, too: from the least depth of parts on, but not at the greatest
+abbrev pub is_between : ℕ → Bool
+is_between d = nat_le part_depth d && nat_lt d greatest_depth
+
+-- whether a place of a kind may stand at a depth: the library at 0, projects at 1, assemblies at 2 and between, parts between and at the
+-- greatest depth
+abbrev pub may_stand : Kind → ℕ → Bool
+may_stand Library d = d == 0
+may_stand Project d = d == 1
+may_stand Assembly d = (d == 2) || is_between d
+may_stand Part d = is_between d || (d == greatest_depth)
+
+-- whether a place may have a child of a kind: it is no part, and such a child may stand right under it
+abbrev pub may_have : List Place → ℕ → Kind → Bool
+may_have tree parent kind = not (is_part tree parent) && may_stand kind (suc (depth tree parent))
+
+-- what is made at a depth where nothing else is asked for: a project, under it an assembly, and else a part
+abbrev pub kind_at : ℕ → Kind
+kind_at d =
+    if d == 1 then Project
+    else if d == 2 then Assembly
+    else Part
+
+-- what is made under a place where nothing else is asked for
+abbrev pub kind_under : List Place → ℕ → Kind
+kind_under tree parent = kind_at (suc (depth tree parent))
+
+-- whether an assembly may be asked for under a place: where a part would be made else, but not at the greatest depth
+abbrev pub may_nest_under : List Place → ℕ → Bool
+may_nest_under tree parent = is_between (suc (depth tree parent))
 
 -- the place by this name under a parent
 abbrev pub child : List Place → ℕ → List ℕ → Option ℕ
@@ -109,6 +140,8 @@ pub record IsTree (tree : List Place) : Type 0 where
   pub shallow : (p : ℕ) → depth tree p ≤ greatest_depth
   -- a parent is no part
   pub no_parts_above : (p parent : ℕ) → parent_of tree p ≡ Some parent → is_part tree parent ≡ false
+  -- each kind stands at its depths
+  pub kinds : (p : ℕ) → may_stand (kind_of tree p) (depth tree p) ≡ true
   -- siblings differ in name
   pub siblings : (i j : ℕ) (a b : Place) → slice_get tree i ≡ Some a → slice_get tree j ≡ Some b → a.parent ≡ b.parent → a.name ≡ b.name
       → i ≡ j

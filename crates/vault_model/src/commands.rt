@@ -11,6 +11,8 @@ pub enum Command<Wanted = Listing<PathItem, Global>, Content = Listing<u8, Globa
     Join(Name),
     /// Makes a place, in the name of the long claim of this number, if there is one.
     Make(Path, Option<u32>),
+    /// Makes an assembly inside an assembly, in the name of the long claim of this number, if there is one.
+    Nest(Path, Option<u32>),
     /// Asks for a long claim on these items.
     CheckOut(Wanted),
     /// Asks for more items for a held claim.
@@ -54,6 +56,7 @@ impl<A: Allocator> CommandIn<A> {
         Ok(match self {
             Command::Join(name) => Command::Join(*name),
             Command::Make(path, claim) => Command::Make(*path, *claim),
+            Command::Nest(path, claim) => Command::Nest(*path, *claim),
             Command::CheckOut(wanted) => Command::CheckOut(wanted.copy(alloc)?),
             Command::Extend(id, wanted) => Command::Extend(*id, wanted.copy(alloc)?),
             Command::Save(number, path, content) => {

@@ -9,6 +9,8 @@ use std::alloc::{Allocator, Global};
 pub enum Effect<Content = Listing<u8, Global>> {
     /// A place was made under this parent, by this name.
     Made(PlaceId, Name),
+    /// An assembly was made under this parent, an assembly, by this name.
+    Nested(PlaceId, Name),
     /// The long claim of this number was asked for by a designer.
     Asked(u32, Name, Items),
     /// The long claim of this number got these items, and went to the front of the line.
@@ -35,6 +37,7 @@ impl<A: Allocator> EffectIn<A> {
     {
         Ok(match self {
             Effect::Made(parent, name) => Effect::Made(*parent, *name),
+            Effect::Nested(parent, name) => Effect::Nested(*parent, *name),
             Effect::Asked(number, designer, items) => Effect::Asked(*number, *designer, *items),
             Effect::Extended(number, items) => Effect::Extended(*number, *items),
             Effect::Saved(number, place, content) => {

@@ -11,7 +11,7 @@
 //!
 //! Invariants:
 //! 1. `Name`: 1 to 32 bytes of `a-z`, `0-9`, `_`, `-`, and zeros behind them.
-//! 2. `Path`: at most three names, and spare room behind them.
+//! 2. `Path`: at most seven names, and spare room behind them.
 //! 3. `Items`: at most 8 items, and spare room behind them.
 //! 4. `Note`: at most 64 bytes, and zeros behind them.
 //!

@@ -1,13 +1,13 @@
 //! The vault's limits. The definitions take them from here, by `specs/Limits.antt`.
 
 /// How many places above it a place has at most.
-pub const GREATEST_DEPTH: usize = 3;
+pub const GREATEST_DEPTH: usize = 7;
 
 /// The most names of a path: one for each step down.
 pub const MOST_NAMES: usize = GREATEST_DEPTH;
 
-/// The depth of parts.
-pub const PART_DEPTH: usize = GREATEST_DEPTH;
+/// The least depth of a part.
+pub const PART_DEPTH: usize = 3;
 
 /// The most bytes of a name.
 pub const LONGEST_NAME: usize = 32;

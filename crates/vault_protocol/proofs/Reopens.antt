@@ -6,6 +6,7 @@ use Rattle.vault_device.specs.declared.history.Pick.{Pick}
 use Rattle.vault_device.specs.Memory.{content_of, picked}
 use Rattle.vault_device.specs.MemDevice.{MemDisk, disk_of}
 use Rattle.vault_journal.specs.Spelling.{records_of}
+use Rattle.vault_store.specs.declared.front.FileVersion.{FileVersion}
 use Rattle.vault_store.specs.declared.opening.File.{File}
 use Rattle.vault_store.specs.declared.opening.File.TheVariants.{First, Second}
 use Rattle.vault_store.specs.declared.phase.Advanced.TheVariants.{Settled}
@@ -38,11 +39,11 @@ picked_one : (pick : Pick) (b : Bool) (active spare : MemDisk) (x y : List ℕ) 
 picked_one pick true active spare x y is also = also
 picked_one pick false active spare x y is also = is
 
-module _ (seen : VaultSeen MemDisk) (pick : Pick) (x y : List ℕ) (base : Vault) (generation tail journal_length : ℕ)
+module _ (seen : VaultSeen MemDisk) (pick : Pick) (x y : List ℕ) (base : Vault) (version : FileVersion) (generation tail journal_length : ℕ)
     (keeps : Keeps disk_of seen.store (state_of seen.view)) (stand : ImagesStand disk_of seen) (one : OneReading) (whole : seen.view.broken ≡ false)
     (is : x ≡ picked pick (content_of (first_of seen.store).history)) (also : y ≡ picked pick (content_of (second_of seen.store).history))
     (image : (disk_of (first_of seen.store)).IsImage x) (other : (disk_of (second_of seen.store)).IsImage y)
-    (read : AreRead x y (record { vault = base; generation = generation; tail = tail; journal_length = journal_length })) where
+    (read : AreRead x y (record { vault = base; version = version; generation = generation; tail = tail; journal_length = journal_length })) where
   honest : AreHonest disk_of seen.store
   honest = record { first = refl; second = refl }
 

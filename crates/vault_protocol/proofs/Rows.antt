@@ -4,7 +4,7 @@ use Rattle.std.specs.Fmt.{digits}
 use Rattle.vault_model.specs.Claims.{overlap}
 use Rattle.vault_model.specs.Shelf.{is_shelvable}
 use Rattle.hex.specs.Hex.{decode_pairs, encode_with}
-use Rattle.vault_model.specs.Step.{step, decide, chained, join, make, permitted, usable, check_out, extend, save, check_in, abandon, hold, release, state, list, fetch, count}
+use Rattle.vault_model.specs.Step.{step, decide, chained, join, make, admitted, permitted, usable, check_out, extend, save, check_in, abandon, hold, release, state, list, fetch, count}
 use Rattle.vault_protocol.specs.Talk.{pumped, committed, all_gone}
 use Rattle.vault_protocol.specs.Rows.{Rows, Empty, OneLine, TwoDesigners, Siblings, LookAboveChange, LineMovesUp, CoveredParent, ExtensionRefused, ExtensionToFront, MakeUnderClaims, HoldFirst, Holds, Lists, Versions, DraftRefusals, CoveredForChange, BadContents, Refusals, BadLines, GateStopped, HoldGone, FrontKept}
 
@@ -17,59 +17,59 @@ unfolding pumped committed all_gone digits step decide chained join
 one_line = (refl, refl)
 
 two_designers : TwoDesigners
-unfolding pumped committed all_gone digits step decide chained join make permitted check_out overlap
+unfolding pumped committed all_gone digits step decide chained join make admitted permitted check_out overlap
 two_designers = refl
 
 siblings : Siblings
-unfolding pumped committed all_gone digits step decide chained join make permitted check_out overlap
+unfolding pumped committed all_gone digits step decide chained join make admitted permitted check_out overlap
 siblings = refl
 
 look_above_change : LookAboveChange
-unfolding pumped committed all_gone digits step decide chained join make permitted check_out overlap
+unfolding pumped committed all_gone digits step decide chained join make admitted permitted check_out overlap
 look_above_change = refl
 
 line_moves_up : LineMovesUp
-unfolding pumped committed all_gone digits step decide chained join make permitted check_out abandon state overlap
+unfolding pumped committed all_gone digits step decide chained join make admitted permitted check_out abandon state overlap
 line_moves_up = refl
 
 covered_parent : CoveredParent
-unfolding pumped committed all_gone digits step decide chained join make permitted check_out overlap
+unfolding pumped committed all_gone digits step decide chained join make admitted permitted check_out overlap
 covered_parent = refl
 
 extension_refused : ExtensionRefused
-unfolding pumped committed all_gone digits step decide chained join make permitted usable check_out extend state overlap
+unfolding pumped committed all_gone digits step decide chained join make admitted permitted usable check_out extend state overlap
 extension_refused = refl
 
 extension_to_front : ExtensionToFront
-unfolding pumped committed all_gone digits step decide chained join make permitted usable check_out extend state overlap
+unfolding pumped committed all_gone digits step decide chained join make admitted permitted usable check_out extend state overlap
 extension_to_front = refl
 
 make_under_claims : MakeUnderClaims
-unfolding pumped committed all_gone digits step decide chained join make permitted usable check_out extend overlap
+unfolding pumped committed all_gone digits step decide chained join make admitted permitted usable check_out extend overlap
 make_under_claims = refl
 
 hold_first : HoldFirst
-unfolding pumped committed all_gone digits step decide chained join make permitted check_out hold overlap
+unfolding pumped committed all_gone digits step decide chained join make admitted permitted check_out hold overlap
 hold_first = refl
 
 holds : Holds
-unfolding pumped committed all_gone digits step decide chained join make permitted check_out hold release state overlap
+unfolding pumped committed all_gone digits step decide chained join make admitted permitted check_out hold release state overlap
 holds = refl
 
 lists : Lists
-unfolding pumped committed all_gone digits step decide chained join make permitted list overlap
+unfolding pumped committed all_gone digits step decide chained join make admitted permitted list overlap
 lists = refl
 
 versions : Versions
-unfolding pumped committed all_gone digits decode_pairs encode_with step decide chained join make permitted usable check_out save check_in state fetch overlap is_shelvable
+unfolding pumped committed all_gone digits decode_pairs encode_with step decide chained join make admitted permitted usable check_out save check_in state fetch overlap is_shelvable
 versions = refl
 
 draft_refusals : DraftRefusals
-unfolding pumped committed all_gone digits decode_pairs step decide chained join make permitted usable check_out extend save check_in abandon overlap is_shelvable
+unfolding pumped committed all_gone digits decode_pairs step decide chained join make admitted permitted usable check_out extend save check_in abandon overlap is_shelvable
 draft_refusals = refl
 
 covered_for_change : CoveredForChange
-unfolding pumped committed all_gone digits decode_pairs encode_with step decide chained join make permitted usable check_out save check_in fetch count overlap is_shelvable
+unfolding pumped committed all_gone digits decode_pairs encode_with step decide chained join make admitted permitted usable check_out save check_in fetch count overlap is_shelvable
 covered_for_change = refl
 
 bad_contents : BadContents
@@ -77,7 +77,7 @@ unfolding pumped committed all_gone digits decode_pairs step decide chained
 bad_contents = refl
 
 refusals : Refusals
-unfolding pumped committed all_gone digits step decide chained join make permitted state list overlap
+unfolding pumped committed all_gone digits step decide chained join make admitted permitted state list overlap
 refusals = refl
 
 bad_lines : BadLines
@@ -85,15 +85,15 @@ unfolding pumped committed all_gone digits step decide chained join
 bad_lines = refl
 
 gate_is_stopped : GateStopped
-unfolding pumped committed all_gone digits step decide chained join make permitted list overlap
+unfolding pumped committed all_gone digits step decide chained join make admitted permitted list overlap
 gate_is_stopped = (refl, refl, refl, refl)
 
 hold_gone : HoldGone
-unfolding pumped committed all_gone digits step decide chained join make permitted check_out hold state overlap
+unfolding pumped committed all_gone digits step decide chained join make admitted permitted check_out hold state overlap
 hold_gone = refl
 
 front_kept : FrontKept
-unfolding pumped committed all_gone digits step decide chained join make permitted usable check_out extend state overlap
+unfolding pumped committed all_gone digits step decide chained join make admitted permitted usable check_out extend state overlap
 front_kept = refl
 
 pub rows : Rows

@@ -73,6 +73,11 @@ words_again words (commands.Make path (Some number)) h =
     ap words_in h.2
     ∙ ap (λ place. place >>= λ p. positive_in (decimal number) >>= λ n. Some (commands.Make p (Some n))) (path_again path h.0)
     ∙ ap (λ claim. claim >>= λ n. Some (commands.Make path (Some n))) (positive_again number h.1)
+words_again words (commands.Nest path None) h = ap words_in h.1 ∙ ap (λ path. path >>= λ p. Some (commands.Nest p None)) (path_again path h.0)
+words_again words (commands.Nest path (Some number)) h =
+    ap words_in h.2
+    ∙ ap (λ place. place >>= λ p. positive_in (decimal number) >>= λ n. Some (commands.Nest p (Some n))) (path_again path h.0)
+    ∙ ap (λ claim. claim >>= λ n. Some (commands.Nest path (Some n))) (positive_again number h.1)
 words_again words (commands.CheckOut items) h = ap words_in h.1 ∙ ap (λ items. items >>= λ is. Some (commands.CheckOut is)) (items_again items h.0)
 words_again words (commands.Extend claim items) h =
     ap words_in h.2
@@ -180,6 +185,14 @@ words_of words (commands.Make path (Some number)) h = record {
   others = path_text path ∷ claim_text (Long number) ∷ [];
   all = h.2;
   apart = (by_looking (codes "make") refl, (in_path path h.0, (in_claim (Long number) h.1, tt)));
+}
+words_of words (commands.Nest path None) h =
+    record { first = codes "nest"; others = path_text path ∷ []; all = h.1; apart = (by_looking (codes "nest") refl, (in_path path h.0, tt)) }
+words_of words (commands.Nest path (Some number)) h = record {
+  first = codes "nest";
+  others = path_text path ∷ claim_text (Long number) ∷ [];
+  all = h.2;
+  apart = (by_looking (codes "nest") refl, (in_path path h.0, (in_claim (Long number) h.1, tt)));
 }
 words_of words (commands.CheckOut items) h =
     record { first = codes "checkout"; others = map item_text items; all = h.1; apart = (by_looking (codes "checkout") refl, in_items items h.0.1) }

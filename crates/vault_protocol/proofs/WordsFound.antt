@@ -173,6 +173,21 @@ make_found (word ∷ other ∷ []) command e =
     (place.0, number.0, ap (λ w. codes "make" ∷ w ∷ other ∷ []) place.1 ∙ ap (λ w. codes "make" ∷ path_text path.0 ∷ w ∷ []) number.1)
 make_found (word ∷ other ∷ another ∷ words) command e = cc e
 
+nest_found : (words : List (List ℕ)) (command : Command) → arguments_in keywords.Nest words ≡ Some command → Spells (codes "nest" ∷ words) command
+nest_found [] command e = cc e
+nest_found (word ∷ []) command e =
+    let path = bind_some (path_in word) _ command e in
+    let found = path_found word path.0 path.1 in
+    along (λ c. Spells (codes "nest" ∷ word ∷ []) c) (same_Some _ _ path.2) (found.0, ap (λ w. codes "nest" ∷ w ∷ []) found.1)
+nest_found (word ∷ other ∷ []) command e =
+    let path = bind_some (path_in word) _ command e in
+    let claim = bind_some (long_in other) _ command path.2 in
+    let place = path_found word path.0 path.1 in
+    let number = long_found other claim.0 claim.1 in
+    along (λ c. Spells (codes "nest" ∷ word ∷ other ∷ []) c) (same_Some _ _ claim.2)
+    (place.0, number.0, ap (λ w. codes "nest" ∷ w ∷ other ∷ []) place.1 ∙ ap (λ w. codes "nest" ∷ path_text path.0 ∷ w ∷ []) number.1)
+nest_found (word ∷ other ∷ another ∷ words) command e = cc e
+
 check_out_found : (words : List (List ℕ)) (command : Command) → arguments_in keywords.CheckOut words ≡ Some command → Spells (codes "checkout" ∷ words) command
 check_out_found words command e =
     let items = bind_some (items_in words) _ command e in
@@ -311,6 +326,7 @@ arguments_found : (keyword : Keyword) (words : List (List ℕ)) (command : Comma
     → arguments_in keyword words ≡ Some command → Spells (keyword_text keyword ∷ words) command
 arguments_found keywords.Hello words command e = hello_found words command e
 arguments_found keywords.Make words command e = make_found words command e
+arguments_found keywords.Nest words command e = nest_found words command e
 arguments_found keywords.CheckOut words command e = check_out_found words command e
 arguments_found keywords.Extend words command e = extend_found words command e
 arguments_found keywords.Save words command e = save_found words command e

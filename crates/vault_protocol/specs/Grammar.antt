@@ -26,6 +26,13 @@ arguments_in keywords.Make (path ∷ claim ∷ []) = do
   path ← path_in path
   claim ← long_in claim
   Some (commands.Make path (Some claim))
+arguments_in keywords.Nest (path ∷ []) = do
+  path ← path_in path
+  Some (commands.Nest path None)
+arguments_in keywords.Nest (path ∷ claim ∷ []) = do
+  path ← path_in path
+  claim ← long_in claim
+  Some (commands.Nest path (Some claim))
 arguments_in keywords.CheckOut items = do
   items ← items_in items
   Some (commands.CheckOut items)

@@ -8,6 +8,7 @@ use Rattle.vault_protocol.specs.declared.keyword.Keyword.TheVariants as keywords
 abbrev pub keyword_text : Keyword → List ℕ
 keyword_text keywords.Hello = codes "hello"
 keyword_text keywords.Make = codes "make"
+keyword_text keywords.Nest = codes "nest"
 keyword_text keywords.CheckOut = codes "checkout"
 keyword_text keywords.Extend = codes "extend"
 keyword_text keywords.Save = codes "save"
@@ -26,8 +27,8 @@ keyword_text keywords.Quit = codes "quit"
 -- every keyword
 abbrev pub all_keywords : List Keyword
 all_keywords =
-    keywords.Hello ∷ keywords.Make ∷ keywords.CheckOut ∷ keywords.Extend ∷ keywords.Save ∷ keywords.CheckIn ∷ keywords.Abandon
-    ∷ keywords.Hold ∷ keywords.Release ∷ keywords.State ∷ keywords.List ∷ keywords.Fetch ∷ keywords.Count ∷ keywords.Give
+    keywords.Hello ∷ keywords.Make ∷ keywords.Nest ∷ keywords.CheckOut ∷ keywords.Extend ∷ keywords.Save ∷ keywords.CheckIn
+    ∷ keywords.Abandon ∷ keywords.Hold ∷ keywords.Release ∷ keywords.State ∷ keywords.List ∷ keywords.Fetch ∷ keywords.Count ∷ keywords.Give
     ∷ keywords.Note ∷ keywords.Quit ∷ []
 
 -- the keyword that the word is

@@ -60,6 +60,9 @@ Spells words (commands.Join name) = IsName name × (words ≡ codes "hello" ∷ 
 Spells words (commands.Make path None) = IsPath path × (words ≡ codes "make" ∷ path_text path ∷ [])
 Spells words (commands.Make path (Some number)) =
     IsPath path × IsClaimNumber number × (words ≡ codes "make" ∷ path_text path ∷ claim_text (Long number) ∷ [])
+Spells words (commands.Nest path None) = IsPath path × (words ≡ codes "nest" ∷ path_text path ∷ [])
+Spells words (commands.Nest path (Some number)) =
+    IsPath path × IsClaimNumber number × (words ≡ codes "nest" ∷ path_text path ∷ claim_text (Long number) ∷ [])
 Spells words (commands.CheckOut items) = AreItems items × (words ≡ codes "checkout" ∷ map item_text items)
 Spells words (commands.Extend claim items) =
     IsClaimId claim × AreItems items × (words ≡ codes "extend" ∷ claim_text claim ∷ map item_text items)

@@ -8,6 +8,7 @@ ghost use Rattle.vault_protocol.specs.Keywords.{keyword_in, keyword_text};
 pub(crate) enum Keyword {
     Hello,
     Make,
+    Nest,
     CheckOut,
     Extend,
     Save,
@@ -26,9 +27,10 @@ pub(crate) enum Keyword {
 
 impl Keyword {
     /// Every keyword.
-    const ALL: [Keyword; 16] = [
+    const ALL: [Keyword; 17] = [
         Keyword::Hello,
         Keyword::Make,
+        Keyword::Nest,
         Keyword::CheckOut,
         Keyword::Extend,
         Keyword::Save,
@@ -52,6 +54,7 @@ impl Keyword {
         match self {
             Keyword::Hello => b"hello",
             Keyword::Make => b"make",
+            Keyword::Nest => b"nest",
             Keyword::CheckOut => b"checkout",
             Keyword::Extend => b"extend",
             Keyword::Save => b"save",

@@ -37,6 +37,19 @@ fn make<A: Allocator>(arguments: &[&[u8]]) -> Result<CommandIn<A>, LineError>
     Ok(Command::Make(path, claim))
 }
 
+/// `nest PATH` or `nest PATH CNUM`
+fn nest<A: Allocator>(arguments: &[&[u8]]) -> Result<CommandIn<A>, LineError>
+    ensures { Gives result (arguments_in keywords.Nest (map (λ word. word.now) arguments.now)) }
+{
+    let (path, claim) = match arguments {
+        [path] => (*path, None),
+        [path, claim] => (*path, Some(read_long(claim).ok_or(LineError::BadLine)?)),
+        _ => return Err(LineError::BadLine),
+    };
+    let path = Path::read(path).ok_or(LineError::BadLine)?;
+    Ok(Command::Nest(path, claim))
+}
+
 /// `checkout ITEM ..`
 fn check_out<A: Allocator>(alloc: A, arguments: &[&[u8]]) -> Result<CommandIn<A>, LineError>
     ensures { Gives result (arguments_in keywords.CheckOut (map (λ word. word.now) arguments.now)) }
@@ -205,6 +218,7 @@ fn read_arguments<A: Allocator>(
     match keyword {
         Keyword::Hello => hello(arguments),
         Keyword::Make => make(arguments),
+        Keyword::Nest => nest(arguments),
         Keyword::CheckOut => check_out(alloc, arguments),
         Keyword::Extend => extend(alloc, arguments),
         Keyword::Save => save(alloc, arguments),

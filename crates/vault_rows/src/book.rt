@@ -45,6 +45,7 @@ fn is_told(rt: &impl Abort, memory: Global, reply: &Reply, line: &str) -> bool {
 fn is_effect(command: &Command, reply: &Reply, effect: &Option<Effect>) -> bool {
     match (command, reply, effect) {
         (Command::Make(_, _), Reply::Place(_), Some(Effect::Made(_, _))) => true,
+        (Command::Nest(_, _), Reply::Place(_), Some(Effect::Nested(_, _))) => true,
         (Command::CheckOut(_), Reply::Held(id), Some(Effect::Asked(number, _, _))) => {
             *id == ClaimId::Long(*number)
         }
@@ -65,7 +66,7 @@ fn is_effect(command: &Command, reply: &Reply, effect: &Option<Effect>) -> bool 
         }
         (Command::Give(claim, _), Reply::Given, Some(Effect::Given(number, _))) => claim == number,
         (Command::Note(claim, _), Reply::Noted, Some(Effect::Noted(number, _))) => claim == number,
-        (Command::Make(_, _), Reply::Place(_), None) => false,
+        (Command::Make(_, _) | Command::Nest(_, _), Reply::Place(_), None) => false,
         (Command::CheckOut(_), Reply::Held(_) | Reply::Queued(_, _), None) => false,
         (Command::Extend(ClaimId::Long(_), _), Reply::Held(_), None) => false,
         (Command::Save(_, _, _), Reply::Saved, None) => false,

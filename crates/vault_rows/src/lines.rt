@@ -12,10 +12,12 @@ use vault_protocol::{LONGEST_LINE, LineError, outside_text, read_line_of, text_o
 fn lines_that_spell_a_command(rt: HostRuntime) -> Result<(), Fail> {
     let anna = Name::read(b"anna").ok_or("a name")?;
     let path = Path::read(b"/e/b").ok_or("a path")?;
-    let rows: [(&[u8], CommandIn<Global>); 15] = [
+    let rows: [(&[u8], CommandIn<Global>); 17] = [
         (b"hello anna", Command::Join(anna)),
         (b"make /e/b", Command::Make(path, None)),
         (b"make /e/b c7", Command::Make(path, Some(7))),
+        (b"nest /e/b", Command::Nest(path, None)),
+        (b"nest /e/b c7", Command::Nest(path, Some(7))),
         (b"checkin c7", Command::CheckIn(7)),
         (b"abandon c4294967295", Command::Abandon(4294967295)),
         (b"state c1", Command::State(ClaimId::Long(1))),
@@ -136,7 +138,7 @@ fn lines_that_spell_none(rt: HostRuntime) -> Result<(), Fail> {
         b"hello aaaaaaaaaaaaaaaaaaaaaaaaaaaaaaaaa",
         b"make e",
         b"make /e/",
-        b"make /a/b/c/d",
+        b"make /a/b/c/d/e/f/g/h",
         b"checkout",
         b"checkout x:/e",
         b"checkout r:/e ",

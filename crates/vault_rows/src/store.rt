@@ -1,7 +1,8 @@
-//! The two files of a store: creations and commits that fail or are stopped at each call, and two real files.
+//! The two files of a store: creations, commits and migrations that fail or are stopped at each call, and two real files.
 ghost use Rattle.vault_journal.specs.Spelling.{HasRecord};
 
 mod creating;
+mod migrating;
 mod real_files;
 mod stopped;
 

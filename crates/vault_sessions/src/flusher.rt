@@ -22,9 +22,9 @@ pub enum Flushed {
 /// Pumps while something is unsettled and waits else, until the desk is closed or the vault is broken. The lock is held for one
 /// pump at a time, which makes at most one device call, and workers are woken only where a pump settled entries or failed. Before
 /// a commit it waits for those whom the last one told, for a small part of the time that this one took. Where many frames stand in
-/// the active file, it begins a snapshot under one more holding, and pumps that to its end. Where the memory for it is refused, it
-/// goes on without, and begins it once more entries are settled. Before each commit it lets the entries go that are
-/// settled and whose tickets aren't out, one at a time.
+/// the active file, or that isn't of today's version, it begins a snapshot under one more holding, and pumps that to its end. Where
+/// the memory for it is refused, it goes on without, and begins it once more entries are settled. Before each commit it lets the
+/// entries go that are settled and whose tickets aren't out, one at a time.
 pub fn run_flusher<D: Device, S: Tally, T: Tally, A: Allocator + Copy, G: Gate, H: Wait + Clock>(
     rt: &H,
     shared: &Shared<D, S, T, A>,

@@ -25,6 +25,7 @@ use Rattle.vault_store.proofs.Disks.{to_written, to_bodied, to_gated, to_idle, b
 use Rattle.vault_store.proofs.Kept.{IsMove, phase_kept, sealed_kept, settled_kept}
 use Rattle.vault_store.proofs.Left.{IsLeftHere, left, inside_front, inside_either}
 use Rattle.vault_store.proofs.Placed.{inside_exchanged, calls_placed, moments_placed}
+use Rattle.vault_store.specs.Snapshot.{current_version}
 
 -- a state in a phase is the state with that phase
 pub at_phase : (s : StoreState) (p : Phase) → s.phase ≡ p → s.broken ≡ false → record s { phase = p; broken = false } ≡ s
@@ -121,6 +122,7 @@ module _ {D : Type 0} (disk : D → Disk) (old : StoreSeen D) (active : D) (p : 
   phase_numbers : (q : Phase) (broken : Bool) (result : Result Advanced Fault) → is_idle p ≡ false → renews old result ≡ false → gained old result ≡ 0 → AreNumbers old (record old { active = active; phase = q; broken = broken }) result
   phase_numbers q broken result busy still none = record {
     which = ap (λ (b : Bool). cond b (other old.which) old.which) (sym still);
+    version = ap (λ (b : Bool). cond b current_version old.version) (sym still);
     generation = ap (λ (b : Bool). cond b (old.generation + 1) old.generation) (sym still);
     tail = let same : old.tail ≡ old.tail + gained old result = omega (arith, none) in same ∙ ap (λ (b : Bool). cond b (length old.rest) (old.tail + gained old result)) (sym still);
     journal_length = let same : old.journal_length ≡ old.journal_length + gained old result = omega (arith, none) in same ∙ ap (λ (b : Bool). cond b 0 (old.journal_length + gained old result)) (sym still);
@@ -241,6 +243,7 @@ module _ {D : Type 0} (disk : D → Disk) (old : StoreSeen D) (active : D) (unbr
             (refl, settled_kept disk old active call.same_honesty s tail journal_length tail_is journal_is (λ honest. settles_gate honest (sync honest)) (keeps_in disk old active Opening is unbroken lawful_spare s keeps));
         numbers = record {
           which = ap (λ (p : Phase). cond (is_snapshot p) (other old.which) old.which) (sym is);
+          version = ap (λ (p : Phase). cond (is_snapshot p) current_version old.version) (sym is);
           generation = ap (λ (p : Phase). cond (is_snapshot p) (old.generation + 1) old.generation) (sym is);
           tail = let same : tail ≡ old.tail + (5 + old.sealed) = omega (arith, tail_is) in same ∙ ap (λ (p : Phase). cond (is_snapshot p) (length old.rest) (old.tail + (5 + old.sealed))) (sym is);
           journal_length = let same : journal_length ≡ old.journal_length + (5 + old.sealed) = omega (arith, journal_is) in same ∙ ap (λ (p : Phase). cond (is_snapshot p) 0 (old.journal_length + (5 + old.sealed))) (sym is);
@@ -286,6 +289,7 @@ module _ {D : Type 0} (disk : D → Disk) (old : StoreSeen D) (active : D) (unbr
   seal_numbers : (broken : Bool) (result : Result Advanced Fault) → old.phase ≡ Idle → renews old result ≡ false → gained old result ≡ 0 → AreNumbers old (sealed_seen broken) result
   seal_numbers broken result is still none = record {
     which = ap (λ (b : Bool). cond b (other old.which) old.which) (sym still);
+    version = ap (λ (b : Bool). cond b current_version old.version) (sym still);
     generation = ap (λ (b : Bool). cond b (old.generation + 1) old.generation) (sym still);
     tail = let same : old.tail ≡ old.tail + gained old result = omega (arith, none) in same ∙ ap (λ (b : Bool). cond b (length old.rest) (old.tail + gained old result)) (sym still);
     journal_length = let same : old.journal_length ≡ old.journal_length + gained old result = omega (arith, none) in same ∙ ap (λ (b : Bool). cond b 0 (old.journal_length + gained old result)) (sym still);
@@ -324,6 +328,7 @@ module _ {D : Type 0} (disk : D → Disk) (old : StoreSeen D) (active : D) (unbr
 -- each record has a byte
 some_bytes : (effect : Effect) → 0 < length (record_of effect)
 some_bytes (effects.Made parent name) = omega arith
+some_bytes (effects.Nested parent name) = omega arith
 some_bytes (effects.Asked claim owner items) = omega arith
 some_bytes (effects.Extended claim items) = omega arith
 some_bytes (effects.Saved claim place content) = omega arith
@@ -347,7 +352,7 @@ module _ {D : Type 0} (disk : D → Disk) (store : StoreSeen D) (is : store.phas
     step = λ s keeps.
         subst (λ (t : StoreState). IsStep disk store store (Ok answers.Idle) t) (in_phase disk store store.active Idle is unbroken lawful_spare s keeps)
         (rest_step s s.buffer (no_effects s.buffer store.buffer keeps.buffer none) (keeps_in disk store store.active Idle is unbroken lawful_spare s keeps));
-    numbers = record { which = refl; generation = refl; tail = omega arith; journal_length = omega arith; buffer = still };
+    numbers = record { which = refl; version = refl; generation = refl; tail = omega arith; journal_length = omega arith; buffer = still };
     rests = λ idle. refl;
     calls = none_called (disk (first_of store)) (disk (second_of store)) (Ok answers.Idle) (λ err. absurd (search rules));
     moments = unmoved disk store lawful lawful_spare;

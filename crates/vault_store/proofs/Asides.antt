@@ -9,10 +9,11 @@ use Rattle.vault_journal.specs.Spelling.{in_four, in_eight}
 use Rattle.vault_journal.specs.Gate.{IsClosed}
 use Rattle.vault_store.specs.declared.phase.Phase.{Phase}
 use Rattle.vault_store.specs.declared.phase.Phase.TheVariants.{Idle, Written, Bodied, Opening, Start, Closing, Writing, Filled, Ready, SnapOpening}
-use Rattle.vault_store.specs.Snapshot.{snapshot_of, HasSnapshot}
-use Rattle.vault_store.specs.Files.{header, mark, version, current_head, snapshot_bytes, behind_gate, IsFront, EndsBehind, IsSpare}
+use Rattle.vault_store.specs.Snapshot.{current_version, snapshot_of, HasSnapshot}
+use Rattle.vault_store.specs.Files.{header, mark, version_number, current_head, snapshot_bytes, behind_gate, IsFront, EndsBehind, IsSpare}
 use Rattle.vault_store.specs.Phases.{is_snapshot}
 use Rattle.vault_store.specs.Spares.{ClosedMayStand, HasFirst, IsAside, IsSpareIn, LeavesSpareIn, IsSpareOn}
+use Rattle.vault_store.proofs.Spelled.{now_spelled}
 
 -- a closed file is a spare, and so is what a torn write leaves of a spare without a closed head gate
 pub closed_spare : (g : ℕ) → ClosedMayStand (IsSpare g)
@@ -107,17 +108,17 @@ file_opened front rest file is has one = record {
 
 -- the front of a file that begins with a vault
 pub renewed_front : (generation : ℕ) (v : Vault) → HasSnapshot v → 1 ≤ generation → generation < 2 ^ 64
-    → IsFront version (current_head generation ++ snapshot_bytes v) (record { vault = v; generation = generation; tail = header + length (snapshot_of v); journal_length = 0 })
+    → IsFront (current_head generation ++ snapshot_bytes current_version v) (record { vault = v; version = current_version; generation = generation; tail = header + length (snapshot_of v); journal_length = 0 })
 renewed_front generation v has given fits = record {
   base = v;
   frames = [];
-  spelled = has;
+  spelled = now_spelled v has;
   given = given;
   fits = fits;
   each = tt;
-  bytes = sym (append-nil (current_head generation ++ snapshot_bytes v));
+  bytes = sym (append-nil (current_head generation ++ snapshot_bytes current_version v));
   leads = refl;
-  tail_is = omega (arith, length-append (current_head generation) (snapshot_bytes v), length-append (in_four (length (snapshot_of v))) (snapshot_of v));
+  tail_is = omega (arith, length-append (current_head generation) (snapshot_bytes current_version v), length-append (in_four (length (snapshot_of v))) (snapshot_of v));
   journal_is = refl;
 }
 
@@ -126,7 +127,7 @@ pub length-behind : (generation : ℕ) (v : Vault) → length (behind_gate gener
 length-behind generation v =
     omega (
       arith,
-      length-append (mark ++ in_four version ++ in_eight generation ++ snapshot_bytes v) (0 ∷ []),
-      length-append (mark ++ in_four version ++ in_eight generation) (snapshot_bytes v),
+      length-append (mark ++ in_four (version_number current_version) ++ in_eight generation ++ snapshot_bytes current_version v) (0 ∷ []),
+      length-append (mark ++ in_four (version_number current_version) ++ in_eight generation) (snapshot_bytes current_version v),
       length-append (in_four (length (snapshot_of v))) (snapshot_of v),
     )

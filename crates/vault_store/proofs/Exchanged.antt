@@ -12,8 +12,8 @@ use Rattle.vault_store.specs.declared.phase.Phase.{Phase}
 use Rattle.vault_store.specs.declared.phase.Phase.TheVariants.{Idle, Start, SnapOpening}
 use Rattle.vault_store.specs.declared.phase.Advanced.{Advanced}
 use Rattle.vault_store.specs.declared.phase.Advanced.TheVariants as answers
-use Rattle.vault_store.specs.Snapshot.{snapshot_of, HasSnapshot}
-use Rattle.vault_store.specs.Files.{mark, version, current_head, snapshot_bytes, behind_gate, applied, IsFront, IsSpare, HasCurrentHead}
+use Rattle.vault_store.specs.Snapshot.{current_version, snapshot_of, HasSnapshot}
+use Rattle.vault_store.specs.Files.{mark, version_number, current_head, snapshot_bytes, behind_gate, applied, IsFront, IsSpare, HasHead}
 use Rattle.vault_store.specs.Phases.{is_idle, is_snapshot}
 use Rattle.vault_store.specs.State.{StoreState, started}
 use Rattle.vault_store.specs.OnDisk.{IsIdle}
@@ -43,7 +43,7 @@ module _ {D : Type 0} (disk : D → Disk) (old : StoreSeen D) (v : Vault) (is : 
   -- a snapshot is begun
   pub started_sound : HasSnapshot v → IsSoundStore disk old → IsSoundStore disk (started_seen old v)
   started_sound has sound = record {
-    reached = record { front = mark ++ in_four version ++ in_eight (old.generation + 1) ++ snapshot_bytes v; ends = refl; fits = fits };
+    reached = record { front = mark ++ in_four (version_number current_version) ++ in_eight (old.generation + 1) ++ snapshot_bytes current_version v; ends = refl; fits = fits };
     sealed_fits = sound.sealed_fits;
     bounded = tt;
     inside = sound.inside;
@@ -96,6 +96,7 @@ module _ {D : Type 0} (disk : D → Disk) (old : StoreSeen D) (spare : D) (unbro
     which = other old.which;
     buffer = old.buffer;
     sealed = 0;
+    version = current_version;
     generation = old.generation + 1;
     tail = length old.rest;
     journal_length = 0;
@@ -134,7 +135,7 @@ module _ {D : Type 0} (disk : D → Disk) (old : StoreSeen D) (spare : D) (unbro
       rest = subst (λ (p : Phase). IsReached p old.generation old.rest) is sound.reached
 
   -- the old file stands beside the new one
-  beside : (front : List ℕ) (s : StoreState) → IsFront version front (settled_reading old s) → IsIdle (disk old.active) front → IsAside (IsSpare (old.generation + 1)) (disk old.active) false
+  beside : (front : List ℕ) (s : StoreState) → IsFront front (settled_reading old s) → IsIdle (disk old.active) front → IsAside (IsSpare (old.generation + 1)) (disk old.active) false
   beside front s is_front idle = record {
     settled = idle.settled;
     stands = stands;
@@ -142,11 +143,11 @@ module _ {D : Type 0} (disk : D → Disk) (old : StoreSeen D) (spare : D) (unbro
     torn = λ e y. torn_spare (old.generation + 1) (disk old.active).shown y stands (λ closed. closed.shut (head_open (disk old.active).shown old.generation head).gate);
   }
     where
-      head : HasCurrentHead old.generation (disk old.active).shown
+      head : HasHead old.version old.generation (disk old.active).shown
       head = holds_head (disk old.active).shown (settled_reading old s) (record { front = front; is_front = is_front; ends = idle.ends })
 
       stands : IsSpare (old.generation + 1) (disk old.active).shown
-      stands = inr (old.generation, omega arith, head)
+      stands = inr (old.generation, omega arith, (old.version, head))
 
   exchanged_kept : (s : StoreState) → Keeps disk old (record s { phase = SnapOpening; broken = false })
       → Keeps disk (exchanged_seen false) (record { settled = s.sealed; sealed = s.sealed; noted = s.noted; sealing = []; buffer = s.buffer; phase = Idle; broken = false })
@@ -165,12 +166,12 @@ module _ {D : Type 0} (disk : D → Disk) (old : StoreSeen D) (spare : D) (unbro
     renewal = λ snapshot. absurd (false≢true snapshot);
     files = λ one two.
         let files = keeps.files two (was_honest one) in record {
-          front = current_head (old.generation + 1) ++ snapshot_bytes s.sealed;
+          front = current_head (old.generation + 1) ++ snapshot_bytes current_version s.sealed;
           is_front =
-              subst (λ (n : ℕ). IsFront version (current_head (old.generation + 1) ++ snapshot_bytes s.sealed) (record { vault = s.sealed; generation = old.generation + 1; tail = n; journal_length = 0 })) (sym (ap length renewal.bytes ∙ length-behind (old.generation + 1) s.sealed))
+              subst (λ (n : ℕ). IsFront (current_head (old.generation + 1) ++ snapshot_bytes current_version s.sealed) (record { vault = s.sealed; version = current_version; generation = old.generation + 1; tail = n; journal_length = 0 })) (sym (ap length renewal.bytes ∙ length-behind (old.generation + 1) s.sealed))
               (renewed_front (old.generation + 1) s.sealed renewal.spelled (omega arith) renewal.fits);
           active =
-              to_active (disk old.spare) (disk spare) old.rest (current_head (old.generation + 1) ++ snapshot_bytes s.sealed) (ap (λ (l : List ℕ). 1 ∷ l) (sym renewal.bytes)) (lawful_spare (was_honest one)) files.spare (sync (was_honest one));
+              to_active (disk old.spare) (disk spare) old.rest (current_head (old.generation + 1) ++ snapshot_bytes current_version s.sealed) (ap (λ (l : List ℕ). 1 ∷ l) (sym renewal.bytes)) (lawful_spare (was_honest one)) files.spare (sync (was_honest one));
           spare = beside files.front (record s { phase = SnapOpening; broken = false }) files.is_front files.active;
         };
   }
@@ -187,6 +188,7 @@ module _ {D : Type 0} (disk : D → Disk) (old : StoreSeen D) (spare : D) (unbro
             (refl, exchanged_kept s (snap_keeps disk old spare SnapOpening is refl unbroken lawful s keeps));
         numbers = record {
           which = ap (λ (p : Phase). cond (is_snapshot p) (other old.which) old.which) (sym is);
+          version = ap (λ (p : Phase). cond (is_snapshot p) current_version old.version) (sym is);
           generation = ap (λ (p : Phase). cond (is_snapshot p) (old.generation + 1) old.generation) (sym is);
           tail = ap (λ (p : Phase). cond (is_snapshot p) (length old.rest) (old.tail + (5 + old.sealed))) (sym is);
           journal_length = ap (λ (p : Phase). cond (is_snapshot p) 0 (old.journal_length + (5 + old.sealed))) (sym is);

@@ -9,7 +9,7 @@ use Rattle.vault_model.specs.After.{after, IsDurable}
 use Rattle.vault_model.proofs.Durable.{durable_stays}
 use Rattle.vault_journal.specs.Spelling.{in_four, record_of, records_of, HasRecord}
 use Rattle.vault_journal.specs.Rows.{AreRecordsOf}
-use Rattle.vault_store.specs.Files.{version, frame_extra, frame_bytes, frame_of, frames_bytes, IsFrame, applied, after_frames, Reading, IsFront, snapshot_bytes, current_head}
+use Rattle.vault_store.specs.Files.{frame_extra, frame_bytes, frame_of, frames_bytes, IsFrame, applied, after_frames, Reading, IsFront, snapshot_bytes, head_of}
 
 pub each_more : {X : Type 0} (P : X → Type 0) (xs : List X) (x : X) → AllByRecursion P xs → P x → AllByRecursion P (xs ++ x ∷ [])
 each_more P [] x each here = (here, tt)
@@ -63,9 +63,9 @@ pub length-frame : (records : List ℕ) → length (frame_bytes records) ≡ fra
 length-frame records = omega (arith, length-append (1 ∷ in_four (length records)) records)
 
 -- a front with one more frame
-pub longer_front : (front : List ℕ) (r : Reading) (effects : List Effect) (next : Vault) (tail journal_length : ℕ) → IsFront version front r → IsFrame effects → applied r.vault effects ≡ Some next
+pub longer_front : (front : List ℕ) (r : Reading) (effects : List Effect) (next : Vault) (tail journal_length : ℕ) → IsFront front r → IsFrame effects → applied r.vault effects ≡ Some next
     → tail ≡ r.tail + (frame_extra + length (records_of effects)) → journal_length ≡ r.journal_length + (frame_extra + length (records_of effects))
-    → IsFront version (front ++ frame_of effects) (record { vault = next; generation = r.generation; tail = tail; journal_length = journal_length })
+    → IsFront (front ++ frame_of effects) (record { vault = next; version = r.version; generation = r.generation; tail = tail; journal_length = journal_length })
 longer_front front r effects next tail journal_length is_front frame e tail_is journal_is = record {
   base = is_front.base;
   frames = is_front.frames ++ effects ∷ [];
@@ -73,7 +73,7 @@ longer_front front r effects next tail journal_length is_front frame e tail_is j
   given = is_front.given;
   fits = is_front.fits;
   each = each_more IsFrame is_front.frames effects is_front.each frame;
-  bytes = ap (λ (l : List ℕ). l ++ frame_of effects) is_front.bytes ∙ flat_map_more frame_of (current_head r.generation ++ snapshot_bytes is_front.base) is_front.frames effects;
+  bytes = ap (λ (l : List ℕ). l ++ frame_of effects) is_front.bytes ∙ flat_map_more frame_of (head_of r.version r.generation ++ snapshot_bytes r.version is_front.base) is_front.frames effects;
   leads = frames_more is_front.base r.vault next is_front.frames effects is_front.leads e;
   tail_is = omega (arith, tail_is, is_front.tail_is, length-append front (frame_of effects), length-frame (records_of effects));
   journal_is =

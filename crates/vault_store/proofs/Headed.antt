@@ -26,8 +26,8 @@ module _ (file bytes : List ℕ) (there : bytes ≡ take header file) (long : he
   head_fault : (at : ℕ) → IsHeadFault bytes at → IsHeadFault file at
   head_fault at fault = elim fault [
     | inl one ↦ inl (one.0, λ e. one.1 (mark_is ∙ e))
-    | inr (inl two) ↦ inr (inl (two.0, sym mark_is ∙ two.1, λ e. two.2 (version_is ∙ e)))
-    | inr (inr three) ↦ inr (inr (three.0, sym mark_is ∙ three.1, sym version_is ∙ three.2, sym generation_is ∙ three.3))
+    | inr (inl two) ↦ inr (inl (two.0, sym mark_is ∙ two.1, λ version e. two.2 version (version_is ∙ e)))
+    | inr (inr three) ↦ inr (inr (three.0, sym mark_is ∙ three.1, (three.2.0, sym version_is ∙ three.2.1), sym generation_is ∙ three.3))
   ]
 
   -- what they are the head of, the file is, too
@@ -36,13 +36,10 @@ module _ (file bytes : List ℕ) (there : bytes ≡ take header file) (long : he
     | inl short ↦ absurd (omega (arith, short, ap length there, length-take-le header file long))
     | inr shut ↦ inr (λ one. shut (gate_is ∙ one))
   ]
-  is_head (Open v generation) is = (
-    is.0,
-    record {
-      long = long;
-      head = sym (take-take head_length header file (omega arith)) ∙ ap (λ (l : List ℕ). take head_length l) (sym there) ∙ is.1.head;
-      given = is.1.given;
-      fits = is.1.fits;
-    },
-  )
+  is_head (Open v generation) is = record {
+    long = long;
+    head = sym (take-take head_length header file (omega arith)) ∙ ap (λ (l : List ℕ). take head_length l) (sym there) ∙ is.head;
+    given = is.given;
+    fits = is.fits;
+  }
   is_head (Damaged at) is = (record { long = long; gate = sym gate_is ∙ is.0.gate }, head_fault at is.1)

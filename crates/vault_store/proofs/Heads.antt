@@ -8,7 +8,8 @@ use Rattle.std.proofs.lemmas.Nat.{be_bytes_4, be_bytes_8}
 use Rattle.vault_journal.specs.Laws.{AreBytes}
 use Rattle.vault_journal.specs.Spelling.{in_four, in_eight}
 use Rattle.vault_journal.proofs.Takes.{AreBytes-take, AreBytes-drop}
-use Rattle.vault_store.specs.Files.{head_length, mark, head_of, HasHead}
+use Rattle.vault_store.specs.declared.front.FileVersion.{FileVersion}
+use Rattle.vault_store.specs.Files.{head_length, mark, version_number, head_of, HasHead}
 
 -- one byte of a range, and the others
 next_byte : (bytes : List ℕ) (i n : ℕ) → i < length bytes → take (suc n) (drop i bytes) ≡ get_or bytes i 0 ∷ take n (drop (i + 1) bytes)
@@ -46,7 +47,7 @@ module _ (bytes : List ℕ) (size : length bytes ≡ 24) (fits : AreBytes bytes)
       ∙ ap (λ (l : List ℕ). slice_range bytes 8 12 ++ l) (drop_split bytes 12 20 (omega arith)
       ∙ ap (λ (l : List ℕ). slice_range bytes 12 20 ++ l) (sym (take_all 4 (drop 20 bytes) (omega (arith, length-drop 20 bytes)))))))
 
-  pub right_head : (v g : ℕ) → get_or bytes 0 0 ≡ 1 → slice_range bytes 1 8 ≡ mark → slice_range bytes 8 12 ≡ in_four v → g ≡ from_be_bytes w64 eight → 1 ≤ g → g < 2 ^ 64 → HasHead v g bytes
+  pub right_head : (v : FileVersion) (g : ℕ) → get_or bytes 0 0 ≡ 1 → slice_range bytes 1 8 ≡ mark → slice_range bytes 8 12 ≡ in_four (version_number v) → g ≡ from_be_bytes w64 eight → 1 ≤ g → g < 2 ^ 64 → HasHead v g bytes
   right_head v g opened mark_is version_is generation_is given g_fits = record {
     long = omega (arith, size);
     head = ap (λ (l : List ℕ). take head_length l) parts ∙ take_at (head_of v g) rest head_length refl;
@@ -62,4 +63,4 @@ module _ (bytes : List ℕ) (size : length bytes ≡ 24) (fits : AreBytes bytes)
           whole ∙ ap (λ (b : ℕ). b ∷ (slice_range bytes 1 8 ++ (slice_range bytes 8 12 ++ (slice_range bytes 12 20 ++ rest)))) opened
           ∙ ap (λ (l : List ℕ). 1 ∷ (l ++ (slice_range bytes 8 12 ++ (slice_range bytes 12 20 ++ rest)))) mark_is
           ∙ ap (λ (l : List ℕ). 1 ∷ (mark ++ (l ++ (slice_range bytes 12 20 ++ rest)))) version_is
-          ∙ ap (λ (l : List ℕ). 1 ∷ (mark ++ (in_four v ++ (l ++ rest)))) (generation_spelled g generation_is)
+          ∙ ap (λ (l : List ℕ). 1 ∷ (mark ++ (in_four (version_number v) ++ (l ++ rest)))) (generation_spelled g generation_is)

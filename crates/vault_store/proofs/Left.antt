@@ -5,7 +5,8 @@ use Rattle.vault_device.specs.Disk.{Disk}
 use Rattle.vault_journal.specs.Spelling.{records_of}
 use Rattle.vault_store.specs.declared.phase.Phase.{Phase}
 use Rattle.vault_store.specs.declared.phase.Phase.TheVariants.{Idle, Written, Bodied, Opening, Start, Closing, Writing, Filled, Ready, SnapOpening}
-use Rattle.vault_store.specs.Files.{version, frame_bytes, current_head, snapshot_bytes, Reading, IsFront, EndsBehind, IsSpare, AreRead}
+use Rattle.vault_store.specs.Snapshot.{current_version}
+use Rattle.vault_store.specs.Files.{frame_bytes, current_head, snapshot_bytes, Reading, IsFront, EndsBehind, IsSpare, AreRead}
 use Rattle.vault_store.specs.Phases.{is_idle, is_snapshot, is_opening, may_open}
 use Rattle.vault_store.specs.State.{StoreState}
 use Rattle.vault_store.specs.OnDisk.{IsEither, LeavesInPhase, IsOnDisk}
@@ -18,10 +19,10 @@ use Rattle.vault_store.proofs.Placed.{both_honest, left_placed}
 use Rattle.vault_store.proofs.Rights.{holds_head}
 
 -- a file that ends behind the front is read as that, beside a spare
-pub reads_front : (front x y : List ℕ) (r : Reading) → IsFront version front r → EndsBehind front x → IsSpare r.generation y → AreRead x y r
+pub reads_front : (front x y : List ℕ) (r : Reading) → IsFront front r → EndsBehind front x → IsSpare r.generation y → AreRead x y r
 reads_front front x y r is_front ends spare = inl (record { front = front; is_front = is_front; ends = ends }, spare)
 
-module _ {D : Type 0} (disk : D → Disk) (store : StoreSeen D) (s : StoreState) (keeps : Keeps disk store s) (front : List ℕ) (is_front : IsFront version front (settled_reading store s)) where
+module _ {D : Type 0} (disk : D → Disk) (store : StoreSeen D) (s : StoreState) (keeps : Keeps disk store s) (front : List ℕ) (is_front : IsFront front (settled_reading store s)) where
   -- with the frame's gate open, or not
   pub reads_either : (x y : List ℕ) → is_idle s.phase ≡ false → is_snapshot s.phase ≡ false → IsEither front (records_of s.sealing) x → IsSpare store.generation y → IsByGate store.tail (settled_reading store s) (counted_reading false store s) x x y
   reads_either x y busy commit either spare = record {
@@ -32,7 +33,7 @@ module _ {D : Type 0} (disk : D → Disk) (store : StoreSeen D) (s : StoreState)
       size : store.sealed ≡ length (records_of s.sealing)
       size = keeps.sealed_bytes ∙ ap (λ (b : Bool). cond b 0 (length (records_of s.sealing))) commit
 
-      longer : IsFront version (front ++ frame_bytes (records_of s.sealing)) (counted_reading false store s)
+      longer : IsFront (front ++ frame_bytes (records_of s.sealing)) (counted_reading false store s)
       longer =
           longer_front front (settled_reading store s) s.sealing s.sealed (store.tail + 5 + store.sealed) (store.journal_length + 5 + store.sealed) is_front
           (record { some = keeps.under_way busy commit; each = keeps.sealing; few = keeps.few commit }) keeps.sealed (omega (arith, size)) (omega (arith, size))
@@ -42,11 +43,11 @@ module _ {D : Type 0} (disk : D → Disk) (store : StoreSeen D) (s : StoreState)
   reads_renewed x y snapshot ends has = record {
     opened = λ one. inr (
       record {
-        front = current_head (store.generation + 1) ++ snapshot_bytes s.sealed;
+        front = current_head (store.generation + 1) ++ snapshot_bytes current_version s.sealed;
         is_front = renewed_front (store.generation + 1) s.sealed renewal.spelled (omega arith) renewal.fits;
-        ends = file_opened (current_head (store.generation + 1) ++ snapshot_bytes s.sealed) store.rest y (ap (λ (l : List ℕ). 1 ∷ l) (sym renewal.bytes)) has one;
+        ends = file_opened (current_head (store.generation + 1) ++ snapshot_bytes current_version s.sealed) store.rest y (ap (λ (l : List ℕ). 1 ∷ l) (sym renewal.bytes)) has one;
       },
-      inr (store.generation, omega arith, holds_head x (settled_reading store s) (record { front = front; is_front = is_front; ends = ends })),
+      inr (store.generation, omega arith, (store.version, holds_head x (settled_reading store s) (record { front = front; is_front = is_front; ends = ends }))),
     );
     shut = λ other. reads_front front x y (settled_reading store s) is_front ends (inl (inr other));
   }
@@ -95,7 +96,7 @@ abbrev pub IsLeftHere : {D : Type 0} → StoreSeen D → StoreState → List ℕ
 IsLeftHere store s x y = IsLeftWhile (is_opening s.phase) (gate_at store s.phase) (settled_reading store s) (sealed_reading store s) (gated s.phase x y) x y
 
 -- what is left in each phase
-left_in : {D : Type 0} (disk : D → Disk) (store : StoreSeen D) (s : StoreState) (p : Phase) → Keeps disk store (record s { phase = p }) → (front x y : List ℕ) → IsFront version front (settled_reading store s)
+left_in : {D : Type 0} (disk : D → Disk) (store : StoreSeen D) (s : StoreState) (p : Phase) → Keeps disk store (record s { phase = p }) → (front x y : List ℕ) → IsFront front (settled_reading store s)
     → LeavesInPhase (disk store.active) p front (records_of s.sealing) → (disk store.active).IsImage x → LeavesSpareIn (IsSpare store.generation) (disk store.spare) p store.rest → (disk store.spare).IsImage y → IsLeftHere store (record s { phase = p }) x y
 left_in disk store s Idle keeps front x y is_front leaves image spare other = reads_front front x y (settled_reading store s) is_front (leaves x image) (spare y other)
 left_in disk store s Written keeps front x y is_front leaves image spare other = reads_front front x y (settled_reading store s) is_front (leaves x image) (spare y other)

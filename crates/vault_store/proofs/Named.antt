@@ -4,6 +4,8 @@ use Rattle.std.specs.List.{AllByRecursion}
 use Rattle.std.specs.Option.{option_and_then}
 use Rattle.std.proofs.lemmas.List.Elements.{All-cons, All-filter, All-push, All-map, All-weaker}
 use Rattle.vault_model.specs.declared.place.Place.{Place}
+use Rattle.vault_model.specs.declared.place.Kind.TheVariants.{Assembly}
+use Rattle.vault_model.specs.Tree.{new_place, kind_under}
 use Rattle.vault_model.specs.declared.claims.Item.{Item}
 use Rattle.vault_model.specs.declared.claims.Claim.{Claim}
 use Rattle.vault_model.specs.declared.ids.ClaimId.{ClaimId}
@@ -13,7 +15,7 @@ use Rattle.vault_model.specs.Name.{IsName}
 use Rattle.vault_model.specs.Said.{Effect}
 use Rattle.vault_model.specs.Claims.{new_check_out, same_id, claim_of, without, put_first, changed, given_to, noted_as}
 use Rattle.vault_model.specs.Vault.{Vault}
-use Rattle.vault_model.specs.After.{only_if, after, after_made, after_asked, after_extended, after_saved, after_checked_in, after_abandoned, after_given, after_noted}
+use Rattle.vault_model.specs.After.{only_if, after, after_made, after_nested, after_asked, after_extended, after_saved, after_checked_in, after_abandoned, after_given, after_noted}
 use Rattle.vault_model.proofs.Durable.{durable_stays}
 use Rattle.vault_model.proofs.Stays.{claim_there}
 use Rattle.vault_journal.specs.Spelling.{HasRecord}
@@ -38,7 +40,12 @@ module _ (w next : Vault) (named : IsNamed w) where
   named_made : (parent : ℕ) (name : List ℕ) → IsName name → after_made w parent name ≡ Some next → IsNamed next
   unfolding after_made
   named_made parent name is e =
-      subst IsNamed (only_if_is _ _ next e) (record { places = All-push (λ (place : Place). IsName place.name) w.tree (record { parent = parent; name = name }) named.places is; owners = named.owners })
+      subst IsNamed (only_if_is _ _ next e) (record { places = All-push (λ (place : Place). IsName place.name) w.tree (new_place parent name (kind_under w.tree parent)) named.places is; owners = named.owners })
+
+  named_nested : (parent : ℕ) (name : List ℕ) → IsName name → after_nested w parent name ≡ Some next → IsNamed next
+  unfolding after_nested
+  named_nested parent name is e =
+      subst IsNamed (only_if_is _ _ next e) (record { places = All-push (λ (place : Place). IsName place.name) w.tree (new_place parent name Assembly) named.places is; owners = named.owners })
 
   named_asked : (number : ℕ) (designer : List ℕ) (items : List Item) → IsName designer → after_asked w number designer items ≡ Some next → IsNamed next
   unfolding after_asked
@@ -95,6 +102,7 @@ module _ (w next : Vault) (named : IsNamed w) where
 named_after : (w next : Vault) (effect : Effect) → IsNamed w → HasRecord effect → after w effect ≡ Some next → IsNamed next
 unfolding after
 named_after w next (effects.Made parent name) named has e = named_made w next named parent name has.1 e
+named_after w next (effects.Nested parent name) named has e = named_nested w next named parent name has.1 e
 named_after w next (effects.Asked number designer items) named has e = named_asked w next named number designer items has.1 e
 named_after w next (effects.Extended number items) named has e = named_extended w next named number items e
 named_after w next (effects.Saved number place content) named has e = named_saved w next named number place content e

@@ -10,26 +10,27 @@ use Rattle.vault_model.proofs.Kept.{kept_new}
 use Rattle.vault_device.specs.Disk.{Disk, IsTorn}
 use Rattle.vault_store.specs.declared.opening.File.TheVariants.{First}
 use Rattle.vault_store.specs.declared.phase.Phase.TheVariants.{Idle}
-use Rattle.vault_store.specs.Snapshot.{HasSnapshot, designer_of}
-use Rattle.vault_store.specs.Files.{version, Reading, IsFront, EndsBehind, IsSpare}
+use Rattle.vault_store.specs.Snapshot.{current_version, HasSnapshot, designer_of}
+use Rattle.vault_store.specs.Files.{Reading, IsFront, EndsBehind, IsSpare}
 use Rattle.vault_store.specs.OnDisk.{IsIdle}
 use Rattle.vault_store.specs.Spares.{IsAside}
 use Rattle.vault_store.specs.State.{at_rest}
 use Rattle.vault_store.specs.Seen.{StoreSeen, Keeps}
 use Rattle.vault_store.specs.Sound.{IsSoundStore}
 use Rattle.vault_store.specs.Create.{new_front, new_file, IsFilled}
+use Rattle.vault_store.proofs.Spelled.{now_spelled}
 
 pub new_snapshot : HasSnapshot new_vault
 new_snapshot = record { well_formed = kept_new; durable = refl; places = All-nil (λ (place : Place). IsName place.name); owners = All-nil (λ (claim : Claim). IsName (designer_of claim.owner)) }
 
 abbrev pub new_reading : Reading
-new_reading = record { vault = new_vault; generation = 1; tail = 34; journal_length = 0 }
+new_reading = record { vault = new_vault; version = current_version; generation = 1; tail = 34; journal_length = 0 }
 
-pub new_is_front : IsFront version new_front new_reading
+pub new_is_front : IsFront new_front new_reading
 new_is_front = record {
   base = new_vault;
   frames = [];
-  spelled = new_snapshot;
+  spelled = now_spelled new_vault new_snapshot;
   given = omega arith;
   fits = omega arith;
   each = tt;
@@ -48,7 +49,7 @@ new_idle old new filled = record { settled = filled.settled; ends = subst (EndsB
 module _ {D : Type 0} (disk : D → Disk) (first second first_new second_new : D) (same : (disk first_new).honest ≡ (disk first).honest) (file : IsTrue (disk first).honest → IsFilled (disk first) (disk first_new) new_file)
     (same_second : (disk second_new).honest ≡ (disk second).honest) (empty : IsTrue (disk second).honest → IsFilled (disk second) (disk second_new) []) where
   abbrev pub new_seen : StoreSeen D
-  new_seen = record { active = first_new; spare = second_new; which = First; buffer = []; sealed = 0; generation = 1; tail = 34; journal_length = 0; phase = Idle; broken = false; shut = false; rest = [] }
+  new_seen = record { active = first_new; spare = second_new; which = First; buffer = []; sealed = 0; version = current_version; generation = 1; tail = 34; journal_length = 0; phase = Idle; broken = false; shut = false; rest = [] }
 
   -- of the empty file nothing stands, whatever that may stand beside
   new_aside : (MayStand : List ℕ → Type 0) → MayStand [] → ((y : List ℕ) → IsTorn 0 1 [] y → MayStand y) → IsTrue (disk second_new).honest → IsAside MayStand (disk second_new) false

@@ -9,9 +9,11 @@ use Rattle.vault_journal.specs.Spelling.{in_four, in_eight, records_of}
 use Rattle.vault_journal.specs.Laws.{IsInverse}
 use Rattle.vault_journal.specs.Reading.{u32_at, u64_at}
 use Rattle.vault_journal.proofs.OneSpelling.{fields_are_spelled, one_row}
-use Rattle.vault_store.specs.Snapshot.{snapshot_of}
-use Rattle.vault_store.proofs.Short.{spelled_short}
-use Rattle.vault_store.specs.Files.{version, head_of, frame_of, frames_bytes, IsFrame, after_frames, Reading, Holds, snapshot_bytes, current_head}
+use Rattle.vault_store.specs.declared.front.FileVersion.{FileVersion}
+use Rattle.vault_store.specs.declared.front.FileVersion.TheVariants.{One, Two}
+use Rattle.vault_store.specs.Snapshot.{spelling_of}
+use Rattle.vault_store.proofs.Short.{spelling_short}
+use Rattle.vault_store.specs.Files.{version_number, head_of, frame_of, frames_bytes, IsFrame, after_frames, Reading, Holds, snapshot_bytes}
 
 pub some_pair : {X : Type 0} (x y : X) (a b : List ℕ) → ◌≡◌ {A = Option (X × List ℕ)} (Some (x, a)) (Some (y, b)) → (x ≡ y) × (a ≡ b)
 some_pair {X} x y a b e = let p : ◌≡◌ {A = X × List ℕ} (x, a) (y, b) = cc in (ap (λ (q : X × List ℕ). q.0) p, ap (λ (q : X × List ℕ). q.1) p)
@@ -51,57 +53,76 @@ one_frames (f ∷ fs) (h ∷ hs) x y s t are_fs are_hs shut_x shut_y same =
     ap (λ (g : List Effect). g ∷ fs) first ∙ ap (λ (gs : List (List Effect)). h ∷ gs) others
 
 -- a file from its head to its end
-pub holds_whole : (x : List ℕ) (r : Reading) (h : Holds version x r)
-    → x ≡ current_head r.generation ++ (in_four (length (snapshot_of h.is_front.base)) ++ (snapshot_of h.is_front.base ++ (frames_bytes h.is_front.frames ++ get_or x (length h.front) 0 ∷ drop (length h.front + 1) x)))
+pub holds_whole : (x : List ℕ) (r : Reading) (h : Holds x r)
+    → x ≡ head_of r.version r.generation ++ (in_four (length (spelling_of r.version h.is_front.base)) ++ (spelling_of r.version h.is_front.base ++ (frames_bytes h.is_front.frames ++ get_or x (length h.front) 0 ∷ drop (length h.front + 1) x)))
 holds_whole x r h =
     sym (take-append-drop (length h.front) x)
     ∙ ap (λ (l : List ℕ). l ++ drop (length h.front) x) (h.ends.begins ∙ h.is_front.bytes)
-    ∙ ap (λ (l : List ℕ). ((current_head r.generation ++ snapshot_bytes h.is_front.base) ++ frames_bytes h.is_front.frames) ++ l) (drop_more x (length h.front) 0 h.ends.closed.stands)
-    ∙ append_assoc (current_head r.generation ++ snapshot_bytes h.is_front.base) (frames_bytes h.is_front.frames) rest
-    ∙ append_assoc (current_head r.generation) (snapshot_bytes h.is_front.base) (frames_bytes h.is_front.frames ++ rest)
-    ∙ ap (λ (l : List ℕ). current_head r.generation ++ l) (append_assoc (in_four (length (snapshot_of h.is_front.base))) (snapshot_of h.is_front.base) (frames_bytes h.is_front.frames ++ rest))
+    ∙ ap (λ (l : List ℕ). ((head_of r.version r.generation ++ snapshot_bytes r.version h.is_front.base) ++ frames_bytes h.is_front.frames) ++ l) (drop_more x (length h.front) 0 h.ends.closed.stands)
+    ∙ append_assoc (head_of r.version r.generation ++ snapshot_bytes r.version h.is_front.base) (frames_bytes h.is_front.frames) rest
+    ∙ append_assoc (head_of r.version r.generation) (snapshot_bytes r.version h.is_front.base) (frames_bytes h.is_front.frames ++ rest)
+    ∙ ap (λ (l : List ℕ). head_of r.version r.generation ++ l) (append_assoc (in_four (length (spelling_of r.version h.is_front.base))) (spelling_of r.version h.is_front.base) (frames_bytes h.is_front.frames ++ rest))
   where
     rest : List ℕ
     rest = get_or x (length h.front) 0 ∷ drop (length h.front + 1) x
 
--- a head is of one generation
-pub one_head : (v w g k : ℕ) (a b : List ℕ) → g < 2 ^ 64 → k < 2 ^ 64 → head_of v g ++ a ≡ head_of w k ++ b → (g ≡ k) × (a ≡ b)
+-- versions with one number are one
+pub one_version : (v w : FileVersion) → version_number v ≡ version_number w → v ≡ w
+one_version One One same = refl
+one_version One Two same = absurd (cc)
+one_version Two One same = absurd (cc)
+one_version Two Two same = refl
+
+pub version_fits : (v : FileVersion) → version_number v < 2 ^ 32
+version_fits One = omega arith
+version_fits Two = omega arith
+
+-- a head is of one version and of one generation
+pub one_head : (v w : FileVersion) (g k : ℕ) (a b : List ℕ) → g < 2 ^ 64 → k < 2 ^ 64 → head_of v g ++ a ≡ head_of w k ++ b → (v ≡ w) × (g ≡ k) × (a ≡ b)
 one_head v w g k a b fits_g fits_k same =
-    let behind : in_eight g ++ a ≡ in_eight k ++ b = ap (λ (l : List ℕ). drop 12 l) same in
-    one_spelled in_eight (λ n. n < 2 ^ 64) u64_at fields_are_spelled.in_eight g k a b fits_g fits_k behind
+    let versions : in_four (version_number v) ++ (in_eight g ++ a) ≡ in_four (version_number w) ++ (in_eight k ++ b) = ap (λ (l : List ℕ). drop 8 l) same in
+    let both = one_number (version_number v) (version_number w) (in_eight g ++ a) (in_eight k ++ b) (version_fits v) (version_fits w) versions in
+    let behind = one_spelled in_eight (λ n. n < 2 ^ 64) u64_at fields_are_spelled.in_eight g k a b fits_g fits_k both.1 in
+    (one_version v w both.0, behind.0, behind.1)
 
 -- two readings of one file
-module _ (x : List ℕ) (r q : Reading) (one : Holds version x r) (two : Holds version x q) where
+module _ (x : List ℕ) (r q : Reading) (one : Holds x r) (two : Holds x q) where
   abbrev pub rest_one : List ℕ
   rest_one = get_or x (length one.front) 0 ∷ drop (length one.front + 1) x
 
   abbrev pub rest_two : List ℕ
   rest_two = get_or x (length two.front) 0 ∷ drop (length two.front + 1) x
 
-  heads : (r.generation ≡ q.generation) × (in_four (length (snapshot_of one.is_front.base)) ++ (snapshot_of one.is_front.base ++ (frames_bytes one.is_front.frames ++ rest_one)) ≡ in_four (length (snapshot_of two.is_front.base)) ++ (snapshot_of two.is_front.base ++ (frames_bytes two.is_front.frames ++ rest_two)))
+  heads : (r.version ≡ q.version) × (r.generation ≡ q.generation) × (in_four (length (spelling_of r.version one.is_front.base)) ++ (spelling_of r.version one.is_front.base ++ (frames_bytes one.is_front.frames ++ rest_one)) ≡ in_four (length (spelling_of q.version two.is_front.base)) ++ (spelling_of q.version two.is_front.base ++ (frames_bytes two.is_front.frames ++ rest_two)))
   heads =
-      one_head version version r.generation q.generation _ _ one.is_front.fits two.is_front.fits (sym (holds_whole x r one) ∙ holds_whole x q two)
+      one_head r.version q.version r.generation q.generation _ _ one.is_front.fits two.is_front.fits (sym (holds_whole x r one) ∙ holds_whole x q two)
 
-  sizes : (length (snapshot_of one.is_front.base) ≡ length (snapshot_of two.is_front.base)) × (snapshot_of one.is_front.base ++ (frames_bytes one.is_front.frames ++ rest_one) ≡ snapshot_of two.is_front.base ++ (frames_bytes two.is_front.frames ++ rest_two))
+  sizes : (length (spelling_of r.version one.is_front.base) ≡ length (spelling_of q.version two.is_front.base)) × (spelling_of r.version one.is_front.base ++ (frames_bytes one.is_front.frames ++ rest_one) ≡ spelling_of q.version two.is_front.base ++ (frames_bytes two.is_front.frames ++ rest_two))
   sizes =
-      one_number (length (snapshot_of one.is_front.base)) (length (snapshot_of two.is_front.base)) (snapshot_of one.is_front.base ++ (frames_bytes one.is_front.frames ++ rest_one)) (snapshot_of two.is_front.base ++ (frames_bytes two.is_front.frames ++ rest_two))
-      (spelled_short one.is_front.base one.is_front.spelled) (spelled_short two.is_front.base two.is_front.spelled) heads.1
+      one_number (length (spelling_of r.version one.is_front.base)) (length (spelling_of q.version two.is_front.base)) (spelling_of r.version one.is_front.base ++ (frames_bytes one.is_front.frames ++ rest_one)) (spelling_of q.version two.is_front.base ++ (frames_bytes two.is_front.frames ++ rest_two))
+      (spelling_short r.version one.is_front.base one.is_front.spelled.has) (spelling_short q.version two.is_front.base two.is_front.spelled.has) heads.2
+
+  pub same_version : r.version ≡ q.version
+  same_version = heads.0
 
   -- they have the same snapshot
-  pub snapshots : (snapshot_of one.is_front.base ≡ snapshot_of two.is_front.base) × (frames_bytes one.is_front.frames ++ rest_one ≡ frames_bytes two.is_front.frames ++ rest_two)
-  snapshots = same_front (snapshot_of one.is_front.base) (snapshot_of two.is_front.base) (frames_bytes one.is_front.frames ++ rest_one) (frames_bytes two.is_front.frames ++ rest_two) sizes.0 sizes.1
+  pub snapshots : (spelling_of r.version one.is_front.base ≡ spelling_of q.version two.is_front.base) × (frames_bytes one.is_front.frames ++ rest_one ≡ frames_bytes two.is_front.frames ++ rest_two)
+  snapshots = same_front (spelling_of r.version one.is_front.base) (spelling_of q.version two.is_front.base) (frames_bytes one.is_front.frames ++ rest_one) (frames_bytes two.is_front.frames ++ rest_two) sizes.0 sizes.1
 
   same_frames : one.is_front.frames ≡ two.is_front.frames
   same_frames = one_frames one.is_front.frames two.is_front.frames _ _ _ _ one.is_front.each two.is_front.each one.ends.closed.shut two.ends.closed.shut snapshots.1
 
   -- where the snapshot is of one vault, the readings are one
   pub same_reading : one.is_front.base ≡ two.is_front.base → r ≡ q
-  same_reading base_is = λ i. record { vault = vaults i; generation = heads.0 i; tail = tails i; journal_length = journals i }
+  same_reading base_is = λ i. record { vault = vaults i; version = heads.0 i; generation = heads.1 i; tail = tails i; journal_length = journals i }
     where
       fronts : one.front ≡ two.front
       fronts =
-          one.is_front.bytes ∙ ap (λ (g : ℕ). (current_head g ++ snapshot_bytes one.is_front.base) ++ frames_bytes one.is_front.frames) heads.0 ∙ ap (λ (v : Vault). (current_head q.generation ++ snapshot_bytes v) ++ frames_bytes one.is_front.frames) base_is
-          ∙ ap (λ (fs : List (List Effect)). (current_head q.generation ++ snapshot_bytes two.is_front.base) ++ frames_bytes fs) same_frames ∙ sym two.is_front.bytes
+          one.is_front.bytes
+          ∙ ap (λ (n : FileVersion). (head_of n r.generation ++ snapshot_bytes n one.is_front.base) ++ frames_bytes one.is_front.frames) heads.0
+          ∙ ap (λ (g : ℕ). (head_of q.version g ++ snapshot_bytes q.version one.is_front.base) ++ frames_bytes one.is_front.frames) heads.1
+          ∙ ap (λ (v : Vault). (head_of q.version q.generation ++ snapshot_bytes q.version v) ++ frames_bytes one.is_front.frames) base_is
+          ∙ ap (λ (fs : List (List Effect)). (head_of q.version q.generation ++ snapshot_bytes q.version two.is_front.base) ++ frames_bytes fs) same_frames ∙ sym two.is_front.bytes
 
       vaults : r.vault ≡ q.vault
       vaults =

@@ -1,6 +1,7 @@
 -- What opening reads is kept.
-use Rattle.std.proofs.Common.{◌≡◌, inl, inr, ℕ, IsTrue, Bool, true, false, List, [], take, refl, sym, ◌∙◌, ap, subst, arith}
+use Rattle.std.proofs.Common.{◌≡◌, inl, inr, ℕ, Option, Some, None, Result, Ok, Err, IfErr, IsTrue, Bool, true, false, List, [], take, refl, sym, ◌∙◌, ap, subst, arith}
 use Rattle.std.specs.Prelude.{◌↔◌}
+use Rattle.std.specs.Result.{IsErrAnd}
 use Rattle.std.proofs.lemmas.Bool.{false≢true}
 use Rattle.std.proofs.lemmas.List.{length-take-le}
 use Rattle.vault_model.specs.Vault.{Vault}
@@ -12,12 +13,13 @@ use Rattle.vault_store.specs.declared.phase.Phase.TheVariants.{Idle}
 use Rattle.vault_store.specs.declared.opening.File.{File}
 use Rattle.vault_store.specs.declared.opening.File.TheVariants.{First, Second}
 use Rattle.vault_store.specs.Calls.{IsQuiet, AreQuiet}
-use Rattle.vault_store.specs.Files.{version, Reading, Holds, EndsBehind, IsSpare, AreRead, HasCurrentHead}
-use Rattle.vault_store.specs.Faults.{IsBodyFault}
+use Rattle.vault_store.specs.declared.front.FileVersion.{FileVersion}
+use Rattle.vault_store.specs.Files.{Reading, Holds, EndsBehind, IsSpare, AreRead, HasHead, HasRightHead}
+use Rattle.vault_store.specs.Faults.{IsDamagedHead, IsBodyFault}
 use Rattle.vault_store.specs.OnDisk.{IsSettled}
 use Rattle.vault_store.specs.Spares.{IsAside}
-use Rattle.vault_store.specs.Opening.{IsNewer, IsNotOpened, IsHandedOn, AreSettled}
-use Rattle.vault_store.specs.Read.{AreReads, AreContents, IsFaultBehindHead, IsWhyNot, IsNewerIn}
+use Rattle.vault_store.specs.Opening.{HasNoHeadFault, IsNewer, IsNotOpened, IsHandedOn, AreSettled}
+use Rattle.vault_store.specs.Read.{AreReads, AreContents, IsFaultBehindHead, IsGenerationRead, IsWhyNot, IsNewerIn}
 use Rattle.vault_store.specs.State.{at_rest}
 use Rattle.vault_store.specs.Seen.{StoreSeen, of_file, Keeps}
 use Rattle.vault_store.specs.Sound.{IsSoundStore}
@@ -36,7 +38,7 @@ shut_placed disk First first second shut one other is of_first of_second honest 
 shut_placed disk Second first second shut one other is of_first of_second honest = subst (λ (b : Bool). (b ≡ true) ↔ IsClosed 0 (disk first).shown) (sym is) (of_first honest)
 
 -- two files are read so, whichever is the active one
-pub read_placed : (which : File) (first second : List ℕ) (r : Reading) → Holds version (of_file which first second) r → IsSpare r.generation (of_file which second first) → AreRead first second r
+pub read_placed : (which : File) (first second : List ℕ) (r : Reading) → Holds (of_file which first second) r → IsSpare r.generation (of_file which second first) → AreRead first second r
 read_placed First first second r holds spare = inl (holds, spare)
 read_placed Second first second r holds spare = inr (holds, spare)
 
@@ -55,9 +57,38 @@ shown_placed disk First first second = refl
 shown_placed disk Second first second = refl
 
 -- a damaged active file
-active_fault : (which : File) (first second : List ℕ) (g at : ℕ) → IsNewerIn first second which g → IsBodyFault (of_file which first second) at → IsNotOpened first second (Damaged which at)
-active_fault First first second g at newer fault = inr (g, newer, fault)
-active_fault Second first second g at newer fault = inr (inr (g, newer, fault))
+active_fault : (which : File) (first second : List ℕ) (v : FileVersion) (g at : ℕ) → HasHead v g (of_file which first second) → IsSpare g (of_file which second first) → IsBodyFault v (of_file which first second) at
+    → IsNotOpened first second (Damaged which at)
+active_fault First first second v g at head spare fault = inr (record { version = v; generation = g; head = head; spare = spare; fault = fault })
+active_fault Second first second v g at head spare fault = inr (inr (record { version = v; generation = g; head = head; spare = spare; fault = fault }))
+
+-- a head that was read has no fault
+no_head_fault : (file : List ℕ) (generation : Option ℕ) → IsGenerationRead file generation → HasNoHeadFault file
+no_head_fault file None closed = inl closed
+no_head_fault file (Some g) right = inr (g, right)
+
+-- what a `?` hands on
+handed : {T : Type 0} (result : Result T OpenError) (why : OpenError) (P : OpenError → Type 0) → IsErrAnd result (λ (e : OpenError). e ≡ why) → P why → IfErr result P
+handed (Ok x) why P is holds = tt
+handed (Err e) why P is holds = subst P (sym is) holds
+
+-- the first fault stands in the second file's head
+pub second_wrong : {T : Type 0} (first second one two new : Disk) (result : Result T OpenError) (why : OpenError) (generation : Option ℕ) → one.honest ≡ first.honest → two.honest ≡ second.honest
+    → (IsTrue first.honest → one.shown ≡ first.shown) → (IsTrue second.honest → two.shown ≡ second.shown) → (IsTrue one.honest → IsGenerationRead one.shown generation) → IsWhyNot two new Second (IsDamagedHead two.shown) why
+    → IsErrAnd result (λ (e : OpenError). e ≡ why) → IsTrue first.honest → IsTrue second.honest → IfErr result (λ (e : OpenError). IsNotOpened first.shown second.shown e)
+second_wrong first second one two new result why generation same same_two shown shown_two read refused is honest other =
+    handed result why (λ (e : OpenError). IsNotOpened first.shown second.shown e) is (by_why why refused)
+  where
+    sound : HasNoHeadFault first.shown
+    sound = no_head_fault first.shown generation (subst (λ (file : List ℕ). IsGenerationRead file generation) (shown honest) (read (subst IsTrue (sym same) honest)))
+
+    by_why : (e : OpenError) → IsWhyNot two new Second (IsDamagedHead two.shown) e → IsNotOpened first.shown second.shown e
+    by_why NoVault wrong = absurd wrong
+    by_why (Damaged file at) wrong =
+        subst (λ (f : File). IsNotOpened first.shown second.shown (Damaged f at)) (sym wrong.0)
+        (inl (sound, subst (λ (bytes : List ℕ). IsDamagedHead bytes at) (shown_two other) (wrong.1 (subst IsTrue (sym same_two) other))))
+    by_why Device wrong = tt
+    by_why NoMemory wrong = tt
 
 settled_each : {D : Type 0} (disk : D → Disk) (which : File) (active spare : D) → (IsTrue (disk active).honest → IsSettled (disk active)) → (IsTrue (disk spare).honest → IsSettled (disk spare))
     → AreSettled (disk (of_file which active spare)) (disk (of_file which spare active))
@@ -96,27 +127,28 @@ module _ {D : Type 0} (disk : D → Disk) (which : File) (first second one two a
   opened_refused (Damaged file at) is honest other =
       let newer = found honest other in
       let shown = active_shown honest other in
-      let fault : IsBodyFault (of_file which (disk first).shown (disk second).shown) at =
-      subst (λ (l : List ℕ). IsBodyFault l at) shown (is.1 (active_honest honest other) g (subst (HasCurrentHead g) (sym shown) newer.0)) in
-      subst (λ (f : File). IsNotOpened (disk first).shown (disk second).shown (Damaged f at)) (sym is.0) (active_fault which (disk first).shown (disk second).shown g at newer fault)
+      let v = newer.0.0 in
+      let fault : IsBodyFault v (of_file which (disk first).shown (disk second).shown) at =
+      subst (λ (l : List ℕ). IsBodyFault v l at) shown (is.1 (active_honest honest other) v g (subst (HasHead v g) (sym shown) newer.0.1)) in
+      subst (λ (f : File). IsNotOpened (disk first).shown (disk second).shown (Damaged f at)) (sym is.0) (active_fault which (disk first).shown (disk second).shown v g at newer.0.1 newer.1 fault)
   opened_refused Device is honest other = tt
   opened_refused NoMemory is honest other = tt
 
-  module _ (v : Vault) (frames tail journal_length : ℕ) (contents : AreContents (disk active) v frames tail journal_length) (shut : Bool) where
+  module _ (version : FileVersion) (v : Vault) (frames tail journal_length : ℕ) (contents : AreContents (disk active) version v frames tail journal_length) (shut : Bool) where
     abbrev pub opened_seen : StoreSeen D
-    opened_seen = record { active = active_new; spare = spare; which = which; buffer = []; sealed = 0; generation = g; tail = tail; journal_length = journal_length; phase = Idle; broken = false; shut = shut; rest = [] }
+    opened_seen = record { active = active_new; spare = spare; which = which; buffer = []; sealed = 0; version = version; generation = g; tail = tail; journal_length = journal_length; phase = Idle; broken = false; shut = shut; rest = [] }
 
     abbrev reading : Reading
-    reading = record { vault = v; generation = g; tail = tail; journal_length = journal_length }
+    reading = record { vault = v; version = version; generation = g; tail = tail; journal_length = journal_length }
 
-    active_holds : IsTrue (disk first).honest → IsTrue (disk second).honest → Holds version (disk active).shown reading
+    active_holds : IsTrue (disk first).honest → IsTrue (disk second).honest → Holds (disk active).shown reading
     active_holds honest other =
         let newer = found honest other in
-        holds_read (disk active) v frames tail journal_length g contents (active_honest honest other) (subst (HasCurrentHead g) (sym (active_shown honest other)) newer.0)
+        holds_read (disk active) version v frames tail journal_length g contents (active_honest honest other) (subst (HasRightHead g) (sym (active_shown honest other)) newer.0)
 
     -- the files are read so
     pub opened_read : IsTrue (disk first).honest → IsTrue (disk second).honest → AreRead (disk first).shown (disk second).shown reading
-    opened_read honest other = let newer = found honest other in read_placed which (disk first).shown (disk second).shown reading (subst (λ (l : List ℕ). Holds version l reading) (active_shown honest other) (active_holds honest other)) newer.1
+    opened_read honest other = let newer = found honest other in read_placed which (disk first).shown (disk second).shown reading (subst (λ (l : List ℕ). Holds l reading) (active_shown honest other) (active_holds honest other)) newer.1
 
     module _ (settled_first : IsTrue (disk first).honest → IsSettled (disk one)) (settled_second : IsTrue (disk second).honest → IsSettled (disk two))
         (head : IsTrue (disk (of_file which second first)).honest → (shut ≡ true) ↔ IsClosed 0 (disk (of_file which second first)).shown) where
@@ -183,7 +215,7 @@ module _ {D : Type 0} (disk : D → Disk) (which : File) (first second one two a
           record {
             phase = refl;
             broken = refl;
-            spelled = frames_spelled contents.base v contents.list contents.spelled contents.each contents.leads;
+            spelled = frames_spelled contents.base v contents.list contents.spelled.has contents.each contents.leads;
             sealing = tt;
             few = λ commit. omega arith;
             sealed_bytes = refl;

@@ -11,7 +11,7 @@ use Rattle.vault_store.specs.declared.phase.Phase.{Phase}
 use Rattle.vault_store.specs.declared.phase.Phase.TheVariants.{Idle, Written, Bodied, Opening, Start, Closing, Writing, Filled, Ready, SnapOpening}
 use Rattle.vault_store.specs.declared.phase.Advanced.{Advanced}
 use Rattle.vault_store.specs.declared.phase.Advanced.TheVariants as answers
-use Rattle.vault_store.specs.Snapshot.{snapshot_of}
+use Rattle.vault_store.specs.Snapshot.{current_version, snapshot_of}
 use Rattle.vault_store.specs.Files.{header, IsSpare}
 use Rattle.vault_store.specs.Phases.{is_idle, is_snapshot, may_open, most_piece, piece_size, behind_piece}
 use Rattle.vault_store.specs.State.{StoreState}
@@ -146,6 +146,7 @@ module _ {D : Type 0} (disk : D → Disk) (old : StoreSeen D) (spare : D) (p : P
   spare_numbers : (q : Phase) (broken : Bool) (result : Result Advanced Fault) → renews old result ≡ false → gained old result ≡ 0 → AreNumbers old (record old { spare = spare; phase = q; broken = broken }) result
   spare_numbers q broken result still none = record {
     which = ap (λ (b : Bool). cond b (other old.which) old.which) (sym still);
+    version = ap (λ (b : Bool). cond b current_version old.version) (sym still);
     generation = ap (λ (b : Bool). cond b (old.generation + 1) old.generation) (sym still);
     tail = let same : old.tail ≡ old.tail + gained old result = omega (arith, none) in same ∙ ap (λ (b : Bool). cond b (length old.rest) (old.tail + gained old result)) (sym still);
     journal_length = let same : old.journal_length ≡ old.journal_length + gained old result = omega (arith, none) in same ∙ ap (λ (b : Bool). cond b 0 (old.journal_length + gained old result)) (sym still);

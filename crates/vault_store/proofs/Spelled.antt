@@ -17,6 +17,7 @@ use Rattle.vault_model.specs.declared.place.Place.{Place}
 use Rattle.vault_model.specs.Name.{IsName}
 use Rattle.vault_model.specs.Note.{IsNote}
 use Rattle.vault_model.specs.Limits.{most_versions}
+use Rattle.vault_model.specs.declared.place.Kind.TheVariants.{Library}
 use Rattle.vault_model.specs.Tree.{is_part, IsTree, new_place}
 use Rattle.vault_model.specs.Claims.{standing_of}
 use Rattle.vault_model.specs.Shelf.{versions_of, IsShelf}
@@ -26,7 +27,9 @@ use Rattle.vault_journal.specs.Spelling.{in_two, in_four, ItemFits}
 use Rattle.vault_journal.specs.Reading.{u16_at}
 use Rattle.vault_journal.proofs.OneSpelling.{fields_are_spelled}
 use Rattle.vault_checkout.proofs.OneDrafts.{one_drafts}
-use Rattle.vault_store.specs.Snapshot.{snapshot_of, places_bytes, claim_bytes, number_of, designer_of, HasSnapshot}
+use Rattle.vault_store.specs.declared.front.FileVersion.{FileVersion}
+use Rattle.vault_store.specs.declared.front.FileVersion.TheVariants.{One, Two}
+use Rattle.vault_store.specs.Snapshot.{current_version, spelling_of, places_bytes, claim_bytes, IsNoteIn, number_of, designer_of, HasSnapshot, HasSpelling}
 use Rattle.vault_store.proofs.OneReading.{one_spelled, one_number}
 use Rattle.vault_store.proofs.SpelledLists.{IsContent, AreContents, HasDraft}
 use Rattle.vault_store.proofs.SpelledPlaces.{HasPlace, AreTold, places_tell, one_shelf}
@@ -37,7 +40,7 @@ pub places_have : (tree : List Place) → IsTree tree → All (λ (place : Place
 places_have tree is_tree names = All-from_get_or HasPlace tree none (λ i within. record { parent = below i within; name = All-get_or (λ (place : Place). IsName place.name) tree i none within names })
   where
     none : Place
-    none = new_place 0 []
+    none = new_place 0 [] Library
 
     below : (i : ℕ) → i < length tree → (get_or tree i none).parent < 2 ^ 32
     below i within =
@@ -87,24 +90,33 @@ module _ (v : Vault) (has : HasSnapshot v) where
   long_note (Long n) note is noted = noted
   long_note (Short n) note is noted = absurd (cc)
 
-  claim_has : (c : Claim) → IsClaim v.tree v.sessions v.last_long v.last_short c → IsName (designer_of c.owner) → HasClaim (drafted v.drafts c)
-  claim_has c is name =
+  claim_has : (version : FileVersion) (c : Claim) → IsClaim v.tree v.sessions v.last_long v.last_short c → IsName (designer_of c.owner) → IsNoteIn version c.note → HasClaim version (drafted v.drafts c)
+  claim_has version c is name note =
       let id = long_id c.id is.given in record {
         long = id.0;
         fits = id.1;
         designer = designer_owns c.id c.owner id.0 is.owned;
         name = name;
-        note = long_note c.id c.note id.0 is.noted;
+        note = note;
         items = record { some = omega (arith, is.some); few = is.few; fit = items_fit v.tree c.items few_places is.there };
         drafts = drafts_have v.tree v.line v.drafts (number_of c.id) few_places has.well_formed.drafts.each;
       }
 
-  pub claims_have : (line : List Claim) → All (IsClaim v.tree v.sessions v.last_long v.last_short) line → All (λ (c : Claim). IsName (designer_of c.owner)) line → All (λ (c : Claim). HasClaim (drafted v.drafts c)) line
-  claims_have [] are names = All-nil (λ (c : Claim). HasClaim (drafted v.drafts c))
-  claims_have (c ∷ line) are names =
-      All-cons (λ (d : Claim). HasClaim (drafted v.drafts d)) c line
-      (claim_has c (All-head (IsClaim v.tree v.sessions v.last_long v.last_short) c line are) (All-head (λ (d : Claim). IsName (designer_of d.owner)) c line names))
-      (claims_have line (All-tail (IsClaim v.tree v.sessions v.last_long v.last_short) c line are) (All-tail (λ (d : Claim). IsName (designer_of d.owner)) c line names))
+  pub claims_have : (version : FileVersion) (line : List Claim) → All (IsClaim v.tree v.sessions v.last_long v.last_short) line → All (λ (c : Claim). IsName (designer_of c.owner)) line → All (λ (c : Claim). IsNoteIn version c.note) line
+      → All (λ (c : Claim). HasClaim version (drafted v.drafts c)) line
+  claims_have version [] are names notes = All-nil (λ (c : Claim). HasClaim version (drafted v.drafts c))
+  claims_have version (c ∷ line) are names notes =
+      All-cons (λ (d : Claim). HasClaim version (drafted v.drafts d)) c line
+      (claim_has version c (All-head (IsClaim v.tree v.sessions v.last_long v.last_short) c line are) (All-head (λ (d : Claim). IsName (designer_of d.owner)) c line names) (All-head (λ (d : Claim). IsNoteIn version d.note) c line notes))
+      (claims_have version line (All-tail (IsClaim v.tree v.sessions v.last_long v.last_short) c line are) (All-tail (λ (d : Claim). IsName (designer_of d.owner)) c line names) (All-tail (λ (d : Claim). IsNoteIn version d.note) c line notes))
+
+  -- today's version spells any note
+  pub now_spelled : HasSpelling current_version v
+  now_spelled = record {
+    has = has;
+    kinds = λ i place at. tt;
+    notes = All-weaker (IsClaim v.tree v.sessions v.last_long v.last_short) (λ (c : Claim). IsNote c.note) (λ c is. long_note c.id c.note (long_id c.id is.given).0 is.noted) v.line has.well_formed.claims;
+  }
 
   -- a place that is no part has no version
   no_versions : (p : ℕ) → ((p ≤ length v.tree) × (is_part v.tree p ≡ true) → ⊥) → versions_of v.shelf p ≡ []
@@ -114,38 +126,38 @@ module _ (v : Vault) (has : HasSnapshot v) where
       by_versions [] is = is
       by_versions (x ∷ xs) is = absurd (never (has.well_formed.versions.parts p (λ none. let e = sym is ∙ none in cc)))
 
-abbrev pub behind_places : Vault → List ℕ
-behind_places v = in_two (length v.line) ++ flat_map (claim_bytes v) v.line
+abbrev pub behind_places : FileVersion → Vault → List ℕ
+behind_places version v = in_two (length v.line) ++ flat_map (claim_bytes version v) v.line
 
-pub snapshot_split : (v : Vault) → snapshot_of v ≡ in_four v.last_long ++ (in_four (length v.tree + 1) ++ (places_bytes v 1 v.tree ++ behind_places v))
-snapshot_split v = regroup (in_four v.last_long) (in_four (length v.tree + 1)) (places_bytes v 1 v.tree) (in_two (length v.line)) (flat_map (claim_bytes v) v.line)
+pub snapshot_split : (version : FileVersion) (v : Vault) → spelling_of version v ≡ in_four v.last_long ++ (in_four (length v.tree + 1) ++ (places_bytes version v 1 v.tree ++ behind_places version v))
+snapshot_split version v = regroup (in_four v.last_long) (in_four (length v.tree + 1)) (places_bytes version v 1 v.tree) (in_two (length v.line)) (flat_map (claim_bytes version v) v.line)
 
 no_library : (tree : List Place) → is_part tree 0 ≡ true → ⊥
 no_library tree part = cc
 
 -- two vaults of one spelling
-module _ (v w : Vault) (has_v : HasSnapshot v) (has_w : HasSnapshot w) (same : snapshot_of v ≡ snapshot_of w) where
-  first : (v.last_long ≡ w.last_long) × (in_four (length v.tree + 1) ++ (places_bytes v 1 v.tree ++ behind_places v) ≡ in_four (length w.tree + 1) ++ (places_bytes w 1 w.tree ++ behind_places w))
+module _ (version : FileVersion) (v w : Vault) (spelled_v : HasSpelling version v) (spelled_w : HasSpelling version w) (same : spelling_of version v ≡ spelling_of version w) where
+  first : (v.last_long ≡ w.last_long) × (in_four (length v.tree + 1) ++ (places_bytes version v 1 v.tree ++ behind_places version v) ≡ in_four (length w.tree + 1) ++ (places_bytes version w 1 w.tree ++ behind_places version w))
   first =
-      one_number v.last_long w.last_long (in_four (length v.tree + 1) ++ (places_bytes v 1 v.tree ++ behind_places v)) (in_four (length w.tree + 1) ++ (places_bytes w 1 w.tree ++ behind_places w)) (omega (arith, has_v.well_formed.numbers.long)) (omega (arith, has_w.well_formed.numbers.long))
-      (sym (snapshot_split v) ∙ same ∙ snapshot_split w)
+      one_number v.last_long w.last_long (in_four (length v.tree + 1) ++ (places_bytes version v 1 v.tree ++ behind_places version v)) (in_four (length w.tree + 1) ++ (places_bytes version w 1 w.tree ++ behind_places version w)) (omega (arith, spelled_v.has.well_formed.numbers.long)) (omega (arith, spelled_w.has.well_formed.numbers.long))
+      (sym (snapshot_split version v) ∙ same ∙ snapshot_split version w)
 
-  second : (length v.tree + 1 ≡ length w.tree + 1) × (places_bytes v 1 v.tree ++ behind_places v ≡ places_bytes w 1 w.tree ++ behind_places w)
+  second : (length v.tree + 1 ≡ length w.tree + 1) × (places_bytes version v 1 v.tree ++ behind_places version v ≡ places_bytes version w 1 w.tree ++ behind_places version w)
   second =
-      one_number (length v.tree + 1) (length w.tree + 1) (places_bytes v 1 v.tree ++ behind_places v) (places_bytes w 1 w.tree ++ behind_places w) (omega (arith, has_v.well_formed.tree.few)) (omega (arith, has_w.well_formed.tree.few)) first.1
+      one_number (length v.tree + 1) (length w.tree + 1) (places_bytes version v 1 v.tree ++ behind_places version v) (places_bytes version w 1 w.tree ++ behind_places version w) (omega (arith, spelled_v.has.well_formed.tree.few)) (omega (arith, spelled_w.has.well_formed.tree.few)) first.1
 
-  told : AreTold v w 1 v.tree w.tree (behind_places v) (behind_places w)
+  told : AreTold v w 1 v.tree w.tree (behind_places version v) (behind_places version w)
   told =
-      places_tell v w has_v.well_formed.tree.parents (contents_of v.shelf has_v.well_formed.versions.shelf_is) (contents_of w.shelf has_w.well_formed.versions.shelf_is) [] v.tree w.tree (behind_places v) (behind_places w) refl refl (omega (arith, second.0))
-      (places_have v.tree has_v.well_formed.tree has_v.places) (places_have w.tree has_w.well_formed.tree has_w.places) second.1
+      places_tell version v w spelled_v.has.well_formed.tree spelled_w.has.well_formed.tree spelled_v.kinds spelled_w.kinds (contents_of v.shelf spelled_v.has.well_formed.versions.shelf_is) (contents_of w.shelf spelled_w.has.well_formed.versions.shelf_is) [] v.tree w.tree (behind_places version v) (behind_places version w) refl refl (omega (arith, second.0))
+      (places_have v.tree spelled_v.has.well_formed.tree spelled_v.has.places) (places_have w.tree spelled_w.has.well_formed.tree spelled_w.has.places) second.1
 
-  third : (length v.line ≡ length w.line) × (flat_map (claim_bytes v) v.line ≡ flat_map (claim_bytes w) w.line)
+  third : (length v.line ≡ length w.line) × (flat_map (claim_bytes version v) v.line ≡ flat_map (claim_bytes version w) w.line)
   third =
-      one_spelled in_two (λ n. n < 2 ^ 16) u16_at fields_are_spelled.in_two (length v.line) (length w.line) (flat_map (claim_bytes v) v.line) (flat_map (claim_bytes w) w.line) (omega (arith, has_v.well_formed.few_claims)) (omega (arith, has_w.well_formed.few_claims)) told.rest
+      one_spelled in_two (λ n. n < 2 ^ 16) u16_at fields_are_spelled.in_two (length v.line) (length w.line) (flat_map (claim_bytes version v) v.line) (flat_map (claim_bytes version w) w.line) (omega (arith, spelled_v.has.well_formed.few_claims)) (omega (arith, spelled_w.has.well_formed.few_claims)) told.rest
 
   claims : map (drafted v.drafts) v.line ≡ map (drafted w.drafts) w.line
   claims =
-      claims_tell v w [] [] third.0 (claims_have v has_v v.line has_v.well_formed.claims has_v.owners) (claims_have w has_w w.line has_w.well_formed.claims has_w.owners) (ap (λ (l : List ℕ). l ++ []) third.1)
+      claims_tell version v w [] [] third.0 (claims_have v spelled_v.has version v.line spelled_v.has.well_formed.claims spelled_v.has.owners spelled_v.notes) (claims_have w spelled_w.has version w.line spelled_w.has.well_formed.claims spelled_w.has.owners spelled_w.notes) (ap (λ (l : List ℕ). l ++ []) third.1)
 
   line_is : v.line ≡ w.line
   line_is = one_line v.drafts w.drafts v.line w.line claims
@@ -154,10 +166,10 @@ module _ (v w : Vault) (has_v : HasSnapshot v) (has_w : HasSnapshot w) (same : s
   versions_are : (p : ℕ) → versions_of v.shelf p ≡ versions_of w.shelf p
   versions_are p = elim (cases_Bool (is_part v.tree p)) [
     | inl part ↦ elim (cases_lt (length v.tree) p) [
-      | inl past ↦ no_versions v has_v p (λ is. absurd (omega (arith, is.0, past))) ∙ sym (no_versions w has_w p (λ is. absurd (omega (arith, is.0, past, ap length told.places))))
+      | inl past ↦ no_versions v spelled_v.has p (λ is. absurd (omega (arith, is.0, past))) ∙ sym (no_versions w spelled_w.has p (λ is. absurd (omega (arith, is.0, past, ap length told.places))))
       | inr within ↦ told.versions p (positive p part) (omega (arith, within)) part
     ]
-    | inr other ↦ (let never : (is_part v.tree p ≡ true → ⊥) = λ yes'. cc in no_versions v has_v p (λ is. never is.1) ∙ sym (no_versions w has_w p (λ is. never (subst (λ (t : List Place). is_part t p ≡ true) (sym told.places) is.1))))
+    | inr other ↦ (let never : (is_part v.tree p ≡ true → ⊥) = λ yes'. cc in no_versions v spelled_v.has p (λ is. never is.1) ∙ sym (no_versions w spelled_w.has p (λ is. never (subst (λ (t : List Place). is_part t p ≡ true) (sym told.places) is.1))))
   ]
     where
       positive : (q : ℕ) → is_part v.tree q ≡ true → 1 ≤ q
@@ -172,10 +184,10 @@ module _ (v w : Vault) (has_v : HasSnapshot v) (has_w : HasSnapshot w) (same : s
 
   drafts_are : v.drafts ≡ w.drafts
   drafts_are =
-      one_drafts v.drafts w.drafts has_v.well_formed.drafts.ordered has_w.well_formed.drafts.ordered
-      (same_drafts v.tree v.drafts w.drafts v.line (claims ∙ ap (λ (l : List Claim). map (drafted w.drafts) l) (sym line_is)) (held v has_v)
+      one_drafts v.drafts w.drafts spelled_v.has.well_formed.drafts.ordered spelled_w.has.well_formed.drafts.ordered
+      (same_drafts v.tree v.drafts w.drafts v.line (claims ∙ ap (λ (l : List Claim). map (drafted w.drafts) l) (sym line_is)) (held v spelled_v.has)
       (subst (λ (t : List Place). All (λ (x : SavedDraft). standing_of t v.line (Long x.claim) ≡ Some Held) w.drafts) (sym told.places)
-      (subst (λ (l : List Claim). All (λ (x : SavedDraft). standing_of w.tree l (Long x.claim) ≡ Some Held) w.drafts) (sym line_is) (held w has_w))))
+      (subst (λ (l : List Claim). All (λ (x : SavedDraft). standing_of w.tree l (Long x.claim) ≡ Some Held) w.drafts) (sym line_is) (held w spelled_w.has))))
 
   pub snapshot_tells : v ≡ w
   snapshot_tells = λ i. record {
@@ -191,16 +203,16 @@ module _ (v w : Vault) (has_v : HasSnapshot v) (has_w : HasSnapshot w) (same : s
   }
     where
       shelf_is : v.shelf ≡ w.shelf
-      shelf_is = one_shelf v.shelf w.shelf has_v.well_formed.versions.shelf_is has_w.well_formed.versions.shelf_is versions_are
+      shelf_is = one_shelf v.shelf w.shelf spelled_v.has.well_formed.versions.shelf_is spelled_w.has.well_formed.versions.shelf_is versions_are
 
       sessions_are : v.sessions ≡ w.sessions
-      sessions_are = no_sessions v has_v ∙ sym (no_sessions w has_w)
+      sessions_are = no_sessions v spelled_v.has ∙ sym (no_sessions w spelled_w.has)
 
       last_sessions : v.last_session ≡ w.last_session
-      last_sessions = ap (λ (u : Vault). u.last_session) (sym has_v.durable) ∙ ap (λ (u : Vault). u.last_session) has_w.durable
+      last_sessions = ap (λ (u : Vault). u.last_session) (sym spelled_v.has.durable) ∙ ap (λ (u : Vault). u.last_session) spelled_w.has.durable
 
       last_shorts : v.last_short ≡ w.last_short
-      last_shorts = no_short v has_v ∙ sym (no_short w has_w)
+      last_shorts = no_short v spelled_v.has ∙ sym (no_short w spelled_w.has)
 
       doors : v.door_count ≡ w.door_count
-      doors = ap (λ (u : Vault). u.door_count) (sym has_v.durable) ∙ ap (λ (u : Vault). u.door_count) has_w.durable
+      doors = ap (λ (u : Vault). u.door_count) (sym spelled_v.has.durable) ∙ ap (λ (u : Vault). u.door_count) spelled_w.has.durable

@@ -15,12 +15,17 @@ use Rattle.vault_model.specs.declared.place.Place.{Place}
 use Rattle.vault_model.specs.Claims.{same_id, claim_of, standing_of, new_check_out, noted_as}
 use Rattle.vault_model.specs.Drafts.{SavedDraft, drafts_of}
 use Rattle.vault_model.specs.Vault.{Vault}
-use Rattle.vault_journal.specs.Spelling.{in_four, name_bytes, items_bytes, note_bytes}
+use Rattle.vault_journal.specs.Spelling.{in_four, name_bytes, items_bytes}
+use Rattle.vault_journal.specs.Laws.{IsInverse}
+use Rattle.vault_journal.proofs.OneSpelling.{fields_are_spelled}
+use Rattle.vault_store.specs.declared.front.FileVersion.{FileVersion}
+use Rattle.vault_store.specs.declared.front.FileVersion.TheVariants.{One, Two}
 pub use Rattle.vault_store.specs.Claims.{Drafted, drafted_bytes, drafted, HasClaim}
-use Rattle.vault_store.specs.Snapshot.{number_of, designer_of, drafts_bytes, claim_bytes}
+use Rattle.vault_store.specs.Claims.{note_before}
+use Rattle.vault_store.specs.Snapshot.{number_of, designer_of, note_field, IsNoteIn, drafts_bytes, claim_bytes}
 use Rattle.vault_checkout.proofs.OneDrafts.{no_drafts_of}
-use Rattle.vault_store.proofs.OneReading.{one_number}
-use Rattle.vault_store.proofs.SpelledLists.{Tells, name_tells, note_tells, items_tell, drafts_tell, lists_tell}
+use Rattle.vault_store.proofs.OneReading.{one_number, one_spelled, some_pair}
+use Rattle.vault_store.proofs.SpelledLists.{Tells, name_tells, items_tell, drafts_tell, lists_tell}
 
 pub regroup : (n m i d a : List ℕ) → (((n ++ m) ++ i) ++ d) ++ a ≡ n ++ (m ++ (i ++ (d ++ a)))
 regroup n m i d a = simp append_assoc
@@ -36,6 +41,14 @@ spelled_claim number designer note items = noted_as note (new_check_out number d
 check_out_is : (c : Claim) → c.id ≡ Long (number_of c.id) → c.owner ≡ owners.Designer (designer_of c.owner) → c ≡ spelled_claim (number_of c.id) (designer_of c.owner) c.note c.items
 check_out_is c long designer = λ i. record c { id = long i; owner = designer i }
 
+-- a note is read exactly where its spelling in this version stands
+pub notes_are_spelled : (version : FileVersion) → IsInverse (note_field version) (IsNoteIn version) (note_before version)
+notes_are_spelled One = record {
+  reads = λ note rest is. ap (λ (n : List ℕ). Some (n, rest)) (sym is);
+  spelled = λ bytes note rest are e. let both = some_pair [] note bytes rest e in (both.1, sym both.0);
+}
+notes_are_spelled Two = fields_are_spelled.note
+
 -- what stands behind each field of a check-out
 abbrev pub past_items : Drafted → List ℕ → List ℕ
 past_items x rest = drafts_bytes x.1 ++ rest
@@ -43,32 +56,32 @@ past_items x rest = drafts_bytes x.1 ++ rest
 abbrev pub past_note : Drafted → List ℕ → List ℕ
 past_note x rest = items_bytes x.0.items ++ past_items x rest
 
-abbrev pub past_name : Drafted → List ℕ → List ℕ
-past_name x rest = note_bytes x.0.note ++ past_note x rest
+abbrev pub past_name : FileVersion → Drafted → List ℕ → List ℕ
+past_name version x rest = note_field version x.0.note ++ past_note x rest
 
-abbrev pub past_number : Drafted → List ℕ → List ℕ
-past_number x rest = name_bytes (designer_of x.0.owner) ++ past_name x rest
+abbrev pub past_number : FileVersion → Drafted → List ℕ → List ℕ
+past_number version x rest = name_bytes (designer_of x.0.owner) ++ past_name version x rest
 
-pub fields_of : (x : Drafted) (rest : List ℕ) → drafted_bytes x ++ rest ≡ in_four (number_of x.0.id) ++ past_number x rest
-fields_of x rest = regroup_claim (in_four (number_of x.0.id)) (name_bytes (designer_of x.0.owner)) (note_bytes x.0.note) (items_bytes x.0.items) (drafts_bytes x.1) rest
+pub fields_of : (version : FileVersion) (x : Drafted) (rest : List ℕ) → drafted_bytes version x ++ rest ≡ in_four (number_of x.0.id) ++ past_number version x rest
+fields_of version x rest = regroup_claim (in_four (number_of x.0.id)) (name_bytes (designer_of x.0.owner)) (note_field version x.0.note) (items_bytes x.0.items) (drafts_bytes x.1) rest
 
-pub claim_tells : Tells drafted_bytes HasClaim
-claim_tells x y a b has_x has_y same =
-    let whole = sym (fields_of x a) ∙ same ∙ fields_of y b in
-    let numbers = one_number (number_of x.0.id) (number_of y.0.id) (past_number x a) (past_number y b) has_x.fits has_y.fits whole in
-    let names = name_tells (designer_of x.0.owner) (designer_of y.0.owner) (past_name x a) (past_name y b) has_x.name has_y.name numbers.1 in
-    let notes = note_tells x.0.note y.0.note (past_note x a) (past_note y b) has_x.note has_y.note names.1 in
+pub claim_tells : (version : FileVersion) → Tells (drafted_bytes version) (HasClaim version)
+claim_tells version x y a b has_x has_y same =
+    let whole = sym (fields_of version x a) ∙ same ∙ fields_of version y b in
+    let numbers = one_number (number_of x.0.id) (number_of y.0.id) (past_number version x a) (past_number version y b) has_x.fits has_y.fits whole in
+    let names = name_tells (designer_of x.0.owner) (designer_of y.0.owner) (past_name version x a) (past_name version y b) has_x.name has_y.name numbers.1 in
+    let notes = one_spelled (note_field version) (IsNoteIn version) (note_before version) (notes_are_spelled version) x.0.note y.0.note (past_note x a) (past_note y b) has_x.note has_y.note names.1 in
     let items = items_tell x.0.items y.0.items (past_items x a) (past_items y b) has_x.items has_y.items notes.1 in
     let drafts = drafts_tell x.1 y.1 a b has_x.drafts has_y.drafts items.1 in
     let claims : x.0 ≡ y.0 = check_out_is x.0 has_x.long has_x.designer ∙ (λ i. spelled_claim (numbers.0 i) (names.0 i) (notes.0 i) (items.0 i)) ∙ sym (check_out_is y.0 has_y.long has_y.designer) in
     (λ i. (claims i, drafts.0 i), drafts.1)
 
-pub claims_tell : (v w : Vault) (a b : List ℕ) → length v.line ≡ length w.line → All (λ (c : Claim). HasClaim (drafted v.drafts c)) v.line → All (λ (c : Claim). HasClaim (drafted w.drafts c)) w.line
-    → flat_map (claim_bytes v) v.line ++ a ≡ flat_map (claim_bytes w) w.line ++ b → map (drafted v.drafts) v.line ≡ map (drafted w.drafts) w.line
-claims_tell v w a b size has_v has_w same =
-    (lists_tell drafted_bytes HasClaim claim_tells (map (drafted v.drafts) v.line) (map (drafted w.drafts) w.line) a b (length-map v.line (drafted v.drafts) ∙ size ∙ sym (length-map w.line (drafted w.drafts)))
-    (All-map HasClaim (drafted v.drafts) v.line has_v) (All-map HasClaim (drafted w.drafts) w.line has_w)
-    (ap (λ (l : List ℕ). l ++ a) (flat_map-map drafted_bytes (drafted v.drafts) v.line) ∙ same ∙ ap (λ (l : List ℕ). l ++ b) (sym (flat_map-map drafted_bytes (drafted w.drafts) w.line)))).0
+pub claims_tell : (version : FileVersion) (v w : Vault) (a b : List ℕ) → length v.line ≡ length w.line → All (λ (c : Claim). HasClaim version (drafted v.drafts c)) v.line → All (λ (c : Claim). HasClaim version (drafted w.drafts c)) w.line
+    → flat_map (claim_bytes version v) v.line ++ a ≡ flat_map (claim_bytes version w) w.line ++ b → map (drafted v.drafts) v.line ≡ map (drafted w.drafts) w.line
+claims_tell version v w a b size has_v has_w same =
+    (lists_tell (drafted_bytes version) (HasClaim version) (claim_tells version) (map (drafted v.drafts) v.line) (map (drafted w.drafts) w.line) a b (length-map v.line (drafted v.drafts) ∙ size ∙ sym (length-map w.line (drafted w.drafts)))
+    (All-map (HasClaim version) (drafted v.drafts) v.line has_v) (All-map (HasClaim version) (drafted w.drafts) w.line has_w)
+    (ap (λ (l : List ℕ). l ++ a) (flat_map-map (drafted_bytes version) (drafted v.drafts) v.line) ∙ same ∙ ap (λ (l : List ℕ). l ++ b) (sym (flat_map-map (drafted_bytes version) (drafted w.drafts) w.line)))).0
 
 -- the claims alone
 pub claims_of : (drafts : List SavedDraft) (line : List Claim) → map (λ (x : Drafted). x.0) (map (drafted drafts) line) ≡ line

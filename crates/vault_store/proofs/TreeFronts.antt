@@ -1,7 +1,7 @@
 -- The first places of a tree are a tree, and what follows them may be made there.
-use Rattle.std.proofs.Common.{◌≡◌, ℕ, zero, suc, ◌+◌, ◌<◌, ◌≤◌, ◌==◌, Bool, true, false, not, cond, ltb, List, [], ◌∷◌, ◌++◌, length, get_or, Some, None, refl, sym, ◌∙◌, ap, arith, length-append, inl, inr}
-use Rattle.std.specs.Prelude.{nat_le, slice_get, position}
-use Rattle.std.specs.Option.{option_map}
+use Rattle.std.proofs.Common.{◌≡◌, ℕ, zero, suc, ◌+◌, ◌<◌, ◌≤◌, ◌==◌, Bool, true, false, not, cond, ltb, List, [], ◌∷◌, ◌++◌, length, get_or, Some, None, refl, sym, ◌∙◌, ap, subst, arith, length-append, inl, inr}
+use Rattle.std.specs.Prelude.{slice_get, position}
+use Rattle.std.specs.Option.{option_map, option_map_or}
 use Rattle.std.specs.List.{position_or_len}
 use Rattle.std.specs.Str.{bytes_eq}
 use Rattle.std.proofs.lemmas.Bool.{cases_lt, le-ltb}
@@ -10,14 +10,22 @@ use Rattle.std.proofs.lemmas.Option.{slice_get_past, slice_get_within, slice_get
 use Rattle.std.proofs.lemmas.List.Sums.{prefix_len_is, sum_by-append}
 use Rattle.std.proofs.lemmas.Slice.Eq.{bytes_eq-Decides}
 use Rattle.vault_model.specs.declared.place.Place.{Place}
-use Rattle.vault_model.specs.Limits.{part_depth, most_places, most_children}
-use Rattle.vault_model.specs.Tree.{parent_of, depth, is_part, is_child, child, children_count, is_full, IsTree}
+use Rattle.vault_model.specs.Limits.{most_places, most_children}
+use Rattle.vault_model.specs.declared.place.Kind.{Kind}
+use Rattle.vault_model.specs.declared.place.Kind.TheVariants.{Library}
+use Rattle.vault_model.specs.Tree.{parent_of, depth, kind_of, is_part_kind, is_part, may_stand, is_child, child, children_count, is_full, IsTree}
 use Rattle.vault_model.proofs.Walks.{Rises, depth-top}
-use Rattle.vault_model.proofs.Growth.{slice_get-push_old, slice_get-push_new, parent_of-push_new, is_part-push, children_count-push}
+use Rattle.vault_model.proofs.Growth.{slice_get-push_old, slice_get-push_new, parent_of-push_new, kind_of-push_new, is_part-push, depth-push, depth-push_new, children_count-push}
 use Rattle.vault_model.proofs.Overlaps.{and_both, eq_from, eq_itself}
 use Rattle.vault_model.proofs.Lists.{slice_get-front}
 use Rattle.design_tree.specs.Added.{refusal}
+use Rattle.vault_store.specs.declared.front.FileVersion.{FileVersion}
+use Rattle.vault_store.specs.Snapshot.{IsKindIn, AreKindsIn}
 use Rattle.vault_store.proofs.SpelledPlaces.{parent-front, depth_same}
+
+-- the same kind may stand at the same depth
+pub stands : {k l : Kind} {c d : ℕ} → k ≡ l → c ≡ d → may_stand k c ≡ true → may_stand l d ≡ true
+stands kinds depths known = rw (sym kinds, sym depths) known
 
 module _ (front rest : List Place) where
   parent_past : (p : ℕ) → length front < p → parent_of front p ≡ None
@@ -30,8 +38,16 @@ module _ (front rest : List Place) where
     | inr within ↦ rises p parent (parent-front front rest p within ∙ is)
   ]
 
-  depth_front : Rises (front ++ rest) → (p : ℕ) → p ≤ length front → depth (front ++ rest) p ≡ depth front p
+  pub depth_front : Rises (front ++ rest) → (p : ℕ) → p ≤ length front → depth (front ++ rest) p ≡ depth front p
   depth_front rises p within = depth_same (front ++ rest) front (length front) p p (λ q le. parent-front front rest q le) rises within
+
+  kind_front : (p : ℕ) → p ≤ length front → kind_of (front ++ rest) p ≡ kind_of front p
+  kind_front zero within = refl
+  kind_front (suc n) within = ap (λ o. option_map_or (λ (place : Place). place.kind) o Library) (slice_get-front front rest n (omega (arith, within)))
+
+  kind_past : (p : ℕ) → length front < p → kind_of front p ≡ Library
+  kind_past zero past = absurd (omega (arith, past))
+  kind_past (suc n) past = ap (λ o. option_map_or (λ (place : Place). place.kind) o Library) (slice_get_past front n (omega (arith, past)))
 
   still_there : (i : ℕ) (a : Place) → slice_get front i ≡ Some a → slice_get (front ++ rest) i ≡ Some a
   still_there i a is = slice_get-front front rest i (slice_get_within front i a is) ∙ is
@@ -48,11 +64,39 @@ module _ (front rest : List Place) where
       | inl past ↦ (let none = parent_past p past in absurd (cc))
       | inr within ↦
           let whole = parent-front front rest p within ∙ e in
-          ap (nat_le part_depth) (sym (depth_front is.parents parent (omega (arith, is.parents p parent whole, within)))) ∙ is.no_parts_above p parent whole
+          ap is_part_kind (sym (kind_front parent (omega (arith, is.parents p parent whole, within)))) ∙ is.no_parts_above p parent whole
+    ];
+    kinds = λ p. elim (cases_lt (length front) p) [
+      | inl past ↦ stands (sym (kind_past p past)) (sym (depth-top front p (parent_past p past))) refl
+      | inr within ↦ stands (kind_front p within) (depth_front is.parents p within) (is.kinds p)
     ];
     siblings = λ i j a b at_i at_j parents names. is.siblings i j a b (still_there i a at_i) (still_there j b at_j) parents names;
     narrow = λ p. omega (arith, is.narrow p, sum_by-append (λ (place : Place). cond (place.parent == p) 1 0) front rest);
   }
+
+-- a version that can spell the kinds of a tree can spell those of its first places
+pub kinds_front : (version : FileVersion) (front rest : List Place) → IsTree (front ++ rest) → AreKindsIn version (front ++ rest) → AreKindsIn version front
+kinds_front version front rest is kinds i place at =
+    let whole = still_there front rest i place at in
+    let lower : place.parent < suc i = is.parents (suc i) place.parent (ap (option_map (λ (x : Place). x.parent)) whole) in
+    let inside = slice_get_within front i place at in
+    subst (λ (d : ℕ). IsKindIn version place.kind (suc d)) (depth_front front rest is.parents place.parent (omega (arith, lower, inside))) (kinds i place whole)
+
+-- and with a place more, whose kind it can spell
+pub kinds_push : (version : FileVersion) (tree : List Place) (x : Place) → Rises tree → x.parent ≤ length tree → AreKindsIn version tree → IsKindIn version x.kind (suc (depth tree x.parent)) → AreKindsIn version (tree ++ x ∷ [])
+kinds_push version tree x rises there kinds own i place at = elim (cases_lt i (length tree)) [
+  | inl old ↦
+      let before : slice_get tree i ≡ Some place = sym (slice_get-push_old tree x i old) ∙ at in
+      let lower : place.parent < suc i = rises (suc i) place.parent (ap (option_map (λ (y : Place). y.parent)) before) in
+      subst (λ (d : ℕ). IsKindIn version place.kind (suc d)) (sym (depth-push tree x place.parent rises (omega (arith, lower, old)))) (kinds i place before)
+  | inr new ↦
+      let inside = slice_get_within (tree ++ x ∷ []) i place at in
+      let last : i ≡ length tree = omega (arith, inside, new, length-append tree (x ∷ [])) in
+      let read : slice_get (tree ++ x ∷ []) i ≡ Some x = ap (slice_get (tree ++ x ∷ [])) last ∙ slice_get-push_new tree x in
+      let same : x ≡ place = cc in
+      subst (λ (y : Place). IsKindIn version y.kind (suc (depth (tree ++ x ∷ []) y.parent))) same
+      (subst (λ (d : ℕ). IsKindIn version x.kind (suc d)) (sym (depth-push tree x x.parent rises there)) own)
+]
 
 -- no element passes, so none is found
 none_found : {X : Type 0} (p : X → Bool) (xs : List X) (d : X) → ((i : ℕ) (a : X) → slice_get xs i ≡ Some a → p a ≡ true → ⊥) → position p xs ≡ None
@@ -74,7 +118,7 @@ module _ (tree : List Place) (x : Place) (is : IsTree (tree ++ x ∷ [])) where
   rises = rises_front tree (x ∷ []) is.parents
 
   no_part : is_part tree x.parent ≡ false
-  no_part = sym (is_part-push tree x x.parent rises last_parent) ∙ is.no_parts_above (suc (length tree)) x.parent (parent_of-push_new tree x)
+  no_part = sym (is_part-push tree x x.parent last_parent) ∙ is.no_parts_above (suc (length tree)) x.parent (parent_of-push_new tree x)
 
   no_child : child tree x.parent x.name ≡ None
   no_child =
@@ -92,5 +136,8 @@ module _ (tree : List Place) (x : Place) (is : IsTree (tree ++ x ∷ [])) where
       let narrow : children_count tree x.parent < most_children = omega (arith, is.narrow x.parent, children_count-push tree x x.parent, one) in
       grind (arith, nat_tests)
 
-  pub may_follow : refusal tree x.parent x.name ≡ None
-  may_follow = rw (no_part, no_child, no_limit) refl
+  pub last_stands : may_stand x.kind (suc (depth tree x.parent)) ≡ true
+  last_stands = stands (kind_of-push_new tree x) (depth-push_new tree x rises last_parent) (is.kinds (suc (length tree)))
+
+  pub may_follow : refusal tree x.parent x.name x.kind ≡ None
+  may_follow = rw (no_part, last_stands, no_child, no_limit) refl

@@ -4,6 +4,7 @@ use Rattle.vault_model.specs.Vault.{new_vault}
 use Rattle.vault_device.specs.Disk.{Disk, LeavesOnly}
 use Rattle.vault_store.specs.declared.creation.CreateError.{CreateError}
 use Rattle.vault_store.specs.declared.creation.CreateError.TheVariants.{Exists, Device, NoMemory}
+use Rattle.vault_store.specs.Snapshot.{current_version}
 use Rattle.vault_store.specs.Files.{snapshot_bytes, current_head, IsClosedFile, StandFor}
 use Rattle.vault_store.specs.Calls.{HasCause}
 use Rattle.vault_store.specs.OnDisk.{IsSettled}
@@ -12,7 +13,7 @@ use Rattle.vault_store.specs.Step.{MayBeLeft}
 
 -- the bytes of a new vault's file up to its tail gate
 abbrev pub new_front : List ℕ
-new_front = current_head 1 ++ snapshot_bytes new_vault
+new_front = current_head 1 ++ snapshot_bytes current_version new_vault
 
 -- the same with the closed tail gate: the whole file
 abbrev pub new_file : List ℕ

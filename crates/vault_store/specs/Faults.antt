@@ -5,8 +5,9 @@ use Rattle.std.specs.List.{AllByRecursion}
 use Rattle.vault_model.specs.Said.{Effect}
 use Rattle.vault_model.specs.Vault.{Vault}
 use Rattle.vault_journal.specs.Spelling.{in_four, in_eight}
-use Rattle.vault_store.specs.Snapshot.{snapshot_of, HasSnapshot}
-use Rattle.vault_store.specs.Files.{header, head_length, mark, version, snapshot_bytes, frame_of, frames_bytes, IsFrame, applied, after_frames, current_head}
+use Rattle.vault_store.specs.declared.front.FileVersion.{FileVersion}
+use Rattle.vault_store.specs.Snapshot.{spelling_of, HasSpelling}
+use Rattle.vault_store.specs.Files.{header, head_length, mark, version_number, head_of, snapshot_bytes, frame_of, frames_bytes, IsFrame, applied, after_frames}
 
 -- the mark of a file
 abbrev pub mark_in : List ℕ → List ℕ
@@ -33,37 +34,45 @@ pub record IsOpenFile (file : List ℕ) : Type 0 where
   pub long : header ≤ length file
   pub gate : slice_index file 0 ≡ 1
 
+-- these four bytes tell a version
+abbrev pub IsVersion : FileVersion → List ℕ → Type 0
+IsVersion version bytes = bytes ≡ in_four (version_number version)
+
+-- they tell none
+abbrev pub IsNoVersion : List ℕ → Type 0
+IsNoVersion bytes = (version : FileVersion) → bytes ≢ in_four (version_number version)
+
 -- what is wrong with the head of an open file: the mark, the version, or a generation of 0
 abbrev pub IsHeadFault : List ℕ → ℕ → Type 0
 IsHeadFault file at =
     ((at ≡ 1) × (mark_in file ≢ mark))
-    ⊎ ((at ≡ 8) × (mark_in file ≡ mark) × (version_in file ≢ in_four version))
-    ⊎ ((at ≡ 12) × (mark_in file ≡ mark) × (version_in file ≡ in_four version) × (generation_in file ≡ in_eight 0))
+    ⊎ ((at ≡ 8) × (mark_in file ≡ mark) × IsNoVersion (version_in file))
+    ⊎ ((at ≡ 12) × (mark_in file ≡ mark) × ((version : FileVersion) × IsVersion version (version_in file)) × (generation_in file ≡ in_eight 0))
 
 -- an open file whose head has a fault
 abbrev pub IsDamagedHead : List ℕ → ℕ → Type 0
 IsDamagedHead file at = IsOpenFile file × IsHeadFault file at
 
--- bytes are no vault's spelling
-abbrev pub IsNoSnapshot : List ℕ → Type 0
-IsNoSnapshot bytes = (v : Vault) → HasSnapshot v → bytes ≢ snapshot_of v
+-- bytes are no vault's spelling in this version
+abbrev pub IsNoSnapshot : FileVersion → List ℕ → Type 0
+IsNoSnapshot version bytes = (v : Vault) → HasSpelling version v → bytes ≢ spelling_of version v
 
--- what is wrong with a snapshot: no byte stands behind it, or its bytes are no vault's spelling
-abbrev pub IsSnapshotFault : List ℕ → ℕ → Type 0
-IsSnapshotFault file at =
+-- what is wrong with the snapshot of a file of this version: no byte stands behind it, or its bytes are no vault's spelling
+abbrev pub IsSnapshotFault : FileVersion → List ℕ → ℕ → Type 0
+IsSnapshotFault version file at =
     ((at ≡ head_length) × (length file ≤ header + snapshot_length file))
-    ⊎ ((at ≡ header) × (header + snapshot_length file < length file) × IsNoSnapshot (snapshot_in file))
+    ⊎ ((at ≡ header) × (header + snapshot_length file < length file) × IsNoSnapshot version (snapshot_in file))
 
--- The first frame that isn't one: a vault's snapshot and whole frames stand before it, which lead to a vault; an open gate is there;
--- and no frame whose effects may be made on that vault stands there with a byte behind it.
-pub record IsFrameFault (file : List ℕ) (at : ℕ) : Type 0 where
+-- The first frame of such a file that isn't one: a vault's snapshot and whole frames stand before it, which lead to a vault; an open gate
+-- is there; and no frame whose effects may be made on that vault stands there with a byte behind it.
+pub record IsFrameFault (version : FileVersion) (file : List ℕ) (at : ℕ) : Type 0 where
   pub generation : ℕ
   pub base : Vault
   pub frames : List (List Effect)
   pub vault : Vault
-  pub spelled : HasSnapshot base
+  pub spelled : HasSpelling version base
   pub each : AllByRecursion IsFrame frames
-  pub begins : take at file ≡ (current_head generation ++ snapshot_bytes base) ++ frames_bytes frames
+  pub begins : take at file ≡ (head_of version generation ++ snapshot_bytes version base) ++ frames_bytes frames
   pub leads : after_frames base frames ≡ Some vault
   pub within : at < length file
   pub gate : slice_index file at ≡ 1
@@ -71,5 +80,5 @@ pub record IsFrameFault (file : List ℕ) (at : ℕ) : Type 0 where
       → drop at file ≢ frame_of effects ++ behind
 
 -- what is wrong behind a right head: the snapshot, or behind a right one a frame
-abbrev pub IsBodyFault : List ℕ → ℕ → Type 0
-IsBodyFault file at = IsSnapshotFault file at ⊎ IsFrameFault file at
+abbrev pub IsBodyFault : FileVersion → List ℕ → ℕ → Type 0
+IsBodyFault version file at = IsSnapshotFault version file at ⊎ IsFrameFault version file at

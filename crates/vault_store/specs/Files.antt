@@ -7,7 +7,9 @@ use Rattle.vault_model.specs.Vault.{Vault}
 use Rattle.vault_model.specs.After.{after}
 use Rattle.vault_journal.specs.Spelling.{in_four, in_eight, records_of, HasRecord}
 use Rattle.vault_journal.specs.Gate.{IsClosed}
-use Rattle.vault_store.specs.Snapshot.{snapshot_of, HasSnapshot}
+use Rattle.vault_store.specs.declared.front.FileVersion.{FileVersion}
+use Rattle.vault_store.specs.declared.front.FileVersion.TheVariants.{One, Two}
+use Rattle.vault_store.specs.Snapshot.{current_version, spelling_of, HasSpelling}
 use Rattle.vault_store.specs.declared.front.TheConstants.{HEADER}
 use Rattle.vault_store.specs.declared.journal.TheConstants.{MOST_RECORDS, FRAME_EXTRA}
 
@@ -23,9 +25,10 @@ head_length = 20
 abbrev pub mark : List ℕ
 mark = codes "LLVAULT"
 
--- the version that is written today
-abbrev pub version : ℕ
-version = 2
+-- the number of a version, as a file tells it
+abbrev pub version_number : FileVersion → ℕ
+version_number One = 1
+version_number Two = 2
 
 -- the most bytes of a frame's records
 abbrev pub most_records : ℕ
@@ -36,20 +39,21 @@ abbrev pub frame_extra : ℕ
 frame_extra = FRAME_EXTRA
 
 -- the head of an open file of a version and a generation: the gate, the mark, and these two
-abbrev pub head_of : ℕ → ℕ → List ℕ
-head_of v generation = 1 ∷ mark ++ in_four v ++ in_eight generation
+abbrev pub head_of : FileVersion → ℕ → List ℕ
+head_of version generation = 1 ∷ mark ++ in_four (version_number version) ++ in_eight generation
 
 -- that of the version that is written today
 abbrev pub current_head : ℕ → List ℕ
-current_head generation = head_of version generation
+current_head generation = head_of current_version generation
 
--- a snapshot behind its length
-abbrev pub snapshot_bytes : Vault → List ℕ
-snapshot_bytes v = in_four (length (snapshot_of v)) ++ snapshot_of v
+-- a snapshot in the spelling of a version, behind its length
+abbrev pub snapshot_bytes : FileVersion → Vault → List ℕ
+snapshot_bytes version v = in_four (length (spelling_of version v)) ++ spelling_of version v
 
 -- what a snapshot writes behind the head gate: the rest of the head, the vault, and a closed tail gate
 abbrev pub behind_gate : ℕ → Vault → List ℕ
-behind_gate generation v = mark ++ in_four version ++ in_eight generation ++ snapshot_bytes v ++ 0 ∷ []
+behind_gate generation v =
+    mark ++ in_four (version_number current_version) ++ in_eight generation ++ snapshot_bytes current_version v ++ 0 ∷ []
 
 -- a frame of some records, its gate open
 abbrev pub frame_bytes : List ℕ → List ℕ
@@ -79,23 +83,25 @@ abbrev pub after_frames : Vault → List (List Effect) → Option Vault
 after_frames w [] = Some w
 after_frames w (frame ∷ frames) = option_and_then (λ (next : Vault). after_frames next frames) (applied w frame)
 
--- What opening reads: the vault and, of the active file, its generation, where its tail gate stands, and how many bytes its
--- frames have.
+-- What opening reads: the vault and, of the active file, its version and its generation, where its tail gate stands, and how many
+-- bytes its frames have.
 pub record Reading : Type 0 where
   pub vault : Vault
+  pub version : FileVersion
   pub generation : ℕ
   pub tail : ℕ
   pub journal_length : ℕ
 
--- these bytes are an open file's of a version, up to its tail gate: the head, a snapshot and frames, which lead to the reading
-pub record IsFront (v : ℕ) (front : List ℕ) (reading : Reading) : Type 0 where
+-- These bytes are an open file's, up to its tail gate: the head, a snapshot in the spelling of the file's version, and frames, which
+-- lead to the reading.
+pub record IsFront (front : List ℕ) (reading : Reading) : Type 0 where
   pub base : Vault
   pub frames : List (List Effect)
-  pub spelled : HasSnapshot base
+  pub spelled : HasSpelling reading.version base
   pub given : 1 ≤ reading.generation
   pub fits : reading.generation < 2 ^ 64
   pub each : AllByRecursion IsFrame frames
-  pub bytes : front ≡ (head_of v reading.generation ++ snapshot_bytes base) ++ frames_bytes frames
+  pub bytes : front ≡ (head_of reading.version reading.generation ++ snapshot_bytes reading.version base) ++ frames_bytes frames
   pub leads : after_frames base frames ≡ Some reading.vault
   pub tail_is : reading.tail ≡ length front
   pub journal_is : reading.journal_length ≡ length (frames_bytes frames)
@@ -105,10 +111,10 @@ pub record EndsBehind (front file : List ℕ) : Type 0 where
   pub begins : take (length front) file ≡ front
   pub closed : IsClosed (length front) file
 
--- a file of a version is read as this
-pub record Holds (v : ℕ) (file : List ℕ) (reading : Reading) : Type 0 where
+-- a file is read as this
+pub record Holds (file : List ℕ) (reading : Reading) : Type 0 where
   pub front : List ℕ
-  pub is_front : IsFront v front reading
+  pub is_front : IsFront front reading
   pub ends : EndsBehind front file
 
 -- a file that isn't there or isn't whole: it has no whole header, or its head gate is closed
@@ -116,24 +122,24 @@ abbrev pub IsClosedFile : List ℕ → Type 0
 IsClosedFile file = (length file < header) ⊎ (slice_index file 0 ≢ 1)
 
 -- an open file with a right head, of this version and this generation
-pub record HasHead (v generation : ℕ) (file : List ℕ) : Type 0 where
+pub record HasHead (version : FileVersion) (generation : ℕ) (file : List ℕ) : Type 0 where
   pub long : header ≤ length file
-  pub head : take head_length file ≡ head_of v generation
+  pub head : take head_length file ≡ head_of version generation
   pub given : 1 ≤ generation
   pub fits : generation < 2 ^ 64
 
--- one of the version that is written today
-abbrev pub HasCurrentHead : ℕ → List ℕ → Type 0
-HasCurrentHead generation file = HasHead version generation file
+-- an open file with a right head of this generation, whichever its version
+abbrev pub HasRightHead : ℕ → List ℕ → Type 0
+HasRightHead generation file = (version : FileVersion) × HasHead version generation file
 
 -- the file beside the active one, of which no more is read: closed, or of a smaller generation
 abbrev pub IsSpare : ℕ → List ℕ → Type 0
-IsSpare generation file = IsClosedFile file ⊎ ((older : ℕ) × (older < generation) × HasCurrentHead older file)
+IsSpare generation file = IsClosedFile file ⊎ ((older : ℕ) × (older < generation) × HasRightHead older file)
 
 -- Two files are read as this: one of them is, and the other is its spare.
 abbrev pub AreRead : List ℕ → List ℕ → Reading → Type 0
 AreRead first second reading =
-    (Holds version first reading × IsSpare reading.generation second) ⊎ (Holds version second reading × IsSpare reading.generation first)
+    (Holds first reading × IsSpare reading.generation second) ⊎ (Holds second reading × IsSpare reading.generation first)
 
 -- Two files stand for a vault.
 abbrev pub StandFor : List ℕ → List ℕ → Vault → Type 0

@@ -3,8 +3,9 @@ use Rattle.std.specs.Prelude.{◌≡◌, ◌≢◌, ◌<◌, ◌^◌, length, �
 use Rattle.vault_model.specs.Vault.{Vault}
 use Rattle.vault_device.specs.Disk.{Disk}
 use Rattle.vault_journal.specs.Gate.{SameBut}
+use Rattle.vault_store.specs.declared.front.FileVersion.{FileVersion}
 use Rattle.vault_store.specs.declared.opening.OpenError.{OpenError}
-use Rattle.vault_store.specs.Snapshot.{snapshot_of, HasSnapshot}
+use Rattle.vault_store.specs.Snapshot.{current_version, snapshot_of, spelling_of, HasSnapshot, HasSpelling}
 use Rattle.vault_store.specs.Files.{Reading, AreRead, StandFor}
 use Rattle.vault_store.specs.Opening.{IsNotOpened, IsFound}
 use Rattle.vault_store.specs.Phases.{is_opening}
@@ -40,9 +41,14 @@ NotedIsSpelled {D} disk = (store : StoreSeen D) (s : StoreState) → Keeps disk 
 abbrev pub SnapshotsAreShort : Type 0
 SnapshotsAreShort = (v : Vault) → HasSnapshot v → length (snapshot_of v) < 2 ^ 32
 
--- one vault has one spelling
+-- a spelling in a version is of one vault
 abbrev pub OneSpelling : Type 0
-OneSpelling = (v w : Vault) → HasSnapshot v → HasSnapshot w → snapshot_of v ≡ snapshot_of w → v ≡ w
+OneSpelling = (version : FileVersion) (v w : Vault) → HasSpelling version v → HasSpelling version w
+    → spelling_of version v ≡ spelling_of version w → v ≡ w
+
+-- each vault that has a snapshot has a spelling in today's version
+abbrev pub AllAreSpelled : Type 0
+AllAreSpelled = (v : Vault) → HasSnapshot v → HasSpelling current_version v
 
 -- two files are read in at most one way
 abbrev pub OneReading : Type 0

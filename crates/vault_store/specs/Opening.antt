@@ -1,33 +1,42 @@
 -- Why two files are not opened, and what opening leaves of their devices. This project's own.
 use Rattle.std.specs.Prelude.{◌≡◌, ◌⊎◌, ℕ, IsTrue, List}
 use Rattle.vault_device.specs.Disk.{Disk, LeavesSince}
+use Rattle.vault_store.specs.declared.front.FileVersion.{FileVersion}
 use Rattle.vault_store.specs.declared.opening.File.TheVariants.{First, Second}
 use Rattle.vault_store.specs.declared.opening.OpenError.{OpenError}
 use Rattle.vault_store.specs.declared.opening.OpenError.TheVariants.{NoVault, Damaged, Device, NoMemory}
 use Rattle.vault_store.specs.Calls.{IsCalled}
-use Rattle.vault_store.specs.Files.{IsClosedFile, IsSpare, HasCurrentHead}
+use Rattle.vault_store.specs.Files.{IsClosedFile, IsSpare, HasHead, HasRightHead}
 use Rattle.vault_store.specs.Faults.{IsDamagedHead, IsBodyFault}
 use Rattle.vault_store.specs.OnDisk.{IsSettled}
 
 -- no fault is in the head of a file: it is closed, or right
 abbrev pub HasNoHeadFault : List ℕ → Type 0
-HasNoHeadFault file = IsClosedFile file ⊎ ((generation : ℕ) × HasCurrentHead generation file)
+HasNoHeadFault file = IsClosedFile file ⊎ ((generation : ℕ) × HasRightHead generation file)
 
 -- the first of two files is the active one, and the other its spare
 abbrev pub IsNewer : ℕ → List ℕ → List ℕ → Type 0
-IsNewer generation first second = HasCurrentHead generation first × IsSpare generation second
+IsNewer generation first second = HasRightHead generation first × IsSpare generation second
+
+-- there is a fault in the body of the first, which is the active one
+pub record IsActiveFault (first second : List ℕ) (at : ℕ) : Type 0 where
+  pub version : FileVersion
+  pub generation : ℕ
+  pub head : HasHead version generation first
+  pub spare : IsSpare generation second
+  pub fault : IsBodyFault version first at
 
 -- The first fault stands in the first file: in its head or, where it is the active one, in its body.
 abbrev pub IsFirstFault : List ℕ → List ℕ → ℕ → Type 0
-IsFirstFault first second at = IsDamagedHead first at ⊎ ((generation : ℕ) × IsNewer generation first second × IsBodyFault first at)
+IsFirstFault first second at = IsDamagedHead first at ⊎ IsActiveFault first second at
 
 -- The first fault stands in the second file: in its head; or both are open and of one generation; or, where it is the active one, in
 -- its body.
 abbrev pub IsSecondFault : List ℕ → List ℕ → ℕ → Type 0
 IsSecondFault first second at =
     (HasNoHeadFault first × IsDamagedHead second at)
-    ⊎ ((generation : ℕ) × HasCurrentHead generation first × HasCurrentHead generation second × (at ≡ 12))
-    ⊎ ((generation : ℕ) × IsNewer generation second first × IsBodyFault second at)
+    ⊎ ((generation : ℕ) × HasRightHead generation first × HasRightHead generation second × (at ≡ 12))
+    ⊎ IsActiveFault second first at
 
 -- Why two files aren't opened: neither is open, or there is a fault, the first in the order in which they are read.
 abbrev pub IsNotOpened : List ℕ → List ℕ → OpenError → Type 0

@@ -9,14 +9,15 @@ use Rattle.vault_journal.specs.Rows.{AreRecordsOf}
 use Rattle.vault_journal.specs.Gate.{IsClosed}
 use Rattle.vault_checkout.specs.declared.apply.ApplyError.{ApplyError}
 use Rattle.vault_checkout.specs.declared.apply.ApplyError.TheVariants as unmade
+use Rattle.vault_store.specs.declared.front.FileVersion.{FileVersion}
 use Rattle.vault_store.specs.declared.opening.File.{File}
 use Rattle.vault_store.specs.declared.opening.OpenError.{OpenError}
 use Rattle.vault_store.specs.declared.opening.OpenError.TheVariants.{NoVault, Damaged, Device, NoMemory}
 use Rattle.vault_store.specs.declared.body.ReadError.{ReadError}
 use Rattle.vault_store.specs.declared.body.ReadError.TheVariants as errors
-use Rattle.vault_store.specs.Snapshot.{snapshot_of, HasSnapshot}
-use Rattle.vault_store.specs.Files.{header, head_length, most_records, frame_extra, snapshot_bytes, frame_of, frames_bytes, IsFrame, applied, after_frames, IsClosedFile, HasCurrentHead}
-use Rattle.vault_store.specs.Faults.{IsBodyFault}
+use Rattle.vault_store.specs.Snapshot.{spelling_of, HasSpelling}
+use Rattle.vault_store.specs.Files.{header, head_length, most_records, frame_extra, snapshot_bytes, frame_of, frames_bytes, IsFrame, applied, after_frames, IsClosedFile, HasHead, HasRightHead}
+use Rattle.vault_store.specs.Faults.{version_in, IsVersion, IsNoVersion, IsSnapshotFault, IsBodyFault}
 use Rattle.vault_store.specs.Opening.{IsNewer}
 use Rattle.vault_store.specs.Seen.{of_file}
 use Rattle.vault_store.specs.Calls.{HasCause, IsCalled, IsQuiet}
@@ -33,12 +34,22 @@ IsWhy old new IsWrong (errors.Damaged at) = IsTrue old.honest → IsWrong at
 IsWhy old new IsWrong errors.Device = HasCause old new
 IsWhy old new IsWrong errors.NoMemory = IsQuiet old new
 
--- the snapshot of a vault, which ends in front of this offset, with a byte behind it
-pub record IsBaseRead (disk : Disk) (len : ℕ) (base : Vault) (end : ℕ) : Type 0 where
-  pub spelled : HasSnapshot base
-  pub size : end ≡ header + length (snapshot_of base)
+-- which version four bytes tell, if any
+abbrev pub IsVersionRead : List ℕ → Option FileVersion → Type 0
+IsVersionRead bytes (Some version) = IsVersion version bytes
+IsVersionRead bytes None = IsNoVersion bytes
+
+-- the snapshot of a vault in the spelling of the file's version, which ends in front of this offset, with a byte behind it
+pub record IsBaseRead (disk : Disk) (len : ℕ) (version : FileVersion) (base : Vault) (end : ℕ) : Type 0 where
+  pub told : IsTrue disk.honest → IsVersion version (version_in disk.shown)
+  pub spelled : HasSpelling version base
+  pub size : end ≡ header + length (spelling_of version base)
   pub within : end < len
-  pub bytes : IsTrue disk.honest → take end disk.shown ≡ take head_length disk.shown ++ snapshot_bytes base
+  pub bytes : IsTrue disk.honest → take end disk.shown ≡ take head_length disk.shown ++ snapshot_bytes version base
+
+-- what is wrong with the snapshot of a file, whichever version it tells
+abbrev pub IsBaseFault : List ℕ → ℕ → Type 0
+IsBaseFault file at = (version : FileVersion) → IsVersion version (version_in file) → IsSnapshotFault version file at
 
 -- how many bytes of records a frame has: as many as a frame may have, and a byte stands behind them
 pub record IsLengthRead (disk : Disk) (len at n : ℕ) : Type 0 where
@@ -114,28 +125,30 @@ pub record IsFrameWrong (from : ℕ) (old : Vault) (file : List ℕ) (at : ℕ) 
   pub opened : slice_index file at ≡ 1
   pub none : BeginsWithNone vault (drop at file)
 
--- what a file has behind its head: a snapshot, and so many frames that lead from its vault to the other, with so many bytes; a closed
--- gate behind them
-pub record AreContents (disk : Disk) (vault : Vault) (frames tail journal_length : ℕ) : Type 0 where
+-- what a file has behind its head: a snapshot in the spelling of its version, and so many frames that lead from its vault to the other,
+-- with so many bytes; a closed gate behind them
+pub record AreContents (disk : Disk) (version : FileVersion) (vault : Vault) (frames tail journal_length : ℕ) : Type 0 where
   pub base : Vault
   pub list : List (List Effect)
-  pub spelled : HasSnapshot base
+  pub told : IsTrue disk.honest → IsVersion version (version_in disk.shown)
+  pub spelled : HasSpelling version base
   pub each : AllByRecursion IsFrame list
   pub leads : after_frames base list ≡ Some vault
   pub frames_are : frames ≡ length list
   pub journal_is : journal_length ≡ length (frames_bytes list)
-  pub tail_is : tail ≡ header + length (snapshot_of base) + journal_length
-  pub bytes : IsTrue disk.honest → take tail disk.shown ≡ (take head_length disk.shown ++ snapshot_bytes base) ++ frames_bytes list
+  pub tail_is : tail ≡ header + length (spelling_of version base) + journal_length
+  pub bytes : IsTrue disk.honest
+      → take tail disk.shown ≡ (take head_length disk.shown ++ snapshot_bytes version base) ++ frames_bytes list
   pub closed : IsTrue disk.honest → IsClosed tail disk.shown
 
 -- what is wrong behind the head of a file, where that is right
 abbrev pub IsFaultBehindHead : List ℕ → ℕ → Type 0
-IsFaultBehindHead file at = (generation : ℕ) → HasCurrentHead generation file → IsBodyFault file at
+IsFaultBehindHead file at = (version : FileVersion) (generation : ℕ) → HasHead version generation file → IsBodyFault version file at
 
 -- what a file's head was read as: closed, or right and of this generation
 abbrev pub IsGenerationRead : List ℕ → Option ℕ → Type 0
 IsGenerationRead file None = IsClosedFile file
-IsGenerationRead file (Some generation) = HasCurrentHead generation file
+IsGenerationRead file (Some generation) = HasRightHead generation file
 
 -- why a part of this file was not read, as opening says it
 abbrev pub IsWhyNot : Disk → Disk → File → (ℕ → Type 0) → OpenError → Type 0

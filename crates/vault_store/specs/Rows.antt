@@ -3,11 +3,13 @@ use Rattle.std.specs.Prelude.{◌≡◌, [], ◌∷◌, ◌++◌, codes}
 use Rattle.vault_model.specs.declared.effects.Effect.TheVariants as effects
 use Rattle.vault_model.specs.declared.ids.Intent.TheVariants.{Change}
 use Rattle.vault_model.specs.Vault.{Vault, new_vault}
+use Rattle.vault_model.specs.declared.place.Kind.TheVariants.{Project}
 use Rattle.vault_model.specs.Tree.{new_place}
 use Rattle.vault_model.specs.Claims.{new_check_out}
 use Rattle.vault_model.specs.Changes.{with_owner, with_note}
-use Rattle.vault_store.specs.Snapshot.{snapshot_of}
-use Rattle.vault_store.specs.Files.{frame_of}
+use Rattle.vault_store.specs.declared.front.FileVersion.TheVariants.{One, Two}
+use Rattle.vault_store.specs.Snapshot.{snapshot_of, spelling_of}
+use Rattle.vault_store.specs.Files.{frame_of, head_of, snapshot_bytes}
 use Rattle.vault_store.specs.Create.{new_front, new_file}
 
 -- 35 bytes: the head, ten bytes of a snapshot behind their number, and the tail gate
@@ -29,7 +31,7 @@ OneProject =
 abbrev pub checked_out : Vault
 checked_out =
     record new_vault {
-      tree = new_place 0 (codes "e") ∷ [];
+      tree = new_place 0 (codes "e") Project ∷ [];
       line = new_check_out 1 (codes "anna") (record { intent = Change; place = 1 } ∷ []) ∷ [];
       last_long = 1;
     }
@@ -40,6 +42,21 @@ OneCheckOut =
     snapshot_of checked_out
     ≡ 0 ∷ 0 ∷ 0 ∷ 1 ∷ 0 ∷ 0 ∷ 0 ∷ 2 ∷ 0 ∷ 0 ∷ 0 ∷ 0 ∷ 1 ∷ 101 ∷ 0 ∷ 0 ∷ 1
     ∷ 0 ∷ 0 ∷ 0 ∷ 1 ∷ 4 ∷ 97 ∷ 110 ∷ 110 ∷ 97 ∷ 0 ∷ 1 ∷ 1 ∷ 0 ∷ 0 ∷ 0 ∷ 1 ∷ 0 ∷ []
+
+-- in the first version it had 32, with no kind behind the place's name and no note behind the owner's
+abbrev pub OneOldCheckOut : Type 0
+OneOldCheckOut =
+    spelling_of One checked_out
+    ≡ 0 ∷ 0 ∷ 0 ∷ 1 ∷ 0 ∷ 0 ∷ 0 ∷ 2 ∷ 0 ∷ 0 ∷ 0 ∷ 0 ∷ 1 ∷ 101 ∷ 0 ∷ 1
+    ∷ 0 ∷ 0 ∷ 0 ∷ 1 ∷ 4 ∷ 97 ∷ 110 ∷ 110 ∷ 97 ∷ 1 ∷ 1 ∷ 0 ∷ 0 ∷ 0 ∷ 1 ∷ 0 ∷ []
+
+-- 59 bytes, where a file of the first version and of generation 2 is written anew
+abbrev pub OneMigrated : Type 0
+OneMigrated =
+    head_of Two 3 ++ snapshot_bytes Two checked_out ++ 0 ∷ []
+    ≡ 1 ∷ 76 ∷ 76 ∷ 86 ∷ 65 ∷ 85 ∷ 76 ∷ 84 ∷ 0 ∷ 0 ∷ 0 ∷ 2 ∷ 0 ∷ 0 ∷ 0 ∷ 0 ∷ 0 ∷ 0 ∷ 0 ∷ 3
+    ∷ 0 ∷ 0 ∷ 0 ∷ 34 ∷ 0 ∷ 0 ∷ 0 ∷ 1 ∷ 0 ∷ 0 ∷ 0 ∷ 2 ∷ 0 ∷ 0 ∷ 0 ∷ 0 ∷ 1 ∷ 101 ∷ 0 ∷ 0 ∷ 1
+    ∷ 0 ∷ 0 ∷ 0 ∷ 1 ∷ 4 ∷ 97 ∷ 110 ∷ 110 ∷ 97 ∷ 0 ∷ 1 ∷ 1 ∷ 0 ∷ 0 ∷ 0 ∷ 1 ∷ 0 ∷ 0 ∷ []
 
 -- the same once the check-out has a note: ben's name and the note stand there, one behind the other
 abbrev pub given_and_noted : Vault
@@ -56,4 +73,6 @@ pub record Rows : Type 0 where
   pub new_vault_is : NewVault
   pub one_project : OneProject
   pub one_check_out : OneCheckOut
+  pub one_old_check_out : OneOldCheckOut
+  pub one_migrated : OneMigrated
   pub one_note : OneNote

@@ -1,16 +1,18 @@
 -- What contracts see of a store, and how it keeps vaults. This project's own.
-use Rattle.std.specs.Prelude.{◌≡◌, ◌≢◌, ◌⊎◌, ℕ, ◌+◌, ◌<◌, ◌≤◌, ◌^◌, IsTrue, Bool, true, false, ◌&&◌, nat_le, nat_lt, if◌then◌else◌, List, [], length, slice_index, Some}
+use Rattle.std.specs.Prelude.{◌≡◌, ◌≢◌, ◌⊎◌, ℕ, ◌+◌, ◌<◌, ◌≤◌, ◌^◌, IsTrue, Bool, true, false, ◌&&◌, ◌||◌, nat_le, nat_lt, if◌then◌else◌, List, [], length, slice_index, Some}
 use Rattle.std.specs.List.{AllByRecursion}
 use Rattle.vault_model.specs.Vault.{Vault}
 use Rattle.vault_device.specs.Disk.{Disk}
 use Rattle.vault_journal.specs.Spelling.{records_of, HasRecord}
 use Rattle.vault_journal.specs.Rows.{AreRecordsOf}
+use Rattle.vault_store.specs.declared.front.FileVersion.{FileVersion}
+use Rattle.vault_store.specs.declared.front.FileVersion.TheVariants.{One, Two}
 use Rattle.vault_store.specs.declared.opening.File.{File}
 use Rattle.vault_store.specs.declared.opening.File.TheVariants.{First, Second}
 use Rattle.vault_store.specs.declared.phase.Phase.{Phase}
 use Rattle.vault_store.specs.declared.phase.Phase.TheVariants.{Idle, Start}
-use Rattle.vault_store.specs.Snapshot.{snapshot_of, HasSnapshot}
-use Rattle.vault_store.specs.Files.{version, header, most_records, frame_extra, applied, Reading, IsFront, IsSpare, AreRead, behind_gate}
+use Rattle.vault_store.specs.Snapshot.{current_version, snapshot_of, HasSnapshot}
+use Rattle.vault_store.specs.Files.{header, most_records, frame_extra, applied, Reading, IsFront, IsSpare, AreRead, behind_gate}
 use Rattle.vault_store.specs.Phases.{is_idle, is_snapshot, is_opening, may_open}
 use Rattle.vault_store.specs.State.{StoreState}
 use Rattle.vault_store.specs.OnDisk.{IsOnDisk}
@@ -18,15 +20,16 @@ use Rattle.vault_store.specs.declared.store.TheConstants.{MOST_NOTED}
 use Rattle.vault_store.specs.Spares.{IsSpareOn}
 
 -- the devices of the active file and of its spare, and which file is the active one; the bytes of the records in the open buffer, and
--- how many bytes the records of the frame under way have; of the active file its generation, where its tail gate stands, and how many
--- bytes its frames have; the phase; whether a device call failed; whether the spare file's head gate is known to be closed; and the
--- bytes that a snapshot writes behind it
+-- how many bytes the records of the frame under way have; of the active file its version and its generation, where its tail gate
+-- stands, and how many bytes its frames have; the phase; whether a device call failed; whether the spare file's head gate is known to be
+-- closed; and the bytes that a snapshot writes behind it
 pub record StoreSeen (D : Type 0) : Type 0 where
   pub active : D
   pub spare : D
   pub which : File
   pub buffer : List ℕ
   pub sealed : ℕ
+  pub version : FileVersion
   pub generation : ℕ
   pub tail : ℕ
   pub journal_length : ℕ
@@ -68,13 +71,19 @@ has_room store = nat_le (length store.buffer) most_noted && nat_lt store.tail la
 
 -- what opening reads while the frame or the snapshot under way doesn't count
 abbrev pub settled_reading : {D : Type 0} → StoreSeen D → StoreState → Reading
-settled_reading store s =
-    record { vault = s.settled; generation = store.generation; tail = store.tail; journal_length = store.journal_length }
+settled_reading store s = record {
+  vault = s.settled;
+  version = store.version;
+  generation = store.generation;
+  tail = store.tail;
+  journal_length = store.journal_length;
+}
 
--- what it reads once a snapshot counts, or else a frame
+-- what it reads once a snapshot counts, which is of today's version, or else a frame
 abbrev pub counted_reading : {D : Type 0} → Bool → StoreSeen D → StoreState → Reading
 counted_reading renews store s = record {
   vault = s.sealed;
+  version = if renews then current_version else store.version;
   generation = if renews then store.generation + 1 else store.generation;
   tail = if renews then header + length (snapshot_of s.sealed) else store.tail + frame_extra + store.sealed;
   journal_length = if renews then 0 else store.journal_length + frame_extra + store.sealed;
@@ -97,7 +106,7 @@ pub record AreFiles (active_disk spare_disk : Disk) (settled : Reading) (phase :
     (rest : List ℕ) : Type 0 where
   -- the bytes up to the tail gate
   pub front : List ℕ
-  pub is_front : IsFront version front settled
+  pub is_front : IsFront front settled
   pub active : IsOnDisk active_disk phase broken front records
   pub spare : IsSpareOn (IsSpare settled.generation) spare_disk phase broken shut rest
 
@@ -107,13 +116,18 @@ pub record IsRenewal (generation : ℕ) (sealed : Vault) (rest : List ℕ) : Typ
   pub fits : generation + 1 < 2 ^ 64
   pub bytes : rest ≡ behind_gate (generation + 1) sealed
 
+-- whether a version is not today's
+abbrev pub is_old : FileVersion → Bool
+is_old One = true
+is_old Two = false
+
 -- from how many bytes of frames on a snapshot is wanted
 abbrev pub long_journal : ℕ
 long_journal = 1048576
 
--- whether one is, now
+-- whether one is, now: the frames are so long, or the active file's version is not today's
 abbrev pub wants_snapshot : {D : Type 0} → StoreSeen D → Bool
-wants_snapshot store = is_idle store.phase && nat_le long_journal store.journal_length
+wants_snapshot store = is_idle store.phase && (nat_le long_journal store.journal_length || is_old store.version)
 
 -- whether a snapshot may be begun: nothing is under way, no device call failed, and there is a next generation
 pub record MayStart {D : Type 0} (store : StoreSeen D) : Type 0 where

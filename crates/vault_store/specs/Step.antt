@@ -4,6 +4,7 @@ use Rattle.vault_device.specs.Disk.{Disk}
 use Rattle.vault_device.specs.declared.device.Fault.{Fault}
 use Rattle.vault_store.specs.declared.phase.Advanced.{Advanced}
 use Rattle.vault_store.specs.declared.phase.Advanced.TheVariants as answers
+use Rattle.vault_store.specs.Snapshot.{current_version}
 use Rattle.vault_store.specs.Files.{frame_extra}
 use Rattle.vault_store.specs.Calls.{HasCause}
 use Rattle.vault_store.specs.Phases.{NoCall, is_idle, is_snapshot}
@@ -33,11 +34,12 @@ abbrev pub gained : {D : Type 0} → StoreSeen D → Result Advanced Fault → �
 gained old (Ok answers.Settled) = frame_extra + old.sealed
 gained old _ = 0
 
--- The active file and its numbers after a step: the last one of a commit moves the tail gate behind the frame; the last one of a
--- snapshot exchanges the files, and the tail gate then stands behind the snapshot; the first one of a commit empties the buffer,
--- also where its device call fails; no other changes them.
+-- The active file, its version and its numbers after a step: the last one of a commit moves the tail gate behind the frame; the last one
+-- of a snapshot exchanges the files, of which the new active one is of today's version, and the tail gate then stands behind the snapshot;
+-- the first one of a commit empties the buffer, also where its device call fails; no other changes them.
 pub record AreNumbers {D : Type 0} (old new : StoreSeen D) (result : Result Advanced Fault) : Type 0 where
   pub which : new.which ≡ (if renews old result then other old.which else old.which)
+  pub version : new.version ≡ (if renews old result then current_version else old.version)
   pub generation : new.generation ≡ (if renews old result then old.generation + 1 else old.generation)
   pub tail : new.tail ≡ (if renews old result then length old.rest else old.tail + gained old result)
   pub journal_length : new.journal_length ≡ (if renews old result then 0 else old.journal_length + gained old result)

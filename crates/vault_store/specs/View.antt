@@ -11,6 +11,7 @@ seen_of store = record {
   which = store.which;
   buffer = store.frame;
   sealed = store.sealed;
+  version = store.version;
   generation = store.generation;
   tail = store.tail;
   journal_length = store.journal_length;

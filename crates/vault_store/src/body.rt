@@ -1,14 +1,14 @@
 //! What stands behind the head of a file, read: its snapshot and its frames.
 ghost use Rattle.std.specs.Prelude.{◌≡◌, ◌≤◌, ℕ, IfOk, IfErr, IsTrue, length, OnOk};
+ghost use Rattle.vault_store.specs.declared.front.FileVersion.{FileVersion};
 ghost use Rattle.vault_store.specs.declared.body.BodyError.TheVariants.{Device as DeviceFailed, NoMemory as Wanted};
 ghost use Rattle.vault_store.specs.declared.body.ReadError.TheVariants as errors;
 ghost use Rattle.vault_store.specs.Calls.{HasCause, IsQuiet};
-ghost use Rattle.vault_store.specs.Faults.{IsSnapshotFault};
-ghost use Rattle.vault_store.specs.Files.{version, header, HasCurrentHead};
+ghost use Rattle.vault_store.specs.Files.{header, HasHead};
 ghost use Rattle.vault_store.specs.Parts.{IsBody};
-ghost use Rattle.vault_store.specs.Read.{AreReads, IsWhy, IsBaseRead, AreContents, IsFaultBehindHead};
+ghost use Rattle.vault_store.specs.Read.{AreReads, IsWhy, IsBaseRead, IsBaseFault, AreContents, IsFaultBehindHead};
 
-use crate::front::HEADER;
+use crate::front::{FileVersion, HEADER, version_of};
 use crate::journal::{number_in, read_bytes, read_frames};
 use crate::snapshot::{SnapshotError, read_snapshot};
 use std::alloc::Allocator;
@@ -50,14 +50,16 @@ impl From<Fault> for ReadError {
     }
 }
 
-// The vault of a file's snapshot, and where the frames begin behind it.
+// The version of a file, the vault of its snapshot, and where the frames begin behind it.
 #[derive(Drop)]
 struct Base<A: Allocator> {
+    version: FileVersion,
     book: Book<A>,
     end: u64,
 }
 
-// Behind the head: the snapshot, the frames, and the tail gate. At 20, in the head, stands the length n of the snapshot.
+// Behind the head: the snapshot, the frames, and the tail gate. In the head stand at 8 the version, which says how the snapshot is
+// spelled, and at 20 the length n of the snapshot.
 //
 //   offset  bytes
 //       20      4  n
@@ -73,19 +75,23 @@ fn read_base<D: Device, A: Allocator + Copy>(
     requires long { header ≤ len }
     requires len { IsTrue (D.disk device.old).honest → len ≡ length (D.disk device.old).shown }
     ensures reads { AreReads (D.disk device.old) (D.disk device.new) }
-    ensures base { IfOk result (λ base. IsBaseRead (D.disk device.old) len base.book base.end) }
-    ensures refused { IfErr result (λ why. IsWhy (D.disk device.old) (D.disk device.new) (IsSnapshotFault (D.disk device.old).shown) why) }
+    ensures base { IfOk result (λ base. IsBaseRead (D.disk device.old) len base.version base.book base.end) }
+    ensures refused { IfErr result (λ why. IsWhy (D.disk device.old) (D.disk device.new) (IsBaseFault (D.disk device.old).shown) why) }
     ensures quiet { OnOk result (IsQuiet (D.disk device.old) (D.disk device.new)) }
 {
-    let mut bytes = [0; 4];
-    device.read_at(20, &mut bytes)?;
-    let length = number_in(&bytes);
+    let mut bytes = [0; 16];
+    device.read_at(8, &mut bytes)?;
+    let Some(version) = version_of(&bytes[..4]) else {
+        return Err(ReadError::Damaged(8));
+    };
+    let length = number_in(&[bytes[12], bytes[13], bytes[14], bytes[15]]);
     if len - HEADER <= u64::from(length) {
         return Err(ReadError::Damaged(20));
     }
     let snapshot = read_bytes(alloc, device, HEADER, length)?;
-    match read_snapshot(alloc, &snapshot) {
+    match read_snapshot(alloc, version, &snapshot) {
         Ok(book) => Ok(Base {
+            version,
             book,
             end: HEADER + u64::from(length),
         }),
@@ -97,6 +103,8 @@ fn read_base<D: Device, A: Allocator + Copy>(
 /// What stands in a file behind its head.
 #[derive(Drop)]
 pub struct Contents<A: Allocator> {
+    /// The version that the head tells.
+    pub version: FileVersion,
     /// The vault that the snapshot and the frames lead to.
     pub book: Book<A>,
     /// How many frames there are.
@@ -114,7 +122,8 @@ pub fn read_contents<D: Device, A: Allocator + Copy>(
 ) -> Result<Contents<A>, ReadError>
     ensures reads { AreReads (D.disk device.old) (D.disk device.new) }
     ensures contents { IfOk result
-        (λ contents. AreContents (D.disk device.old) contents.book contents.frames contents.tail contents.journal_length) }
+        (λ contents. AreContents (D.disk device.old) contents.version contents.book contents.frames contents.tail
+        contents.journal_length) }
     ensures refused { IfErr result
         (λ why. IsWhy (D.disk device.old) (D.disk device.new) (IsFaultBehindHead (D.disk device.old).shown) why) }
     ensures quiet { OnOk result (IsQuiet (D.disk device.old) (D.disk device.new)) }
@@ -123,9 +132,14 @@ pub fn read_contents<D: Device, A: Allocator + Copy>(
     if len < HEADER {
         return Err(ReadError::Damaged(20));
     }
-    let Base { mut book, end } = read_base(alloc, device, len)?;
+    let Base {
+        version,
+        mut book,
+        end,
+    } = read_base(alloc, device, len)?;
     let frames = read_frames(alloc, device, len, end, &mut book)?;
     Ok(Contents {
+        version,
         book,
         frames: frames.count,
         tail: frames.tail,
@@ -143,7 +157,7 @@ pub fn read_body<D: Device, A: Allocator + Copy>(
 ) -> Result<Body<A>, BodyError>
     ensures reads { AreReads (D.disk device.old) (D.disk device.new) }
     ensures body { IsTrue (D.disk device.old).honest
-        → IfOk result (λ body. (generation : ℕ) → HasCurrentHead generation (D.disk device.old).shown
+        → IfOk result (λ body. (version : FileVersion) (generation : ℕ) → HasHead version generation (D.disk device.old).shown
         → IsBody version generation (D.disk device.old).shown body) }
     ensures cause { IfErr result (λ why. why ≡ DeviceFailed → HasCause (D.disk device.old) (D.disk device.new)) }
     ensures memory { IfErr result (λ why. why ≡ Wanted → IsQuiet (D.disk device.old) (D.disk device.new)) }
@@ -151,6 +165,7 @@ pub fn read_body<D: Device, A: Allocator + Copy>(
     match read_contents(alloc, device) {
         Ok(contents) => {
             let Contents {
+                version: _,
                 book,
                 frames,
                 tail,

@@ -6,11 +6,12 @@ ghost use Rattle.vault_device.specs.Disk.{LeavesOnly, LeavesSince};
 ghost use Rattle.vault_store.specs.Calls.{AreCalls, IsCalled, AreQuiet};
 ghost use Rattle.vault_store.specs.OnDisk.{IsSettled};
 ghost use Rattle.vault_store.specs.Create.{new_file, IsNotMade, IsFilled, IsClosedOrNew, StopsInCreation, AreSettledUnmade};
+ghost use Rattle.vault_store.specs.Snapshot.{current_version};
 ghost use Rattle.vault_store.specs.State.{at_rest};
 ghost use Rattle.vault_store.specs.Seen.{first_of, second_of, Keeps};
 
 use crate::calls::{is_empty, settle, write_settled};
-use crate::{File, Phase, Refused, Store};
+use crate::{File, FileVersion, Phase, Refused, Store};
 use std::alloc::Allocator;
 use thiserror::Error;
 use vault_device::{Device, Fault};
@@ -127,6 +128,7 @@ impl<D: Device, A: Allocator> Store<D, A> {
     /// Ten device calls.
     pub fn create(alloc: A, first: D, second: D) -> Result<Store<D, A>, Refused<D, CreateError>>
         ensures kept { IfOk result (λ store. Keeps D.disk store (at_rest new_vault)) }
+        ensures version { IfOk result (λ store. store.version ≡ current_version) }
         ensures numbers { IfOk result (λ store. (store.generation ≡ 1) × (store.tail ≡ 34) × (store.journal_length ≡ 0)) }
         ensures file { IsTrue (D.disk first).honest → IfOk result (λ store. IsFilled (D.disk first) (D.disk (first_of store)) new_file) }
         ensures empty { IsTrue (D.disk second).honest → IfOk result (λ store. IsFilled (D.disk second) (D.disk (second_of store)) []) }
@@ -153,6 +155,7 @@ impl<D: Device, A: Allocator> Store<D, A> {
                 which: File::First,
                 frame,
                 sealed: 0,
+                version: FileVersion::Two,
                 generation: 1,
                 tail: NEW_TAIL,
                 journal_length: 0,

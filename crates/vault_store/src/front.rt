@@ -2,7 +2,7 @@
 ghost use Rattle.std.specs.Prelude.{IfOk, IsErr, IsTrue, OnOk};
 ghost use Rattle.vault_store.specs.Calls.{HasCause, IsQuiet};
 ghost use Rattle.vault_store.specs.Parts.{IsHead};
-ghost use Rattle.vault_store.specs.Read.{AreReads};
+ghost use Rattle.vault_store.specs.Read.{AreReads, IsVersionRead};
 
 use vault_device::{Device, Fault};
 
@@ -11,7 +11,31 @@ pub const HEADER: u64 = 24;
 
 const MAGIC: [u8; 7] = *b"LLVAULT";
 
-const VERSION: [u8; 4] = [0, 0, 0, 2];
+const FIRST_VERSION: [u8; 4] = [0, 0, 0, 1];
+
+const SECOND_VERSION: [u8; 4] = [0, 0, 0, 2];
+
+/// The version of a file, which says how its snapshot is spelled. Frames are the same in both.
+#[derive(Clone, Copy, Debug, PartialEq, Eq)]
+pub enum FileVersion {
+    /// The first: the kind of a place isn't written, and no claim has a note. It is read, and not written any more.
+    One,
+    /// Today's.
+    Two,
+}
+
+/// The version that these four bytes tell, if any.
+pub fn version_of(bytes: &[u8]) -> Option<FileVersion>
+    ensures { IsVersionRead bytes.now result }
+{
+    if bytes[..] == FIRST_VERSION[..] {
+        return Some(FileVersion::One);
+    }
+    if bytes[..] == SECOND_VERSION[..] {
+        return Some(FileVersion::Two);
+    }
+    None
+}
 
 /// What the head of a file is.
 #[derive(Clone, Copy, Debug, PartialEq, Eq)]
@@ -19,7 +43,10 @@ pub enum Head {
     /// It isn't whole, or its gate is closed.
     Closed,
     /// An open file's, and right.
-    Open { version: u32, generation: u64 },
+    Open {
+        version: FileVersion,
+        generation: u64,
+    },
     /// An open file's, with its first fault at this offset.
     Damaged(u64),
 }
@@ -29,7 +56,7 @@ pub enum Head {
 //   offset  bytes
 //        0      1  the head gate: 1 is open, any other value closed
 //        1      7  the mark, `LLVAULT`
-//        8      4  the version, 2
+//        8      4  the version, 1 or 2
 //       12      8  the generation, 1 or more
 //       20      4  the length of the snapshot, which begins at 24
 //
@@ -43,9 +70,9 @@ fn head_in(bytes: &[u8; 24]) -> Head
     if bytes[1..8] != MAGIC[..] {
         return Head::Damaged(1);
     }
-    if bytes[8..12] != VERSION[..] {
+    let Some(version) = version_of(&bytes[8..12]) else {
         return Head::Damaged(8);
-    }
+    };
     let generation = u64::from_be_bytes([
         bytes[12], bytes[13], bytes[14], bytes[15], bytes[16], bytes[17], bytes[18], bytes[19],
     ]);
@@ -53,7 +80,7 @@ fn head_in(bytes: &[u8; 24]) -> Head
         return Head::Damaged(12);
     }
     Head::Open {
-        version: u32::from_be_bytes(VERSION),
+        version,
         generation,
     }
 }

@@ -1,5 +1,5 @@
 //! Laws of what is kept, on which the program's theorems rest.
-ghost use Rattle.vault_store.specs.Laws.{CrashLeavesWhatIsKept, OneGateIsOpened, NotedIsSpelled, OneSpelling, SnapshotsAreShort, OneReading, EitherWay, OneVault, NothingIsWrong, OneFault};
+ghost use Rattle.vault_store.specs.Laws.{CrashLeavesWhatIsKept, OneGateIsOpened, NotedIsSpelled, OneSpelling, AllAreSpelled, SnapshotsAreShort, OneReading, EitherWay, OneVault, NothingIsWrong, OneFault};
 ghost use Rattle.vault_store.specs.Rows.{Rows};
 
 use vault_device::Device;
@@ -16,9 +16,11 @@ pub fn what_is_noted_is_spelled<D: Device>()
     ensures { NotedIsSpelled D.disk }
 {}
 
-/// A durable vault has one spelling, whose length four bytes can hold, and a spelling is of one vault.
+/// A durable vault has at most one spelling in each version of the files, and a spelling is of one vault. Each has one in today's
+/// version, whose length four bytes can hold.
 pub fn a_spelling_is_of_one_vault()
     ensures one { OneSpelling }
+    ensures all { AllAreSpelled }
     ensures short { SnapshotsAreShort }
 {}
 

@@ -4,8 +4,8 @@
 //! Promises: at each exit of a step, of a commit and of a snapshot, and at each moment inside it, what a crash leaves of the
 //! files stands for the settled vault or, while a gate is being opened, for the settled or the sealed one (`advance`). A
 //! snapshot is of the book with all that was noted (`start_snapshot`). A creation, also one that was stopped,
-//! leaves the new vault or none (`create`). Two files stand for at most one vault, and each durable vault has one spelling
-//! (`laws`). Opening gives that vault, or tells the first thing that is wrong with its file and offset, and writes nothing
+//! leaves the new vault or none (`create`). Two files stand for at most one vault, and each durable vault has at most one spelling in
+//! each version of the files (`laws`). Both versions are read, and the second alone is written. Opening gives that vault, or tells the first thing that is wrong with its file and offset, and writes nothing
 //! (`open`; of one file alone `read_head` and `read_body`).
 //! Stands on: vault_model, vault_device, vault_journal, design_tree, part_versions, vault_checkout. Must not know: commands,
 //! replies, sessions, tickets, how many entries there are.
@@ -43,7 +43,7 @@ mod store;
 pub use body::{Body, BodyError, read_body};
 pub use calls::settle_both;
 pub use creation::CreateError;
-pub use front::{Head, read_head};
+pub use front::{FileVersion, Head, read_head};
 pub use opening::{File, OpenError};
 pub use phase::{Advanced, Phase};
 pub use refused::Refused;

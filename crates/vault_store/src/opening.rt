@@ -198,7 +198,8 @@ fn read_active<D: Device, A: Allocator + Copy>(
     active: &mut D,
 ) -> Result<(Contents<A>, Frame<A>), OpenError>
     ensures reads { AreReads (D.disk active.old) (D.disk active.new) }
-    ensures contents { IfOk result (λ read. AreContents (D.disk active.old) read.0.book read.0.frames read.0.tail read.0.journal_length) }
+    ensures contents { IfOk result
+        (λ read. AreContents (D.disk active.old) read.0.version read.0.book read.0.frames read.0.tail read.0.journal_length) }
     ensures frame { IfOk result (λ read. read.1 ≡ []) }
     ensures refused { IfErr result
         (λ why. IsWhyNot (D.disk active.old) (D.disk active.new) which (IsFaultBehindHead (D.disk active.old).shown) why) }
@@ -272,6 +273,7 @@ impl<D: Device, A: Allocator + Copy> Store<D, A> {
         match read_active(alloc, which, &mut active) {
             Ok((contents, frame)) => {
                 let Contents {
+                    version,
                     book,
                     frames: _,
                     tail,
@@ -283,6 +285,7 @@ impl<D: Device, A: Allocator + Copy> Store<D, A> {
                     which,
                     frame,
                     sealed: 0,
+                    version,
                     generation,
                     tail,
                     journal_length,

@@ -8,7 +8,7 @@ ghost use Rattle.vault_store.specs.Seen.{other};
 ghost use Rattle.vault_store.specs.Step.{IsAdvance};
 
 use crate::commit::broken_by;
-use crate::{Advanced, File, Phase, Store};
+use crate::{Advanced, File, FileVersion, Phase, Store};
 use std::alloc::Allocator;
 use std::mem;
 use vault_device::{Device, Fault};
@@ -166,6 +166,7 @@ impl<D: Device, A: Allocator> Store<D, A> {
                 mem::swap(&mut self.active, &mut self.spare);
                 self.which = other(self.which);
                 self.sealed = 0;
+                self.version = FileVersion::Two;
                 self.generation += 1;
                 self.tail = bytes_of(&self.rest).len() as u64;
                 self.journal_length = 0;

@@ -7,7 +7,7 @@ ghost use Rattle.vault_store.specs.State.{StoreState, started};
 ghost use Rattle.vault_store.specs.Seen.{Keeps, MayStart, started_seen, wants_snapshot};
 
 use crate::snapshot::spell_file;
-use crate::{Phase, Store};
+use crate::{FileVersion, Phase, Store};
 use std::alloc::Allocator;
 use vault_checkout::Book;
 use vault_device::Device;
@@ -25,11 +25,13 @@ pub enum Started {
 }
 
 impl<D: Device, A: Allocator> Store<D, A> {
-    /// Whether so many bytes of frames stand in the active file that a snapshot is wanted, and nothing is under way.
+    /// Whether a snapshot is wanted, and nothing is under way: so many bytes of frames stand in the active file, or it isn't of today's
+    /// version.
     pub fn wants_snapshot(&self) -> bool
         ensures { result ≡ wants_snapshot self.now }
     {
-        self.phase == Phase::Idle && self.journal_length >= LONG_JOURNAL
+        self.phase == Phase::Idle
+            && (self.journal_length >= LONG_JOURNAL || self.version == FileVersion::One)
     }
 
     /// Begins a snapshot of what a restart would leave of this book, which has made all that was noted. No device call. It takes

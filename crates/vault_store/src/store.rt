@@ -7,7 +7,7 @@ ghost use Rattle.vault_store.specs.State.{StoreState, with_effect};
 ghost use Rattle.vault_store.specs.Seen.{first_of, second_of, Keeps, has_room};
 
 use crate::opening::in_turn;
-use crate::{File, Phase};
+use crate::{File, FileVersion, Phase};
 use std::alloc::{Allocator, Global};
 use std::marker::Model;
 use vault_device::Device;
@@ -33,6 +33,8 @@ pub struct Store<D: Device, A: Allocator = Global> {
     pub(crate) frame: Frame<A>,
     /// How many bytes of records the frame under way has; 0 where none is.
     pub(crate) sealed: u64,
+    /// The version of the active file.
+    pub(crate) version: FileVersion,
     /// The generation of the active file.
     pub(crate) generation: u64,
     /// Where the active file's tail gate stands: the offset at which the next frame begins.
@@ -70,6 +72,13 @@ impl<D: Device, A: Allocator> Store<D, A> {
         self.phase
     }
 
+    /// The version of the active file.
+    pub fn version(&self) -> FileVersion
+        ensures { result ≡ self.now.version }
+    {
+        self.version
+    }
+
     /// How many bytes of frames the active file has.
     pub fn journal_len(&self) -> u64
         ensures { result ≡ self.now.journal_length }
@@ -88,6 +97,7 @@ impl<D: Device, A: Allocator> Store<D, A> {
             which,
             frame: _frame,
             sealed: _,
+            version: _,
             generation: _,
             tail: _,
             journal_length: _,

@@ -14,6 +14,7 @@ const LINES: &str = "\
 A line is '@K LINE' for a connection K of 1 to 64, and LINE is one of:
   hello NAME            opens a session in a designer's name
   make PATH [CLAIM]     makes a place, as /engine or /engine/block/piston, in a check-out's name if one is given
+  nest PATH [CLAIM]     makes an assembly inside an assembly, as /engine/block/pump; paths have up to seven names
   list PATH             lists the places right under one
   checkout ITEM ..      asks for a claim on 1 to 8 items, as r:/engine to look or w:/engine to change
   extend CLAIM ITEM ..  asks for more items for a held claim, as c1

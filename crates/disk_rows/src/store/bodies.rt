@@ -8,7 +8,7 @@ use test_memory::{Refusing, Tried, requests};
 use vault_checkout::Book;
 use vault_device::MemDevice;
 use vault_model::{ClaimId, Note, PlaceId, Standing};
-use vault_store::{Body, BodyError, Head, read_body, read_head};
+use vault_store::{Body, BodyError, FileVersion, Head, read_body, read_head};
 
 // A project that anna has checked out for change.
 const PROJECT: &[u8; 34] =
@@ -18,16 +18,28 @@ const PROJECT: &[u8; 34] =
 const LINE: &[u8; 81] =
     b"\0\0\0\x03\0\0\0\x04\0\0\0\0\x01e\0\0\0\0\x01\x01b\0\0\0\0\x02\x01p\x01\0\x01\0\x04text\0\x02\0\0\0\x03\x04anna\x02ab\x01\x01\0\0\0\x03\x01\0\0\0\x03\0\x01x\0\0\0\x02\x03ben\0\x01\0\0\0\0\x02\0";
 
-// A device with this snapshot, in a file of generation 2 without frames.
-fn keeping(rt: &impl Abort, alloc: Global, snapshot: &[u8]) -> MemDevice
+// The same line in version 1, without kinds and notes.
+const OLD_LINE: &[u8; 74] =
+    b"\0\0\0\x03\0\0\0\x04\0\0\0\0\x01e\0\0\0\x01\x01b\0\0\0\x02\x01p\0\x01\0\x04text\0\x02\0\0\0\x03\x04anna\x01\x01\0\0\0\x03\x01\0\0\0\x03\0\x01x\0\0\0\x02\x03ben\x01\0\0\0\0\x02\0";
+
+// A device with this snapshot, in a file of this version and of generation 2 without frames.
+fn keeping_in(rt: &impl Abort, alloc: Global, version: u8, snapshot: &[u8]) -> MemDevice
     requires { length snapshot.now < 1500 }
 {
     let mut bytes = [0; 1600];
     let end = 24 + snapshot.len();
-    bytes[..20].copy_from_slice(b"\x01LLVAULT\0\0\0\x02\0\0\0\0\0\0\0\x02");
+    bytes[..20].copy_from_slice(b"\x01LLVAULT\0\0\0\0\0\0\0\0\0\0\0\x02");
+    bytes[11] = version;
     bytes[20..24].copy_from_slice(&(snapshot.len() as u32).to_be_bytes());
     bytes[24..end].copy_from_slice(snapshot);
     holding(rt, alloc, &bytes[..end + 1])
+}
+
+// The same in a file of version 2.
+fn keeping(rt: &impl Abort, alloc: Global, snapshot: &[u8]) -> MemDevice
+    requires { length snapshot.now < 1500 }
+{
+    keeping_in(rt, alloc, 2, snapshot)
 }
 
 // Whether these bytes are no vault's snapshot.
@@ -53,7 +65,7 @@ fn whole(body: Result<Body<Global>, BodyError>) -> Option<(Book<Global>, u64, u6
 fn is_project(rt: &impl Abort, alloc: Global) -> bool {
     let mut device = keeping(rt, alloc, PROJECT);
     let opened = Head::Open {
-        version: 2,
+        version: FileVersion::Two,
         generation: 2,
     };
     let headed = read_head(&mut device) == Ok(opened);
@@ -138,6 +150,41 @@ fn reads_without(rt: &impl Abort, memory: &Refusing<Global>, alloc: Global, numb
     }
 }
 
+// Whether these bytes are no vault's snapshot in version 1.
+fn is_damaged_in_old(rt: &impl Abort, alloc: Global, snapshot: &[u8]) -> bool
+    requires { length snapshot.now < 1500 }
+{
+    let mut device = keeping_in(rt, alloc, 1, snapshot);
+    let body = read_body(alloc, &mut device);
+    let is_damaged = matches!(&body, Ok(Body::Damaged(24)));
+    drop(body);
+    drop(device);
+    is_damaged
+}
+
+// The line in version 1: the same but for the note.
+fn is_read_in_old(rt: &impl Abort, alloc: Global) -> bool {
+    let mut device = keeping_in(rt, alloc, 1, OLD_LINE);
+    let opened = Head::Open {
+        version: FileVersion::One,
+        generation: 2,
+    };
+    let headed = read_head(&mut device) == Ok(opened);
+    let (book, frames, end) = whole(read_body(alloc, &mut device)).expect(rt, "a body");
+    let line = book.line();
+    let has_claims =
+        matches!(line.at(0), Some(claim) if claim.id == ClaimId::Long(3) && claim.note == Note::new())
+            && matches!(line.at(1), Some(claim) if claim.id == ClaimId::Long(2) && claim.note == Note::new());
+    let is_so = headed
+        && (frames, end) == (0, 98)
+        && has_claims
+        && matches!(book.shelf().fetch(PlaceId(3), 1), Some(b"text"))
+        && matches!(book.drafts(3), [draft] if draft.content.as_slice() == b"x".as_slice());
+    drop(book);
+    drop(device);
+    is_so
+}
+
 fn is_read(rt: &impl Abort, alloc: Global) -> bool {
     let mut device = keeping(rt, alloc, LINE);
     let (book, frames, end) = whole(read_body(alloc, &mut device)).expect(rt, "a body");
@@ -156,6 +203,17 @@ fn snapshots(rt: HostRuntime) {
     // The last number given, a number, a look, a place, contents and a note that another vault may have.
     for (at, byte) in [(3, 9), (68, 1), (79, 1), (75, 1), (64, b'y'), (49, 0xff)] {
         assert!(rt; may_be(&rt, alloc, at, byte));
+    }
+}
+
+// A snapshot is read in the spelling of its file's version alone.
+#[test]
+fn snapshots_of_version_1(rt: HostRuntime) {
+    let alloc = rt.alloc();
+    assert!(rt; is_read_in_old(&rt, alloc));
+    assert!(rt; is_damaged_in_old(&rt, alloc, LINE) && is_damaged(&rt, alloc, OLD_LINE));
+    for end in 0..OLD_LINE.len() {
+        assert!(rt; is_damaged_in_old(&rt, alloc, &OLD_LINE[..end]));
     }
 }
 
@@ -190,12 +248,47 @@ fn damaged_snapshots(rt: HostRuntime) {
     for (at, byte) in rows {
         assert!(rt; !may_be(&rt, alloc, at, byte));
     }
-    // A project and an assembly that are told as parts, a part that isn't, and a kind that there is none of.
+    // A project and an assembly that are told as parts, versions of what is no part, and a kind that there is none of.
     for (at, byte) in [(14, 1), (21, 1), (28, 0), (28, 2)] {
         assert!(rt; !may_be(&rt, alloc, at, byte));
     }
     let siblings = b"\0\0\0\0\0\0\0\x03\0\0\0\0\x01e\0\0\0\0\0\x01e\0\0\0";
     assert!(rt; is_damaged(&rt, alloc, siblings));
+}
+
+// Seven places, each in the one before it; the last is a part.
+const DEEP: &[u8; 61] =
+    b"\0\0\0\0\0\0\0\x08\0\0\0\0\x01x\0\0\0\0\x01\x01x\0\0\0\0\x02\x01x\0\0\0\0\x03\x01x\0\0\0\0\x04\x01x\0\0\0\0\x05\x01x\0\0\0\0\x06\x01x\x01\0\0\0\0";
+
+// Whether these bytes are a vault's snapshot in a file of this version.
+fn is_vault(rt: &impl Abort, alloc: Global, version: u8, snapshot: &[u8]) -> bool
+    requires { length snapshot.now < 1500 }
+{
+    let mut device = keeping_in(rt, alloc, version, snapshot);
+    let read = whole(read_body(alloc, &mut device));
+    let is_vault = read.is_some();
+    drop(read);
+    drop(device);
+    is_vault
+}
+
+#[test]
+fn kinds_agree_with_depths(rt: HostRuntime) {
+    let alloc = rt.alloc();
+    assert!(rt; is_vault(&rt, alloc, 2, DEEP));
+    // An assembly seven names deep, and a part in a part.
+    let mut deepest = *DEEP;
+    deepest[56] = 0;
+    assert!(rt; !is_vault(&rt, alloc, 2, &deepest[..59]));
+    let parts =
+        b"\0\0\0\0\0\0\0\x05\0\0\0\0\x01x\0\0\0\0\x01\x01x\0\0\0\0\x02\x01x\x01\0\0\0\0\0\x03\x01x\x01\0\0\0\0";
+    assert!(rt; !is_vault(&rt, alloc, 2, parts));
+    // In version 1 a place three names deep is a part.
+    let old = b"\0\0\0\0\0\0\0\x04\0\0\0\0\x01x\0\0\0\x01\x01x\0\0\0\x02\x01x\0\0\0\0";
+    assert!(rt; is_vault(&rt, alloc, 1, old));
+    let deeper =
+        b"\0\0\0\0\0\0\0\x05\0\0\0\0\x01x\0\0\0\x01\x01x\0\0\0\x02\x01x\0\0\0\0\0\x03\x01x\0\0\0\0";
+    assert!(rt; !is_vault(&rt, alloc, 1, deeper));
 }
 
 #[test]

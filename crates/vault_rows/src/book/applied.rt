@@ -43,6 +43,10 @@ fn made(rt: &impl Abort, parent: u32, place: &str) -> Effect {
     Effect::Made(PlaceId(parent), name(rt, place))
 }
 
+fn nested(rt: &impl Abort, parent: u32, place: &str) -> Effect {
+    Effect::Nested(PlaceId(parent), name(rt, place))
+}
+
 fn asked(rt: &impl Abort, number: u32, wanted: &[(Intent, u32)]) -> Effect {
     Effect::Asked(number, name(rt, "anna"), items(rt, wanted))
 }
@@ -186,6 +190,10 @@ fn what_is_not_applicable_changes_nothing(rt: HostRuntime) {
         made(&rt, 9, "x"),
         made(&rt, 3, "x"),
         made(&rt, 0, "e"),
+        nested(&rt, 0, "x"),
+        nested(&rt, 1, "x"),
+        nested(&rt, 3, "x"),
+        nested(&rt, 2, "p1"),
         asked(&rt, 0, &[(Intent::Look, 1)]),
         asked(&rt, 4, &[(Intent::Look, 1)]),
         asked(&rt, 6, &[(Intent::Look, 1)]),
@@ -259,8 +267,9 @@ fn applies(
 #[test]
 fn each_request_of_an_effect_is_refused(rt: HostRuntime) {
     let memory = Refusing::new(rt.alloc());
-    let rows: [(&str, Effect, u64); 8] = [
+    let rows: [(&str, Effect, u64); 9] = [
         ("Book::apply, Made", made(&rt, 2, "p3"), 1),
+        ("Book::apply, Nested", nested(&rt, 2, "s"), 1),
         ("Book::apply, Asked", asked(&rt, 4, &[(Intent::Look, 1)]), 1),
         (
             "Book::apply, Extended",

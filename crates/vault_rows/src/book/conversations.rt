@@ -51,6 +51,28 @@ fn the_line_moves_up(rt: HostRuntime) {
 }
 
 #[test]
+fn assemblies_inside_assemblies(rt: HostRuntime) {
+    let mut talk = started(&rt, rt.alloc());
+    let lines = [
+        (1, "nest /e/b/s", "OK place 5"),
+        (1, "make /e/b/s/p", "OK place 6"),
+        (1, "make /e/b/p1/x", "ERR 22"),
+        (1, "nest /f", "ERR 22"),
+        (1, "checkout w:/e/b/s", "OK held c1"),
+        (2, "checkout r:/e/b/s/p", "OK queued c2 behind c1"),
+        (2, "checkout w:/e/b/p1", "OK held c3"),
+        (1, "save c1 /e/b/s 00", "ERR 22"),
+        (1, "save c1 /e/b/s/p 00", "OK saved"),
+        (2, "nest /e/b/s/t", "ERR 23 c1"),
+        (1, "nest /e/b/s/t c1", "OK place 7"),
+        (1, "checkin c1", "OK checked in 1"),
+        (2, "state c2", "OK held c2"),
+    ];
+    talk.hear(&rt, &lines);
+    drop(talk);
+}
+
+#[test]
 fn a_check_out_given_away(rt: HostRuntime) {
     let mut talk = started(&rt, rt.alloc());
     let lines = [

@@ -21,6 +21,7 @@ fn sessions_are_refused_in_order(rt: HostRuntime) {
     let mut talk = started(&rt, rt.alloc());
     let lines = [
         (0, "make /", "ERR 11"),
+        (0, "nest /", "ERR 11"),
         (0, "abandon c1", "ERR 11"),
         (0, "release h1", "ERR 11"),
         (0, "state c1", "ERR 11"),

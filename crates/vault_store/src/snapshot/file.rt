@@ -3,8 +3,8 @@ ghost use Rattle.std.specs.Prelude.{◌≡◌, ◌≤◌, ◌-◌, ◌++◌, [],
 ghost use Rattle.vault_model.specs.Vault.{IsVault, durable};
 ghost use Rattle.vault_device.specs.Disk.{overwritten};
 ghost use Rattle.vault_journal.specs.Spelling.{in_four, in_eight};
-ghost use Rattle.vault_store.specs.Snapshot.{snapshot_of, HasSnapshot};
-ghost use Rattle.vault_store.specs.Files.{mark, version, behind_gate};
+ghost use Rattle.vault_store.specs.Snapshot.{current_version, HasSnapshot};
+ghost use Rattle.vault_store.specs.Files.{mark, version_number, behind_gate};
 ghost use Rattle.vault_store.specs.Adds.{Adds};
 
 use super::spelling::{claim_at, put, put_u32, spell_snapshot};
@@ -66,7 +66,7 @@ fn room_of<B: Allocator + Copy>(book: &Book<B>) -> usize {
 
 // Adds what stands before the snapshot, with a length of 0.
 fn put_front<A: Allocator>(out: &mut Vec<u8, A>, generation: u64) -> Result<(), NoMemory>
-    ensures { Adds out.old.items out.new.items (mark ++ in_four version ++ in_eight generation ++ in_four 0) result }
+    ensures { Adds out.old.items out.new.items (mark ++ in_four (version_number current_version) ++ in_eight generation ++ in_four 0) result }
 {
     put(out, b"LLVAULT")?;
     put_u32(out, 2)?;

@@ -4,16 +4,17 @@ ghost use Rattle.vault_model.specs.Shelf.{IsShelf};
 ghost use Rattle.vault_model.specs.Tree.{IsTree};
 ghost use Rattle.vault_model.specs.Vault.{AreVersions};
 ghost use Rattle.vault_store.specs.declared.snapshot.SnapshotError.TheVariants.{NotWellFormed};
-ghost use Rattle.vault_store.specs.Places.{told_of, ArePlacesAt, BeginsWithNoPlaces, IsVersionRead, BeginsWithNoVersion, AreVersionsRead, BeginsWithNoVersions, IsPlaceAdded, BeginsWithNoName, behind_kind, IsPlaceRead, BeginsWithNoPlace};
+ghost use Rattle.vault_store.specs.Places.{told_of, ArePlacesAt, BeginsWithNoPlaces, IsVersionRead, BeginsWithNoVersion, AreVersionsRead, BeginsWithNoVersions, no_part_under, kind_before, IsPlaceAdded, BeginsWithNoName, IsPlaceRead, BeginsWithNoPlace};
 ghost use Rattle.vault_journal.specs.Reading.{Reads};
 
+use crate::FileVersion;
 use crate::snapshot::SnapshotError;
 use crate::snapshot::spelling::kind_byte;
 use design_tree::{AddError, Tree};
 use part_versions::{NotAppended, Shelf};
 use std::alloc::Allocator;
 use vault_journal::{content_at, name_at, u8_at, u16_at, u32_at};
-use vault_model::{Draft, Listing, PlaceId};
+use vault_model::{Draft, Kind, Listing, PlaceId};
 
 /// The places of a snapshot, the versions of their parts, and the bytes behind them.
 #[derive(Drop)]
@@ -43,7 +44,7 @@ impl From<AddError> for SnapshotError {
 //          then of each place from number 1 on:
 //       4  its parent, which has a smaller number
 //   1 + n  its name: n, 1 to 32, and n bytes
-//       1  its kind: 1 of a part, which is a place three names below the library, and 0 of another
+//       1  its kind: 1 of a part, and 0 of another: a project right under the library, an assembly elsewhere; not in version 1
 //          and of a part:
 //       2  how many versions it has
 //   2 + n  each version: n, at most 1,024, and n bytes
@@ -96,13 +97,47 @@ fn read_versions<'a, A: Allocator + Copy>(
     Ok(rest)
 }
 
-// Reads the parent and the name of a place, makes it in the tree, and answers the bytes behind them.
+// What stands under a place of this kind and is no part.
+fn no_part_under(kind: Kind) -> Kind
+    ensures { result ≡ no_part_under kind }
+{
+    match kind {
+        Kind::Library => Kind::Project,
+        Kind::Project | Kind::Assembly | Kind::Part => Kind::Assembly,
+    }
+}
+
+// The kind in front, of a place under this parent, and what stands behind it. In version 1 it follows from how deep the place stands.
+fn kind_before<'a, A: Allocator>(
+    version: FileVersion,
+    tree: &Tree<A>,
+    parent: PlaceId,
+    bytes: &'a [u8],
+) -> Option<(Kind, &'a [u8])>
+    requires { parent ≤ length tree.now }
+    ensures { Reads (λ x. (x.0, x.1.now)) result (kind_before version tree.now parent bytes.now) }
+{
+    if version == FileVersion::One {
+        return Some((tree.kind_under(parent), bytes));
+    }
+    let (byte, rest) = u8_at(bytes)?;
+    if byte == kind_byte(true) {
+        return Some((Kind::Part, rest));
+    }
+    if byte == kind_byte(false) {
+        return Some((no_part_under(tree.kind(parent)), rest));
+    }
+    None
+}
+
+// Reads the parent, the name and the kind of a place, makes it in the tree, and answers the bytes behind them.
 fn read_name<'a, A: Allocator + Copy>(
+    version: FileVersion,
     tree: &mut Tree<A>,
     bytes: &'a [u8],
 ) -> Result<&'a [u8], SnapshotError>
-    ensures read { IfOk result (λ rest. IsPlaceAdded tree.old tree.new bytes.now rest.now) }
-    ensures refused { result ≡ Err NotWellFormed → BeginsWithNoName tree.old bytes.now }
+    ensures read { IfOk result (λ rest. IsPlaceAdded version tree.old tree.new bytes.now rest.now) }
+    ensures refused { result ≡ Err NotWellFormed → BeginsWithNoName version tree.old bytes.now }
 {
     let Some((parent, rest)) = u32_at(bytes) else {
         return Err(SnapshotError::NotWellFormed);
@@ -113,24 +148,17 @@ fn read_name<'a, A: Allocator + Copy>(
     if tree.len() <= parent as usize {
         return Err(SnapshotError::NotWellFormed);
     }
-    tree.add(PlaceId(parent), named.0)?;
-    Ok(named.1)
-}
-
-// The bytes behind the kind of a place, where its kind stands there.
-fn behind_kind(is_part: bool, bytes: &[u8]) -> Option<&[u8]>
-    ensures { Reads (λ x. x.now) result (behind_kind is_part bytes.now) }
-{
-    let (kind, rest) = u8_at(bytes)?;
-    if kind != kind_byte(is_part) {
-        return None;
-    }
-    Some(rest)
+    let Some(kind) = kind_before(version, tree, PlaceId(parent), named.1) else {
+        return Err(SnapshotError::NotWellFormed);
+    };
+    tree.add(PlaceId(parent), named.0, kind.0)?;
+    Ok(kind.1)
 }
 
 // Reads the place of this number, with its versions where it is a part, and answers the bytes behind it.
 fn read_place<'a, A: Allocator + Copy>(
     alloc: A,
+    version: FileVersion,
     place: PlaceId,
     tree: &mut Tree<A>,
     shelf: &mut Shelf<A>,
@@ -138,15 +166,11 @@ fn read_place<'a, A: Allocator + Copy>(
 ) -> Result<&'a [u8], SnapshotError>
     requires next { place ≡ length tree.old + 1 }
     requires versions { AreVersions tree.old shelf.old }
-    ensures read { IfOk result (λ rest. IsPlaceRead tree.old shelf.old tree.new shelf.new bytes.now rest.now) }
-    ensures refused { result ≡ Err NotWellFormed → BeginsWithNoPlace tree.old shelf.old bytes.now }
+    ensures read { IfOk result (λ rest. IsPlaceRead version tree.old shelf.old tree.new shelf.new bytes.now rest.now) }
+    ensures refused { result ≡ Err NotWellFormed → BeginsWithNoPlace version tree.old shelf.old bytes.now }
 {
-    let named = read_name(tree, bytes)?;
-    let is_part = tree.is_part(place);
-    let Some(rest) = behind_kind(is_part, named) else {
-        return Err(SnapshotError::NotWellFormed);
-    };
-    if !is_part {
+    let rest = read_name(version, tree, bytes)?;
+    if !tree.is_part(place) {
         return Ok(rest);
     }
     read_versions(alloc, place, shelf, rest)
@@ -155,14 +179,15 @@ fn read_place<'a, A: Allocator + Copy>(
 // Reads how many places there are and each of them, and answers the bytes behind them.
 fn read_each_place<'a, A: Allocator + Copy>(
     alloc: A,
+    version: FileVersion,
     tree: &mut Tree<A>,
     shelf: &mut Shelf<A>,
     bytes: &'a [u8],
 ) -> Result<&'a [u8], SnapshotError>
     requires tree { tree.old ≡ [] }
     requires shelf { shelf.old ≡ [] }
-    ensures read { IfOk result (λ rest. ArePlacesAt bytes.now tree.new shelf.new rest.now) }
-    ensures refused { result ≡ Err NotWellFormed → BeginsWithNoPlaces bytes.now }
+    ensures read { IfOk result (λ rest. ArePlacesAt version bytes.now tree.new shelf.new rest.now) }
+    ensures refused { result ≡ Err NotWellFormed → BeginsWithNoPlaces version bytes.now }
 {
     let Some((count, after)) = u32_at(bytes) else {
         return Err(SnapshotError::NotWellFormed);
@@ -172,24 +197,25 @@ fn read_each_place<'a, A: Allocator + Copy>(
     }
     let mut rest = after;
     for number in 1..count {
-        rest = read_place(alloc, PlaceId(number), tree, shelf, rest)?;
+        rest = read_place(alloc, version, PlaceId(number), tree, shelf, rest)?;
     }
     Ok(rest)
 }
 
-/// The places whose spelling stands at the front of the bytes, with the versions of their parts.
+/// The places whose spelling in this version stands at the front of the bytes, with the versions of their parts.
 ///
 /// The work grows with the bytes that are read and, for each place, with the number of its siblings. Beside the tree and the
 /// shelf it takes memory for one version at a time.
 pub fn read_places<'a, A: Allocator + Copy>(
     alloc: A,
+    version: FileVersion,
     bytes: &'a [u8],
 ) -> Result<Places<'a, A>, SnapshotError>
-    ensures read { IfOk result (λ places. ArePlacesAt bytes.now places.tree places.shelf places.rest.now) }
-    ensures refused { result ≡ Err NotWellFormed → BeginsWithNoPlaces bytes.now }
+    ensures read { IfOk result (λ places. ArePlacesAt version bytes.now places.tree places.shelf places.rest.now) }
+    ensures refused { result ≡ Err NotWellFormed → BeginsWithNoPlaces version bytes.now }
 {
     let mut tree = Tree::new(alloc)?;
     let mut shelf = Shelf::new(alloc);
-    let rest = read_each_place(alloc, &mut tree, &mut shelf, bytes)?;
+    let rest = read_each_place(alloc, version, &mut tree, &mut shelf, bytes)?;
     Ok(Places { tree, shelf, rest })
 }

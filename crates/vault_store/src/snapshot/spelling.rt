@@ -10,7 +10,7 @@ ghost use Rattle.vault_model.specs.Claims.{without_short};
 ghost use Rattle.vault_model.specs.Tree.{IsTree, is_part};
 ghost use Rattle.vault_model.specs.Vault.{AreDrafts, IsVault, durable};
 ghost use Rattle.vault_model.specs.declared.place.Place.{Place};
-ghost use Rattle.vault_store.specs.Snapshot.{snapshot_of, claim_bytes, designer_of, draft_bytes, drafts_bytes, kind_byte, kind_bytes, number_of, place_bytes, places_bytes, versions_bytes};
+ghost use Rattle.vault_store.specs.Snapshot.{current_version, snapshot_of, claim_bytes, designer_of, draft_bytes, drafts_bytes, kind_byte, kind_bytes, number_of, place_bytes, places_bytes, versions_bytes};
 ghost use Rattle.vault_store.specs.Adds.{Adds};
 
 use design_tree::Tree;
@@ -186,7 +186,7 @@ fn put_kind<A: Allocator, B: Allocator + Copy>(
     place: PlaceId,
 ) -> Result<(), NoMemory>
     requires { place ≤ length book.now.tree }
-    ensures { Adds out.old.items out.new.items (kind_bytes (is_part book.now.tree place) (versions_of book.now.shelf place)) result }
+    ensures { Adds out.old.items out.new.items (kind_bytes current_version (is_part book.now.tree place) (versions_of book.now.shelf place)) result }
 {
     if !book.tree().is_part(place) {
         return put(out, &[kind_byte(false)]);
@@ -214,7 +214,7 @@ fn put_place<A: Allocator, B: Allocator + Copy>(
     requires some { 0 < number }
     requires there { number ≤ length book.now.tree }
     ensures { (place : Place) → slice_get book.now.tree (number - 1) ≡ Some place
-        → Adds out.old.items out.new.items (place_bytes book.now number place) result }
+        → Adds out.old.items out.new.items (place_bytes current_version book.now number place) result }
 {
     let (parent, name) = place_at(book.tree(), number);
     put_u32(out, parent.number())?;
@@ -228,7 +228,7 @@ fn put_each_place<A: Allocator, B: Allocator + Copy>(
     book: &Book<B>,
 ) -> Result<(), NoMemory>
     requires { IsTree book.now.tree }
-    ensures { Adds out.old.items out.new.items (places_bytes book.now 1 book.now.tree) result }
+    ensures { Adds out.old.items out.new.items (places_bytes current_version book.now 1 book.now.tree) result }
 {
     for number in 1..book.tree().len() {
         put_place(out, book, number as u32)?;
@@ -262,7 +262,7 @@ fn put_claim<A: Allocator, B: Allocator + Copy>(
     claim: &Claim,
 ) -> Result<(), NoMemory>
     requires { AreDrafts book.now.tree book.now.line book.now.drafts }
-    ensures { Adds out.old.items out.new.items (claim_bytes book.now claim.now) result }
+    ensures { Adds out.old.items out.new.items (claim_bytes current_version book.now claim.now) result }
 {
     let number = number_of(claim.id);
     put_u32(out, number)?;
@@ -287,7 +287,7 @@ fn put_long<A: Allocator, B: Allocator + Copy>(
     claim: &Claim,
 ) -> Result<(), NoMemory>
     requires { AreDrafts book.now.tree book.now.line book.now.drafts }
-    ensures { Adds out.old.items out.new.items (flat_map (claim_bytes book.now) (without_short (claim.now ∷ []))) result }
+    ensures { Adds out.old.items out.new.items (flat_map (claim_bytes current_version book.now) (without_short (claim.now ∷ []))) result }
 {
     match claim.id {
         ClaimId::Long(_) => put_claim(out, book, claim),
@@ -301,7 +301,7 @@ fn put_claims<A: Allocator, B: Allocator + Copy>(
     book: &Book<B>,
 ) -> Result<(), NoMemory>
     requires { AreDrafts book.now.tree book.now.line book.now.drafts }
-    ensures { Adds out.old.items out.new.items (flat_map (claim_bytes book.now) (without_short book.now.line)) result }
+    ensures { Adds out.old.items out.new.items (flat_map (claim_bytes current_version book.now) (without_short book.now.line)) result }
 {
     for position in 0..book.line().len() {
         put_long(out, book, claim_at(book, position))?;

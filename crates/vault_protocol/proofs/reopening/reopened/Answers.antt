@@ -9,7 +9,7 @@ pub returns-in-Ok-clause-view : goal.returns-in-Ok-clause-view
 returns-in-Ok-clause-view g c =
     c.in-Ok.ensures.begins
     ∙ ap opened_view
-    (reopens c.args.vault c.args.pick _ _ c.in-Ok.vault.view.base c.in-Ok.vault.store.generation c.in-Ok.vault.store.tail _ c.a_vault_keeps_its_history.ensures.store
+    (reopens c.args.vault c.args.pick _ _ c.in-Ok.vault.view.base c.in-Ok.vault.store.version c.in-Ok.vault.store.generation c.in-Ok.vault.store.tail _ c.a_vault_keeps_its_history.ensures.store
     (record { left = c.images_stand_for_the_history.ensures.left; stands = c.images_stand_for_the_history.ensures.stands; gate = c.images_stand_for_the_history.ensures.gate })
     c.files_stand_for_one_vault.ensures.reading
     (sym c.is_broken.ensures ∙ c.if-is_broken.false)
@@ -21,7 +21,7 @@ returns-in-Ok-clause-view g c =
 
 pub returns-in-Ok-clause-generation : goal.returns-in-Ok-clause-generation
 returns-in-Ok-clause-generation g c =
-    (reopens c.args.vault c.args.pick _ _ c.in-Ok.vault.view.base c.in-Ok.vault.store.generation c.in-Ok.vault.store.tail _ c.a_vault_keeps_its_history.ensures.store
+    (reopens c.args.vault c.args.pick _ _ c.in-Ok.vault.view.base c.in-Ok.vault.store.version c.in-Ok.vault.store.generation c.in-Ok.vault.store.tail _ c.a_vault_keeps_its_history.ensures.store
     (record { left = c.images_stand_for_the_history.ensures.left; stands = c.images_stand_for_the_history.ensures.stands; gate = c.images_stand_for_the_history.ensures.gate })
     c.files_stand_for_one_vault.ensures.reading
     (sym c.is_broken.ensures ∙ c.if-is_broken.false)
@@ -33,7 +33,7 @@ returns-in-Ok-clause-generation g c =
 
 pub returns-in-Ok-clause-tail : goal.returns-in-Ok-clause-tail
 returns-in-Ok-clause-tail g c =
-    (reopens c.args.vault c.args.pick _ _ c.in-Ok.vault.view.base c.in-Ok.vault.store.generation c.in-Ok.vault.store.tail _ c.a_vault_keeps_its_history.ensures.store
+    (reopens c.args.vault c.args.pick _ _ c.in-Ok.vault.view.base c.in-Ok.vault.store.version c.in-Ok.vault.store.generation c.in-Ok.vault.store.tail _ c.a_vault_keeps_its_history.ensures.store
     (record { left = c.images_stand_for_the_history.ensures.left; stands = c.images_stand_for_the_history.ensures.stands; gate = c.images_stand_for_the_history.ensures.gate })
     c.files_stand_for_one_vault.ensures.reading
     (sym c.is_broken.ensures ∙ c.if-is_broken.false)

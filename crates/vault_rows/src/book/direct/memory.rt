@@ -2,8 +2,8 @@
 
 use super::{Talk, content, item, name, path};
 use Command::{
-    Abandon, CheckIn, CheckOut, Count, Extend, Fetch, Give, Hold, Join, Leave, List, Make, Note,
-    ReadNote, Release, Save, State,
+    Abandon, CheckIn, CheckOut, Count, Extend, Fetch, Give, Hold, Join, Leave, List, Make, Nest,
+    Note, ReadNote, Release, Save, State,
 };
 use std::alloc::{Allocator, Global};
 use std::process::Abort;
@@ -19,7 +19,7 @@ pub(super) fn are_alike<A: Allocator + Copy>(
     book: &Book<A>,
     other: &Book<A>,
 ) -> bool {
-    for text in ["/e", "/e/b", "/e/b/p", "/e/f", "/f"] {
+    for text in ["/e", "/e/b", "/e/b/p", "/e/b/s", "/e/f", "/f"] {
         let place = path(rt, text);
         if book.tree().find(&place) != other.tree().find(&place) {
             return false;
@@ -167,13 +167,14 @@ fn each_request_of_a_command_is_refused(rt: HostRuntime) {
     let (alloc, memory) = (rt.alloc(), Refusing::new(rt.alloc()));
     let ample = Refusing::new(alloc);
     let before = before(&rt, alloc);
-    let rows: [(&str, Command, u64); 17] = [
+    let rows: [(&str, Command, u64); 18] = [
         ("Book::act, Make", Make(path(&rt, "/f"), None), 1),
         (
             "Book::act, Make in a check-out",
             Make(path(&rt, "/e/f"), Some(2)),
             1,
         ),
+        ("Book::act, Nest", Nest(path(&rt, "/e/b/s"), Some(2)), 1),
         (
             "Book::act, CheckOut",
             CheckOut(item(&rt, alloc, Look, "/")),

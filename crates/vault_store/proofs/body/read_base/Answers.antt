@@ -1,7 +1,7 @@
-use Rattle.std.proofs.Common.{◌≡◌, ℕ, ◌+◌, List, length, take, ◌∙◌, ap, arith}
+use Rattle.std.proofs.Common.{◌≡◌, ℕ, ◌+◌, List, length, take, ◌∙◌, ap, arith, sym, refl}
 use Rattle.std.specs.Prelude.{slice_range}
 use Rattle.vault_store.proofs.Behind.{honest_behind, and_reads}
-use Rattle.vault_store.proofs.Bodies.{one_read, base_bytes}
+use Rattle.vault_store.proofs.Bodies.{one_read, base_bytes, version_there, length_there, too_short, none_spelled}
 use Rattle.vault_store.proofs.body.read_base.Goals as goal
 
 pub returns-in-Ok-clause-reads : goal.returns-in-Ok-clause-reads
@@ -15,6 +15,7 @@ returns-in-Ok-clause-base g c =
     let size : length c.deref.result.now ≡ c.number_in-length.result = ap length c.deref.ensures.value ∙ c.in_ok-snapshot.ensures.size in
     let same : c.from-in-Ok.result ≡ c.number_in-length.result = omega (arith, c.from-in-Ok.ensures) in
     record {
+      told = λ honest. sym (version_there (g.D.Device.disk c.args.device.now).shown c.read_at.new.buffer (c.in_ok-read_at.ensures.bytes honest)) ∙ c.in-Some.ensures;
       spelled = c.in-Ok.ensures.ok.0;
       size = omega (arith, same, size, ap length c.in-Ok.ensures.ok.1);
       within = omega (arith, same, c.if-len-from.false, c.from.ensures);
@@ -22,6 +23,26 @@ returns-in-Ok-clause-base g c =
           let there : c.deref.result.now ≡ slice_range (g.D.Device.disk c.args.device.now).shown 24 (24 + c.number_in-length.result) =
           c.deref.ensures.value ∙ c.in_ok-snapshot.ensures.bytes (honest_behind (g.D.Device.disk c.args.device.now) (g.D.Device.disk c.read_at.new.self) reads honest)
           ∙ ap (λ (file : List ℕ). slice_range file 24 (24 + c.number_in-length.result)) (reads.read honest).shown in
+          let last = length_there (g.D.Device.disk c.args.device.now).shown c.read_at.new.buffer (c.in_ok-read_at.ensures.bytes honest) (omega arith) in
           ap (λ (n : ℕ). take (24 + n) (g.D.Device.disk c.args.device.now).shown) same
-          ∙ base_bytes (g.D.Device.disk c.args.device.now).shown c.read_at.new.buffer c.deref.result.now c.number_in-length.result (c.in_ok-read_at.ensures.bytes honest) c.number_in-length.ensures there c.in-Ok.book c.in-Ok.ensures.ok.1 size;
+          ∙ base_bytes (g.D.Device.disk c.args.device.now).shown _ c.deref.result.now c.number_in-length.result last c.number_in-length.ensures there c.in-Some.version c.in-Ok.book c.in-Ok.ensures.ok.1 size;
     }
+
+pub returns-then-len-from-clause-refused : goal.returns-then-len-from-clause-refused
+returns-then-len-from-clause-refused g c = λ honest.
+    let last = length_there (g.D.Device.disk c.args.device.now).shown c.read_at.new.buffer (c.in_ok-read_at.ensures.bytes honest) (omega arith) in
+    let size = c.requires.len honest in
+    too_short (g.D.Device.disk c.args.device.now).shown _ c.number_in-length.result last c.number_in-length.ensures (omega arith) (omega (arith, size, c.if-len-from.true, c.from.ensures))
+
+pub returns-in-Err-NotWellFormed-clause-refused : goal.returns-in-Err-NotWellFormed-clause-refused
+returns-in-Err-NotWellFormed-clause-refused g c = λ honest.
+    let reads = one_read (g.D.Device.disk c.args.device.now) (g.D.Device.disk c.read_at.new.self) c.read_at.result c.read_at.ensures.one_call c.read_at.ensures.kept in
+    let last = length_there (g.D.Device.disk c.args.device.now).shown c.read_at.new.buffer (c.in_ok-read_at.ensures.bytes honest) (omega arith) in
+    let size = c.requires.len honest in
+    let there : c.deref.result.now ≡ slice_range (g.D.Device.disk c.args.device.now).shown 24 (24 + c.number_in-length.result) =
+    c.deref.ensures.value ∙ c.in_ok-snapshot.ensures.bytes (honest_behind (g.D.Device.disk c.args.device.now) (g.D.Device.disk c.read_at.new.self) reads honest)
+    ∙ ap (λ (file : List ℕ). slice_range file 24 (24 + c.number_in-length.result)) (reads.read honest).shown in
+    none_spelled (g.D.Device.disk c.args.device.now).shown _ c.number_in-length.result last c.number_in-length.ensures (omega arith) c.in-Some.version c.deref.result.now there
+    (omega (arith, size, c.if-len-from.false, c.from.ensures))
+    (sym (version_there (g.D.Device.disk c.args.device.now).shown c.read_at.new.buffer (c.in_ok-read_at.ensures.bytes honest)) ∙ c.in-Some.ensures)
+    ((rw c.in-Err-NotWellFormed.field-0-is at c.in-Err-NotWellFormed.ensures.refused) refl)

@@ -3,11 +3,11 @@ use Rattle.vault_store.proofs.Behind.{and_reads, quiet_then}
 use Rattle.vault_store.proofs.Bodies.{one_read, snapshot_wrong, frames_wrong, contents_read}
 use Rattle.vault_store.proofs.body.read_contents.Goals as goal
 
-pub returns-in_err-book-clause-refused : goal.returns-in_err-book-clause-refused
-returns-in_err-book-clause-refused g c =
+pub returns-in_err-version-clause-refused : goal.returns-in_err-version-clause-refused
+returns-in_err-version-clause-refused g c =
     snapshot_wrong (g.D.Device.disk c.args.device.now) (g.D.Device.disk c.len.new.self) (g.D.Device.disk c.read_base.new.device)
     (one_read (g.D.Device.disk c.args.device.now) (g.D.Device.disk c.len.new.self) c.len.result c.len.ensures.one_call c.len.ensures.kept)
-    c.from_residual-in_err-book.result c.in_err-book.field-0.0 (record { same_faults = c.in_ok-len.ensures.one_call.no_fault }) c.in_err-book.ensures.refused c.from_residual-in_err-book.ensures.1
+    c.from_residual-in_err-version.result c.in_err-version.field-0.0 (record { same_faults = c.in_ok-len.ensures.one_call.no_fault }) c.in_err-version.ensures.refused c.from_residual-in_err-version.ensures.1
 
 pub returns-in_err-frames-clause-reads : goal.returns-in_err-frames-clause-reads
 returns-in_err-frames-clause-reads g c =
@@ -18,9 +18,9 @@ returns-in_err-frames-clause-reads g c =
 pub returns-in_err-frames-clause-refused : goal.returns-in_err-frames-clause-refused
 returns-in_err-frames-clause-refused g c =
     frames_wrong (g.D.Device.disk c.args.device.now) (g.D.Device.disk c.len.new.self) (g.D.Device.disk c.read_base.new.device)
-    (one_read (g.D.Device.disk c.args.device.now) (g.D.Device.disk c.len.new.self) c.len.result c.len.ensures.one_call c.len.ensures.kept) c.read_base.ensures.reads c.in_ok-len.len c.in_ok-book.field-0.end c.in_ok-len.ensures.length c.in_ok-book.field-0.book c.in_ok-book.ensures.base
+    (one_read (g.D.Device.disk c.args.device.now) (g.D.Device.disk c.len.new.self) c.len.result c.len.ensures.one_call c.len.ensures.kept) c.read_base.ensures.reads c.in_ok-len.len c.in_ok-version.field-0.end c.in_ok-len.ensures.length c.in_ok-version.field-0.version c.in_ok-version.field-0.book c.in_ok-version.ensures.base
     (g.D.Device.disk c.read_frames.new.device) c.from_residual-in_err-frames.result c.in_err-frames.field-0.0
-    (quiet_then (g.D.Device.disk c.args.device.now) (g.D.Device.disk c.len.new.self) (g.D.Device.disk c.read_base.new.device) (record { same_faults = c.in_ok-len.ensures.one_call.no_fault }) c.in_ok-book.ensures.quiet) c.in_err-frames.ensures.refused c.from_residual-in_err-frames.ensures.1
+    (quiet_then (g.D.Device.disk c.args.device.now) (g.D.Device.disk c.len.new.self) (g.D.Device.disk c.read_base.new.device) (record { same_faults = c.in_ok-len.ensures.one_call.no_fault }) c.in_ok-version.ensures.quiet) c.in_err-frames.ensures.refused c.from_residual-in_err-frames.ensures.1
 
 pub returns-clause-reads : goal.returns-clause-reads
 returns-clause-reads g c =
@@ -31,5 +31,5 @@ returns-clause-reads g c =
 pub returns-clause-contents : goal.returns-clause-contents
 returns-clause-contents g c =
     contents_read (g.D.Device.disk c.args.device.now) (g.D.Device.disk c.len.new.self) (g.D.Device.disk c.read_base.new.device)
-    (one_read (g.D.Device.disk c.args.device.now) (g.D.Device.disk c.len.new.self) c.len.result c.len.ensures.one_call c.len.ensures.kept) c.read_base.ensures.reads c.in_ok-len.len c.in_ok-book.field-0.end c.in_ok-len.ensures.length c.in_ok-book.field-0.book c.in_ok-book.ensures.base
-    c.read_frames.new.book c.in_ok-frames.frames.count c.in_ok-frames.frames.tail (c.in_ok-frames.frames.tail - c.in_ok-book.field-0.end) refl c.in_ok-frames.ensures.all
+    (one_read (g.D.Device.disk c.args.device.now) (g.D.Device.disk c.len.new.self) c.len.result c.len.ensures.one_call c.len.ensures.kept) c.read_base.ensures.reads c.in_ok-len.len c.in_ok-version.field-0.end c.in_ok-len.ensures.length c.in_ok-version.field-0.version c.in_ok-version.field-0.book c.in_ok-version.ensures.base
+    c.read_frames.new.book c.in_ok-frames.frames.count c.in_ok-frames.frames.tail (c.in_ok-frames.frames.tail - c.in_ok-version.field-0.end) refl c.in_ok-frames.ensures.all

@@ -4,7 +4,7 @@ use Rattle.vault_checkout.proofs.Applying.{may_make_is}
 use Rattle.vault_checkout.proofs.book.Book.apply_made.Goals as goal
 
 pub add_place-requires-clause-kind : goal.add_place-requires-clause-kind
-add_place-requires-clause-kind g c = rw (← c.self.view_is) (may_make_is (vault_of c.self.inside) c.args.parent c.args.name (sym c.may_make.ensures ∙ c.if-not-may_make.false)).kind
+add_place-requires-clause-kind g c = rw (← c.self.view_is) (c.kind_under-kind.ensures.may_have (may_make_is (vault_of c.self.inside) c.args.parent c.args.name (sym c.may_make.ensures ∙ c.if-not-may_make.false)).kind)
 
 pub add_place-requires-clause-fresh : goal.add_place-requires-clause-fresh
 add_place-requires-clause-fresh g c = rw (← c.self.view_is) (may_make_is (vault_of c.self.inside) c.args.parent c.args.name (sym c.may_make.ensures ∙ c.if-not-may_make.false)).fresh

@@ -1,44 +1,34 @@
-use Rattle.std.proofs.Common.{◌≡◌, ℕ, Bool, None, Some, suc, length, sym, ◌∙◌, ap, subst, arith}
+use Rattle.std.proofs.Common.{◌≡◌, ℕ, suc, length, sym, ◌∙◌, ap, subst, arith}
 use Rattle.std.proofs.lemmas.Result.{IfOk-weaker}
 use Rattle.vault_model.specs.Tree.{is_part}
-use Rattle.vault_store.specs.Places.{behind_kind, AreVersionsRead, BeginsWithNoVersions}
+use Rattle.vault_store.specs.Places.{AreVersionsRead, BeginsWithNoVersions}
 use Rattle.vault_store.proofs.Refusals.{passed}
-use Rattle.vault_store.proofs.PlaceRead.{nameless, kindless, no_part_read, part_read, versionless}
+use Rattle.vault_store.proofs.PlaceRead.{nameless, no_part_read, part_read, versionless}
 use Rattle.vault_store.proofs.snapshot.places.read_place.Goals as goal
 
-pub returns-in_err-named-clause-refused : goal.returns-in_err-named-clause-refused
-returns-in_err-named-clause-refused g c = λ same.
-    nameless c.args.tree.now c.args.shelf.now c.requires.versions c.args.bytes.now (passed c.from_residual.result c.in_err-named.field-0.0 c.from_residual.ensures.1 c.in_err-named.ensures.refused same)
-
-pub returns-in_default-clause-refused : goal.returns-in_default-clause-refused
-returns-in_default-clause-refused g c = λ same.
-    let number : suc (length c.args.tree.now) ≡ c.args.place = omega (arith, c.requires.next) in
-    let is : c.is_part-is_part.result ≡ is_part c.read_name.new.tree (suc (length c.args.tree.now)) = c.is_part-is_part.ensures ∙ sym (ap (is_part c.read_name.new.tree) number) in
-    kindless c.args.tree.now c.args.shelf.now c.requires.versions c.args.bytes.now c.read_name.new.tree c.in_ok-named.named.now c.in_ok-named.ensures.read
-    (subst (λ (b : Bool). behind_kind b c.in_ok-named.named.now ≡ None) is c.in_default.ensures)
+pub returns-in_err-rest-clause-refused : goal.returns-in_err-rest-clause-refused
+returns-in_err-rest-clause-refused g c = λ same.
+    nameless c.args.version c.args.tree.now c.args.shelf.now c.requires.versions c.args.bytes.now (passed c.from_residual.result c.in_err-rest.field-0.0 c.from_residual.ensures.1 c.in_err-rest.ensures.refused same)
 
 pub returns-then-not-is_part-clause-read : goal.returns-then-not-is_part-clause-read
 returns-then-not-is_part-clause-read g c =
     let number : suc (length c.args.tree.now) ≡ c.args.place = omega (arith, c.requires.next) in
-    let is : c.is_part-is_part.result ≡ is_part c.read_name.new.tree (suc (length c.args.tree.now)) = c.is_part-is_part.ensures ∙ sym (ap (is_part c.read_name.new.tree) number) in
-    no_part_read c.args.tree.now c.args.shelf.now c.requires.versions c.args.bytes.now c.read_name.new.tree c.in_ok-named.named.now c.in_ok-named.ensures.read c.in-Some.rest.now
-    (subst (λ (b : Bool). behind_kind b c.in_ok-named.named.now ≡ Some c.in-Some.rest.now) is c.in-Some.ensures) (sym is ∙ c.if-not-is_part.true)
+    let is : c.is_part.result ≡ is_part c.read_name.new.tree (suc (length c.args.tree.now)) = c.is_part.ensures ∙ sym (ap (is_part c.read_name.new.tree) number) in
+    no_part_read c.args.version c.args.tree.now c.args.shelf.now c.requires.versions c.args.bytes.now c.read_name.new.tree c.in_ok-rest.rest.now c.in_ok-rest.ensures.read (sym is ∙ c.if-not-is_part.true)
 
 pub returns-clause-read : goal.returns-clause-read
 returns-clause-read g c =
     let number : suc (length c.args.tree.now) ≡ c.args.place = omega (arith, c.requires.next) in
-    let is : c.is_part-is_part.result ≡ is_part c.read_name.new.tree (suc (length c.args.tree.now)) = c.is_part-is_part.ensures ∙ sym (ap (is_part c.read_name.new.tree) number) in
+    let is : c.is_part.result ≡ is_part c.read_name.new.tree (suc (length c.args.tree.now)) = c.is_part.ensures ∙ sym (ap (is_part c.read_name.new.tree) number) in
     IfOk-weaker c.read_versions.result _ _
     (λ rest read.
-    part_read c.args.tree.now c.args.shelf.now c.requires.versions c.args.bytes.now c.read_name.new.tree c.in_ok-named.named.now c.in_ok-named.ensures.read c.in-Some.rest.now
-    (subst (λ (b : Bool). behind_kind b c.in_ok-named.named.now ≡ Some c.in-Some.rest.now) is c.in-Some.ensures) (sym is ∙ c.if-not-is_part.false)
-    c.read_versions.new.shelf rest.now (subst (λ (p : ℕ). AreVersionsRead p c.args.shelf.now c.read_versions.new.shelf c.in-Some.rest.now rest.now) (sym number) read))
+    part_read c.args.version c.args.tree.now c.args.shelf.now c.requires.versions c.args.bytes.now c.read_name.new.tree c.in_ok-rest.rest.now c.in_ok-rest.ensures.read (sym is ∙ c.if-not-is_part.false)
+    c.read_versions.new.shelf rest.now (subst (λ (p : ℕ). AreVersionsRead p c.args.shelf.now c.read_versions.new.shelf c.in_ok-rest.rest.now rest.now) (sym number) read))
     c.read_versions.ensures.read
 
 pub returns-clause-refused : goal.returns-clause-refused
 returns-clause-refused g c = λ same.
     let number : suc (length c.args.tree.now) ≡ c.args.place = omega (arith, c.requires.next) in
-    let is : c.is_part-is_part.result ≡ is_part c.read_name.new.tree (suc (length c.args.tree.now)) = c.is_part-is_part.ensures ∙ sym (ap (is_part c.read_name.new.tree) number) in
-    versionless c.args.tree.now c.args.shelf.now c.requires.versions c.args.bytes.now c.read_name.new.tree c.in_ok-named.named.now c.in_ok-named.ensures.read c.in-Some.rest.now
-    (subst (λ (b : Bool). behind_kind b c.in_ok-named.named.now ≡ Some c.in-Some.rest.now) is c.in-Some.ensures) (sym is ∙ c.if-not-is_part.false)
-    (subst (λ (p : ℕ). BeginsWithNoVersions p c.args.shelf.now c.in-Some.rest.now) (sym number) (c.read_versions.ensures.refused same))
+    let is : c.is_part.result ≡ is_part c.read_name.new.tree (suc (length c.args.tree.now)) = c.is_part.ensures ∙ sym (ap (is_part c.read_name.new.tree) number) in
+    versionless c.args.version c.args.tree.now c.args.shelf.now c.requires.versions c.args.bytes.now c.read_name.new.tree c.in_ok-rest.rest.now c.in_ok-rest.ensures.read (sym is ∙ c.if-not-is_part.false)
+    (subst (λ (p : ℕ). BeginsWithNoVersions p c.args.shelf.now c.in_ok-rest.rest.now) (sym number) (c.read_versions.ensures.refused same))

@@ -8,15 +8,16 @@ use Rattle.vault_store.specs.Sound.{IsSoundStore}
 use Rattle.vault_store.proofs.New.{new_sound, new_kept}
 use Rattle.vault_store.proofs.Creating.{stops_in_creation}
 use Rattle.vault_store.proofs.store.Store.create.Goals as goal
+use Rattle.vault_store.specs.Snapshot.{current_version}
 
 pub invariant_of-result : goal.invariant_of-result
 invariant_of-result g c =
-    subst (λ (bytes : List ℕ). IsSoundStore g.D.Device.disk (record { active = c.make.new.first; spare = c.make.new.second; which = First; buffer = bytes; sealed = 0; generation = 1; tail = 34; journal_length = 0; phase = Idle; broken = false; shut = false; rest = [] })) (sym c.in-Ok.ensures.frame)
+    subst (λ (bytes : List ℕ). IsSoundStore g.D.Device.disk (record { active = c.make.new.first; spare = c.make.new.second; which = First; buffer = bytes; sealed = 0; version = current_version; generation = 1; tail = 34; journal_length = 0; phase = Idle; broken = false; shut = false; rest = [] })) (sym c.in-Ok.ensures.frame)
     (new_sound g.D.Device.disk c.args.first c.args.second c.make.new.first c.make.new.second c.make.ensures.first.same_honesty c.in-Ok.ensures.file c.make.ensures.second.same_honesty c.in-Ok.ensures.empty)
 
 pub returns-in-Ok-clause-kept : goal.returns-in-Ok-clause-kept
 returns-in-Ok-clause-kept g c =
-    subst (λ (bytes : List ℕ). Keeps g.D.Device.disk (record { active = c.make.new.first; spare = c.make.new.second; which = First; buffer = bytes; sealed = 0; generation = 1; tail = 34; journal_length = 0; phase = Idle; broken = false; shut = false; rest = [] }) (at_rest new_vault)) (sym c.in-Ok.ensures.frame)
+    subst (λ (bytes : List ℕ). Keeps g.D.Device.disk (record { active = c.make.new.first; spare = c.make.new.second; which = First; buffer = bytes; sealed = 0; version = current_version; generation = 1; tail = 34; journal_length = 0; phase = Idle; broken = false; shut = false; rest = [] }) (at_rest new_vault)) (sym c.in-Ok.ensures.frame)
     (new_kept g.D.Device.disk c.args.first c.args.second c.make.new.first c.make.new.second c.make.ensures.first.same_honesty c.in-Ok.ensures.file c.make.ensures.second.same_honesty c.in-Ok.ensures.empty)
 
 pub returns-in-Ok-clause-stops : goal.returns-in-Ok-clause-stops

@@ -1,10 +1,18 @@
-use Rattle.std.proofs.Common.{◌∙◌, ap, subst, Err, true}
+use Rattle.std.proofs.Common.{◌∙◌, ap, subst, Ok, Err, true}
+use Rattle.vault_store.specs.declared.phase.Phase.TheVariants as phases
+use Rattle.vault_store.specs.declared.phase.Advanced.TheVariants as answers
 use Rattle.vault_store.specs.Seen.{StoreSeen}
 use Rattle.vault_store.specs.View.{seen_of}
 use Rattle.vault_store.specs.Step.{IsAdvance}
-use Rattle.vault_store.proofs.Renewed.{all_unsettled}
+use Rattle.vault_store.proofs.Renewed.{all_settled, all_unsettled}
 use Rattle.vault_store.proofs.Failed.{failed_by}
 use Rattle.vault_store.proofs.store.Store.settle_written.Goals as goal
+
+pub returns-in-Ok : goal.returns-in-Ok
+returns-in-Ok g c =
+    subst (λ (o : StoreSeen g.row.D.Denot). IsAdvance g.D.Device.disk o (record (seen_of c.self.inside) { spare = c.settle_body.new.device; phase = phases.Ready }) (Ok answers.Moved)) c.self.view_is
+    (all_settled g.D.Device.disk (seen_of c.self.inside) c.settle_body.new.device (ap (λ (o : StoreSeen g.row.D.Denot). o.broken) c.self.view_is ∙ c.requires.whole) (g.met.D.Device.lawful c.self.inside.active) (g.met.D.Device.lawful c.self.inside.spare)
+    (ap (λ (o : StoreSeen g.row.D.Denot). o.phase) c.self.view_is ∙ c.requires.phase) c.in-Ok.ensures.one_call c.in-Ok.ensures.sync c.in-Ok.ensures.moments)
 
 pub returns-in-Err : goal.returns-in-Err
 returns-in-Err g c =

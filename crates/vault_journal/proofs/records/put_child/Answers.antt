@@ -2,7 +2,7 @@ use Rattle.std.proofs.Common.{subst}
 use Rattle.vault_journal.specs.Spelling.{in_four}
 use Rattle.vault_journal.specs.Written.{IsWritten}
 use Rattle.vault_journal.proofs.Behind.{then}
-use Rattle.vault_journal.proofs.records.put_made.Goals as goal
+use Rattle.vault_journal.proofs.records.put_child.Goals as goal
 
 pub returns : goal.returns
 returns c =
