@@ -149,7 +149,9 @@ impl Pace {
             → self.new ≡ record self.old { group = waiting; under_way = UnderWay.Nothing } }
         ensures renewed { self.old.under_way ≡ UnderWay.Snapshot → pumped ≡ Ok Advanced.Settled
             → self.new ≡ record self.old { under_way = UnderWay.Nothing } }
-        ensures same { (self.new.wake_from ≡ self.old.wake_from) × (self.new.is_asked_for_room ≡ self.old.is_asked_for_room) }
+        ensures goes_on { (self.old.under_way ≡ UnderWay.Nothing → ⊥) → pumped ≡ Ok Advanced.Moved → self.new ≡ self.old }
+        ensures otherwise { (pumped ≡ Ok Advanced.Moved → ⊥) → (pumped ≡ Ok Advanced.Settled → self.old.under_way ≡ UnderWay.Nothing)
+            → self.new ≡ record self.old { has_change = false } }
     {
         match (self.under_way, pumped) {
             (UnderWay::Nothing, Ok(Advanced::Moved)) => {

@@ -10,7 +10,12 @@ use vault_protocol::LONGEST_LINE;
 use vault_sessions::{Ended, Flushed, Totals};
 
 // What conversations over a new vault come to, one behind the other, if they were told just this.
-fn talked<H: Wait>(rt: &H, alloc: Global, inputs: &mut [&[u8]], text: &[u8]) -> Option<Talk> {
+fn talked<H: Wait + Clock>(
+    rt: &H,
+    alloc: Global,
+    inputs: &mut [&[u8]],
+    text: &[u8],
+) -> Option<Talk> {
     let vault = new_vault(alloc, alloc, 0)?;
     let mut held = Vec::new(alloc);
     let talk = converse(rt, alloc, vault, inputs, &mut held)?;
@@ -144,7 +149,7 @@ fn broken_vault(rt: HostRuntime) {
 
 // What a conversation comes to whose reader gives a byte at a time and then fails, and whose writer takes so many texts, if it was
 // told just this.
-fn bumped<H: Wait>(rt: &H, alloc: Global, texts: u32, text: &[u8]) -> Option<Talk> {
+fn bumped<H: Wait + Clock>(rt: &H, alloc: Global, texts: u32, text: &[u8]) -> Option<Talk> {
     let vault = new_vault(alloc, alloc, 0)?;
     let reader = Bumpy {
         rest: b"hello anna\nstate c1\nlist /",
@@ -176,7 +181,7 @@ fn failing_reader_and_writer(rt: HostRuntime) {
 }
 
 // What a conversation comes to whose writer takes a byte a call, if it was told just this.
-fn dripped<H: Wait>(rt: &H, alloc: Global, input: &[u8], text: &[u8]) -> Option<Talk> {
+fn dripped<H: Wait + Clock>(rt: &H, alloc: Global, input: &[u8], text: &[u8]) -> Option<Talk> {
     let vault = new_vault(alloc, alloc, 0)?;
     let mut writer = Dripping {
         held: Vec::new(alloc),

@@ -4,6 +4,7 @@ use crate::devices::LongLine;
 use crate::talk::{Talk, converse, new_vault};
 use std::alloc::{AllocError, Global};
 use std::sync::Wait;
+use std::time::Clock;
 use vault_sessions::{Ended, Totals};
 
 // The most bytes of a connection.
@@ -19,7 +20,7 @@ fn repeated(alloc: Global, first: &[u8], line: &[u8], times: usize) -> Result<Ve
 }
 
 // What the last of some conversations over a new vault comes to, and what all were told.
-fn told<H: Wait>(rt: &H, alloc: Global, inputs: &mut [&[u8]]) -> Option<(Talk, Vec<u8>)> {
+fn told<H: Wait + Clock>(rt: &H, alloc: Global, inputs: &mut [&[u8]]) -> Option<(Talk, Vec<u8>)> {
     let vault = new_vault(alloc, alloc, 0)?;
     let mut held = Vec::new(alloc);
     let talk = converse(rt, alloc, vault, inputs, &mut held)?;
@@ -62,7 +63,7 @@ fn more_than_are_kept(rt: HostRuntime) {
 }
 
 // What a conversation comes to whose one line has so many bytes, if it was told just this.
-fn long_line<H: Wait>(rt: &H, alloc: Global, bytes: usize, text: &[u8]) -> Option<Talk> {
+fn long_line<H: Wait + Clock>(rt: &H, alloc: Global, bytes: usize, text: &[u8]) -> Option<Talk> {
     let vault = new_vault(alloc, alloc, 0)?;
     let reader = LongLine {
         left: bytes,

@@ -3,6 +3,7 @@
 use crate::talk::{Talk, converse, new_vault};
 use std::alloc::Global;
 use std::sync::Wait;
+use std::time::Clock;
 use test_memory::{Refusing, Tried, requests};
 use vault_sessions::{Ended, Totals};
 
@@ -28,7 +29,7 @@ fn is_whole(talk: Option<Talk>, held: &[u8]) -> bool {
 }
 
 // Tries a conversation over a new vault. A gate commits each entry in the worker's own thread, so the requests come in one order.
-fn talks<H: Wait>(rt: &H, global: Global, memory: &Refusing<Global>, number: u64) -> Tried {
+fn talks<H: Wait + Clock>(rt: &H, global: Global, memory: &Refusing<Global>, number: u64) -> Tried {
     let Some(vault) = new_vault(global, memory, 0) else {
         return Tried::Wrong;
     };

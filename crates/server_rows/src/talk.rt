@@ -42,27 +42,24 @@ pub fn new_vault<A: Allocator + Copy>(
     Vault::create(alloc, first, second, 1).ok()
 }
 
-// Commits what was staged at once, in place of a flusher, and lets the entry before it go.
+// Commits what was staged at once, by a flusher that ends behind it, and lets the entries before it go.
 #[derive(Drop)]
-struct Committing<'a, S: Tally, T: Tally, A: Allocator + Copy, H: Wait> {
+struct Committing<'a, S: Tally, T: Tally, A: Allocator + Copy, H: Wait + Clock> {
     rt: &'a H,
     shared: &'a Shared<MemDevice, S, T, A>,
 }
 
-impl<S: Tally, T: Tally, A: Allocator + Copy, H: Wait> Gate for Committing<'_, S, T, A, H> {
+impl<S: Tally, T: Tally, A: Allocator + Copy, H: Wait + Clock> Gate for Committing<'_, S, T, A, H> {
     fn at(&self, point: Point) {
-        let shared = self.shared;
         if let Point::Staged(_) = point {
-            for _step in 0..4 {
-                let _ = shared.pump(self.rt);
-            }
-            let _ = shared.retire(self.rt);
+            self.shared.close(self.rt);
+            let _ = run_flusher(self.rt, self.shared, &OpenGate);
         }
     }
 }
 
 // Serves connections one behind the other. What the last one came to, and what all counted.
-fn converse_over<S: Tally, T: Tally, A: Allocator + Copy, R: Read, W: Write, H: Wait>(
+fn converse_over<S: Tally, T: Tally, A: Allocator + Copy, R: Read, W: Write, H: Wait + Clock>(
     rt: &H,
     alloc: A,
     staged: Blank,
@@ -97,7 +94,7 @@ fn converse_over<S: Tally, T: Tally, A: Allocator + Copy, R: Read, W: Write, H: 
 }
 
 /// Serves connections of a vault one behind the other. What the last one came to, and what all counted.
-pub fn converse<A: Allocator + Copy, R: Read, W: Write, H: Wait>(
+pub fn converse<A: Allocator + Copy, R: Read, W: Write, H: Wait + Clock>(
     rt: &H,
     alloc: A,
     vault: Vault<MemDevice, A>,

@@ -5,12 +5,12 @@ ghost use Rattle.group_commit.specs.View.{length_of};
 use crate::desk::Desk;
 use crate::tally::{Share, Tally, Totals};
 use flusher_pace::Pace;
-use group_commit::{Pumped, Retired, Vault};
+use group_commit::Vault;
 use std::alloc::{AllocError, Allocator, Global};
 use std::marker::Model;
 use std::sync::ledger::{Blank, Book as LedgerBook, Share as Part};
 use std::sync::{Condvar, Mutex, Wait};
-use vault_device::{Device, Fault};
+use vault_device::Device;
 
 /// A desk under a lock, for some workers and a flusher. Contracts see how many shares it gave out.
 #[derive(Drop)]
@@ -87,17 +87,6 @@ impl<D: Device, S: Tally, T: Tally, A: Allocator + Copy> Shared<D, S, T, A> {
             workers,
         };
         Ok((shared, shares))
-    }
-
-    /// One pump, under one holding of the lock: for a host that serves connections without a thread for a flusher. Waits for the
-    /// lock.
-    pub fn pump<H: Wait>(&self, rt: &H) -> Result<Pumped, Fault> {
-        self.desk.lock(rt).pump()
-    }
-
-    /// Lets the oldest entry go where it may be, under one holding of the lock: for such a host, too.
-    pub fn retire<H: Wait>(&self, rt: &H) -> Retired {
-        self.desk.lock(rt).retire()
     }
 
     /// Lets the flusher end once all is settled. Is called once no worker stages any more; a second call changes nothing. Waits
