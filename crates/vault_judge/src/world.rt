@@ -75,6 +75,7 @@ struct Active {
     tail: u64,
     // How many bytes its frames have.
     journal: u64,
+    version: FileVersion,
 }
 
 /// The other file.
@@ -144,6 +145,7 @@ impl World {
                 frames: 0,
                 tail: NEW_TAIL,
                 journal: 0,
+                version: FileVersion::Two,
             },
             spare: Spare {
                 shut: false,
@@ -172,7 +174,8 @@ impl World {
 
     /// Whether a snapshot is wanted.
     pub(crate) fn wants_snapshot(&self) -> bool {
-        self.phase == Phase::Idle && self.active.journal >= LONG_JOURNAL
+        let is_long = self.active.journal >= LONG_JOURNAL;
+        self.phase == Phase::Idle && (is_long || self.active.version == FileVersion::One)
     }
 
     /// Why the next command is refused, if it is.
@@ -184,6 +187,23 @@ impl World {
             return Some(Outside::Busy);
         }
         None
+    }
+
+    /// The files were replaced by two that a program of version 1 wrote. Of these the second is the newer one, whose tail gate stands
+    /// here.
+    pub fn take_first_version(&mut self, tail: u64) {
+        self.active = Active {
+            which: File::Second,
+            generation: 2,
+            frames: 0,
+            tail,
+            journal: 0,
+            version: FileVersion::One,
+        };
+        self.spare = Spare {
+            shut: false,
+            older: Some(1),
+        };
     }
 
     /// One more command, whose effect has a record of so many bytes, or 0 where it has no effect.
@@ -259,6 +279,7 @@ impl World {
             frames: 0,
             tail: self.rest,
             journal: 0,
+            version: FileVersion::Two,
         };
         self.rest = 0;
         self.phase = Phase::Idle;
@@ -399,7 +420,7 @@ impl World {
                 generation: self.active.generation,
                 frames: self.active.frames,
                 tail: self.active.tail,
-                version: FileVersion::Two,
+                version: self.active.version,
             };
         }
         match self.spare.older {

@@ -6,10 +6,10 @@ use crate::run::Run;
 use crate::speech::PARTS;
 use group_commit::Vault;
 use vault_device::MemDevice;
-use vault_judge::Judge;
+use vault_judge::{Files, Judge, Left, new_vault};
 
 // What most runs begin with.
-const PLACES: [&str; 12] = [
+const PLACES: [&str; 18] = [
     "make /e",
     "make /f",
     "make /e/b",
@@ -22,6 +22,27 @@ const PLACES: [&str; 12] = [
     "make /e/c/q",
     "make /f/b/p",
     "make /f/b/q",
+    "nest /e/b/n",
+    "make /e/b/n/p",
+    "nest /e/b/n/o",
+    "nest /e/b/n/o/q",
+    "nest /e/b/n/o/q/r",
+    "make /e/b/n/o/q/r/z",
+];
+
+// What the files of version 1 hold.
+const WRITTEN: [&str; 2] = ["make /e", "checkout w:/e"];
+
+// As a program of version 1 wrote them: the first file has generation 1 and one frame, the second one a snapshot of generation 2.
+const FIRST_FILE: [u8; 47] = [
+    1, b'L', b'L', b'V', b'A', b'U', b'L', b'T', 0, 0, 0, 1, 0, 0, 0, 0, 0, 0, 0, 1, 0, 0, 0, 10,
+    0, 0, 0, 0, 0, 0, 0, 1, 0, 0, 1, 0, 0, 0, 7, 1, 0, 0, 0, 0, 1, b'e', 0,
+];
+
+const SECOND_FILE: [u8; 57] = [
+    1, b'L', b'L', b'V', b'A', b'U', b'L', b'T', 0, 0, 0, 1, 0, 0, 0, 0, 0, 0, 0, 2, 0, 0, 0, 32,
+    0, 0, 0, 1, 0, 0, 0, 2, 0, 0, 0, 0, 1, b'e', 0, 1, 0, 0, 0, 1, 4, b'a', b'n', b'n', b'a', 1, 1,
+    0, 0, 0, 1, 0, 0,
 ];
 
 // How many versions of seven parts are more than one piece of a snapshot.
@@ -84,15 +105,45 @@ impl Run {
         }
     }
 
-    /// Two sessions, and what the mood has the run begin with.
-    pub(crate) fn furnish(&mut self, vault: &mut Vault<MemDevice>) {
+    // In the place of the files of a new vault there are those of version 1, and the vault that they hold is opened.
+    fn opened_first_version(&mut self, vault: Vault<MemDevice>) -> Option<Vault<MemDevice>> {
+        let mut vault = vault;
+        self.tell(&mut vault, 0, "hello anna");
+        for line in &WRITTEN {
+            self.tell(&mut vault, 1, line);
+        }
+        self.judge.commit(&mut vault);
+        let mut files = Files::of(vault);
+        self.judge.stop(&mut files, Left::Shown, Left::Shown);
+        self.speakers.restart();
+        drop(files);
+        let mut files = Files::with(self.judge.alloc, &FIRST_FILE, &SECOND_FILE)?;
+        self.judge
+            .world
+            .take_first_version(SECOND_FILE.len() as u64 - 1);
+        self.judge.inspect(&mut files);
+        self.must_open(files)
+    }
+
+    /// The vault that the mood has the run begin with, and two sessions. None where a difference is found, or memory is wanted.
+    pub(crate) fn begun(&mut self) -> Option<Vault<MemDevice>> {
+        let mut vault = new_vault(self.judge.alloc, 1)?;
+        if self.mood.beginning == Beginning::FirstVersion {
+            vault = self.opened_first_version(vault)?;
+        }
+        self.furnish(&mut vault);
+        Some(vault)
+    }
+
+    // Two sessions, and what the mood has the run begin with.
+    fn furnish(&mut self, vault: &mut Vault<MemDevice>) {
         self.tell(vault, 0, "hello anna");
         self.tell(vault, 0, "hello ben");
         if self.mood.beginning != Beginning::Bare {
             make_places(&mut self.judge, vault);
         }
         match self.mood.beginning {
-            Beginning::Bare | Beginning::Places => {}
+            Beginning::Bare | Beginning::Places | Beginning::FirstVersion => {}
             Beginning::Versions => fill(&mut self.judge, vault, &mut self.line),
             Beginning::FullBuffer => self.save_often(vault, BUFFER, false),
             Beginning::LongJournal => self.save_often(vault, JOURNAL, true),

@@ -25,7 +25,7 @@ mod stopping;
 mod stops;
 mod tearing;
 
-use crate::limits::{LIMITS, NUMBERS};
+use crate::limits::{LIMITS, Limit, NUMBERS};
 use crate::reporting::{Runs, report_all_stops, report_files, report_limits, report_random};
 use std::process::ExitCode;
 use std::{env, io};
@@ -39,7 +39,7 @@ usage: vault_simulation random [SEED [RUNS [COMMANDS]]]   random runs, with the 
        vault_simulation stops     one run, stopped inside each device call
        vault_simulation files     files that are cut or changed
        vault_simulation limits    limits that calls reach
-       vault_simulation numbers   all 4294967295 numbers of sessions, of holds and of check-outs: hours
+       vault_simulation numbers [sessions | holds | check-outs]   all 4294967295 numbers of each: hours
        vault_simulation all       all but the numbers";
 
 /// The number that a word spells; another one where there is no word, or no number.
@@ -68,11 +68,21 @@ fn report_all(rt: &HostRuntime, runs: Runs) -> io::Result<bool> {
     Ok(stops && files && limits && random)
 }
 
-/// What is asked for.
-fn task_in(words: &[String]) -> &str {
-    match words.get(1) {
+/// A word of the command line; empty where there is none.
+fn word_at(words: &[String], place: usize) -> &str {
+    match words.get(place) {
         Some(word) => word.as_str(),
         None => "",
+    }
+}
+
+/// All numbers, or those of one kind.
+fn report_numbers(rt: &HostRuntime, kind: &str) -> io::Result<bool> {
+    match kind {
+        "sessions" => report_limits(rt, rt.alloc(), &[Limit::EachSession]),
+        "holds" => report_limits(rt, rt.alloc(), &[Limit::EachHold]),
+        "check-outs" => report_limits(rt, rt.alloc(), &[Limit::EachCheckOut]),
+        _ => report_limits(rt, rt.alloc(), &NUMBERS),
     }
 }
 
@@ -84,12 +94,12 @@ fn help(rt: &HostRuntime) -> io::Result<bool> {
 
 /// Runs and reports what is asked for: whether no difference is found.
 fn report(rt: &HostRuntime, words: &[String]) -> io::Result<bool> {
-    match task_in(words) {
+    match word_at(words, 1) {
         "random" => report_random(rt, rt.alloc(), runs_in(words, true)),
         "stops" => report_all_stops(rt, rt.alloc()),
         "files" => report_files(rt, rt.alloc()),
         "limits" => report_limits(rt, rt.alloc(), &LIMITS),
-        "numbers" => report_limits(rt, rt.alloc(), &NUMBERS),
+        "numbers" => report_numbers(rt, word_at(words, 2)),
         "all" => report_all(rt, runs_in(words, false)),
         _ => help(rt),
     }

@@ -3,12 +3,14 @@
 use crate::dice::Dice;
 
 // Lines, each as often as it is drawn. A capital stands for a random word (speech.rt).
-const LINES: [&str; 40] = [
+const LINES: [&str; 42] = [
     "hello N",
     "make P",
     "make P",
     "make P",
     "make P K",
+    "nest P",
+    "nest P K",
     "checkout I",
     "checkout I",
     "checkout I",
@@ -61,6 +63,8 @@ pub(crate) enum Beginning {
     LongJournal,
     /// As many entries as are kept.
     FullHistory,
+    /// Files that a program of version 1 wrote.
+    FirstVersion,
 }
 
 /// How a run is inclined.
@@ -107,6 +111,7 @@ fn drawn_beginning(dice: &mut Dice) -> Beginning {
         11 => Beginning::LongJournal,
         12 => Beginning::FullHistory,
         13..33 => Beginning::Versions,
+        33..53 => Beginning::FirstVersion,
         _ => Beginning::Places,
     }
 }

@@ -1,4 +1,4 @@
-//! One run: random commands, pumps, snapshots and redeems, with stops between them, from a new vault on.
+//! One run: random commands, pumps, snapshots and redeems, with stops between them, from a new vault on, or from old files.
 
 use crate::dice::Dice;
 use crate::line::Line;
@@ -8,7 +8,7 @@ use crate::speech::{claim, id, names_claim, spell};
 use group_commit::{Phase, Vault};
 use std::alloc::Global;
 use vault_device::MemDevice;
-use vault_judge::{Files, Judge, Met, Verdict, new_vault};
+use vault_judge::{Files, Judge, Met, Verdict};
 use vault_model::{Claim, Reply};
 
 /// What is known of a vault, and how it is treated. As it has tickets, it ends by `close`.
@@ -179,10 +179,9 @@ impl Run {
 
     /// All lives, until no command is left or a difference is found.
     pub(crate) fn lives(&mut self) {
-        let Some(mut vault) = new_vault(self.judge.alloc, 1) else {
+        let Some(mut vault) = self.begun() else {
             return;
         };
-        self.furnish(&mut vault);
         for _ in 0..self.left {
             vault = match self.next_life(vault) {
                 Some(next) => next,

@@ -8,9 +8,35 @@ use vault_model::{Claim, ClaimId, Standing};
 
 const DESIGNERS: [&str; 4] = ["anna", "ben", "carl-3", "d_0123456789012345678901234567-9"];
 
-const PATHS: [&str; 20] = [
-    "/", "/e", "/f", "/e/b", "/e/c", "/f/b", "/e/b/p", "/e/b/q", "/e/b/r", "/e/c/p", "/e/c/q",
-    "/f/b/p", "/f/b/q", "/e", "/e/b", "/e/b/p", "/e/b/q", "/e/c/p", "/f/b/p", "/f/b/s",
+const PATHS: [&str; 28] = [
+    "/",
+    "/e",
+    "/f",
+    "/e/b",
+    "/e/c",
+    "/f/b",
+    "/e/b/p",
+    "/e/b/q",
+    "/e/b/r",
+    "/e/c/p",
+    "/e/c/q",
+    "/f/b/p",
+    "/f/b/q",
+    "/e",
+    "/e/b",
+    "/e/b/p",
+    "/e/b/q",
+    "/e/c/p",
+    "/f/b/p",
+    "/f/b/s",
+    "/e/b/n",
+    "/e/b/n/p",
+    "/e/b/n/o",
+    "/e/b/n/o/q",
+    "/e/b/n/o/q/r",
+    "/e/b/n/o/q/r/z",
+    "/f/b/n",
+    "/f/b/n/p",
 ];
 
 /// The parts that most runs have.
@@ -19,7 +45,17 @@ pub(crate) const PARTS: [&str; 7] = [
 ];
 
 // Paths below which nobody made a place yet.
-const TOPS: [&str; 5] = ["/", "/e/", "/f/", "/e/b/", "/f/b/"];
+const TOPS: [&str; 9] = [
+    "/",
+    "/e/",
+    "/f/",
+    "/e/b/",
+    "/f/b/",
+    "/e/b/n/",
+    "/e/b/n/o/",
+    "/e/b/n/o/q/",
+    "/e/b/n/o/q/r/",
+];
 
 fn is_held(claims: &Claims, claim: &Claim) -> bool {
     matches!(claim.id, ClaimId::Long(_)) && claims.standing(claim.id) == Some(Standing::Held)

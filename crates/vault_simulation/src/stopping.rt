@@ -87,8 +87,8 @@ impl Run {
         self.judge.armed = Some(which);
     }
 
-    // Opens the vault of the present life, which is not refused.
-    fn must_open(&mut self, files: Files) -> Option<Vault<MemDevice>> {
+    /// Opens the vault of the present life, which is not refused.
+    pub(crate) fn must_open(&mut self, files: Files) -> Option<Vault<MemDevice>> {
         match files.open(self.judge.alloc, self.judge.world.life) {
             Ok(vault) => Some(vault),
             Err((_, files)) => {
