@@ -1,7 +1,7 @@
 -- What claims wait for, before and after a claim leaves the line or moves to its front.
-use Rattle.std.specs.Prelude.{◌≡◌, ℕ, zero, suc, ◌+◌, Bool, true, false, not, ◌&&◌, List, [], ◌∷◌, ◌++◌, map, find, filter, take, drop, length, position, slice_get, Option, None, Some, is_none, is_some, All, refl}
-use Rattle.std.proofs.Common.{sym, ap, subst, ◌∙◌, cond, arith, ◌⊎◌, inl, inr}
-use Rattle.std.specs.List.{list_any, prefix_len, position_or_len, remove, AllByRecursion, IsDistinct}
+use Rattle.std.specs.Prelude.{◌≡◌, ℕ, zero, suc, ◌+◌, Bool, true, false, not, ◌&&◌, List, [], ◌∷◌, ◌++◌, map, find, take, drop, position, slice_get, Option, None, Some, is_none, is_some, All, refl}
+use Rattle.std.proofs.Common.{sym, ap, subst, ◌∙◌, cond, arith}
+use Rattle.std.specs.List.{prefix_len, position_or_len, remove, IsDistinct}
 use Rattle.std.specs.Option.{option_map}
 use Rattle.std.proofs.lemmas.List.Elements.{All-nil, All-cons, All-head, All-tail, All-filter}
 use Rattle.vault_model.specs.declared.ids.ClaimId.{ClaimId}
@@ -16,8 +16,8 @@ use Rattle.lock_table.specs.declared.again.Again.{Again}
 use Rattle.lock_table.specs.declared.again.Again.TheVariants.{Behind, Queued, Everyone}
 use Rattle.lock_table.specs.Locks.{mode_at, AreApart, conflict}
 use Rattle.lock_table.specs.Tables.{first_in_way, entry_of, entries_before, entries_without, is_held_in, held_in_way, put_first}
-use Rattle.lock_table.specs.Queues.{CellSeen, AreStale, IsWeighing, AreQueues, seats_at, seats_by, seat_of, blocker_at, blockers_of, is_taken}
-use Rattle.lock_table.proofs.LockConflicts.{HasLock, lock_from, lock_to}
+use Rattle.lock_table.specs.Queues.{CellSeen, AreStale, IsWeighing, seats_at, seats_by, seat_of, blocker_at, blockers_of, is_taken}
+use Rattle.lock_table.proofs.LockConflicts.{lock_from, lock_to}
 use Rattle.std.proofs.lemmas.Option.{same_Some}
 use Rattle.lock_table.proofs.Removals.{ids, is_its, own_index, remove_first, none_its}
 use Rattle.lock_table.proofs.Queuing.{located, not_located, own_id}

@@ -1,7 +1,7 @@
 -- Where something stands that was looked for from the end.
-use Rattle.std.specs.Prelude.{◌≡◌, ℕ, zero, suc, ◌+◌, ◌<◌, ◌≤◌, Bool, true, false, not, nat_lt, List, [], ◌∷◌, ◌++◌, length, map, take, drop, filter, position, slice_get, Option, None, Some, All, refl}
-use Rattle.std.proofs.Common.{sym, ap, subst, ◌∙◌, cond, arith, get_or}
-use Rattle.std.specs.List.{position_or_len, IsDistinct}
+use Rattle.std.specs.Prelude.{◌≡◌, ℕ, zero, suc, ◌+◌, ◌<◌, Bool, true, false, not, nat_lt, List, [], ◌∷◌, length, take, drop, position, slice_get, None, Some, All, refl}
+use Rattle.std.proofs.Common.{ap, subst, ◌∙◌, cond, arith}
+use Rattle.std.specs.List.{position_or_len}
 use Rattle.std.proofs.lemmas.Bool.Decides.{nat_tests}
 use Rattle.std.proofs.lemmas.List.Elements.{All-nil, All-cons, All-head, All-tail}
 use Rattle.std.proofs.lemmas.Option.{same_Some}

@@ -1,5 +1,5 @@
 -- The group of the held seats without one claim's own seat.
-use Rattle.std.specs.Prelude.{◌≡◌, ℕ, suc, ◌+◌, ◌<◌, Bool, true, false, not, ◌&&◌, List, [], ◌∷◌, ◌++◌, filter, find, position, slice_get, Option, None, Some, is_none, refl}
+use Rattle.std.specs.Prelude.{◌≡◌, ℕ, ◌+◌, ◌<◌, Bool, true, false, not, ◌&&◌, List, [], ◌∷◌, ◌++◌, filter, find, position, slice_get, Option, None, Some, is_none, refl}
 use Rattle.std.proofs.Common.{sym, ap, subst, ◌∙◌, cond, arith}
 use Rattle.std.specs.List.{list_all, IsDistinct, AllByRecursion}
 use Rattle.std.specs.Option.{option_map}

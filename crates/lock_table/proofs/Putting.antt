@@ -1,8 +1,7 @@
 -- Cells in a list: one changed, one more, and a claim put last at the places of its locks.
-use Rattle.std.specs.Prelude.{◌≡◌, ◌≢◌, ◌⊎◌, ℕ, zero, suc, ◌+◌, ◌<◌, ◌≤◌, Bool, true, false, ◌==◌, nat_eq, List, [], ◌∷◌, ◌++◌, length, slice_get, Option, None, Some, All, refl}
-use Rattle.std.proofs.Common.{sym, ap, subst, ◌∙◌, arith, get_or, set, inl, inr, eqb, append-nil, length-append, length-set}
+use Rattle.std.specs.Prelude.{◌≡◌, ◌≢◌, ◌⊎◌, ℕ, zero, suc, ◌<◌, ◌≤◌, Bool, true, false, ◌==◌, nat_eq, List, [], ◌∷◌, ◌++◌, length, slice_get, Option, None, Some, All, refl}
+use Rattle.std.proofs.Common.{sym, ap, subst, ◌∙◌, arith, get_or, set, inl, inr, eqb, append-nil, length-append}
 use Rattle.std.specs.List.{IsDistinct, AllByRecursion}
-use Rattle.std.proofs.lemmas.Bool.{cases_lt}
 use Rattle.std.proofs.lemmas.Bool.Decides.{eqb_tells}
 use Rattle.std.proofs.lemmas.List.Elements.{All-nil, All-cons, All-head, All-tail}
 use Rattle.vault_model.specs.declared.ids.ClaimId.{ClaimId}

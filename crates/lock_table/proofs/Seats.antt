@@ -1,10 +1,10 @@
 -- The seats of one place through each change, and both groups with them.
-use Rattle.std.specs.Prelude.{◌≡◌, ℕ, zero, suc, ◌+◌, ◌<◌, ◌≤◌, Bool, true, false, not, nat_lt, List, [], ◌∷◌, ◌++◌, length, map, filter, position, set, slice_get, Option, None, Some, is_some, is_none, All, refl}
+use Rattle.std.specs.Prelude.{◌≡◌, ℕ, zero, suc, ◌+◌, ◌<◌, ◌≤◌, Bool, true, false, not, nat_lt, List, [], ◌∷◌, ◌++◌, length, position, set, slice_get, Option, None, Some, is_some, is_none, All, refl}
 use Rattle.std.proofs.Common.{sym, ap, subst, ◌∙◌, cond, arith, get_or}
 use Rattle.std.specs.List.{IsDistinct, AllByRecursion, position_or_len}
 use Rattle.std.proofs.lemmas.Bool.Decides.{nat_tests}
 use Rattle.std.proofs.lemmas.Option.{same_Some}
-use Rattle.std.proofs.lemmas.List.Elements.{All-nil, All-cons, All-head, All-tail}
+use Rattle.std.proofs.lemmas.List.Elements.{All-head, All-tail}
 use Rattle.vault_model.specs.declared.ids.ClaimId.{ClaimId}
 use Rattle.vault_model.specs.Claims.{same_id}
 use Rattle.vault_model.proofs.Stays.{same_id_itself}
@@ -18,7 +18,7 @@ use Rattle.lock_table.specs.Tables.{entry_of, entries_without}
 use Rattle.lock_table.specs.Queues.{CellSeen, AreCounted, seat_modes, held_seats, seat_of, seats_by, seats_without, restood, by_lock, held_by, with_own, HasOwn, HasSeat}
 use Rattle.lock_table.proofs.Removals.{ids}
 use Rattle.lock_table.proofs.Counts.{with_one_swap}
-use Rattle.lock_table.proofs.Others.{with_one_same, count_own, NoSeat, none_seated, restood_none, without_none, no_mode, rest_apart}
+use Rattle.lock_table.proofs.Others.{with_one_same, count_own, restood_none, without_none, no_mode, rest_apart}
 
 -- a seat put first
 pub counted_first : (seats more : List Seat) (all held : Counts) (s : Seat) (all' held' : Counts) → AreCounted seats all held → more ≡ s ∷ seats

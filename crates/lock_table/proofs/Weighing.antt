@@ -1,10 +1,9 @@
 -- The queues of a line: claims put last one after another, and what the queues say of the line.
-use Rattle.std.specs.Prelude.{◌≡◌, ◌≢◌, ◌⊎◌, ℕ, zero, suc, ◌+◌, ◌<◌, ◌≤◌, Bool, true, false, not, ◌&&◌, List, [], ◌∷◌, ◌++◌, length, find, take, map, Option, None, Some, is_some, is_none, All, refl}
-use Rattle.std.proofs.Common.{sym, ap, subst, ◌∙◌, cond, arith, get_or, drop, inl, inr, eqb, append-nil, length-append}
+use Rattle.std.specs.Prelude.{◌≡◌, ℕ, zero, suc, ◌+◌, ◌<◌, ◌≤◌, Bool, true, false, not, ◌&&◌, List, [], ◌∷◌, ◌++◌, length, find, take, map, Option, None, Some, is_none, All, refl}
+use Rattle.std.proofs.Common.{sym, ap, subst, ◌∙◌, cond, arith, get_or, append-nil, length-append}
 use Rattle.std.specs.List.{IsDistinct, AllByRecursion, list_all, prefix_len}
 use Rattle.std.specs.Option.{option_map}
-use Rattle.std.proofs.lemmas.Bool.Decides.{eqb_tells}
-use Rattle.std.proofs.lemmas.List.{append_assoc, take-append-drop, length_push, take_more}
+use Rattle.std.proofs.lemmas.List.{append_assoc, take_more}
 use Rattle.std.proofs.lemmas.List.Elements.{All-nil, All-cons, All-head, All-tail}
 use Rattle.vault_model.specs.declared.ids.ClaimId.{ClaimId}
 use Rattle.vault_model.specs.Claims.{same_id}

@@ -1,6 +1,6 @@
 -- For each place the queue of the claims that have a mode there, in line order: Gray, Lorie, Putzolu, Traiger (1976).
 use Rattle.std.specs.Bool.{⊤}
-use Rattle.std.specs.Prelude.{◌≡◌, ℕ, suc, ◌<◌, ◌≤◌, Bool, true, false, ◌&&◌, not, nat_lt, if◌then◌else◌, List, [], ◌∷◌, ◌++◌, length, map, take, drop, filter, find, position, slice_get, Option, None, Some, All}
+use Rattle.std.specs.Prelude.{◌≡◌, ℕ, ◌<◌, ◌≤◌, Bool, true, false, ◌&&◌, not, nat_lt, if◌then◌else◌, List, [], ◌∷◌, ◌++◌, length, map, take, drop, filter, find, position, slice_get, Option, None, Some, All}
 use Rattle.std.specs.Option.{option_map, option_and_then, is_none}
 use Rattle.vault_model.specs.declared.ids.ClaimId.{ClaimId}
 use Rattle.vault_model.specs.Claims.{same_id}

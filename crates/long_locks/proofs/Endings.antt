@@ -1,6 +1,6 @@
 -- Claims that end together, taken out one after another.
-use Rattle.std.specs.Prelude.{◌≡◌, ℕ, zero, suc, Bool, true, false, not, List, [], ◌∷◌, length, map, filter, drop, slice_get, Option, None, Some, All, refl}
-use Rattle.std.proofs.Common.{sym, ap, subst, ◌∙◌, cond, arith}
+use Rattle.std.specs.Prelude.{◌≡◌, ℕ, zero, suc, Bool, true, false, not, List, [], ◌∷◌, length, map, filter, drop, slice_get, None, Some, All, refl}
+use Rattle.std.proofs.Common.{ap, subst, ◌∙◌, cond, arith}
 use Rattle.std.specs.List.{IsDistinct, AllByRecursion}
 use Rattle.std.proofs.lemmas.List.Elements.{All-nil, All-cons, All-head, All-tail, All-filter}
 use Rattle.vault_model.specs.declared.place.Place.{Place}

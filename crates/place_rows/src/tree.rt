@@ -199,7 +199,7 @@ fn assemblies_stand_down_to_the_sixth_name(rt: HostRuntime) {
 #[test]
 fn additions_are_refused_in_order(rt: HostRuntime) {
     let mut tree = small_tree(&rt, rt.alloc());
-    let (other, first) = (name(&rt, b"x"), name(&rt, b"p1"));
+    let first = name(&rt, b"p1");
     for (parent, kind) in [
         (3, Kind::Part),
         (3, Kind::Assembly),
@@ -217,6 +217,7 @@ fn additions_are_refused_in_order(rt: HostRuntime) {
             Err(AddError::WrongKind)
         );
     }
+    assert_eq!(rt; tree.len(), 5);
     assert_eq!(rt;
         tree.add(PlaceId(2), first, Kind::Part),
         Err(AddError::Exists)
@@ -224,7 +225,13 @@ fn additions_are_refused_in_order(rt: HostRuntime) {
     let same = small_tree(&rt, rt.alloc());
     assert!(rt; is_same(&rt, &tree, &same));
     drop(same);
+    drop(tree);
+}
 
+#[test]
+fn a_place_has_at_most_64_children(rt: HostRuntime) {
+    let mut tree = small_tree(&rt, rt.alloc());
+    let other = name(&rt, b"x");
     // The library has `/e`, and 63 more are made.
     for number in 1..64u8 {
         let child = name(&rt, &[b'a' + number / 8, b'0' + number % 8]);

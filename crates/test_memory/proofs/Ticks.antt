@@ -11,7 +11,7 @@ use contract.Monad.{Fun}
 use types.Kit.{‵, ◌⊛◌, some, later, ◌$◌, ◌∵◌, !, qed, move, keep, use1, split, join, pick, fjoin, feq_i, feq_l, check, await, updating, now as at_once, show, done}
 use denote.RattleType.{RattleType}
 use denote.Memory.{hidden_shr}
-use denote.Builtin.{u64, bool}
+use denote.Builtin.{bool}
 use denote.Steps.{nothing, only}
 use denote.Triple.Statement.{Contract}
 use denote.Triple.Spec.{triple_of}

@@ -1,8 +1,8 @@
 -- What a write behind a closed gate and a write of the gate leave.
-use Rattle.std.proofs.Common.{◌≡◌, ◌≢◌, inl, inr, ℕ, ◌+◌, ◌<◌, List, length, get_or, set, refl, sym, ◌∙◌, ap, subst, arith, IsTrue, Result}
+use Rattle.std.proofs.Common.{◌≡◌, ◌≢◌, inl, inr, ℕ, ◌+◌, ◌<◌, List, length, get_or, set, refl, sym, ◌∙◌, ap, subst, arith}
 use Rattle.std.proofs.lemmas.List.{length-set, set-set}
 use Rattle.std.proofs.lemmas.Bool.{cases_eq}
-use Rattle.vault_device.specs.Disk.{Disk, IsTorn, IsOneCall, LeavesOnly, IsTornImage}
+use Rattle.vault_device.specs.Disk.{Disk, IsTorn, LeavesOnly, IsTornImage}
 use Rattle.vault_device.proofs.Torn.{torn_front, torn_byte, torn_none}
 use Rattle.vault_journal.specs.Gate.{IsBehind, SameBut, IsOpening, StaysClosed}
 

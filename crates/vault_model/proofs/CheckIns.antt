@@ -1,6 +1,6 @@
 -- A check-in leaves the weight, and is refused by a limit only for parts that are full.
-use Rattle.std.specs.Prelude.{◌≡◌, ◌⊎◌, ℕ, zero, suc, ◌+◌, ◌<◌, ◌≤◌, ◌==◌, ◌&&◌, nat_le, nat_lt, Bool, true, false, not, List, [], ◌∷◌, length, map, slice_index_or, filter, count_by, Option, None, Some, Result, Ok, Err, All, refl}
-use Rattle.std.proofs.Common.{ap, sym, subst, ◌∙◌, cond, arith, inl, inr}
+use Rattle.std.specs.Prelude.{◌≡◌, ℕ, zero, suc, ◌+◌, ◌<◌, ◌≤◌, ◌==◌, ◌&&◌, nat_le, Bool, true, false, not, List, [], ◌∷◌, length, map, slice_index_or, filter, count_by, Option, None, Some, Result, Ok, Err, All, refl}
+use Rattle.std.proofs.Common.{ap, sym, subst, ◌∙◌, cond, arith}
 use Rattle.std.specs.List.{list_all, Contains, AllByRecursion}
 use Rattle.std.specs.Option.{ok_or}
 use Rattle.std.proofs.lemmas.Bool.Decides.{nat_tests}
@@ -23,8 +23,8 @@ use Rattle.vault_model.specs.Vault.{Vault, IsDraft, IsVault, session_of, weight_
 use Rattle.vault_model.specs.Changes.{with_versions}
 use Rattle.vault_model.specs.Step.{Outcome, ◌>>=◌, chained, refuse_if, usable, check_in, at_door, in_session, decide, outcome_of, step}
 use Rattle.vault_model.specs.Laws.{CheckInKeepsTheWeight, CheckInIsRefusedForFullParts}
-use Rattle.vault_model.proofs.Overlaps.{and_both, eq_from}
-use Rattle.vault_model.proofs.Shelves.{are_short, have_room, few_at, le_true, true_le, shelvable-is, weight-shelved_all}
+use Rattle.vault_model.proofs.Overlaps.{eq_from}
+use Rattle.vault_model.proofs.Shelves.{are_short, have_room, few_at, le_true, shelvable-is, weight-shelved_all}
 use Rattle.vault_model.proofs.Kept.{split_weight}
 use Rattle.vault_model.proofs.Transitions.{by_count}
 

@@ -1,5 +1,5 @@
 -- Claims that change in their places: their ids and their items stay, and so does how each stands.
-use Rattle.std.specs.Prelude.{◌≡◌, ℕ, Bool, true, false, not, List, [], ◌∷◌, length, map, filter, Option, None, Some, is_some, find, All, refl}
+use Rattle.std.specs.Prelude.{◌≡◌, ℕ, Bool, true, false, not, List, [], ◌∷◌, map, filter, Option, None, Some, is_some, find, refl}
 use Rattle.std.proofs.Common.{ap, sym, subst, ◌∙◌, cond}
 use Rattle.std.specs.Option.{option_map}
 use Rattle.std.proofs.lemmas.List.{length-map}

@@ -1,6 +1,6 @@
 -- A second save of a place replaces the first.
 use Rattle.std.specs.Prelude.{◌≡◌, ℕ, Bool, true, false, not, ◌||◌, ◌&&◌, ◌==◌, nat_lt, nat_le, List, length, [], ◌∷◌, ◌++◌, filter, Option, None, Some, Result, Ok, Err, refl}
-use Rattle.std.proofs.Common.{ap, sym, subst, ◌∙◌, cond, arith}
+use Rattle.std.proofs.Common.{ap, sym, ◌∙◌, cond, arith}
 use Rattle.std.specs.Option.{ok_or}
 use Rattle.std.proofs.lemmas.Bool.Decides.{nat_tests}
 use Rattle.std.proofs.lemmas.List.{append-nil}

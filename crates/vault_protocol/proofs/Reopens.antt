@@ -12,7 +12,7 @@ use Rattle.vault_store.specs.declared.opening.File.TheVariants.{First, Second}
 use Rattle.vault_store.specs.declared.phase.Advanced.TheVariants.{Settled}
 use Rattle.vault_store.specs.Files.{header, frame_extra, Reading, AreRead}
 use Rattle.vault_store.specs.Phases.{is_snapshot, is_opening}
-use Rattle.vault_store.specs.Seen.{of_file, first_of, second_of, Keeps, settled_reading, counted_reading, sealed_reading, gate_at, gated, IsByGate, IsLeftWhile}
+use Rattle.vault_store.specs.Seen.{of_file, first_of, second_of, Keeps, settled_reading, sealed_reading, gate_at, gated, IsByGate, IsLeftWhile}
 use Rattle.vault_store.specs.Laws.{AreHonest, OneReading}
 use Rattle.group_commit.specs.View.{view_at}
 use Rattle.group_commit.specs.Seen.{VaultSeen, snapshot_length, state_of, effects_between}

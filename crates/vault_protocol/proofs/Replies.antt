@@ -8,7 +8,7 @@ use Rattle.std.proofs.lemmas.Bool.{ltb-true}
 use Rattle.vault_model.specs.Said.{Command}
 use Rattle.vault_device.specs.declared.history.Pick.{Pick}
 use Rattle.group_commit.specs.declared.mark.Mark.TheVariants.{Open, Told}
-use Rattle.group_commit.specs.Entries.{Entry, Kept, with_mark}
+use Rattle.group_commit.specs.Entries.{Entry, Kept}
 use Rattle.group_commit.specs.View.{View, length_of}
 use Rattle.group_commit.proofs.Marks.{entry_there, length-with_mark}
 use Rattle.vault_protocol.specs.Grammar.{command_of}

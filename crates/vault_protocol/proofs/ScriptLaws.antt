@@ -5,7 +5,7 @@ use Rattle.group_commit.specs.Runs.{Crash}
 use Rattle.group_commit.specs.View.{View}
 use Rattle.group_commit.specs.Seen.{snapshot_length}
 use Rattle.group_commit.proofs.Reach.{reachable_goes_on}
-use Rattle.vault_protocol.specs.Talk.{Line, Talk, Said, new_talk, said, all_gone, committed, crashed}
+use Rattle.vault_protocol.specs.Talk.{Talk, Said, new_talk, all_gone, crashed}
 use Rattle.vault_protocol.specs.Script.{said_for, said_with, printed}
 use Rattle.vault_protocol.specs.ScriptLaws.{texts_of, talk_after, reached_by, ended_by, PrintedInParts, ScriptsAreRuns, IsRunTo, GoesOnTo, ActsOnTo, RunsGoOn, gate_of, StopsAreCrashes, OthersAreActs, CommitsSettle, EndsTold, IsMadeOfTold, PrintsOldest, RepliesAreTold}
 use Rattle.vault_protocol.proofs.Saying.{known_said}

@@ -1,7 +1,7 @@
 -- Steps of a reading that gave a value.
-use Rattle.std.proofs.Common.{◌≡◌, Bool, true, false, cond, List, [], ◌∷◌, Option, Some, None, refl, sym, ap, ◌∙◌, subst, inl, inr}
-use Rattle.std.specs.Prelude.{◌⊎◌, find}
-use Rattle.std.specs.Option.{option_and_then, option_map}
+use Rattle.std.proofs.Common.{◌≡◌, Bool, true, List, [], ◌∷◌, Option, Some, None, refl, sym, ap, ◌∙◌, subst, inl, inr}
+use Rattle.std.specs.Prelude.{find}
+use Rattle.std.specs.Option.{option_map}
 use Rattle.vault_protocol.specs.Reading.{◌>>=◌}
 use Rattle.vault_journal.proofs.Takes.{chosen}
 

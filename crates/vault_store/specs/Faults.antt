@@ -47,7 +47,8 @@ abbrev pub IsHeadFault : List ℕ → ℕ → Type 0
 IsHeadFault file at =
     ((at ≡ 1) × (mark_in file ≢ mark))
     ⊎ ((at ≡ 8) × (mark_in file ≡ mark) × IsNoVersion (version_in file))
-    ⊎ ((at ≡ 12) × (mark_in file ≡ mark) × ((version : FileVersion) × IsVersion version (version_in file)) × (generation_in file ≡ in_eight 0))
+    ⊎ ((at ≡ 12) × (mark_in file ≡ mark) × ((version : FileVersion) × IsVersion version (version_in file))
+    × (generation_in file ≡ in_eight 0))
 
 -- an open file whose head has a fault
 abbrev pub IsDamagedHead : List ℕ → ℕ → Type 0

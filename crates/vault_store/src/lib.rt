@@ -5,7 +5,8 @@
 //! files stands for the settled vault or, while a gate is being opened, for the settled or the sealed one (`advance`). A
 //! snapshot is of the book with all that was noted (`start_snapshot`). A creation, also one that was stopped,
 //! leaves the new vault or none (`create`). Two files stand for at most one vault, and each durable vault has at most one spelling in
-//! each version of the files (`laws`). Both versions are read, and the second alone is written. Opening gives that vault, or tells the first thing that is wrong with its file and offset, and writes nothing
+//! each version of the files (`laws`). Both versions are read, and the second alone is written. Opening gives that vault, or tells the
+//! first thing that is wrong with its file and offset, and writes nothing
 //! (`open`; of one file alone `read_head` and `read_body`).
 //! Stands on: vault_model, vault_device, vault_journal, design_tree, part_versions, vault_checkout. Must not know: commands,
 //! replies, sessions, tickets, how many entries there are.

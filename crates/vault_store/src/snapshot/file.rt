@@ -66,7 +66,8 @@ fn room_of<B: Allocator + Copy>(book: &Book<B>) -> usize {
 
 // Adds what stands before the snapshot, with a length of 0.
 fn put_front<A: Allocator>(out: &mut Vec<u8, A>, generation: u64) -> Result<(), NoMemory>
-    ensures { Adds out.old.items out.new.items (mark ++ in_four (version_number current_version) ++ in_eight generation ++ in_four 0) result }
+    ensures { Adds out.old.items out.new.items (mark ++ in_four (version_number current_version) ++ in_eight generation ++ in_four 0)
+        result }
 {
     put(out, b"LLVAULT")?;
     put_u32(out, 2)?;

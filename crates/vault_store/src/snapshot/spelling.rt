@@ -186,7 +186,8 @@ fn put_kind<A: Allocator, B: Allocator + Copy>(
     place: PlaceId,
 ) -> Result<(), NoMemory>
     requires { place ≤ length book.now.tree }
-    ensures { Adds out.old.items out.new.items (kind_bytes current_version (is_part book.now.tree place) (versions_of book.now.shelf place)) result }
+    ensures { Adds out.old.items out.new.items
+        (kind_bytes current_version (is_part book.now.tree place) (versions_of book.now.shelf place)) result }
 {
     if !book.tree().is_part(place) {
         return put(out, &[kind_byte(false)]);

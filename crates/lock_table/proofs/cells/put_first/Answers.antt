@@ -1,12 +1,11 @@
-use Rattle.std.specs.Prelude.{List, ◌≡◌, ◌≢◌, ◌+◌, ◌<◌, ◌≤◌, ◌++◌, ◌∷◌, [], drop, length, Some, true, is_some}
+use Rattle.std.specs.Prelude.{List, ◌+◌, ◌<◌, ◌∷◌, drop, length, true, is_some}
 use Rattle.std.proofs.Common.{ap, sym, ◌∙◌, subst, arith}
 use Rattle.std.proofs.lemmas.List.{drop_all}
-use Rattle.vault_model.specs.Limits.{most_claims}
 use Rattle.lock_modes.specs.declared.mode.Mode.{Mode}
 use Rattle.lock_table.specs.declared.locks.Lock.{Lock}
 use Rattle.lock_table.specs.declared.cell.Seat.{Seat}
 use Rattle.lock_table.specs.Locks.{mode_at, AreApart}
-use Rattle.lock_table.specs.Queues.{seats_at, room_at, HaveRoom, HasSeat, seat_of, seats_without, restood, by_lock}
+use Rattle.lock_table.specs.Queues.{seats_at, room_at, HaveRoom, by_lock}
 use Rattle.lock_table.proofs.Positions.{drop_is}
 use Rattle.lock_table.proofs.Putting.{IsTurning, turn_start, turn_head, turn_step, turn_done}
 use Rattle.lock_table.proofs.Queuing.{mode_listed}

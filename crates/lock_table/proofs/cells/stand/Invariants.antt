@@ -1,7 +1,6 @@
-use Rattle.std.specs.Prelude.{drop, List, ◌∷◌, true}
+use Rattle.std.specs.Prelude.{drop}
 use Rattle.lock_modes.specs.declared.mode.Mode.{Mode}
-use Rattle.lock_table.specs.declared.cell.Seat.{Seat}
-use Rattle.lock_table.specs.Queues.{seats_without, restood}
+use Rattle.lock_table.specs.Queues.{restood}
 use Rattle.lock_table.proofs.Putting.{IsTurning}
 use Rattle.lock_table.proofs.cells.stand.Given as goal
 

@@ -1,4 +1,4 @@
-use Rattle.std.specs.Prelude.{◌≡◌, ◌+◌, ◌-◌, ℕ, drop}
+use Rattle.std.specs.Prelude.{◌≡◌, ◌+◌, ◌-◌, drop}
 use Rattle.std.proofs.Common.{refl, sym, subst, ◌∙◌, arith}
 use Rattle.long_locks.specs.Lines.{left_by, AllStay}
 use Rattle.long_locks.proofs.Endings.{none_behind}

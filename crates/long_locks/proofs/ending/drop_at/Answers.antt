@@ -1,4 +1,4 @@
-use Rattle.std.specs.Prelude.{◌≡◌, ◌+◌, ℕ, suc, not, drop, List, Some, None, slice_get, true, false}
+use Rattle.std.specs.Prelude.{◌≡◌, ◌+◌, suc, not, drop, List}
 use Rattle.std.proofs.Common.{sym, ap, subst, ◌∙◌, arith}
 use Rattle.vault_model.specs.declared.claims.Claim.{Claim}
 use Rattle.vault_model.specs.Claims.{same_id}

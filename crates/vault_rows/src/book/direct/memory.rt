@@ -167,38 +167,7 @@ fn each_request_of_a_command_is_refused(rt: HostRuntime) {
     let (alloc, memory) = (rt.alloc(), Refusing::new(rt.alloc()));
     let ample = Refusing::new(alloc);
     let before = before(&rt, alloc);
-    let rows: [(&str, Command, u64); 18] = [
-        ("Book::act, Make", Make(path(&rt, "/f"), None), 1),
-        (
-            "Book::act, Make in a check-out",
-            Make(path(&rt, "/e/f"), Some(2)),
-            1,
-        ),
-        ("Book::act, Nest", Nest(path(&rt, "/e/b/s"), Some(2)), 1),
-        (
-            "Book::act, CheckOut",
-            CheckOut(item(&rt, alloc, Look, "/")),
-            4,
-        ),
-        (
-            "Book::act, Extend",
-            Extend(Long(2), item(&rt, alloc, Change, "/")),
-            2,
-        ),
-        ("Book::act, Save", save(&rt, alloc, 2, "third"), 2),
-        ("Book::act, CheckIn", CheckIn(2), 1),
-        ("Book::act, Hold", Hold(item(&rt, alloc, Look, "/")), 4),
-        ("Book::act, List", List(path(&rt, "/")), 1),
-        ("Book::act, Fetch", Fetch(path(&rt, "/e/b/p"), 1), 1),
-        ("Book::act, Abandon", Abandon(2), 0),
-        ("Book::act, Release", Release(1), 0),
-        ("Book::act, State", State(Short(1)), 0),
-        ("Book::act, Count", Count(path(&rt, "/e/b/p")), 0),
-        ("Book::act, Give", Give(2, name(&rt, "ben")), 0),
-        ("Book::act, Note", Note(2, content(&rt, alloc, "a note")), 0),
-        ("Book::act, ReadNote", ReadNote(2), 0),
-        ("Book::act, Leave", Leave, 0),
-    ];
+    let rows = asking(&rt, alloc);
     for (call, command, wanted) in &rows {
         let last = (1, command);
         let made = requests(|number| tells(&rt, &memory, &ample, alloc, &before, last, number));
@@ -210,6 +179,42 @@ fn each_request_of_a_command_is_refused(rt: HostRuntime) {
     assert_eq!(rt; made, Some(1), "Book::act, Join");
     drop(join);
     drop(before);
+}
+
+/// What anna asks behind that, with the number of requests.
+fn asking(rt: &impl Abort, alloc: Global) -> [(&'static str, Command, u64); 18] {
+    [
+        ("Book::act, Make", Make(path(rt, "/f"), None), 1),
+        (
+            "Book::act, Make in a check-out",
+            Make(path(rt, "/e/f"), Some(2)),
+            1,
+        ),
+        ("Book::act, Nest", Nest(path(rt, "/e/b/s"), Some(2)), 1),
+        (
+            "Book::act, CheckOut",
+            CheckOut(item(rt, alloc, Look, "/")),
+            4,
+        ),
+        (
+            "Book::act, Extend",
+            Extend(Long(2), item(rt, alloc, Change, "/")),
+            2,
+        ),
+        ("Book::act, Save", save(rt, alloc, 2, "third"), 2),
+        ("Book::act, CheckIn", CheckIn(2), 1),
+        ("Book::act, Hold", Hold(item(rt, alloc, Look, "/")), 4),
+        ("Book::act, List", List(path(rt, "/")), 1),
+        ("Book::act, Fetch", Fetch(path(rt, "/e/b/p"), 1), 1),
+        ("Book::act, Abandon", Abandon(2), 0),
+        ("Book::act, Release", Release(1), 0),
+        ("Book::act, State", State(Short(1)), 0),
+        ("Book::act, Count", Count(path(rt, "/e/b/p")), 0),
+        ("Book::act, Give", Give(2, name(rt, "ben")), 0),
+        ("Book::act, Note", Note(2, content(rt, alloc, "a note")), 0),
+        ("Book::act, ReadNote", ReadNote(2), 0),
+        ("Book::act, Leave", Leave, 0),
+    ]
 }
 
 /// Tries to make a book.

@@ -1,7 +1,6 @@
-use Rattle.std.specs.Prelude.{◌≡◌, ◌<◌, ◌++◌, ◌∷◌, [], length}
-use Rattle.std.proofs.Common.{sym, arith, cond, rules, subst}
+use Rattle.std.specs.Prelude.{◌<◌, length}
+use Rattle.std.proofs.Common.{sym, arith, subst}
 use Rattle.vault_model.specs.Limits.{most_claims}
-use Rattle.lock_modes.specs.Groups.{with_one}
 use Rattle.lock_table.specs.Queues.{CellSeen}
 use Rattle.lock_table.proofs.Counts.{size_all, size_held}
 use Rattle.lock_table.proofs.cell.Cell.put_first.Goals as goal

@@ -1,9 +1,8 @@
-use Rattle.std.specs.Prelude.{◌≡◌, ◌<◌, ◌≤◌, length, position, None, Some, set, true, false, refl}
+use Rattle.std.specs.Prelude.{◌≡◌, ◌<◌, ◌≤◌, length, position, None, Some, set, false, refl}
 use Rattle.std.proofs.Common.{sym, ap, subst, ◌∙◌, arith, rules}
 use Rattle.std.specs.Vec.{vec_capacity}
 use Rattle.vault_model.specs.Limits.{most_claims}
 use Rattle.lock_modes.specs.Groups.{Counts, count_of, group_of}
-use Rattle.lock_table.specs.declared.cell.Seat.{Seat}
 use Rattle.lock_table.specs.Queues.{CellSeen, seat_modes, held_seats, restood}
 use Rattle.lock_table.proofs.Counts.{size_held_is}
 use Rattle.lock_table.proofs.Others.{count_own}

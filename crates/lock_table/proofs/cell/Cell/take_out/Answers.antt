@@ -1,5 +1,5 @@
-use Rattle.std.specs.Prelude.{◌≡◌, ◌<◌, suc, not, List, length, Some, position}
-use Rattle.std.proofs.Common.{sym, ap, subst, ◌∙◌, cond, arith, refl}
+use Rattle.std.specs.Prelude.{◌≡◌, suc, List, length, Some, position}
+use Rattle.std.proofs.Common.{sym, ap, subst, ◌∙◌, arith, refl}
 use Rattle.std.specs.List.{remove, position_or_len}
 use Rattle.std.specs.Vec.{vec_capacity}
 use Rattle.std.proofs.lemmas.Option.{same_Some}

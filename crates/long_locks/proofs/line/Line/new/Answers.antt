@@ -1,4 +1,4 @@
-use Rattle.std.specs.Prelude.{◌≡◌, [], All}
+use Rattle.std.specs.Prelude.{◌≡◌, []}
 use Rattle.std.proofs.Common.{◌∙◌}
 use Rattle.std.proofs.lemmas.List.Elements.{All-nil}
 use Rattle.vault_model.specs.declared.claims.Claim.{Claim}

@@ -1,4 +1,4 @@
-use Rattle.std.proofs.Common.{◌≡◌, ◌∙◌, ◌≤◌, ◌+◌, ◌++◌, ◌==◌, ◌||◌, nat_lt, false, Some, Ok, length, arith, rules, sym}
+use Rattle.std.proofs.Common.{◌≡◌, ◌∙◌, ◌≤◌, ◌+◌, ◌++◌, ◌==◌, ◌||◌, nat_lt, false, Some, Ok, length, arith, sym}
 use Rattle.std.proofs.lemmas.Bool.Decides.{nat_tests}
 use Rattle.vault_model.specs.Limits.{most_items}
 use Rattle.std.proofs.lemmas.List.Elements.{All-append}

@@ -1,10 +1,10 @@
-use Rattle.std.proofs.Common.{◌≡◌, ◌∙◌, Some, Ok, Err, true, false, refl, rules, sym, subst}
+use Rattle.std.proofs.Common.{◌≡◌, ◌∙◌, Some, Ok, Err, true, false, rules, sym, subst}
 use Rattle.vault_model.specs.Path.{front, last}
 use Rattle.vault_model.specs.Tree.{find_place, is_part, may_nest_under}
 use Rattle.vault_model.specs.Step.{admitted}
 use Rattle.vault_model.specs.Vault.{CountsBelow}
 use Rattle.vault_checkout.proofs.Following.{follows_refused, follows_memory}
-use Rattle.vault_checkout.proofs.Nesting.{nest_in_a_part, nest_elsewhere, nest_refused, nest_done}
+use Rattle.vault_checkout.proofs.Nesting.{nest_refused, nest_done}
 use Rattle.vault_checkout.proofs.book.Book.nest.Goals as goal
 
 pub returns-in_err-admit-clause-told : goal.returns-in_err-admit-clause-told

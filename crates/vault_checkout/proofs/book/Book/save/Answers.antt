@@ -1,8 +1,6 @@
-use Rattle.std.proofs.Common.{◌≡◌, ◌∙◌, Some, Ok, true, refl, sym, subst}
-use Rattle.vault_model.specs.declared.ids.ClaimId.TheVariants.{Long}
+use Rattle.std.proofs.Common.{◌≡◌, ◌∙◌, Some, true, refl, sym, subst}
 use Rattle.vault_model.specs.Claims.{change_set}
 use Rattle.vault_model.specs.Tree.{find_place, is_part}
-use Rattle.vault_model.specs.Step.{usable}
 use Rattle.vault_model.specs.Vault.{CountsBelow}
 use Rattle.vault_checkout.proofs.Following.{follows_memory}
 use Rattle.vault_checkout.proofs.Saving.{save_done}

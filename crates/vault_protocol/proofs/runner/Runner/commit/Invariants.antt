@@ -1,4 +1,4 @@
-use Rattle.std.proofs.Common.{◌≡◌, ℕ}
+use Rattle.std.proofs.Common.{◌≡◌}
 use Rattle.vault_protocol.specs.Talk.{pumps, pumps_needed, committed}
 use Rattle.vault_protocol.proofs.runner.Runner.commit.Given as goal
 
