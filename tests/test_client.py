@@ -347,8 +347,8 @@ class Program(WithServer):
         drawing, state = Path(self.folder.name) / "drawing", Path(self.folder.name) / "vault"
         drawing.write_bytes(b"bore 80")
         notes = [["note", "c1", "mine"], ["give", "c1", "ben"], ["hello", f"ben@127.0.0.1:{self.server.port}"], ["mine", "c1"]]
-        said = [["hello", f"anna@127.0.0.1:{self.server.port}"], ["tree"], ["make", "/engine/block/rod"], ["checkout", "w:" + PART],
-                ["wait", "c1"], ["extend", "c1", "w:/engine/block/rod"], ["put", PART, str(drawing)], ["drafts", "c1", str(state / "kept")],
+        said = [["hello", f"anna@127.0.0.1:{self.server.port}"], ["tree"], ["make", "/engine/block/rod"],
+                ["nest", "/engine/block/valve"], ["checkout", "w:" + PART], ["wait", "c1"], ["extend", "c1", "w:/engine/block/rod"], ["put", PART, str(drawing)], ["drafts", "c1", str(state / "kept")],
                 *(notes if self.gives() else []), ["checkin", "c1"], ["get", PART], ["history", PART], ["checkout", "r:/"],
                 ["abandon", "c2"], ["forget", "c2"], ["mine"], ["hold", "r:/"]]
         for words in said:

@@ -2,7 +2,7 @@
 
 import unittest
 
-from designers import WithServer
+from designers import PART, WithServer
 
 from vault import Misused, Refused
 
@@ -20,7 +20,7 @@ class Nest(WithServer):
         self.assertEqual(self.notices, [])
 
     def test_refused(self) -> None:
-        for place, code in (("/wing", 22), ("/engine/wing", 22), ("/engine/block", 21), ("/wing/a/b", 20)):
+        for place, code in (("/wing", 22), ("/engine/wing", 22), ("/engine/block", 22), (PART, 21), ("/wing/a/b", 20)):
             with self.assertRaises(Refused) as refused:
                 self.anna.nest(place)
             self.assertEqual(refused.exception.code, code, place)
