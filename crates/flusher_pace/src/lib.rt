@@ -1,7 +1,6 @@
 //! When the flusher of a server sleeps, for how many it waits, and for how long. It decides when something is done, and never what.
 //!
-//! Promises: what each call of `Pace` answers and leaves; of `pumped` in the cases alone that its clauses name. Of `may_change` and of
-//! `Commit` safety alone is proved.
+//! Promises: what each call of `Pace` answers and leaves. Of `may_change` and of `Commit` safety alone is proved.
 //! Only tested: the rule itself, over worked orders of calls.
 //! Stands on: vault_store, for what a pump and the start of a snapshot answer. Must not know: a lock, a thread, an entry.
 //! Start at: `Pace::gathers`.

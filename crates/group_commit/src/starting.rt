@@ -33,6 +33,7 @@ impl<D: Device, A: Allocator + Copy> Vault<D, A> {
         ensures may_not { result ≡ Ok answers.NotNow → MayStart self.old → ⊥ }
         ensures not_now { result ≡ Ok answers.NotNow → self.new ≡ self.old }
         ensures refused { OnErr result (self.new ≡ self.old) }
+        ensures memory { OnErr result (MayStart self.old) }
         ensures life { self.new.life ≡ self.old.life }
         ensures next { IsNext D.disk self.old self.new }
     {

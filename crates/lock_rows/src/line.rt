@@ -76,7 +76,7 @@ pub(crate) fn one(item: Item) -> Items
     Items::new().with(item)
 }
 
-fn two(item: Item, other: Item) -> Items {
+pub(crate) fn two(item: Item, other: Item) -> Items {
     one(item).with(other)
 }
 
@@ -435,9 +435,10 @@ fn each_request_of_a_line_is_refused(rt: HostRuntime) {
         ("Line::ask_long, behind 16", 16, ask_to_look(1), 5),
         ("Line::ask_long, behind 32", 32, ask_to_look(1), 5),
     ];
-    for (call, count, row, wanted) in rows {
+    for (call, count, row, wanted) in &rows {
+        let (count, wanted) = (*count, *wanted);
         let made = requests(|number| {
-            takes(&rt, &memory, rt.alloc(), number, (&before, count), &row)
+            takes(&rt, &memory, rt.alloc(), number, (&before, count), row)
         });
         assert_eq!(rt; made, Some(wanted), "{call}");
     }

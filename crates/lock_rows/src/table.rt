@@ -2,6 +2,7 @@ ghost use Rattle.std.specs.Prelude.{◌≡◌, ◌≤◌, ◌↔◌, IsTrue, [],
 
 mod calls;
 
+use crate::line::{change, look, make, one, small_tree, two};
 use crate::places::are_there;
 use Mode::{IS, IX, S, SIX, X};
 use design_tree::Tree;
@@ -12,41 +13,10 @@ use std::process::Abort;
 use test_memory::{Refusing, Tried, requests};
 use vault_model::{ClaimId, Intent, Item, Items, Kind, Name, NoMemory, PlaceId, Standing};
 
-fn look(place: u32) -> Item {
-    Item {
-        intent: Intent::Look,
-        place: PlaceId(place),
-    }
-}
-
-fn change(place: u32) -> Item {
-    Item {
-        intent: Intent::Change,
-        place: PlaceId(place),
-    }
-}
-
-fn one(item: Item) -> Items
-    ensures { result ≡ item ∷ [] }
-{
-    Items::new().with(item)
-}
-
-fn two(item: Item, other: Item) -> Items {
-    one(item).with(other)
-}
-
 fn locks_of(rt: &impl Abort, tree: &Tree, items: &[Item]) -> LockSet {
     assert!(rt; items.len() <= 8);
     assert!(rt; are_there(tree, items));
     lock_set(tree, items)
-}
-
-fn make(rt: &impl Abort, tree: &mut Tree, parent: u32, name: &str) -> u32 {
-    let parent = PlaceId(parent);
-    assert!(rt; (parent.number() as usize) < tree.len());
-    let kind = tree.kind_under(parent);
-    make_kind(rt, tree, parent, name, kind)
 }
 
 fn make_kind(rt: &impl Abort, tree: &mut Tree, parent: PlaceId, name: &str, kind: Kind) -> u32
@@ -54,16 +24,6 @@ fn make_kind(rt: &impl Abort, tree: &mut Tree, parent: PlaceId, name: &str, kind
 {
     let name = Name::read(name.as_bytes()).expect(rt, "a name");
     tree.add(parent, name, kind).expect(rt, "a place").number()
-}
-
-// The library, a project, an assembly in it, and two parts.
-fn small_tree(rt: &impl Abort, alloc: Global) -> Tree {
-    let mut tree = Tree::new(alloc).expect(rt, "memory");
-    make(rt, &mut tree, 0, "e");
-    make(rt, &mut tree, 1, "b");
-    make(rt, &mut tree, 2, "p1");
-    make(rt, &mut tree, 2, "p2");
-    tree
 }
 
 fn has_modes(locks: &LockSet, table: &[(u32, Option<Mode>)]) -> bool {

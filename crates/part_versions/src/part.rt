@@ -38,8 +38,8 @@ fn end_of(ends: &[u32], count: usize) -> usize
     ends[count - 1] as usize
 }
 
-// Makes room for more bytes. Where they don't fit, it is for half as many as there are, or for more
-// bytes than that: so the work of many appends grows with their bytes, and a third at most is spare.
+// Makes room for more bytes. Where they don't fit, it is for an eighth of those that are there, or for more
+// bytes than that: so the work of many appends grows with their bytes, and a ninth at most is spare.
 fn make_room<A: Allocator>(bytes: &mut Vec<u8, A>, more: usize) -> Result<(), AllocError>
     ensures items { bytes.new.items ≡ bytes.old.items }
     ensures room { OnOk result (vec_len bytes.new + more ≤ vec_capacity bytes.new) }
@@ -47,7 +47,7 @@ fn make_room<A: Allocator>(bytes: &mut Vec<u8, A>, more: usize) -> Result<(), Al
     if more <= bytes.capacity() - bytes.len() {
         return Ok(());
     }
-    bytes.reserve_exact(more.max(bytes.len() / 2))
+    bytes.reserve_exact(more.max(bytes.len() / 8))
 }
 
 impl<A: Allocator + Copy> Part<A> {

@@ -6,7 +6,7 @@ use std::alloc::{AllocError, Global};
 use std::sync::Wait;
 use std::thread::Threads;
 use std::time::Clock;
-use vault_protocol::LONGEST_LINE;
+use vault_lines::LONGEST_LINE;
 use vault_sessions::{Ended, Flushed, Totals};
 
 // What conversations over a new vault come to, one behind the other, if they were told just this.

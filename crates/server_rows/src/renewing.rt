@@ -12,8 +12,8 @@ use std::sync::ledger::Blank;
 use std::time::Clock;
 use test_memory::Refusing;
 use vault_device::{Device, MemDevice};
+use vault_lines::read_line_of;
 use vault_model::{Command, CommandIn, Listing, Path};
-use vault_protocol::read_line_of;
 use vault_sessions::{Flushed, OpenGate, Shared, Tally, gather, run_flusher};
 
 // How many device calls a creation makes of the second file.

@@ -12,8 +12,8 @@ use std::alloc::Global;
 use vault_checkout::Book;
 use vault_device::MemDevice;
 use vault_inspector::{FileState, Report};
+use vault_lines::read_line_of;
 use vault_model::{Command, Outside};
-use vault_protocol::read_line_of;
 
 // More pumps than a commit behind a snapshot takes.
 const MOST_PUMPS: u32 = 1024;

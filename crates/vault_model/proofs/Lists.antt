@@ -1,6 +1,6 @@
 -- Lemmas on lists and tests that std has not.
 use Rattle.std.specs.Prelude.{◌≡◌, ℕ, zero, suc, ◌<◌, ◌&&◌, Bool, true, false, not, List, [], ◌∷◌, ◌++◌, length, filter, slice_get, Option, Some, None, All, refl}
-use Rattle.std.proofs.Common.{arith, cond}
+use Rattle.std.proofs.Common.{arith, cond, inl, inr, ◌⊎◌}
 use Rattle.std.specs.List.{AllByRecursion}
 use Rattle.std.specs.Option.{option_and_then}
 use Rattle.std.proofs.lemmas.List.Elements.{All-nil, All-cons, All-head, All-tail}
@@ -17,6 +17,11 @@ refuted false h = refl
 pub and_never : (b : Bool) → (b && false) ≡ false
 and_never true = refl
 and_never false = refl
+
+-- what a choice gave
+pub chosen : {A : Type 0} (b : Bool) (x y z : A) → cond b x y ≡ z → ((b ≡ true) × (x ≡ z)) ⊎ ((b ≡ false) × (y ≡ z))
+chosen true x y z e = inl (refl, e)
+chosen false x y z e = inr (refl, e)
 
 -- what several tests say together
 pub three : (a b c : Bool) → (a && b && c) ≡ true → (a ≡ true) × (b ≡ true) × (c ≡ true)

@@ -10,16 +10,16 @@ use Rattle.std.proofs.lemmas.List.Elements.{All-get_or}
 use Rattle.std.proofs.lemmas.List.Sums.{position_or_len_is}
 use Rattle.std.proofs.lemmas.List.Splits.{join_with_byte-slice_split, length-slice_split}
 use Rattle.vault_model.proofs.FirstPart.{split_at_some}
-use Rattle.vault_journal.proofs.Takes.{chosen}
+use Rattle.vault_model.proofs.Lists.{chosen}
 use Rattle.vault_protocol.specs.Limits.{last_connection}
-use Rattle.vault_protocol.specs.Reading.{◌>>=◌}
-use Rattle.vault_protocol.specs.Words.{number_in}
+use Rattle.vault_lines.specs.Reading.{◌>>=◌}
+use Rattle.vault_lines.specs.Words.{number_in}
 use Rattle.vault_protocol.specs.Script.{connection_in, numbered_line, connection_line}
 use Rattle.vault_protocol.specs.Spelling.{ConnectionSpells, ConnectionAsSpelled}
-use Rattle.vault_protocol.proofs.Steps.{along, bind_some}
-use Rattle.vault_protocol.proofs.Numbers.{number_is}
-use Rattle.vault_protocol.proofs.WordsFound.{number_found}
-use Rattle.vault_protocol.proofs.WordsAgain.{in_number}
+use Rattle.vault_lines.proofs.Steps.{along, bind_some}
+use Rattle.vault_lines.proofs.Numbers.{number_is}
+use Rattle.vault_lines.proofs.WordsFound.{number_found}
+use Rattle.vault_lines.proofs.WordsAgain.{in_number}
 
 joined : (first : List ℕ) (others : List (List ℕ)) → 0 < length others → join_with_byte 32 (first ∷ others) ≡ first ++ 32 ∷ join_with_byte 32 others
 joined first [] h = absurd (omega arith)

@@ -13,7 +13,7 @@ use Rattle.group_commit.specs.Seen.{snapshot_length}
 use Rattle.group_commit.specs.Laws.{IsReachable}
 use Rattle.group_commit.proofs.Marks.{length-with_mark}
 use Rattle.group_commit.proofs.Reach.{reachable_goes_on}
-use Rattle.vault_protocol.specs.Grammar.{command_of}
+use Rattle.vault_lines.specs.Grammar.{command_of}
 use Rattle.vault_protocol.specs.Talk.{Line, Known, Awaited, Talk, Said, told, told_text, reply_at, behind, said_of, said_now, said, all_gone, with_text, pumped, pumps, pumps_needed, committed, may_start, started, is_full, staged, is_awaited, is_known, crashed}
 use Rattle.vault_protocol.specs.Script.{is_skipped, connection_line, crash_line, answered, ready, heard_of, said_with, said_for}
 use Rattle.vault_protocol.specs.ScriptLaws.{talk_after}

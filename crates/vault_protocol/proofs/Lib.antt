@@ -1,9 +1,3 @@
-pub mod Numbers
-pub mod Each
-pub mod Steps
-pub mod Contents
-pub mod WordsFound
-pub mod WordsAgain
 pub mod Written
 pub mod LineByLine
 pub mod Connections

@@ -11,7 +11,7 @@ use Rattle.group_commit.specs.declared.mark.Mark.TheVariants.{Open, Told}
 use Rattle.group_commit.specs.Entries.{Entry, Kept}
 use Rattle.group_commit.specs.View.{View, length_of}
 use Rattle.group_commit.proofs.Marks.{entry_there, length-with_mark}
-use Rattle.vault_protocol.specs.Grammar.{command_of}
+use Rattle.vault_lines.specs.Grammar.{command_of}
 use Rattle.vault_protocol.specs.Talk.{Line, Known, Awaited, Talk, Said, reply_at, told, told_text, behind, said_of, said_now, said, all_gone, with_text, pumped, pumps, pumps_needed, committed, may_start, started, is_full, is_awaited, is_known, crashed}
 use Rattle.vault_protocol.specs.Script.{is_skipped, connection_line, crash_line, answered, ready, heard, heard_of, said_by, said_with, said_for}
 use Rattle.vault_protocol.specs.ScriptLaws.{talk_after, IsOutside, entries_in, IsToldAt, AreTold, joined, IsMadeOfTold, PrintsOldest}

@@ -15,7 +15,7 @@ use Rattle.group_commit.specs.View.{View, opened_view, view_at, book_of, ViewAll
 use Rattle.group_commit.specs.Seen.{snapshot_length}
 use Rattle.group_commit.proofs.Pumps.{idle_is}
 use Rattle.vault_device.specs.Picks.{gives_one}
-use Rattle.vault_protocol.specs.Grammar.{command_of}
+use Rattle.vault_lines.specs.Grammar.{command_of}
 use Rattle.vault_protocol.specs.Talk.{Line, Known, Awaited, Talk, Said, told, told_text, reply_at, behind, said_of, said_now, said, with_text, pumped, pumps, pumps_needed, committed, may_start, started, is_full, staged, is_awaited, crashed}
 use Rattle.vault_protocol.specs.Script.{is_skipped, connection_line, crash_line, answered, ready, heard, heard_of, said_by, said_with, said_for}
 use Rattle.vault_protocol.specs.ScriptLaws.{talk_after}

@@ -1,10 +1,4 @@
 pub mod Limits
-pub mod Reading
-pub mod Words
-pub mod Items
-pub mod Keywords
-pub mod Grammar
-pub mod Texts
 pub mod Spelling
 pub mod Script
 pub mod Talk

@@ -1,10 +1,6 @@
--- The limits of lines and scripts; `src/limits.rt` has the numbers. This project's own.
+-- The limits of scripts; `src/limits.rt` has the numbers. This project's own.
 use Rattle.std.specs.Prelude.{ℕ}
-use Rattle.vault_protocol.specs.declared.limits.TheConstants.{LONGEST_LINE, LONGEST_SCRIPT, LAST_CONNECTION}
-
--- the most bytes of a line, without the line feed at its end
-abbrev pub longest_line : ℕ
-longest_line = LONGEST_LINE
+use Rattle.vault_protocol.specs.declared.limits.TheConstants.{LONGEST_SCRIPT, LAST_CONNECTION}
 
 -- the most bytes of a script
 abbrev pub longest_script : ℕ

@@ -7,10 +7,10 @@ use Rattle.vault_model.specs.declared.replies.Outside.TheVariants.{BadLine, Busy
 use Rattle.vault_device.specs.declared.history.Pick.{Pick}
 use Rattle.vault_device.specs.declared.history.Pick.TheVariants.{Old, New, Bytes}
 use Rattle.vault_protocol.specs.Limits.{last_connection}
-use Rattle.vault_protocol.specs.Reading.{◌>>=◌}
-use Rattle.vault_protocol.specs.Words.{number_in}
-use Rattle.vault_protocol.specs.Grammar.{command_of}
-use Rattle.vault_protocol.specs.Texts.{outside_text}
+use Rattle.vault_lines.specs.Reading.{◌>>=◌}
+use Rattle.vault_lines.specs.Words.{number_in}
+use Rattle.vault_lines.specs.Grammar.{command_of}
+use Rattle.vault_lines.specs.Texts.{outside_text}
 use Rattle.vault_protocol.specs.Talk.{Talk, Said, behind, new_talk, said, with_text, connection_text, pumped, committed, started, is_full, staged, is_awaited, crashed}
 
 -- the number of a connection

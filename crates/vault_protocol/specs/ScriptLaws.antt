@@ -10,7 +10,7 @@ use Rattle.group_commit.specs.View.{View, view_of, length_of}
 use Rattle.group_commit.specs.Seen.{snapshot_length}
 use Rattle.group_commit.specs.Laws.{IsReachable}
 use Rattle.vault_device.specs.Picks.{gives_one}
-use Rattle.vault_protocol.specs.Texts.{reply_text, outside_text}
+use Rattle.vault_lines.specs.Texts.{reply_text, outside_text}
 use Rattle.vault_protocol.specs.Talk.{Talk, Said, connection_text, new_talk, said, committed}
 use Rattle.vault_protocol.specs.Script.{crash_line, said_for, printed}
 

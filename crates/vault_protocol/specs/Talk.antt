@@ -24,7 +24,7 @@ use Rattle.group_commit.specs.View.{View, opened_view, length_of, view_at, book_
 use Rattle.group_commit.specs.Seen.{snapshot_length, most_kept, framed}
 use Rattle.group_commit.specs.Calls.{generation_after, tail_after}
 use Rattle.vault_protocol.specs.Limits.{last_connection}
-use Rattle.vault_protocol.specs.Texts.{reply_text}
+use Rattle.vault_lines.specs.Texts.{reply_text}
 
 -- a line that isn't printed yet: its text, or its connection and the position of its entry
 pub data Line : Type 0 where

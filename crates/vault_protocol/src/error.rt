@@ -1,38 +1,10 @@
-//! Why a line gives no command, and why a script stops.
+//! Why a script stops.
 
 ghost use Rattle.std.specs.Prelude.{◌≡◌};
-ghost use Rattle.vault_protocol.specs.declared.error.LineError.TheVariants.{NoMemory};
-ghost use Rattle.vault_protocol.specs.declared.error.ScriptError.TheVariants as script_errors;
+ghost use Rattle.vault_protocol.specs.declared.error.ScriptError.TheVariants.{NoMemory};
 
-use std::alloc::{AllocError, AllocFailed};
+use std::alloc::AllocError;
 use thiserror::Error;
-
-/// Why a line gives no command.
-#[derive(Clone, Copy, Debug, PartialEq, Eq, Error)]
-pub enum LineError {
-    /// It spells none.
-    #[error("the line is no command")]
-    BadLine,
-    /// Memory was wanted and refused.
-    #[error("want of memory")]
-    NoMemory,
-}
-
-impl From<AllocError> for LineError {
-    ghost from_gives = { λ _ e. e ≡ NoMemory };
-
-    fn from(_error: AllocError) -> LineError {
-        LineError::NoMemory
-    }
-}
-
-impl<T: Drop> From<AllocFailed<T>> for LineError {
-    ghost from_gives = { λ _ e. e ≡ NoMemory };
-
-    fn from(_error: AllocFailed<T>) -> LineError {
-        LineError::NoMemory
-    }
-}
 
 /// Why a script stops.
 #[derive(Clone, Copy, Debug, PartialEq, Eq, Error)]
@@ -52,7 +24,7 @@ pub enum ScriptError {
 }
 
 impl From<vault_model::NoMemory> for ScriptError {
-    ghost from_gives = { λ _ e. e ≡ script_errors.NoMemory };
+    ghost from_gives = { λ _ e. e ≡ NoMemory };
 
     fn from(_error: vault_model::NoMemory) -> ScriptError {
         ScriptError::NoMemory
@@ -60,7 +32,7 @@ impl From<vault_model::NoMemory> for ScriptError {
 }
 
 impl From<AllocError> for ScriptError {
-    ghost from_gives = { λ _ e. e ≡ script_errors.NoMemory };
+    ghost from_gives = { λ _ e. e ≡ NoMemory };
 
     fn from(_error: AllocError) -> ScriptError {
         ScriptError::NoMemory

@@ -5,9 +5,10 @@ ghost use Rattle.std.specs.Io.KnownBytes.{IsAtEnd};
 ghost use Rattle.vault_protocol.specs.Limits.{longest_script};
 
 use crate::error::ScriptError;
-use crate::limits::{LONGEST_SCRIPT, MOST_READS};
+use crate::limits::LONGEST_SCRIPT;
 use std::alloc::{AllocError, Allocator};
 use std::io::Read;
+use vault_lines::MOST_READS;
 
 /// Room for one read.
 fn room<A: Allocator>(alloc: A) -> Result<Vec<u8, A>, AllocError>

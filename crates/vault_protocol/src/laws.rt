@@ -1,23 +1,8 @@
-//! Laws of the grammar of lines, and of scripts.
+//! Laws of scripts.
 
 ghost use Rattle.vault_protocol.specs.Rows.{Rows};
 ghost use Rattle.vault_protocol.specs.ScriptLaws.{PrintedInParts, ScriptsAreRuns, RunsGoOn, StopsAreCrashes, OthersAreActs, CommitsSettle, EndsTold, RepliesAreTold};
-ghost use Rattle.vault_protocol.specs.Spelling.{ConnectionAsSpelled, OneCommand, ReadAsSpelled, ToldAsSpelled};
-
-/// A line that reads as a command is its words joined by single spaces, each a spelling of its part, and each such line is read.
-pub fn read_as_spelled()
-    ensures { ReadAsSpelled }
-{}
-
-/// A line spells at most one command.
-pub fn one_command()
-    ensures { OneCommand }
-{}
-
-/// What is told of a content spells that content, so that a later line may save it as it was told.
-pub fn told_as_spelled()
-    ensures { ToldAsSpelled }
-{}
+ghost use Rattle.vault_protocol.specs.Spelling.{ConnectionAsSpelled};
 
 /// The definitions print what was worked out by hand for these scripts.
 pub fn rows_are_printed()

@@ -6,9 +6,9 @@ ghost use Rattle.vault_protocol.specs.Limits.{last_connection};
 ghost use Rattle.vault_protocol.specs.Script.{byte_pick, connection_in, connection_line, crash_line, digit_in, numbered_line, pick_in};
 
 use crate::limits::LAST_CONNECTION;
-use crate::words::read_number;
 use std::marker::Model;
 use vault_device::Pick;
+use vault_lines::read_number;
 
 /// A connection of a script, by its number.
 #[derive(Clone, Copy)]

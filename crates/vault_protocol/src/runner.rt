@@ -3,20 +3,18 @@
 ghost use Rattle.std.specs.Prelude.{◌≡◌, ◌++◌, ◌↔◌, IsTrue, IfErr, IfOk, OnOk, Some, [], replicate};
 ghost use Rattle.vault_model.specs.Said.{Command};
 ghost use Rattle.vault_protocol.specs.Limits.{last_connection};
-ghost use Rattle.vault_protocol.specs.Grammar.{command_of};
-ghost use Rattle.vault_protocol.specs.Texts.{outside_text};
+ghost use Rattle.vault_lines.specs.Grammar.{command_of};
+ghost use Rattle.vault_lines.specs.Texts.{outside_text};
 ghost use Rattle.vault_protocol.specs.Talk.{new_talk, connection_text, sessions_after, with_text, said_now, said, pumped, pumps_needed, committed, started, crashed, told, told_text, reply_at, is_awaited};
 ghost use Rattle.vault_protocol.specs.Script.{answered, connection_line, heard, heard_of, with_refusal, ready, said_by, said_for};
 ghost use Rattle.vault_protocol.specs.Saying.{is_sayable, said_first};
 
-use crate::error::{LineError, ScriptError};
+use crate::error::ScriptError;
 use crate::letting_go::let_go;
 use crate::limits::LAST_CONNECTION;
 use crate::lines::{Connection, connection_of, crash_of};
 use crate::losing::{give_up, lose};
-use crate::reading::read_line_of;
 use crate::reopening::reopened;
-use crate::text::{outside_text, text_of};
 use crate::waiting::Waiting;
 use group_commit::promises::a_vault_keeps_its_history;
 use group_commit::{Phase, Pumped, Redeemed, Ticket, Vault};
@@ -24,6 +22,7 @@ use std::alloc::{AllocError, Allocator};
 use std::collections::VecDeque;
 use std::marker::Model;
 use vault_device::{Device, MemDevice, Pick};
+use vault_lines::{LineError, outside_text, read_line_of, text_of};
 use vault_model::{CommandIn, Listing, Outside, Reply, ReplyIn};
 
 /// A vault over two devices in memory, the session that each connection speaks for, how many entries this life had with each

@@ -1,7 +1,7 @@
 -- Bytes and lines as they come from a reader. This project's own.
 use Rattle.std.specs.Prelude.{◌≡◌, ◌≢◌, ℕ, ◌+◌, ◌<◌, ◌≤◌, Bool, true, false, List, [], ◌∷◌, ◌++◌, length, take, Option, Some, None, All}
 use Rattle.std.specs.Io.KnownBytes.{Consumes, IsAtEnd}
-use Rattle.vault_protocol.specs.Limits.{longest_line}
+use Rattle.vault_lines.specs.Limits.{longest_line}
 use Rattle.vault_sessions.specs.Inflow.{Inflow}
 use Rattle.vault_sessions.specs.declared.inlet.NextByte.{NextByte}
 use Rattle.vault_sessions.specs.declared.inlet.NextByte.TheVariants as bytes
@@ -12,7 +12,7 @@ use Rattle.vault_sessions.specs.declared.inlet.Piece.TheVariants as pieces
 use Rattle.vault_sessions.specs.declared.inlet.Filled.{Filled}
 use Rattle.vault_sessions.specs.declared.inlet.Filled.TheVariants as filled
 use Rattle.vault_sessions.specs.declared.inlet.TheConstants.{MOST_BYTES, CHUNK}
-use Rattle.vault_protocol.specs.declared.limits.TheConstants.{MOST_READS}
+use Rattle.vault_lines.specs.declared.limits.TheConstants.{MOST_READS}
 
 -- the most bytes of a connection that are taken
 abbrev pub most_bytes : ℕ

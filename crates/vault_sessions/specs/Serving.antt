@@ -5,9 +5,9 @@ use Rattle.std.specs.Io.KnownBytes.{Consumes, Appends, Keeps, IsAtEnd}
 use Rattle.vault_model.specs.Said.{Command, Reply}
 use Rattle.vault_model.specs.declared.replies.Reply.TheVariants as replies
 use Rattle.vault_model.specs.declared.replies.Outside.TheVariants as outsides
-use Rattle.vault_protocol.specs.Limits.{longest_line}
-use Rattle.vault_protocol.specs.Grammar.{command_of}
-use Rattle.vault_protocol.specs.Texts.{reply_text, outside_text}
+use Rattle.vault_lines.specs.Limits.{longest_line}
+use Rattle.vault_lines.specs.Grammar.{command_of}
+use Rattle.vault_lines.specs.Texts.{reply_text, outside_text}
 use Rattle.vault_sessions.specs.Inflow.{Inflow}
 use Rattle.vault_sessions.specs.Incoming.{most_bytes, IsOneLine}
 use Rattle.vault_sessions.specs.declared.report.Out.{Out}

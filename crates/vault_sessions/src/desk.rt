@@ -138,6 +138,7 @@ impl<D: Device, S: Tally, T: Tally, A: Allocator + Copy> Desk<D, S, T, A> {
         ensures may_not { result ≡ Ok Started.NotNow → MayStart self.old.vault → ⊥ }
         ensures not_now { result ≡ Ok Started.NotNow → self.new ≡ self.old }
         ensures refused { OnErr result (self.new ≡ self.old) }
+        ensures memory { OnErr result (MayStart self.old.vault) }
         ensures same { (length_of self.new.vault.view ≡ length_of self.old.vault.view)
             × (self.new.vault.view.told ≡ self.old.vault.view.told) }
         ensures open { self.new.closed ≡ self.old.closed }

@@ -2,7 +2,7 @@
 
 ghost use Rattle.std.specs.Prelude.{◌≡◌, ◌+◌, ◌≤◌, ◌<◌, List, ℕ, [], ◌∷◌, ◌++◌, length, take, true, vec_capacity};
 ghost use Rattle.std.specs.Io.KnownBytes.{Consumes, IsAtEnd};
-ghost use Rattle.vault_protocol.specs.Limits.{longest_line};
+ghost use Rattle.vault_lines.specs.Limits.{longest_line};
 ghost use Rattle.vault_sessions.specs.Inflow.{Inflow};
 ghost use Rattle.vault_sessions.specs.Incoming.{most_bytes, most_reads, GivesByte, GivesLine, GivesPiece, KeepsLine, ReadsChunk, Fills, TakesByte, TakesPiece};
 
@@ -10,7 +10,7 @@ use memchr::memchr;
 use std::alloc::Allocator;
 use std::io::{ErrorKind, Read};
 use std::marker::Model;
-use vault_protocol::{LONGEST_LINE, MOST_READS};
+use vault_lines::{LONGEST_LINE, MOST_READS};
 
 // The most bytes of a connection that are taken. It ends at the first one behind them.
 const MOST_BYTES: u64 = 16_777_216;

@@ -6,7 +6,7 @@
 //! answers (`serve_one`). The shares of all workers sum to what the history grew by (`gather`), which is what a server says
 //! (`run_server`). A pump, the start of a snapshot and the retiring of an entry are one act of the vault each, and count nothing
 //! (`Desk`). Of `run_flusher` and of `Shared::close` safety alone is proved.
-//! Stands on: group_commit, vault_protocol, and what they stand on. Must not know: what a command does, what a file holds.
+//! Stands on: group_commit, vault_lines, and what they stand on. Must not know: what a command does, what a file holds.
 //!
 //! Invariants:
 //! 1. `Desk`: the staged tally is the length of the history.

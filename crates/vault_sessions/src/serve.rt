@@ -1,7 +1,7 @@
 //! A worker serves one connection.
 ghost use Rattle.std.specs.Prelude.{◌≡◌, ◌≢◌, ◌+◌, ◌≤◌, ◌<◌, ℕ, List, [], ◌∷◌, ◌++◌, Option, None, MatchOption, MatchResult, IfOk, IfErr, IfSome, MatchBool, length, vec_capacity, vec_len};
 ghost use Rattle.std.specs.Io.KnownBytes.{Appends};
-ghost use Rattle.vault_protocol.specs.Limits.{longest_line};
+ghost use Rattle.vault_lines.specs.Limits.{longest_line};
 ghost use Rattle.vault_sessions.specs.Serving.{most_lines, HeardSoFar, HeardAll, Fits, FitsCommand, IsOf, IsLeft, SpeaksFor, session_of, session_after as session_after_out, text_of as text_of_answer, CountsOne, CountsWith, CountsAll, Counts, CutsBy, WritesAll, QuitsBy, lost_by};
 ghost use Rattle.vault_sessions.specs.Waits.{WaitsFor};
 ghost use Rattle.vault_model.specs.declared.commands.Command.TheVariants.{Leave};
@@ -20,8 +20,8 @@ use std::alloc::Allocator;
 use std::io::{Read, Write};
 use std::sync::Wait;
 use vault_device::Device;
+use vault_lines::{LONGEST_LINE, LineError, outside_text, read_line_of, text_of};
 use vault_model::{Command, CommandIn, NoMemory, Outside, Reply};
-use vault_protocol::{LONGEST_LINE, LineError, outside_text, read_line_of, text_of};
 
 // The most lines of a connection that are answered. It ends at the first byte behind them.
 const MOST_LINES: usize = 4096;

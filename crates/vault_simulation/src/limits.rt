@@ -6,8 +6,8 @@ use part_versions::Shelf;
 use std::alloc::Global;
 use vault_checkout::Book;
 use vault_judge::{Talk, Verdict, are_alike};
+use vault_lines::read_line_of;
 use vault_model::{ClaimId, Command, LAST_NUMBER, Refusal, Reply};
-use vault_protocol::read_line_of;
 
 /// A limit that calls reach.
 #[derive(Clone, Copy)]

@@ -50,6 +50,7 @@ impl<D: Device, A: Allocator> Store<D, A> {
         ensures may_not { result ≡ Ok answers.NotNow → MayStart self.old → ⊥ }
         ensures not_now { result ≡ Ok answers.NotNow → self.new ≡ self.old }
         ensures refused { OnErr result (self.new ≡ self.old) }
+        ensures memory { OnErr result (MayStart self.old) }
     {
         if self.broken || self.phase != Phase::Idle || self.generation == u64::MAX {
             return Ok(Started::NotNow);

@@ -3,9 +3,9 @@
 //! Promises: it is safe and, but for `serve`, total. Each subcommand is one call of a crate beneath.
 //! Stands on: vault_device, vault_store, group_commit, vault_protocol, vault_inspector, vault_sessions. Must not know:
 //! anything that a contract should say; it is kept thin.
-//! Only tested: the stored run of a script; what the words ask for; the text of each failure; `create`, `inspect` and the order
-//! of failures of `serve` on real files; by `tools/try-program`, behind the gate, statuses, signals, closed streams and odd
-//! clients.
+//! Only tested: the stored run of a script; by `tools/try-program`, behind the proofs, what the words ask for, statuses, the
+//! text of each failure, the order of failures, `create`, `inspect` and `serve` on real files and beside their locks, signals,
+//! closed streams and odd clients.
 //! Neither: texts of help and usage; what standard input and output are.
 //! Start at: command_line.rt, then the file of a subcommand.
 #![tactic(auto)]
@@ -19,8 +19,6 @@ mod inspecting;
 mod scripting;
 mod serving;
 mod streams;
-#[cfg(test)]
-mod tests;
 
 use crate::command_line::{Task, task_of};
 use crate::creating::create;

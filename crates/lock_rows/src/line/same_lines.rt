@@ -115,6 +115,23 @@ fn three_claims(rt: &impl Abort) -> [Claim; 3] {
     ]
 }
 
+// Whether a line has these claims, in this order.
+fn has_claims<A: Allocator>(line: &Line<A>, claims: &[Claim]) -> bool {
+    for (position, claim) in claims.iter().enumerate() {
+        if line.at(position) != Some(claim) || line.get(claim.id) != Some(claim) {
+            return false;
+        }
+    }
+    (line.len(), line.last_long(), line.last_short()) == (claims.len(), 7, 0)
+}
+
+// Whether the first claim is held, and the second is queued behind it.
+fn has_standings<A: Allocator>(line: &Line<A>) -> bool {
+    let (first, second) = (ClaimId::Long(2), ClaimId::Long(1));
+    line.standing(first) == Some(Standing::Held)
+        && line.standing(second) == Some(Standing::Queued(first))
+}
+
 #[test]
 fn a_line_is_made_of_claims_in_their_order(rt: HostRuntime) {
     let tree = small_tree(&rt, rt.alloc());
@@ -123,16 +140,25 @@ fn a_line_is_made_of_claims_in_their_order(rt: HostRuntime) {
     let Ok(line) = Line::from_claims(rt.alloc(), &tree, 7, list) else {
         panic!(rt; "a line");
     };
-    assert!(rt; (line.len(), line.last_long(), line.last_short()) == (3, 7, 0));
-    for (position, claim) in claims.iter().enumerate() {
-        assert!(rt; line.at(position) == Some(claim) && line.get(claim.id) == Some(claim));
-    }
-    let (first, second) = (ClaimId::Long(2), ClaimId::Long(1));
-    assert!(rt; line.standing(first) == Some(Standing::Held));
-    assert!(rt; line.standing(second) == Some(Standing::Queued(first)));
+    assert!(rt; has_claims(&line, &claims) && has_standings(&line));
     drop(line);
     drop(tree);
 }
+
+// The first short claim.
+fn short_claim() -> Claim {
+    Claim {
+        id: ClaimId::Short(1),
+        owner: Owner::Session(1),
+        items: one(look(4)),
+        note: Note::new(),
+    }
+}
+
+// Numbers of check-outs, and places that they look at: above the last, none, given twice, and of no place.
+const WRONG: [(u32, u32); 4] = [(8, 4), (0, 4), (7, 4), (1, 5)];
+
+const NOT_WELL_FORMED: Option<FromClaimsError> = Some(FromClaimsError::NotWellFormed);
 
 #[test]
 fn claims_of_no_line_are_refused(rt: HostRuntime) {
@@ -140,23 +166,13 @@ fn claims_of_no_line_are_refused(rt: HostRuntime) {
     let tree = small_tree(&rt, alloc);
     let right = long_claim(&rt, 1, one(look(4)));
     assert_eq!(rt; refusal(&rt, &tree, alloc, right), None);
-    let wrong = [
-        long_claim(&rt, 8, one(look(4))),
-        long_claim(&rt, 0, one(look(4))),
-        long_claim(&rt, 7, one(look(4))),
-        long_claim(&rt, 1, Items::new()),
-        long_claim(&rt, 1, one(look(5))),
-        Claim {
-            id: ClaimId::Short(1),
-            owner: Owner::Session(1),
-            items: one(look(4)),
-            note: Note::new(),
-        },
-    ];
-    for claim in &wrong {
-        let told = refusal(&rt, &tree, alloc, *claim);
-        assert!(rt; told == Some(FromClaimsError::NotWellFormed));
+    for (number, place) in &WRONG {
+        let claim = long_claim(&rt, *number, one(look(*place)));
+        assert!(rt; refusal(&rt, &tree, alloc, claim) == NOT_WELL_FORMED);
     }
+    let of_nothing = long_claim(&rt, 1, Items::new());
+    assert!(rt; refusal(&rt, &tree, alloc, of_nothing) == NOT_WELL_FORMED);
+    assert!(rt; refusal(&rt, &tree, alloc, short_claim()) == NOT_WELL_FORMED);
     drop(tree);
 }
 
@@ -176,20 +192,22 @@ fn makes_of_claims(rt: &impl Abort, memory: &Refusing<Global>, number: u64) -> T
     }
 }
 
+// Whether what no line has is told, though no memory is there.
+fn tells_what_no_line_has(rt: &impl Abort, memory: &Refusing<Global>) -> bool {
+    let claims = three_claims(rt);
+    let tree = small_tree(rt, memory);
+    let list = Vec::from_slice(memory, &claims).expect(rt, "memory");
+    memory.refuse(1);
+    let told = made_of(&tree, memory, 4, list);
+    drop(tree);
+    told == Err(FromClaimsError::NotWellFormed) && memory.is_waiting()
+}
+
 #[test]
 fn each_request_of_a_line_of_claims_is_refused(rt: HostRuntime) {
     let memory = Refusing::new(rt.alloc());
     // Four requests for the claims, twelve for their modes.
     let made = requests(|number| makes_of_claims(&rt, &memory, number));
     assert_eq!(rt; made, Some(16), "Line::from_claims");
-
-    // What no line has is told, though no memory is there.
-    let tree = small_tree(&rt, &memory);
-    let claims = three_claims(&rt);
-    let list = Vec::from_slice(&memory, &claims).expect(&rt, "memory");
-    memory.refuse(1);
-    let told = made_of(&tree, &memory, 4, list);
-    assert_eq!(rt; told, Err(FromClaimsError::NotWellFormed));
-    assert!(rt; memory.is_waiting());
-    drop(tree);
+    assert!(rt; tells_what_no_line_has(&rt, &memory));
 }

@@ -419,59 +419,12 @@ fn each_request_of_a_table_is_refused(rt: HostRuntime) {
             1,
         ),
     ];
-    for (call, count, len, row, wanted) in rows {
-        let rows = &before[..len];
+    for (call, count, len, row, wanted) in &rows {
+        let (count, wanted) = (*count, *wanted);
+        let rows = &before[..*len];
         let made = requests(|number| {
-            takes(&rt, &memory, rt.alloc(), number, (rows, count), &row)
+            takes(&rt, &memory, rt.alloc(), number, (rows, count), row)
         });
         assert_eq!(rt; made, Some(wanted), "{call}");
     }
-}
-
-fn item_of(seed: u32) -> Item {
-    let place = (seed >> 20) % 5;
-    if seed >> 30 == 0 {
-        change(place)
-    } else {
-        look(place)
-    }
-}
-
-// The standing of an item behind others, of which the first is c0, judged by sets of places.
-fn standing_behind(rt: &impl Abort, tree: &Tree, others: &[Item], item: &Item) -> Standing {
-    let mut number = 0u32;
-    for other in others {
-        if overlap(rt, tree, *item, *other) {
-            return Standing::Queued(ClaimId::Long(number));
-        }
-        number = number.wrapping_add(1);
-    }
-    Standing::Held
-}
-
-// Forty random claims, each asked behind the others. The last number that looks random goes back.
-fn random_line(rt: &impl Abort, alloc: Global, tree: &Tree, first: u32) -> u32 {
-    let mut seed = first;
-    let mut table = Table::new(alloc).expect(rt, "memory");
-    let mut line = [look(0); 40];
-    for index in 0..40usize {
-        seed = seed.wrapping_mul(1_664_525).wrapping_add(1_013_904_223);
-        line[index] = item_of(seed);
-        let expected = standing_behind(rt, tree, &line[..index], &line[index]);
-        let id = ClaimId::Long(index as u32);
-        let told = ask(rt, tree, &mut table, id, &[line[index]]);
-        assert!(rt; told == Ok(expected));
-    }
-    drop(table);
-    seed
-}
-
-#[test]
-fn random_lines_agree_by_modes_and_by_places(rt: HostRuntime) {
-    let tree = small_tree(&rt, rt.alloc());
-    let mut seed = 1u32;
-    for _ in 0..10u8 {
-        seed = random_line(&rt, rt.alloc(), &tree, seed);
-    }
-    drop(tree);
 }

@@ -1,5 +1,5 @@
 use Rattle.std.proofs.Common.{◌∙◌, ap}
-use Rattle.vault_protocol.specs.Grammar.{command_of}
+use Rattle.vault_lines.specs.Grammar.{command_of}
 use Rattle.vault_protocol.specs.Talk.{Talk, said}
 use Rattle.vault_protocol.specs.Script.{answered}
 use Rattle.vault_protocol.proofs.Written.{on_ok_then}

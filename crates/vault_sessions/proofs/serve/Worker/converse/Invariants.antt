@@ -1,6 +1,6 @@
 use Rattle.std.proofs.Common.{◌≡◌, ◌≤◌, length, vec_capacity}
 use Rattle.std.specs.Io.KnownBytes.{Appends}
-use Rattle.vault_protocol.specs.Limits.{longest_line}
+use Rattle.vault_lines.specs.Limits.{longest_line}
 use Rattle.vault_sessions.specs.Serving.{HeardSoFar, SpeaksFor, session_of, texts_of, CountsWith, NoneLeft}
 use Rattle.vault_sessions.proofs.serve.Worker.converse.Given as goal
 

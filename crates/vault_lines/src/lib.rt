@@ -1,0 +1,24 @@
+//! The lines of the vault: commands in, and replies out.
+//!
+//! Promises: a line is read exactly as the command that it spells, and each reply has its text (`read_line_of`, `text_of`,
+//! `outside_text`, `laws`).
+//! Stands on: vault_model. Must not know: scripts, sockets, files, threads, a vault that runs.
+//!
+//! Neither: that `NoMemory` comes from a request that was refused.
+//! Start at: docs/PROTOCOL.md, specs/Grammar.antt and reading.rt.
+#![tactic(auto)]
+
+mod error;
+mod keyword;
+pub mod laws;
+mod limits;
+mod reading;
+mod split;
+mod text;
+mod words;
+
+pub use error::LineError;
+pub use limits::{LONGEST_LINE, MOST_READS};
+pub use reading::read_line_of;
+pub use text::{outside_text, text_of};
+pub use words::read_number;

@@ -1,0 +1,7 @@
+//! The limits of lines. The definitions take them from here, by `specs/Limits.antt`.
+
+/// The most bytes of a line, without the line feed at its end.
+pub const LONGEST_LINE: usize = 4096;
+
+/// The most calls of a reader, for one script or for one line of a connection.
+pub const MOST_READS: u32 = 33_554_432;

@@ -1,0 +1,154 @@
+//! The texts of replies.
+
+ghost use Rattle.std.specs.Prelude.{◌≡◌, ◌++◌, codes, Some, IfOk};
+ghost use Rattle.vault_lines.specs.Texts.{children_text, claim_text, content_text, newline, outside_text, queued_text, refusal_text, reply_text};
+
+use std::alloc::{AllocError, Allocator};
+use std::fmt;
+use vault_model::{ClaimId, Name, NoMemory, Outside, Refusal, Reply, ReplyIn};
+
+/// A claim as lines name it: `c1` is a long one, `h1` a short one.
+#[derive(Clone, Copy)]
+struct ClaimText(ClaimId);
+
+impl fmt::Display for ClaimText {
+    ghost output = { λ claim. Some (claim_text claim.0) };
+
+    fn fmt<W: fmt::Write>(&self, f: &mut fmt::Formatter<W>) -> fmt::Result {
+        match self.0 {
+            ClaimId::Long(number) => write!(f, "c{number}"),
+            ClaimId::Short(number) => write!(f, "h{number}"),
+        }
+    }
+}
+
+/// A refusal by its number, with the claim that is in the way.
+#[derive(Clone, Copy)]
+struct RefusalText(Refusal);
+
+impl fmt::Display for RefusalText {
+    ghost output = { λ refusal. Some (refusal_text refusal.0) };
+
+    fn fmt<W: fmt::Write>(&self, f: &mut fmt::Formatter<W>) -> fmt::Result {
+        match self.0 {
+            Refusal::NoSession => write!(f, "ERR 11"),
+            Refusal::Joined => write!(f, "ERR 12"),
+            Refusal::NoPlace => write!(f, "ERR 20"),
+            Refusal::Exists => write!(f, "ERR 21"),
+            Refusal::WrongKind => write!(f, "ERR 22"),
+            Refusal::Covered(claim) => write!(f, "ERR 23 {}", ClaimText(claim)),
+            Refusal::NoClaim => write!(f, "ERR 30"),
+            Refusal::NotYours => write!(f, "ERR 31"),
+            Refusal::NotHeld => write!(f, "ERR 32"),
+            Refusal::Overlaps(claim) => write!(f, "ERR 33 {}", ClaimText(claim)),
+            Refusal::NotCovered => write!(f, "ERR 34"),
+            Refusal::ItemCount => write!(f, "ERR 36"),
+            Refusal::NoVersion => write!(f, "ERR 40"),
+            Refusal::Limit => write!(f, "ERR 50"),
+        }
+    }
+}
+
+/// The text of a claim that waits behind another.
+fn text_of_queued<A: Allocator + Copy>(
+    alloc: A,
+    claim: ClaimId,
+    before: ClaimId,
+) -> Result<Vec<u8, A>, AllocError>
+    ensures { IfOk result (λ text. text.items ≡ queued_text claim before) }
+{
+    let mut text = format!(in alloc; "OK queued {}", ClaimText(claim))?.into_bytes();
+    let rest = format!(in alloc; " behind {}\n", ClaimText(before))?;
+    text.extend_from_slice(rest.as_bytes())?;
+    Ok(text)
+}
+
+/// The text of the names of places.
+fn text_of_children<A: Allocator + Copy>(alloc: A, names: &[Name]) -> Result<Vec<u8, A>, AllocError>
+    ensures { IfOk result (λ text. text.items ≡ children_text names.now) }
+{
+    let mut text = format!(in alloc; "OK list {}", names.len())?.into_bytes();
+    for name in names {
+        text.extend_from_slice(b" ")?;
+        text.extend_from_slice(name.as_bytes())?;
+    }
+    text.extend_from_slice(b"\n")?;
+    Ok(text)
+}
+
+/// The text of a content.
+fn text_of_content<A: Allocator + Copy>(alloc: A, content: &[u8]) -> Result<Vec<u8, A>, AllocError>
+    ensures { IfOk result (λ text. text.items ≡ codes "OK content " ++ content_text content.now ++ newline) }
+{
+    if content.is_empty() {
+        return Vec::from_slice(alloc, b"OK content -\n");
+    }
+    let digits = hex::encode(alloc, content)?;
+    Ok(format!(in alloc; "OK content {digits}\n")?.into_bytes())
+}
+
+/// The text of a note.
+fn text_of_note<A: Allocator + Copy>(alloc: A, note: &[u8]) -> Result<Vec<u8, A>, AllocError>
+    ensures { IfOk result (λ text. text.items ≡ codes "OK note " ++ content_text note.now ++ newline) }
+{
+    if note.is_empty() {
+        return Vec::from_slice(alloc, b"OK note -\n");
+    }
+    let digits = hex::encode(alloc, note)?;
+    Ok(format!(in alloc; "OK note {digits}\n")?.into_bytes())
+}
+
+/// The text of a reply, where memory is there.
+fn reply_text_of<A: Allocator + Copy, B: Allocator>(
+    alloc: A,
+    reply: &ReplyIn<B>,
+) -> Result<Vec<u8, A>, AllocError>
+    ensures { IfOk result (λ text. text.items ≡ reply_text reply.now) }
+{
+    match reply {
+        Reply::Session(number) => Ok(format!(in alloc; "OK session {number}\n")?.into_bytes()),
+        Reply::Place(number) => Ok(format!(in alloc; "OK place {number}\n")?.into_bytes()),
+        Reply::Held(claim) => Ok(format!(in alloc;
+            "OK held {}\n",
+            ClaimText(*claim)
+        )?.into_bytes()),
+        Reply::Queued(claim, before) => text_of_queued(alloc, *claim, *before),
+        Reply::Saved => Ok(format!(in alloc; "OK saved\n")?.into_bytes()),
+        Reply::CheckedIn(count) => Ok(format!(in alloc; "OK checked in {count}\n")?.into_bytes()),
+        Reply::Abandoned => Ok(format!(in alloc; "OK abandoned\n")?.into_bytes()),
+        Reply::Released => Ok(format!(in alloc; "OK released\n")?.into_bytes()),
+        Reply::Children(names) => text_of_children(alloc, names.as_slice()),
+        Reply::Content(content) => text_of_content(alloc, content.as_slice()),
+        Reply::Versions(count) => Ok(format!(in alloc; "OK versions {count}\n")?.into_bytes()),
+        Reply::Given => Ok(format!(in alloc; "OK given\n")?.into_bytes()),
+        Reply::Noted => Ok(format!(in alloc; "OK noted\n")?.into_bytes()),
+        Reply::NoteIs(note) => text_of_note(alloc, note.as_bytes()),
+        Reply::Left => Ok(format!(in alloc; "OK left\n")?.into_bytes()),
+        Reply::Refused(refusal) => {
+            Ok(format!(in alloc; "{}\n", RefusalText(*refusal))?.into_bytes())
+        }
+    }
+}
+
+/// The line that a reply is told as, with its line feed. Takes time proportional to its length.
+pub fn text_of<A: Allocator + Copy, B: Allocator>(
+    alloc: A,
+    reply: &ReplyIn<B>,
+) -> Result<Vec<u8, A>, NoMemory>
+    ensures { IfOk result (λ text. text.items ≡ reply_text reply.now) }
+{
+    reply_text_of(alloc, reply).or(Err(NoMemory))
+}
+
+/// The line that an outside refusal is told as, with its line feed.
+pub fn outside_text<A: Allocator>(alloc: A, outside: Outside) -> Result<Vec<u8, A>, NoMemory>
+    ensures { IfOk result (λ text. text.items ≡ outside_text outside) }
+{
+    let text = match outside {
+        Outside::BadLine => b"ERR 10\n",
+        Outside::Busy => b"ERR 80\n",
+        Outside::NoMemory => b"ERR 81\n",
+        Outside::Broken => b"ERR 82\n",
+    };
+    Vec::from_slice(alloc, text).or(Err(NoMemory))
+}
