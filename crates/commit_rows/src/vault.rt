@@ -40,6 +40,8 @@ fn one_frame_four_calls(rt: HostRuntime) {
     let (mut first, second) = vault.into_devices();
     assert!(rt; first.calls() == CREATION.0 + 4 && second.calls() == CREATION.1);
     assert!(rt; first.len() == Ok(54));
+    drop(first);
+    drop(second);
 }
 
 #[test]
@@ -81,8 +83,10 @@ fn full_buffer(rt: HostRuntime) {
     assert!(rt; is_full(&mut vault, rt.alloc(), 1024));
     assert!(rt; vault.pump() == Ok(Pumped::Moved));
     assert!(rt; saved(&mut vault, rt.alloc(), 1024, 1));
-    let (mut first, _) = vault.into_devices();
+    let (mut first, second) = vault.into_devices();
     assert!(rt; first.len() == Ok(77 + 5 + 261_855));
+    drop(first);
+    drop(second);
 }
 
 // What is staged before a snapshot is settled with it, in the second file, and what is staged behind its start isn't.
@@ -163,12 +167,17 @@ fn each_request_of_a_vault_is_refused(rt: HostRuntime) {
     assert_eq!(rt; made, Some(1), "Vault::start_snapshot");
 }
 
+// Whether a receipt was kept for a session of this number.
+fn is_session(receipt: &Receipt, number: u32) -> bool {
+    match receipt.reply() {
+        Reply::Session(session) => *session == number,
+        _ => false,
+    }
+}
+
 // Whether this is a new life, behind which a receipt was kept for that reply.
 fn is_of(vault: &Vault<MemDevice>, receipt: &Receipt, number: u32) -> bool {
-    vault.len() == 0
-        && vault.told() == 0
-        && !vault.is_broken()
-        && *receipt.reply() == Reply::Session(number)
+    vault.len() == 0 && vault.told() == 0 && !vault.is_broken() && is_session(receipt, number)
 }
 
 #[test]
@@ -243,7 +252,7 @@ fn a_past_of_three_lives(rt: HostRuntime) {
         "three lives",
     );
     assert!(rt; is_of(&vault, &early, 1));
-    assert!(rt; *late.reply() == Reply::Session(1));
+    assert!(rt; is_session(&late, 1));
     drop(vault);
     drop(early);
     drop(late);

@@ -13,20 +13,29 @@ pub const CREATION: (u64, u64) = (8, 2);
 /// A new vault, the nth device call behind whose creation is to fail.
 pub fn new_vault(alloc: Global, failing: u64, life: u64) -> Option<Vault<MemDevice>> {
     let mut first = MemDevice::new(alloc).ok()?;
-    let second = MemDevice::new(alloc).ok()?;
+    let Ok(second) = MemDevice::new(alloc) else {
+        drop(first);
+        return None;
+    };
     if failing > 0 {
         first.fail_at(failing.saturating_add(CREATION.0));
     }
     match Vault::create(alloc, first, second, life) {
         Ok(vault) => Some(vault),
-        Err(_) => None,
+        Err(refused) => {
+            drop(refused);
+            None
+        }
     }
 }
 
 /// How many device calls were made.
 pub fn calls(vault: Vault<MemDevice>) -> (u64, u64) {
     let (first, second) = vault.into_devices();
-    (first.calls(), second.calls())
+    let calls = (first.calls(), second.calls());
+    drop(first);
+    drop(second);
+    calls
 }
 
 /// The vault of another life in these files, after their machine stopped with nothing unsettled kept.
@@ -39,7 +48,10 @@ pub fn stopped(
     second.crash(Pick::Old);
     match Vault::open(alloc, first, second, 2) {
         Ok(vault) => Some(vault),
-        Err(_) => None,
+        Err(refused) => {
+            drop(refused);
+            None
+        }
     }
 }
 
@@ -87,7 +99,10 @@ pub fn staged<A: Allocator + Copy>(
 ) -> Option<Ticket<A>> {
     match vault.stage(session, command) {
         Ok(ticket) => Some(ticket),
-        Err(_) => None,
+        Err(refused) => {
+            drop(refused);
+            None
+        }
     }
 }
 
@@ -103,14 +118,18 @@ fn is_refused(
             let _ = vault.forget(ticket);
             false
         }
-        Err((reason, back)) => reason == why && back == *copy,
+        Err((reason, back)) => {
+            let is_so = reason == why && back == *copy;
+            drop(back);
+            is_so
+        }
     }
 }
 
 /// Spends the ticket that came back, if one did.
 pub fn spend<A: Allocator + Copy>(vault: &mut Vault<MemDevice, A>, answer: Redeemed<A>) {
     match answer {
-        Redeemed::Told(_receipt) => {}
+        Redeemed::Told(receipt) => drop(receipt),
         Redeemed::NotYet(ticket)
         | Redeemed::Stranger(ticket)
         | Redeemed::Unknown(ticket)
@@ -127,7 +146,11 @@ pub fn told<A: Allocator + Copy>(
     reply: &ReplyIn<A>,
 ) -> bool {
     match vault.redeem(ticket) {
-        Redeemed::Told(receipt) => receipt.reply() == reply,
+        Redeemed::Told(receipt) => {
+            let is_so = receipt.reply() == reply;
+            drop(receipt);
+            is_so
+        }
         answer => {
             spend(vault, answer);
             false
@@ -187,6 +210,30 @@ pub fn settled_after<A: Allocator + Copy>(vault: &mut Vault<MemDevice, A>, pumps
     vault.pump() == Ok(Pumped::Settled)
 }
 
+/// Whether the ticket gives the number of a place. It is spent.
+pub fn tells_place<A: Allocator + Copy>(
+    vault: &mut Vault<MemDevice, A>,
+    ticket: Ticket<A>,
+    number: u32,
+) -> bool {
+    let reply = Reply::Place(number);
+    let is_told = told(vault, ticket, &reply);
+    drop(reply);
+    is_told
+}
+
+/// Whether the ticket gives a refusal. It is spent.
+pub fn tells_refusal<A: Allocator + Copy>(
+    vault: &mut Vault<MemDevice, A>,
+    ticket: Ticket<A>,
+    why: Refusal,
+) -> bool {
+    let reply = Reply::Refused(why);
+    let is_told = told(vault, ticket, &reply);
+    drop(reply);
+    is_told
+}
+
 /// Whether a command without an effect is settled by one pump, and told.
 pub fn done<A: Allocator + Copy>(
     vault: &mut Vault<MemDevice, A>,
@@ -212,7 +259,7 @@ pub fn asked(vault: &mut Vault<MemDevice>) -> bool {
         return false;
     };
     let settled = settled_after(vault, 1);
-    let answered = told(vault, ticket, &Reply::Refused(Refusal::NoSession));
+    let answered = tells_refusal(vault, ticket, Refusal::NoSession);
     settled && answered
 }
 
@@ -229,7 +276,12 @@ pub fn staged_make(
 /// Whether a session of this number is opened in this name.
 pub fn joins(vault: &mut Vault<MemDevice>, name: &[u8], number: u32) -> bool {
     match hello(name) {
-        Some(command) => done(vault, 0, command, &Reply::Session(number)),
+        Some(command) => {
+            let reply = Reply::Session(number);
+            let is_done = done(vault, 0, command, &reply);
+            drop(reply);
+            is_done
+        }
         None => false,
     }
 }
@@ -237,7 +289,12 @@ pub fn joins(vault: &mut Vault<MemDevice>, name: &[u8], number: u32) -> bool {
 /// Whether the first session is refused the place at this path, which is there.
 pub fn is_there(vault: &mut Vault<MemDevice>, path: &[u8]) -> bool {
     match make(path) {
-        Some(command) => done(vault, 1, command, &Reply::Refused(Refusal::Exists)),
+        Some(command) => {
+            let reply = Reply::Refused(Refusal::Exists);
+            let is_done = done(vault, 1, command, &reply);
+            drop(reply);
+            is_done
+        }
         None => false,
     }
 }
@@ -245,7 +302,11 @@ pub fn is_there(vault: &mut Vault<MemDevice>, path: &[u8]) -> bool {
 /// Whether the place of this name is told to be the only one under the library.
 pub fn is_listed(vault: &mut Vault<MemDevice>, alloc: Global, name: &[u8]) -> bool {
     match listed(alloc, name) {
-        Some(list) => done(vault, 1, Command::List(Path::root()), &list),
+        Some(list) => {
+            let is_done = done(vault, 1, Command::List(Path::root()), &list);
+            drop(list);
+            is_done
+        }
         None => false,
     }
 }
@@ -253,7 +314,11 @@ pub fn is_listed(vault: &mut Vault<MemDevice>, alloc: Global, name: &[u8]) -> bo
 /// Whether the first session saves so many bytes, so many times.
 pub fn saved(vault: &mut Vault<MemDevice>, alloc: Global, len: usize, times: u16) -> bool {
     match save(alloc, len) {
-        Some(save) => repeated(vault, alloc, &save, times),
+        Some(save) => {
+            let is_saved = repeated(vault, alloc, &save, times);
+            drop(save);
+            is_saved
+        }
         None => false,
     }
 }
@@ -261,19 +326,29 @@ pub fn saved(vault: &mut Vault<MemDevice>, alloc: Global, len: usize, times: u16
 /// Whether a save of so many bytes isn't staged since the vault is busy.
 pub fn is_full(vault: &mut Vault<MemDevice>, alloc: Global, len: usize) -> bool {
     match save(alloc, len) {
-        Some(save) => is_busy(vault, alloc, &save),
+        Some(save) => {
+            let is_full = is_busy(vault, alloc, &save);
+            drop(save);
+            is_full
+        }
         None => false,
     }
 }
 
 /// Whether questions are staged so many times.
 pub fn questioned(vault: &mut Vault<MemDevice>, alloc: Global, times: u16) -> bool {
-    repeated(vault, alloc, &question(), times)
+    let question = question();
+    let is_asked = repeated(vault, alloc, &question, times);
+    drop(question);
+    is_asked
 }
 
 /// Whether a question isn't staged since the vault is busy.
 pub fn takes_none(vault: &mut Vault<MemDevice>, alloc: Global) -> bool {
-    is_busy(vault, alloc, &question())
+    let question = question();
+    let is_none = is_busy(vault, alloc, &question);
+    drop(question);
+    is_none
 }
 
 /// Whether two sessions make a place each, in one commit.
@@ -286,8 +361,8 @@ pub fn made_by_two(vault: &mut Vault<MemDevice>, e: &[u8], f: &[u8]) -> bool {
         return false;
     };
     let moved = settled_after(vault, 4);
-    let first = told(vault, one, &Reply::Place(1));
-    let second = told(vault, other, &Reply::Place(2));
+    let first = tells_place(vault, one, 1);
+    let second = tells_place(vault, other, 2);
     moved && first && second
 }
 
@@ -300,7 +375,7 @@ pub fn failed_second(vault: &mut Vault<MemDevice>, e: &[u8], f: &[u8]) -> Option
         return None;
     };
     let failed = vault.pump().is_err();
-    let first = told(vault, settled, &Reply::Place(1));
+    let first = tells_place(vault, settled, 1);
     let lost = unknown(vault, lost)?;
     if moved && failed && first {
         return Some(lost);
@@ -311,7 +386,9 @@ pub fn failed_second(vault: &mut Vault<MemDevice>, e: &[u8], f: &[u8]) -> Option
 
 /// Whether the vault takes no command and makes no device call.
 pub fn stays_broken(vault: &mut Vault<MemDevice>) -> bool {
-    let refused = is_refused(vault, question(), Outside::Broken, &question());
+    let copy = question();
+    let refused = is_refused(vault, question(), Outside::Broken, &copy);
+    drop(copy);
     let still = vault.pump() == Ok(Pumped::Broken);
     refused && still && vault.is_broken()
 }
@@ -320,7 +397,10 @@ pub fn stays_broken(vault: &mut Vault<MemDevice>) -> bool {
 fn given(vault: &mut Vault<MemDevice>, session: u32, command: Command) -> bool {
     match vault.stage(session, command) {
         Ok(ticket) => vault.forget(ticket) == Forgotten::Here,
-        Err(_) => false,
+        Err(refused) => {
+            drop(refused);
+            false
+        }
     }
 }
 
@@ -388,6 +468,10 @@ pub fn refusal(alloc: Global, bytes: &[u8]) -> Option<OpenError> {
             drop(vault);
             None
         }
-        Err(refused) => Some(refused.why),
+        Err(refused) => {
+            let why = refused.why;
+            drop(refused);
+            Some(why)
+        }
     }
 }

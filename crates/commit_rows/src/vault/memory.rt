@@ -47,7 +47,10 @@ pub fn creates(rt: &impl Abort, memory: &Refusing<Global>, alloc: Global, number
         }
         Err(back) => {
             let is_told = memory.has_refused() && back.why == CreateError::NoMemory;
-            Tried::refused(Vault::create(memory, back.first, back.second, 1).is_ok() && is_told)
+            let again = Vault::create(memory, back.first, back.second, 1);
+            let is_made = again.is_ok();
+            drop(again);
+            Tried::refused(is_made && is_told)
         }
     }
 }
@@ -67,7 +70,10 @@ pub fn opens(rt: &impl Abort, memory: &Refusing<Global>, alloc: Global, number: 
         }
         Err(back) => {
             let is_told = memory.has_refused() && back.why == OpenError::NoMemory;
-            Tried::refused(Vault::open(memory, back.first, back.second, 2).is_ok() && is_told)
+            let again = Vault::open(memory, back.first, back.second, 2);
+            let is_open = again.is_ok();
+            drop(again);
+            Tried::refused(is_open && is_told)
         }
     }
 }

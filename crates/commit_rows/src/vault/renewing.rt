@@ -1,8 +1,7 @@
-use crate::vault::given::{not_yet, saved, settled_after, staged_make, told};
+use crate::vault::given::{not_yet, saved, settled_after, staged_make, tells_place};
 use group_commit::{Forgotten, Started, Vault};
 use std::alloc::Global;
 use vault_device::MemDevice;
-use vault_model::Reply;
 
 /// Whether so many saves of 1,024 bytes are settled in one frame.
 pub fn saves_a_frame(vault: &mut Vault<MemDevice>, alloc: Global, times: u16) -> bool {
@@ -27,7 +26,7 @@ pub fn is_renewed_around(vault: &mut Vault<MemDevice>, before: &[u8], behind: &[
         return false;
     };
     let settled = settled_after(vault, 6);
-    let first_told = told(vault, first, &Reply::Place(1));
+    let first_told = tells_place(vault, first, 1);
     let Some(second) = not_yet(vault, second) else {
         return false;
     };

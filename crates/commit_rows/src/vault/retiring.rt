@@ -1,8 +1,8 @@
-use crate::vault::given::{question, questioned, settled_after, staged, takes_none, told};
+use crate::vault::given::{question, questioned, settled_after, staged, takes_none, tells_refusal};
 use group_commit::{Forgotten, Retired, Ticket, Vault};
 use std::alloc::Global;
 use vault_device::MemDevice;
-use vault_model::{Refusal, Reply};
+use vault_model::Refusal;
 
 /// Whether so many entries are retired, and then none.
 pub fn retires(vault: &mut Vault<MemDevice>, times: u16) -> bool {
@@ -36,7 +36,7 @@ pub fn makes_room(vault: &mut Vault<MemDevice>, alloc: Global) -> bool {
         return false;
     };
     let full = takes_none(vault, alloc) && vault.retire() == Retired::Nothing;
-    let answered = told(vault, first, &Reply::Refused(Refusal::NoSession));
+    let answered = tells_refusal(vault, first, Refusal::NoSession);
     let by_telling = retires(vault, 1) && questioned(vault, alloc, 1);
     let full_again = takes_none(vault, alloc);
     let given_up = vault.forget(second) == Forgotten::Here;
