@@ -96,7 +96,7 @@ class Crash(unittest.TestCase):
         for number in range(MOMENTS):
             if time.monotonic() > end:
                 return number
-            time.sleep(moments.uniform(0.0, 0.25))
+            time.sleep(moments.uniform(0.0, 0.15))
             self.server.kill()
             self.server.start()
         return MOMENTS

@@ -1,6 +1,5 @@
 -- What a head tells: the version and the generation of a right one, and of no other.
 use Rattle.std.proofs.Common.{◌≡◌, ℕ, List, Some, refl, subst}
-use Rattle.vault_store.specs.declared.front.FileVersion.{FileVersion}
 use Rattle.vault_store.specs.declared.front.Head.{Head}
 use Rattle.vault_store.specs.declared.front.Head.TheVariants.{Closed, Open, Damaged}
 use Rattle.vault_store.specs.Files.{HasHead, HasRightHead}

@@ -1,6 +1,6 @@
 -- How commands are spelled on a line, in the subject's words: what the grammar's reading must give back.
 -- This project's own.
-use Rattle.std.specs.Prelude.{ℕ, ◌≡◌, ◌<◌, ◌≤◌, ◌^◌, ◌*◌, ◌+◌, ◌↔◌, List, [], ◌∷◌, ◌++◌, length, map, codes, decimal, Some, None}
+use Rattle.std.specs.Prelude.{ℕ, ◌≡◌, ◌<◌, ◌≤◌, ◌^◌, ◌*◌, ◌+◌, ◌↔◌, List, [], ◌∷◌, length, map, codes, decimal, Some, None}
 use Rattle.std.specs.List.{join_with_byte, AllByRecursion}
 use Rattle.hex.specs.Hex.{hex_digit_value, IsBytes}
 use Rattle.vault_model.specs.Said.{Command}

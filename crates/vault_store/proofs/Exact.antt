@@ -11,7 +11,7 @@ use Rattle.vault_journal.specs.Spelling.{in_four, records_of}
 use Rattle.vault_journal.proofs.OneSpelling.{one_row}
 use Rattle.vault_store.specs.declared.front.FileVersion.{FileVersion}
 use Rattle.vault_store.specs.Snapshot.{spelling_of, HasSpelling}
-use Rattle.vault_store.specs.Files.{header, head_of, snapshot_bytes, frame_of, frames_bytes, IsFrame, applied, after_frames, Reading, Holds, IsSpare, HasHead, HasRightHead}
+use Rattle.vault_store.specs.Files.{header, head_of, snapshot_bytes, frame_of, frames_bytes, IsFrame, applied, after_frames, Reading, Holds, IsSpare, HasHead}
 use Rattle.vault_store.specs.Faults.{snapshot_length, snapshot_in, IsSnapshotFault, IsFrameFault, IsBodyFault}
 use Rattle.vault_store.specs.declared.opening.File.TheVariants.{First, Second}
 use Rattle.vault_store.specs.declared.opening.OpenError.{OpenError}

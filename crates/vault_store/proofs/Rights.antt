@@ -7,7 +7,7 @@ use Rattle.vault_journal.specs.Reading.{u64_at}
 use Rattle.vault_journal.proofs.OneSpelling.{fields_are_spelled}
 use Rattle.vault_store.specs.declared.front.FileVersion.{FileVersion}
 use Rattle.vault_store.specs.Snapshot.{spelling_of, HasSpelling}
-use Rattle.vault_store.specs.Files.{version_number, head_of, frames_bytes, Reading, Holds, IsClosedFile, HasHead, HasRightHead, IsSpare}
+use Rattle.vault_store.specs.Files.{version_number, head_of, frames_bytes, Reading, Holds, IsClosedFile, HasHead, IsSpare}
 use Rattle.vault_store.specs.Faults.{mark_in, version_in, generation_in, IsVersion, IsOpenFile, IsHeadFault, IsDamagedHead}
 use Rattle.vault_store.proofs.Short.{spelling_short}
 use Rattle.vault_store.proofs.Spelled.{snapshot_tells}

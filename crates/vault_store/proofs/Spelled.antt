@@ -28,7 +28,6 @@ use Rattle.vault_journal.specs.Reading.{u16_at}
 use Rattle.vault_journal.proofs.OneSpelling.{fields_are_spelled}
 use Rattle.vault_checkout.proofs.OneDrafts.{one_drafts}
 use Rattle.vault_store.specs.declared.front.FileVersion.{FileVersion}
-use Rattle.vault_store.specs.declared.front.FileVersion.TheVariants.{One, Two}
 use Rattle.vault_store.specs.Snapshot.{current_version, spelling_of, places_bytes, claim_bytes, IsNoteIn, number_of, designer_of, HasSnapshot, HasSpelling}
 use Rattle.vault_store.proofs.OneReading.{one_spelled, one_number}
 use Rattle.vault_store.proofs.SpelledLists.{IsContent, AreContents, HasDraft}
