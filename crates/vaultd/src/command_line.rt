@@ -80,7 +80,7 @@ Example:
 'vaultd script --help' lists what a script may say.";
 
 /// What the program is asked to do.
-#[derive(Clone, Copy, Debug, PartialEq, Eq)]
+#[derive(Clone, Copy)]
 pub(crate) enum Task<'a> {
     /// Runs a script.
     Script,

@@ -8,7 +8,7 @@ use vault_sessions::ServerError;
 use vault_store::{CreateError, File, OpenError};
 
 /// What went wrong, as it is said in one line.
-#[derive(Clone, Copy, Debug, PartialEq, Eq, Error)]
+#[derive(Clone, Copy, Debug, Error)]
 pub(crate) enum Failure {
     /// A file that was to hold a new vault isn't empty.
     #[error("vault exists")]

@@ -17,7 +17,7 @@ use vault_sessions::{OpenGate, Terms, run_server_on};
 const LIFE: u64 = 1;
 
 /// What is served, where, and by how many workers.
-#[derive(Clone, Copy, Debug, PartialEq, Eq)]
+#[derive(Clone, Copy)]
 pub(crate) struct Serving<'a> {
     /// The paths of the vault's files.
     pub(crate) first: &'a str,
