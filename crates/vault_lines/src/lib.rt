@@ -1,7 +1,7 @@
 //! The lines of the vault: commands in, and replies out.
 //!
-//! Promises: a line is read exactly as the command that it spells, and each reply has its text (`read_line_of`, `text_of`,
-//! `outside_text`, `laws`).
+//! Promises: a line is read exactly as the command that it spells, a number exactly from its decimal text, and each reply has its
+//! text (`read_line_of`, `read_number`, `text_of`, `outside_text`, `laws`).
 //! Stands on: vault_model. Must not know: scripts, sockets, files, threads, a vault that runs.
 //!
 //! Neither: that `NoMemory` comes from a request that was refused.
