@@ -26,8 +26,8 @@ const QUEUED: &[u8; 106] =
 const QUEUED_TEXT: &[u8; 179] =
     b"file a: open, generation 3, frames 0, tail 105\nfile b: older, generation 1\nplaces 4, versions 1, claims 2, drafts 1\nc3 anna held w:/e/b/p\nc2 ben queued behind c3 r:/e/b note 6162\n";
 
-// A device with these bytes.
-fn holding(rt: &impl Abort, alloc: Global, bytes: &[u8]) -> MemDevice
+/// A device with these bytes.
+pub(crate) fn holding(rt: &impl Abort, alloc: Global, bytes: &[u8]) -> MemDevice
     requires { length bytes.now < 200 }
 {
     let mut device = MemDevice::new(alloc).expect(rt, "a device");
@@ -65,8 +65,8 @@ fn reports_on_vaults(rt: HostRuntime) {
     assert!(rt; tells(&rt, alloc, QUEUED, NEW, QUEUED_TEXT));
 }
 
-// The same two files as version 1 wrote them.
-const OLD_WITH_E: &[u8; 47] =
+/// The same two files as version 1 wrote them.
+pub(crate) const OLD_WITH_E: &[u8; 47] =
     b"\x01LLVAULT\0\0\0\x01\0\0\0\0\0\0\0\x01\0\0\0\x0a\0\0\0\0\0\0\0\x01\0\0\x01\0\0\0\x07\x01\0\0\0\0\x01e\0";
 
 const OLD_CHECKED_OUT: &[u8; 57] =
@@ -248,5 +248,5 @@ fn inspects(rt: &impl Abort, memory: &Refusing<Global>, alloc: Global, number: u
 fn each_request_of_an_inspection_is_refused(rt: HostRuntime) {
     let memory = Refusing::new(rt.alloc());
     let made = requests(|number| inspects(&rt, &memory, rt.alloc(), number));
-    assert_eq!(rt; made, Some(29), "inspect");
+    assert_eq!(rt; made, Some(31), "inspect");
 }

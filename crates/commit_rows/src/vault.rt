@@ -4,6 +4,7 @@ mod past;
 mod renewing;
 mod retiring;
 
+use crate::inspector::{OLD_WITH_E, holding};
 use given::{
     CREATION, asked, calls, checked_out, device, failed_second, hello, is_full, is_listed,
     is_stranger, is_there, joins, made_by_two, make, new_vault, questioned, refusal, saved,
@@ -11,7 +12,7 @@ use given::{
 };
 use group_commit::{File, OpenError, Pumped, Receipt, Vault};
 use memory::{creates, opens, redeems, stages, starts};
-use past::{inside_a_pump, inside_an_opening, three_lives, two_lives};
+use past::{inside_a_pump, inside_an_opening, over_other_files, three_lives, two_lives};
 use renewing::{is_renewed, is_renewed_around, saves_a_frame};
 use retiring::{makes_room, retires};
 use std::alloc::Global;
@@ -191,6 +192,25 @@ fn a_past_of_two_lives(rt: HostRuntime) {
             "two lives",
         );
         assert!(rt; is_of(&vault, &receipt, 1));
+        drop(vault);
+        drop(receipt);
+    }
+}
+
+// The headline holds over a vault that an earlier program filled, from what its files stand for on.
+#[test]
+fn a_past_over_files_of_version_1(rt: HostRuntime) {
+    for pick in [Pick::Old, Pick::New] {
+        let anna = hello(b"anna").expect(&rt, "a name");
+        let first = holding(&rt, rt.alloc(), OLD_WITH_E);
+        let second = device(&rt, rt.alloc());
+        let (mut vault, receipt) = over_other_files(rt.alloc(), first, second, anna, pick).expect(
+            &rt,
+            "two lives",
+        );
+        assert!(rt; is_of(&vault, &receipt, 1));
+        assert!(rt; joins(&mut vault, b"anna", 1));
+        assert!(rt; is_there(&mut vault, b"/e"));
         drop(vault);
         drop(receipt);
     }

@@ -2,7 +2,7 @@
 use Rattle.std.proofs.Common.{◌≡◌, ℕ, ◌-◌, ◌≤◌, List, [], ◌∷◌, ◌++◌, take, drop, Option, None, Some, refl, sym, ap, ◌∙◌, subst}
 use Rattle.std.specs.Prelude.{option_to_list}
 use Rattle.vault_model.specs.Said.{Effect}
-use Rattle.vault_model.specs.Vault.{Vault, IsVault, new_vault, durable}
+use Rattle.vault_model.specs.Vault.{Vault, IsVault, durable}
 use Rattle.vault_model.specs.Step.{Outcome}
 use Rattle.vault_model.specs.After.{IsDurableChange}
 use Rattle.group_commit.specs.Entries.{Kept}
@@ -24,8 +24,8 @@ effects_lead v (kept ∷ rest) w =
     one_change v o.vault (durable (replay o.vault (members rest))) o.effect (effects o.vault rest) (effect_is_the_durable_change v kept.entry.session kept.entry.command w)
     (effects_lead o.vault rest (well_formed_stays.1 v kept.entry.session kept.entry.command w))
 
-pub effects_are_the_change : (w : World) (n m : ℕ) → n ≤ m → applied (durable (vault_at w n)) (effects (vault_at w n) (take (m - n) (drop n w.life))) ≡ Some (durable (vault_at w m))
-effects_are_the_change w n m h =
-    effects_lead (vault_at w n) (take (m - n) (drop n w.life)) (replay_well_formed new_vault (history_to w n) well_formed_stays.0)
+pub effects_are_the_change : (w : World) (n m : ℕ) → IsVault w.first → n ≤ m → applied (durable (vault_at w n)) (effects (vault_at w n) (take (m - n) (drop n w.life))) ≡ Some (durable (vault_at w m))
+effects_are_the_change w n m is h =
+    effects_lead (vault_at w n) (take (m - n) (drop n w.life)) (replay_well_formed w.first (history_to w n) is)
     ∙ ap (λ (v : Vault). Some (durable v))
-    (sym (replay-append new_vault (history_to w n) (members (take (m - n) (drop n w.life)))) ∙ ap (replay new_vault) (members_part w.earlier m n w.life h))
+    (sym (replay-append w.first (history_to w n) (members (take (m - n) (drop n w.life)))) ∙ ap (replay w.first) (members_part w.earlier m n w.life h))

@@ -2,7 +2,7 @@
 use Rattle.std.proofs.Common.{ℕ, zero, suc, ◌+◌, ◌<◌, ◌≤◌, List, [], ◌∷◌, take, sym, subst, arith}
 use Rattle.std.proofs.lemmas.List.Elements.{All-weaker}
 use Rattle.vault_model.specs.declared.session.Session.{Session}
-use Rattle.vault_model.specs.Vault.{Vault, new_vault, CountsBelow}
+use Rattle.vault_model.specs.Vault.{Vault, CountsBelow}
 use Rattle.group_commit.specs.Entries.{Kept}
 use Rattle.group_commit.specs.History.{replay, outcome_of, members}
 use Rattle.group_commit.specs.World.{World, vault_at}
@@ -25,4 +25,4 @@ counts_after bound (suc n) v (kept ∷ rest) counts =
     (counts_after (bound + 1) n next rest (counts_rise bound v kept.entry.session kept.entry.command counts))
 
 pub counts_are_of_the_life : (w : World) (n : ℕ) → IsSound w → CountsBelow (n + 1) (vault_at w n)
-counts_are_of_the_life w n s = subst (CountsBelow (n + 1)) (sym (replay-append new_vault w.earlier (members (take n w.life)))) (counts_after 1 n (replay new_vault w.earlier) w.life s.starts)
+counts_are_of_the_life w n s = subst (CountsBelow (n + 1)) (sym (replay-append w.first w.earlier (members (take n w.life)))) (counts_after 1 n (replay w.first w.earlier) w.life s.starts)

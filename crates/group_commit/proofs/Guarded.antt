@@ -1,6 +1,6 @@
 -- The vault after any history is well formed, and no two of its held claims overlap.
 use Rattle.std.proofs.Common.{List, [], ◌∷◌}
-use Rattle.vault_model.specs.Vault.{Vault, IsVault, new_vault, durable}
+use Rattle.vault_model.specs.Vault.{Vault, IsVault, durable}
 use Rattle.group_commit.specs.History.{Member, Given, Restart, moved, replay}
 use Rattle.group_commit.specs.Laws.{IsGuarded}
 use Rattle.group_commit.proofs.Facts.{well_formed_stays, held_is_durable, held_are_apart}
@@ -19,5 +19,5 @@ guarded v w = record {
   held = λ n. held_is_durable v n w;
 }
 
-pub history_is_guarded : (members : List Member) → IsGuarded (replay new_vault members)
-history_is_guarded members = guarded (replay new_vault members) (replay_well_formed new_vault members well_formed_stays.0)
+pub history_is_guarded : (first : Vault) (members : List Member) → IsVault first → IsGuarded (replay first members)
+history_is_guarded first members is = guarded (replay first members) (replay_well_formed first members is)

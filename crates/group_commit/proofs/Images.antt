@@ -14,7 +14,7 @@ use Rattle.group_commit.specs.View.{View, view_at, MayLeave}
 use Rattle.group_commit.specs.Seen.{VaultSeen, state_of}
 use Rattle.group_commit.specs.Promises.{ImagesStand, RecoveryGivesOnePrefix}
 use Rattle.group_commit.proofs.Order.{opening_is_busy}
-use Rattle.group_commit.proofs.Sound.{after_run}
+use Rattle.group_commit.proofs.Sound.{after_run, first_stays}
 use Rattle.group_commit.proofs.Recovery.{is_prefix, left_is_recovered}
 
 -- one of the two, or the other, is left
@@ -52,4 +52,4 @@ one_prefix disk seen images snapshot events x y is_run same crash =
     let w = run snapshot new_world events in
     let left = images.stands x y crash in
     let found = left_is_recovered w left.0 s (subst (λ (v : View). MayLeave v left.0) (sym same) left.1) in
-    (found.0, subst (StandFor x y) found.1 left.2, is_prefix w found.0 s)
+    (found.0, subst (StandFor x y) found.1 left.2, is_prefix w found.0 (first_stays snapshot new_world events) s)

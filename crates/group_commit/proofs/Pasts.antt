@@ -1,9 +1,9 @@
 -- The past of a vault is one run of events.
-use Rattle.std.proofs.Common.{◌≡◌, ◌⊎◌, inl, inr, ⊎_elim, ℕ, zero, suc, Bool, true, false, cond, List, [], ◌∷◌, ◌++◌, Some, refl, sym, ap, ◌∙◌, subst, append_assoc}
+use Rattle.std.proofs.Common.{◌≡◌, ◌⊎◌, inl, inr, ⊎_elim, ℕ, zero, suc, Bool, true, false, cond, ◌+◌, List, [], ◌∷◌, ◌++◌, Some, refl, sym, ap, ◌∙◌, subst, append_assoc}
 use Rattle.std.specs.Prelude.{IsTrue, None, slice_get}
 use Rattle.std.proofs.lemmas.List.{append-nil}
 use Rattle.std.proofs.lemmas.Option.{same_Some}
-use Rattle.vault_model.specs.Vault.{Vault, durable}
+use Rattle.vault_model.specs.Vault.{Vault, CountsBelow, durable}
 use Rattle.vault_device.specs.Disk.{Disk}
 use Rattle.vault_store.specs.declared.phase.Phase.{Phase}
 use Rattle.vault_store.specs.declared.phase.Phase.TheVariants.{Idle, Written, Bodied, Opening, Start, Closing, Writing, Filled, Ready, SnapOpening}
@@ -11,14 +11,14 @@ use Rattle.vault_store.specs.Files.{StandFor}
 use Rattle.vault_store.specs.Phases.{is_idle, is_opening, may_open}
 use Rattle.vault_store.specs.Seen.{settled_reading, sealed_reading, IsLeftInside}
 use Rattle.vault_store.specs.Laws.{CrashLeavesWhatIsKept, OneGateIsOpened, OneVault}
-use Rattle.group_commit.specs.World.{World, new_world, Act, Pump, GateLeft}
+use Rattle.group_commit.specs.World.{World, world_of, Act, Pump, GateLeft}
 use Rattle.group_commit.specs.Runs.{Event, Within, Crash, happened, run, IsRun}
 use Rattle.group_commit.specs.View.{View, view_of, opened_view, view_at, ViewAllows, view_acted, MayLeave}
 use Rattle.group_commit.specs.Seen.{VaultSeen, snapshot_length, state_of}
 use Rattle.group_commit.specs.Promises.{IsCrash}
-use Rattle.group_commit.specs.Pasts.{IsOfAVault, IsStopInside, IsStop, IsOpenedOn, IsNext, IsPast}
+use Rattle.group_commit.specs.Pasts.{IsOfAVault, IsStopInside, IsStop, IsOpenedOn, IsNext, IsPast, beginning}
 use Rattle.group_commit.specs.Recovered.{world_after, AreOfStop, AreOfNext, AreOfPast, events_until, IsOneRun}
-use Rattle.group_commit.proofs.Sound.{IsSound, after_run, run_sound, run-append}
+use Rattle.group_commit.proofs.Sound.{IsSound, first_sound, run_sound, run-append}
 use Rattle.group_commit.proofs.ViewLaw.{acts_as}
 use Rattle.group_commit.proofs.Recovery.{crashed_view, left_is_recovered}
 use Rattle.group_commit.proofs.Images.{images_stand}
@@ -167,33 +167,44 @@ module _ {D : Type 0} (disk : D → Disk) (law : CrashLeavesWhatIsKept disk) (on
   begun : (now : VaultSeen D) (p : IsPast disk now []) → IsOneRun disk now [] p
   begun now p = record { events = []; is_run = tt; calls = refl; shown = shown }
     where
-      shown : (n : ℕ) (seen : VaultSeen D) → slice_get (now ∷ []) n ≡ Some seen → view_of (world_after (events_until disk now [] p [] refl n)) ≡ seen.view
+      shown : (n : ℕ) (seen : VaultSeen D) → slice_get (now ∷ []) n ≡ Some seen → view_of (world_after (beginning now []) (events_until disk now [] p [] refl n)) ≡ seen.view
       shown zero seen at = sym p.1 ∙ ap (λ (x : VaultSeen D). x.view) (same_Some now seen at)
       shown (suc n) seen at = absurd (none_there seen at)
 
-  module _ (now old : VaultSeen D) (past : List (VaultSeen D)) (p : IsPast disk now (old ∷ past)) (one : IsOneRun disk old past p.2) (leads : Leads (world_after one.events) now.view (AreOfNext p.1)) where
-    reaches_on : view_of (world_after (one.events ++ leads.more)) ≡ now.view
-    reaches_on = ap view_of (run-append snapshot_length new_world one.events leads.more) ∙ leads.shows
+  module _ (now old : VaultSeen D) (past : List (VaultSeen D)) (p : IsPast disk now (old ∷ past)) (one : IsOneRun disk old past p.2) (leads : Leads (world_after (beginning old past) one.events) now.view (AreOfNext p.1)) where
+    reaches_on : view_of (world_after (beginning old past) (one.events ++ leads.more)) ≡ now.view
+    reaches_on = ap view_of (run-append snapshot_length (world_of (beginning old past)) one.events leads.more) ∙ leads.shows
 
     abbrev calls_on : AreOfPast disk now (old ∷ past) p (one.events ++ leads.more)
     calls_on = record { before = one.events; last = leads.more; whole = refl; happened_before = one.calls; of_next = leads.are }
 
-    shown_on : (n : ℕ) (seen : VaultSeen D) → slice_get (now ∷ old ∷ past) n ≡ Some seen → view_of (world_after (events_until disk now (old ∷ past) p (one.events ++ leads.more) calls_on n)) ≡ seen.view
+    shown_on : (n : ℕ) (seen : VaultSeen D) → slice_get (now ∷ old ∷ past) n ≡ Some seen → view_of (world_after (beginning old past) (events_until disk now (old ∷ past) p (one.events ++ leads.more) calls_on n)) ≡ seen.view
     shown_on zero seen at = reaches_on ∙ ap (λ (x : VaultSeen D). x.view) (same_Some now seen at)
     shown_on (suc n) seen at = one.shown n seen at
 
     goes_on : IsOneRun disk now (old ∷ past) p
-    goes_on = record { events = one.events ++ leads.more; is_run = both_parts new_world one.events leads.more one.is_run leads.is_run; calls = calls_on; shown = shown_on }
+    goes_on = record { events = one.events ++ leads.more; is_run = both_parts (world_of (beginning old past)) one.events leads.more one.is_run leads.is_run; calls = calls_on; shown = shown_on }
 
-  pub reaches : (now : VaultSeen D) (past : List (VaultSeen D)) (p : IsPast disk now past) (one : IsOneRun disk now past p) → view_of (world_after one.events) ≡ now.view
+  pub reaches : (now : VaultSeen D) (past : List (VaultSeen D)) (p : IsPast disk now past) (one : IsOneRun disk now past p) → view_of (world_after (beginning now past) one.events) ≡ now.view
   reaches now past p one = one.shown 0 now refl
+
+  -- the world with which a past begins
+  pub begins_sound : (now : VaultSeen D) (past : List (VaultSeen D)) → IsPast disk now past → IsSound (world_of (beginning now past))
+  begins_sound now [] p =
+      let s = p.0.sound in
+      first_sound now.view.base s.well_formed (subst (λ (v : View). CountsBelow (v.retired + 1) now.view.base) p.1 s.counts)
+  begins_sound now (old ∷ past) p = begins_sound old past p.2
+
+  -- and those that it reaches
+  pub past_sound : (now : VaultSeen D) (past : List (VaultSeen D)) (p : IsPast disk now past) (one : IsOneRun disk now past p) → IsSound (world_after (beginning now past) one.events)
+  past_sound now past p one = run_sound snapshot_length (world_of (beginning now past)) one.events one.is_run (begins_sound now past p)
 
   -- each past is one run
   pub one_run : (now : VaultSeen D) (past : List (VaultSeen D)) (p : IsPast disk now past) → IsOneRun disk now past p
   one_run now [] p = begun now p
   one_run now (old ∷ past) p =
       let one = one_run old past p.2 in
-      goes_on now old past p one (next_leads old now p.1 (of_a_vault old past p.2) (world_after one.events) (after_run snapshot_length one.events one.is_run) (reaches old past p.2 one))
+      goes_on now old past p one (next_leads old now p.1 (of_a_vault old past p.2) (world_after (beginning old past) one.events) (past_sound old past p.2 one) (reaches old past p.2 one))
 
 -- what happened until something was seen is the first part of all
 pub until_first : {D : Type 0} (disk : D → Disk) (now : VaultSeen D) (past : List (VaultSeen D)) (p : IsPast disk now past) (events : List Event) (are : AreOfPast disk now past p events) (n : ℕ)

@@ -25,10 +25,12 @@ cut_is w IsOpen = by_phase (is_opening w.phase)
     by_phase true = inr (refl, refl)
     by_phase false = inl refl
 
-pub is_prefix : (w : World) (gate : GateLeft) → IsSound w → IsPrefix w gate
-is_prefix w gate s = record {
+pub is_prefix : (w : World) (gate : GateLeft) → w.first ≡ new_vault → IsSound w → IsPrefix w gate
+is_prefix w gate new s = record {
   cut = cut_is w gate;
-  prefix = ap (λ l. durable (replay new_vault l)) (prefix_is w (kept_by w gate) (keeps_at_most_all w gate s));
+  prefix =
+      ap (λ l. durable (replay w.first l)) (prefix_is w (kept_by w gate) (keeps_at_most_all w gate s))
+      ∙ ap (λ (v : Vault). durable (replay v (take (length w.earlier + kept_by w gate) (history w)))) new;
   told = λ position e. omega (arith, s.marks.told position e, keeps_settled w gate s);
   claims = refl;
 }
@@ -36,7 +38,7 @@ is_prefix w gate s = record {
 -- the world after a crash is seen as a vault that was opened
 pub crashed_view : (w : World) (gate : GateLeft) → view_of (crashed w gate) ≡ opened_view (recovered w gate)
 crashed_view w gate =
-    let e = ap (replay new_vault) (append-nil (history_to w (kept_by w gate) ++ Restart ∷ [])) ∙ replay-append new_vault (history_to w (kept_by w gate)) (Restart ∷ []) in
+    let e = ap (replay w.first) (append-nil (history_to w (kept_by w gate) ++ Restart ∷ [])) ∙ replay-append w.first (history_to w (kept_by w gate)) (Restart ∷ []) in
     λ i. opened_view (e i)
 
 -- what a crash may leave is what recovery gives

@@ -3,7 +3,7 @@ use Rattle.std.proofs.Common.{◌≡◌, inl, inr, ℕ, ◌+◌, ◌-◌, ◌≤
 use Rattle.std.proofs.lemmas.List.{drop-append-le, take-append-le, drop-drop}
 use Rattle.std.proofs.lemmas.Bool.{cases_lt}
 use Rattle.vault_model.specs.Said.{Command}
-use Rattle.vault_model.specs.Vault.{Vault, new_vault, durable}
+use Rattle.vault_model.specs.Vault.{Vault, durable}
 use Rattle.group_commit.specs.declared.mark.Mark.{Mark}
 use Rattle.group_commit.specs.declared.mark.Mark.TheVariants.{Open, Told, Forgotten}
 use Rattle.vault_store.specs.declared.phase.Phase.{Phase}
@@ -23,10 +23,10 @@ pub len_is : (w : World) → IsSound w → length_of (view_of w) ≡ length w.li
 len_is w s = omega (arith, length-drop w.retired w.life, s.order.retired_settled, s.order.settled_all)
 
 pub view_at_is : (w : World) (n : ℕ) → w.retired ≤ n → view_at (view_of w) n ≡ vault_at w n
-view_at_is w n h = sym (replay-append new_vault (history_to w w.retired) (members (take (n - w.retired) (drop w.retired w.life)))) ∙ ap (replay new_vault) (members_part w.earlier n w.retired w.life h)
+view_at_is w n h = sym (replay-append w.first (history_to w w.retired) (members (take (n - w.retired) (drop w.retired w.life)))) ∙ ap (replay w.first) (members_part w.earlier n w.retired w.life h)
 
 pub book_is : (w : World) → book_of (view_of w) ≡ vault_of w
-book_is w = sym (replay-append new_vault (history_to w w.retired) (members (drop w.retired w.life))) ∙ ap (replay new_vault) (members_rest w.earlier w.retired w.life)
+book_is w = sym (replay-append w.first (history_to w w.retired) (members (drop w.retired w.life))) ∙ ap (replay w.first) (members_rest w.earlier w.retired w.life)
 
 pub unsettled_is : (w : World) → IsSound w → drop (w.settled - w.retired) (drop w.retired w.life) ≡ drop w.settled w.life
 unsettled_is w s = drop_part w.settled w.retired w.life s.order.retired_settled
@@ -63,7 +63,7 @@ open_is_kept w position s e = elim (cases_lt position w.retired) [
 marks_alike : (m : Mark) (w : World) (position : ℕ) (told : ℕ) → w.retired ≤ position → told_in (with_mark m w.life position) ≡ told →
     view_of (record w { life = with_mark m w.life position }) ≡ record (view_of w) { kept = with_mark m (drop w.retired w.life) (position - w.retired); told = told }
 marks_alike m w position told h e =
-    let base = ap (λ ms. replay new_vault (w.earlier ++ ms)) (take-with_mark m w.life w.retired position) in
+    let base = ap (λ ms. replay w.first (w.earlier ++ ms)) (take-with_mark m w.life w.retired position) in
     let kept = drop-with_mark m w.life w.retired position h in
     λ i. record { base = base i; kept = kept i; settled = w.settled; sealed = w.sealed; retired = w.retired; told = e i; phase = w.phase; broken = w.broken }
 
@@ -85,7 +85,7 @@ stages : (snapshot : Vault → ℕ) (w : World) (session : ℕ) (command : Comma
 stages snapshot w session command s =
     let h : w.retired ≤ length w.life = omega (arith, s.order.retired_settled, s.order.settled_all) in
     let more : List Kept = opened (entry_of (vault_of w) session command) ∷ [] in
-    let base = ap (λ l. replay new_vault (w.earlier ++ members l)) (take-append-le w.retired w.life more h) in
+    let base = ap (λ l. replay w.first (w.earlier ++ members l)) (take-append-le w.retired w.life more h) in
     let kept = drop-append-le w.retired w.life more h ∙ ap (λ v. drop w.retired w.life ++ opened (entry_of v session command) ∷ []) (sym (book_is w)) in
     let told = told_open w.life (entry_of (vault_of w) session command) in
     λ i. record { base = base i; kept = kept i; settled = w.settled; sealed = w.sealed; retired = w.retired; told = told i; phase = w.phase; broken = w.broken }

@@ -1,6 +1,6 @@
 -- The past of a vault: what was seen of it, call by call, over any number of stops of its machine. This project's own.
 use Rattle.std.specs.Prelude.{◌≡◌, ◌⊎◌, ℕ, IsTrue, false, List, [], ◌∷◌}
-use Rattle.vault_model.specs.Vault.{new_vault}
+use Rattle.vault_model.specs.Vault.{Vault}
 use Rattle.vault_device.specs.Disk.{Disk}
 use Rattle.vault_store.specs.Files.{AreRead}
 use Rattle.vault_store.specs.Laws.{AreHonest}
@@ -87,7 +87,14 @@ pub record IsReopened {D : Type 0} (disk : D → Disk) (old new : VaultSeen D) :
 abbrev pub IsNext : {D : Type 0} → (D → Disk) → VaultSeen D → VaultSeen D → Type 0
 IsNext disk old new = IsAnswered old new ⊎ IsReopened disk old new
 
--- All that was seen of a vault before now, the latest first: it began as the new vault, and each was next of the one before it.
+-- All that was seen of a vault before now, the latest first: it began as a vault that was made or opened, and each was next of the one
+-- before it.
 abbrev pub IsPast : {D : Type 0} → (D → Disk) → VaultSeen D → List (VaultSeen D) → Type 0
-IsPast disk now [] = IsOfAVault disk now × (now.view ≡ opened_view new_vault)
+IsPast disk now [] = IsOfAVault disk now × (now.view ≡ opened_view now.view.base)
 IsPast disk now (old ∷ past) = IsOfAVault disk now × IsNext disk old now × IsPast disk old past
+
+-- The vault with which a past began: the new vault where it was made, and what its files stood for where it was opened, whoever had
+-- written them.
+abbrev pub beginning : {D : Type 0} → VaultSeen D → List (VaultSeen D) → Vault
+beginning now [] = now.view.base
+beginning now (old ∷ past) = beginning old past

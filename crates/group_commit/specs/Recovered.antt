@@ -3,7 +3,7 @@ use Rattle.std.specs.Prelude.{◌≡◌, ◌⊎◌, ℕ, zero, suc, ◌+◌, ◌
 use Rattle.std.proofs.Common.{inl, inr}
 use Rattle.vault_model.specs.declared.ids.ClaimId.TheVariants.{Short}
 use Rattle.vault_model.specs.Claims.{claim_of, without_short}
-use Rattle.vault_model.specs.Vault.{Vault, new_vault, durable}
+use Rattle.vault_model.specs.Vault.{Vault, durable}
 use Rattle.vault_device.specs.Disk.{Disk}
 use Rattle.vault_store.specs.declared.opening.OpenError.{OpenError}
 use Rattle.vault_store.specs.Files.{StandFor}
@@ -12,7 +12,7 @@ use Rattle.vault_store.specs.Phases.{is_opening, may_open}
 use Rattle.group_commit.specs.declared.mark.Mark.TheVariants.{Told}
 use Rattle.group_commit.specs.Entries.{Kept}
 use Rattle.group_commit.specs.History.{Member, Given, replay, IsLegal}
-use Rattle.group_commit.specs.World.{World, new_world, history, Pump, GateLeft}
+use Rattle.group_commit.specs.World.{World, world_of, history, Pump, GateLeft}
 use Rattle.group_commit.specs.Runs.{Event, Within, Crash, run, IsRun}
 use Rattle.group_commit.specs.View.{view_of, opened_view}
 use Rattle.group_commit.specs.Ticket.{Told as Receipt, entry_in}
@@ -20,11 +20,11 @@ use Rattle.group_commit.specs.Laws.{AreApart, IsGuarded}
 use Rattle.group_commit.specs.Seen.{VaultSeen, snapshot_length}
 use Rattle.group_commit.specs.Promises.{IsCrash}
 use Rattle.group_commit.specs.Positions.{HasTold}
-use Rattle.group_commit.specs.Pasts.{IsStopInside, IsStop, IsOpenedOn, IsNext, IsPast}
+use Rattle.group_commit.specs.Pasts.{IsStopInside, IsStop, IsOpenedOn, IsNext, IsPast, beginning}
 
--- the world after events from the new vault on
-abbrev pub world_after : List Event → World
-world_after events = run snapshot_length new_world events
+-- the world after events from this vault on
+abbrev pub world_after : Vault → List Event → World
+world_after first events = run snapshot_length (world_of first) events
 
 -- the events of a stop: a crash, and before it at most the pump under way where the machine stopped inside one
 abbrev pub AreOfStop : {D : Type 0} → {disk : D → Disk} → {seen : VaultSeen D} → {x y : List ℕ} → IsStop disk seen x y → List Event → Type 0
@@ -46,7 +46,7 @@ pub record GoOn {D : Type 0} {disk : D → Disk} {old new : VaultSeen D} (next :
   pub happened_before : HappenedBefore before
   pub of_next : AreOfNext next last
 
--- The events of a past, call by call: none before the new vault was seen, and then those of each that came next.
+-- The events of a past, call by call: none before the first was seen, and then those of each that came next.
 abbrev pub AreOfPast : {D : Type 0} → (disk : D → Disk) → (now : VaultSeen D) → (past : List (VaultSeen D)) → IsPast disk now past
     → List Event → Type 0
 AreOfPast disk now [] is events = events ≡ []
@@ -63,22 +63,23 @@ events_until disk now (old ∷ past) is events are (suc n) = events_until disk o
 pub record IsOneRun {D : Type 0} (disk : D → Disk) (now : VaultSeen D) (past : List (VaultSeen D))
     (is : IsPast disk now past) : Type 0 where
   pub events : List Event
-  pub is_run : IsRun snapshot_length new_world events
+  pub is_run : IsRun snapshot_length (world_of (beginning now past)) events
   -- between two that were seen, one behind the other, nothing else happened than what led from the one to the other
   pub calls : AreOfPast disk now past is events
   -- each that was seen, the latest first, is the view of the world as it was then
   pub shown : (n : ℕ) (seen : VaultSeen D) → slice_get (now ∷ past) n ≡ Some seen
-      → view_of (world_after (events_until disk now past is events calls n)) ≡ seen.view
+      → view_of (world_after (beginning now past) (events_until disk now past is events calls n)) ≡ seen.view
 
 -- the single history of a past
 abbrev pub history_of : {D : Type 0} → {disk : D → Disk} → {now : VaultSeen D} → {past : List (VaultSeen D)} → {is : IsPast disk now past}
     → IsOneRun disk now past is → List Member
-history_of one = history (world_after one.events)
+history_of {D} {disk} {now} {past} {is} one = history (world_after (beginning now past) one.events)
 
 -- where in it the life begins in which the nth was seen
 abbrev pub life_begins : {D : Type 0} → {disk : D → Disk} → {now : VaultSeen D} → {past : List (VaultSeen D)} → {is : IsPast disk now past}
     → IsOneRun disk now past is → ℕ → ℕ
-life_begins {D} {disk} {now} {past} {is} one n = length (world_after (events_until disk now past is one.events one.calls n)).earlier
+life_begins {D} {disk} {now} {past} {is} one n =
+    length (world_after (beginning now past) (events_until disk now past is one.events one.calls n)).earlier
 
 -- These files stand for a vault, opening finds nothing wrong with them, and recovery gives it: the durable vault after one prefix of the
 -- single history, up to the settled entries or, where a gate may be open, up to the sealed ones.
@@ -90,27 +91,27 @@ pub record IsRecovered {D : Type 0} {disk : D → Disk} {now : VaultSeen D} {pas
   pub recovery : (new : VaultSeen D) → IsOpenedOn x y new → new.view ≡ opened_view vault
   pub cut : ℕ
   pub choice :
-      let w : World = world_after one.events in
+      let w : World = world_after (beginning now past) one.events in
       (cut ≡ length w.earlier + now.view.settled) ⊎ (IsTrue open_gate × (cut ≡ length w.earlier + now.view.sealed))
   pub within : cut ≤ length (history_of one)
-  pub prefix : vault ≡ durable (replay new_vault (take cut (history_of one)))
+  pub prefix : vault ≡ durable (replay (beginning now past) (take cut (history_of one)))
   -- whatever was told at any point of the past stands in that prefix, at its place, with its reply
   pub told : (n place : ℕ) (seen : VaultSeen D) (kept : Kept) (at : slice_get (now ∷ past) n ≡ Some seen)
       → slice_get seen.view.kept place ≡ Some kept → kept.mark ≡ Told
       → slice_get (take cut (history_of one)) (life_begins one n + (seen.view.retired + place)) ≡ Some (Given kept.entry)
   -- its long claims stand in their order, and short ones are gone
-  pub claims : vault.line ≡ without_short (replay new_vault (take cut (history_of one))).line
+  pub claims : vault.line ≡ without_short (replay (beginning now past) (take cut (history_of one))).line
   pub no_short : (number : ℕ) → claim_of vault.line (Short number) ≡ None
   -- no two held claims overlap, after the prefix and as it is recovered
-  pub guarded : IsGuarded (replay new_vault (take cut (history_of one)))
+  pub guarded : IsGuarded (replay (beginning now past) (take cut (history_of one)))
   pub apart : AreApart vault
 
--- The headline, for one past of a vault: one run of events is this past, with a legal history, and wherever the machine stops now,
--- between two calls or inside a pump, recovery gives one prefix of it.
+-- The headline, for one past of a vault: one run of events is this past, with a history that is legal from the vault with which it began,
+-- and wherever the machine stops now, between two calls or inside a pump, recovery gives one prefix of it.
 pub record IsKeptThrough {D : Type 0} (disk : D → Disk) (now : VaultSeen D) (past : List (VaultSeen D))
     (is : IsPast disk now past) : Type 0 where
   pub one : IsOneRun disk now past is
-  pub legal : IsLegal new_vault (history_of one)
+  pub legal : IsLegal (beginning now past) (history_of one)
   pub between : (x y : List ℕ) → IsCrash disk now x y → IsRecovered one (is_opening now.view.phase) x y
   pub inside : (x y : List ℕ) → IsStopInside disk now x y → IsRecovered one (may_open now.view.phase) x y
 

@@ -11,9 +11,10 @@ use Rattle.group_commit.specs.History.{Member, Restart, replay, entry_of, member
 use Rattle.vault_store.specs.Phases.{Row, row, NoCall, settled_by, after_fault, is_opening}
 use Rattle.group_commit.specs.Phases.{waiting}
 
--- the members of earlier lives, the entries of the present life with their marks, and, counted from its start, how many of
--- them are settled, sealed and retired; the phase; whether a device call failed
+-- the vault with which the first life began, the members of earlier lives, the entries of the present life with their marks,
+-- and, counted from its start, how many of them are settled, sealed and retired; the phase; whether a device call failed
 pub record World : Type 0 where
+  pub first : Vault
   pub earlier : List Member
   pub life : List Kept
   pub settled : ℕ
@@ -22,9 +23,14 @@ pub record World : Type 0 where
   pub phase : Phase
   pub broken : Bool
 
+-- the world of a vault with which a first life begins
+abbrev pub world_of : Vault → World
+world_of vault =
+    record { first = vault; earlier = []; life = []; settled = 0; sealed = 0; retired = 0; phase = Idle; broken = false }
+
 -- the world of the new vault
 abbrev pub new_world : World
-new_world = record { earlier = []; life = []; settled = 0; sealed = 0; retired = 0; phase = Idle; broken = false }
+new_world = world_of new_vault
 
 -- the single history, over all lives
 abbrev pub history : World → List Member
@@ -36,11 +42,11 @@ history_to w n = w.earlier ++ members (take n w.life)
 
 -- the vault after these
 abbrev pub vault_at : World → ℕ → Vault
-vault_at w n = replay new_vault (history_to w n)
+vault_at w n = replay w.first (history_to w n)
 
 -- the vault after all
 abbrev pub vault_of : World → Vault
-vault_of w = replay new_vault (history w)
+vault_of w = replay w.first (history w)
 
 -- what one call does: a command is staged, a pump, a pump with a fault, the start of a snapshot, a reply that is told, a
 -- ticket that is forgotten, and an entry that is retired
@@ -109,6 +115,7 @@ kept_by w IsOpen = if is_opening w.phase then w.sealed else w.settled
 -- the world after a crash and a restart: a new life behind the entries that are kept
 abbrev pub crashed : World → GateLeft → World
 crashed w gate = record {
+  first = w.first;
   earlier = history_to w (kept_by w gate) ++ Restart ∷ [];
   life = [];
   settled = 0;

@@ -123,8 +123,21 @@ fn stopped_in_an_opening(
     }
 }
 
+// A vault without a past told somebody a reply.
+fn begun(vault: Vault<MemDevice>, command: CommandIn<Global>) -> Option<(Vault<MemDevice>, Receipt)>
+    ensures { IsPast disk_of vault [] → IfSome result (λ begun. (past : List (VaultSeen MemDisk)) × IsPast disk_of begun.0 past
+        × (length past ≡ 3) × HasTold begun.0.view begun.1) }
+{
+    let mut vault = vault;
+    let Some(receipt) = told(&mut vault, command) else {
+        drop(vault);
+        return None;
+    };
+    Some((vault, receipt))
+}
+
 // A new vault that told somebody a reply.
-fn begun(
+fn made(
     alloc: Global,
     first: MemDevice,
     second: MemDevice,
@@ -133,15 +146,28 @@ fn begun(
     ensures { IfSome result (λ begun. (past : List (VaultSeen MemDisk)) × IsPast disk_of begun.0 past × (length past ≡ 3)
         × HasTold begun.0.view begun.1) }
 {
-    let Ok(mut vault) = Vault::create(alloc, first, second, 1) else {
+    let Ok(vault) = Vault::create(alloc, first, second, 1) else {
         return None;
     };
     a_past_goes_on(&vault);
-    let Some(receipt) = told(&mut vault, command) else {
-        drop(vault);
+    begun(vault, command)
+}
+
+// A vault that told somebody a reply, in files that another program wrote.
+fn taken_over(
+    alloc: Global,
+    first: MemDevice,
+    second: MemDevice,
+    command: CommandIn<Global>,
+) -> Option<(Vault<MemDevice>, Receipt)>
+    ensures { IfSome result (λ begun. (past : List (VaultSeen MemDisk)) × IsPast disk_of begun.0 past × (length past ≡ 3)
+        × HasTold begun.0.view begun.1) }
+{
+    let Ok(vault) = Vault::open(alloc, first, second, 1) else {
         return None;
     };
-    Some((vault, receipt))
+    a_past_goes_on(&vault);
+    begun(vault, command)
 }
 
 /// A vault that was made, told somebody a reply, stopped, and was opened again; and the receipt.
@@ -155,7 +181,27 @@ pub fn two_lives(
     ensures { IfSome result (λ found. (past : List (VaultSeen MemDisk)) × (is : IsPast disk_of found.0 past) × (length past ≡ 4)
         × IsFoundAgain disk_of found.0 past is found.1) }
 {
-    let (vault, receipt) = begun(alloc, first, second, command)?;
+    let (vault, receipt) = made(alloc, first, second, command)?;
+    let Some(next) = stopped(alloc, vault, pick) else {
+        drop(receipt);
+        return None;
+    };
+    receipts_are_found_again(&next);
+    Some((next, receipt))
+}
+
+/// The same, where the first life was opened over files that another program wrote.
+pub fn over_other_files(
+    alloc: Global,
+    first: MemDevice,
+    second: MemDevice,
+    command: CommandIn<Global>,
+    pick: Pick,
+) -> Option<(Vault<MemDevice>, Receipt)>
+    ensures { IfSome result (λ found. (past : List (VaultSeen MemDisk)) × (is : IsPast disk_of found.0 past) × (length past ≡ 4)
+        × IsFoundAgain disk_of found.0 past is found.1) }
+{
+    let (vault, receipt) = taken_over(alloc, first, second, command)?;
     let Some(next) = stopped(alloc, vault, pick) else {
         drop(receipt);
         return None;
@@ -194,7 +240,7 @@ pub fn inside_a_pump(
     ensures { IfSome result (λ found. (past : List (VaultSeen MemDisk)) × (is : IsPast disk_of found.0 past) × (length past ≡ 8)
         × IsFoundAgain disk_of found.0 past is found.1) }
 {
-    let (mut vault, receipt) = begun(alloc, first, second, command)?;
+    let (mut vault, receipt) = made(alloc, first, second, command)?;
     if !under_way(&mut vault, next) {
         drop(vault);
         drop(receipt);
@@ -220,7 +266,7 @@ pub fn inside_an_opening(
     ensures { IfSome result (λ found. (past : List (VaultSeen MemDisk)) × (is : IsPast disk_of found.0 past) × (length past ≡ 4)
         × IsFoundAgain disk_of found.0 past is found.1) }
 {
-    let (vault, receipt) = begun(alloc, first, second, command)?;
+    let (vault, receipt) = made(alloc, first, second, command)?;
     let Some(next) = stopped_in_an_opening(alloc, vault, pick, call) else {
         drop(receipt);
         return None;
@@ -241,7 +287,7 @@ pub fn three_lives(
     ensures { IfSome result (λ found. (past : List (VaultSeen MemDisk)) × (is : IsPast disk_of found.0 past) × (length past ≡ 8)
         × IsFoundAgain disk_of found.0 past is found.1 × IsFoundAgain disk_of found.0 past is found.2) }
 {
-    let (vault, early) = begun(alloc, first, second, one)?;
+    let (vault, early) = made(alloc, first, second, one)?;
     let Some(mut vault) = stopped(alloc, vault, pick) else {
         drop(early);
         return None;
