@@ -417,8 +417,8 @@ fn each_request_of_a_line_is_refused(rt: HostRuntime) {
     let before = [ask_to_look(1); 32];
     // Of the first claim four requests are for the claim, and six for its modes. Those of the front are all for its modes.
     let rows = [
-        ("Line::ask_long", 0, ask_to_look(1), 10),
-        ("Line::ask_short", 0, Row::Hold(1, one(look(1)), HELD), 10),
+        ("Line::ask_long", 0, ask_to_look(1), 11),
+        ("Line::ask_short", 0, Row::Hold(1, one(look(1)), HELD), 11),
         (
             "Line::extend",
             4,
@@ -431,9 +431,9 @@ fn each_request_of_a_line_is_refused(rt: HostRuntime) {
             Row::PutFirst(C2, two(look(1), change(3))),
             5,
         ),
-        ("Line::ask_long, behind 4", 4, ask_to_look(1), 5),
-        ("Line::ask_long, behind 16", 16, ask_to_look(1), 5),
-        ("Line::ask_long, behind 32", 32, ask_to_look(1), 5),
+        ("Line::ask_long, behind 4", 4, ask_to_look(1), 6),
+        ("Line::ask_long, behind 16", 16, ask_to_look(1), 6),
+        ("Line::ask_long, behind 32", 32, ask_to_look(1), 6),
     ];
     for (call, count, row, wanted) in &rows {
         let (count, wanted) = (*count, *wanted);

@@ -1,5 +1,5 @@
 -- Claims that end together, taken out one after another.
-use Rattle.std.specs.Prelude.{◌≡◌, ℕ, zero, suc, Bool, true, false, not, List, [], ◌∷◌, length, map, filter, drop, slice_get, None, Some, All, refl}
+use Rattle.std.specs.Prelude.{◌≡◌, ℕ, zero, suc, Bool, true, false, not, List, [], ◌∷◌, ◌++◌, length, map, filter, take, drop, slice_get, None, Some, All, refl}
 use Rattle.std.proofs.Common.{ap, subst, ◌∙◌, cond, arith}
 use Rattle.std.specs.List.{IsDistinct, AllByRecursion}
 use Rattle.std.proofs.lemmas.List.Elements.{All-nil, All-cons, All-head, All-tail, All-filter}
@@ -12,7 +12,7 @@ use Rattle.vault_model.specs.Vault.{AreThere}
 use Rattle.lock_table.specs.declared.entry.Entry.{Entry}
 use Rattle.lock_table.specs.Tables.{IsTableOf}
 use Rattle.vault_model.proofs.Stays.{ids, same_id_itself, same_id_turned}
-use Rattle.long_locks.specs.Lines.{LineSeen, IsNumbered, IsLine, is_short, ends, left_by, AllStay}
+use Rattle.long_locks.specs.Lines.{LineSeen, IsNumbered, IsLine, is_short, ends, left_by}
 use Rattle.long_locks.specs.declared.ending.Ending.{Ending}
 use Rattle.long_locks.specs.declared.ending.Ending.TheVariants.{AllShort}
 
@@ -36,54 +36,48 @@ apart_at id (x ∷ line) zero c all e = let same : x ≡ c = cc in subst (λ (d 
 apart_at id (x ∷ line) (suc i) c all e = apart_at id line i c all.1 e
 
 module _ (t : Claim → Bool) where
-  -- what is left stays, as one that ends is taken out
-  pub left_without : (line : List Claim) (i : ℕ) (c : Claim) → IsDistinct same_id (ids line) → slice_get line i ≡ Some c → t c ≡ true → filter (λ (d : Claim). not (t d)) (without line c.id) ≡ filter (λ (d : Claim). not (t d)) line
-  unfolding IsDistinct
-  left_without [] i c distinct e h = cc
-  left_without (x ∷ line) zero c distinct e h =
-      let same : x ≡ c = cc in
-      let here : same_id x.id c.id ≡ true = subst (λ (d : Claim). same_id x.id d.id ≡ true) same (same_id_itself x.id) in
-      let gone : without line c.id ≡ line = subst (λ (d : Claim). without line d.id ≡ line) same (others_stay x.id line distinct.0) in
-      let ending : t x ≡ true = ap t same ∙ h in
-      rw (here, gone, ending) refl
-  left_without (x ∷ line) (suc i) c distinct e h = rw (apart_at x.id line i c distinct.0 e) (by_test (t x) (left_without line i c distinct.1 e h))
+  apart_kept : (P : ClaimId → Type 0) (line : List Claim) → AllByRecursion P (ids line) → AllByRecursion P (ids (filter (λ (d : Claim). not (t d)) line))
+  apart_kept P [] all = all
+  apart_kept P (c ∷ line) all = by_test (t c) (apart_kept P line all.1)
     where
-      by_test : (b : Bool) → filter (λ (d : Claim). not (t d)) (without line c.id) ≡ filter (λ (d : Claim). not (t d)) line
-          → cond (not b) (x ∷ filter (λ (d : Claim). not (t d)) (without line c.id)) (filter (λ (d : Claim). not (t d)) (without line c.id)) ≡ cond (not b) (x ∷ filter (λ (d : Claim). not (t d)) line) (filter (λ (d : Claim). not (t d)) line)
+      by_test : (b : Bool) → AllByRecursion P (ids (filter (λ (d : Claim). not (t d)) line)) → AllByRecursion P (ids (cond (not b) (c ∷ filter (λ (d : Claim). not (t d)) line) (filter (λ (d : Claim). not (t d)) line)))
       by_test true rest = rest
-      by_test false rest = ap (λ ys. x ∷ ys) rest
+      by_test false rest = (all.0, rest)
 
-  -- those behind one that isn't there, and behind one that stays
-  pub behind_none : (line : List Claim) (i : ℕ) → slice_get line i ≡ None → filter (λ (d : Claim). not (t d)) (drop i line) ≡ drop i line
+  -- behind the whole line none was taken out
+  pub none_behind : (line : List Claim) (n : ℕ) → n ≡ length line → take n line ++ filter (λ (d : Claim). not (t d)) (drop n line) ≡ line
+  none_behind [] zero e = refl
+  none_behind [] (suc n) e = refl
+  none_behind (c ∷ line) zero e = let clash : zero ≡ suc (length line) = e in absurd (omega (arith, clash))
+  none_behind (c ∷ line) (suc n) e = ap (λ ys. c ∷ ys) (none_behind line n (let one : suc n ≡ suc (length line) = e in omega (arith, one)))
+
+  -- one that isn't there, and one that stays, change nothing
+  pub behind_none : (line : List Claim) (i : ℕ) → slice_get line i ≡ None
+      → take (suc i) line ++ filter (λ (d : Claim). not (t d)) (drop (suc i) line) ≡ take i line ++ filter (λ (d : Claim). not (t d)) (drop i line)
   behind_none [] zero e = refl
   behind_none [] (suc i) e = refl
   behind_none (x ∷ line) zero e = cc
-  behind_none (x ∷ line) (suc i) e = behind_none line i e
+  behind_none (x ∷ line) (suc i) e = ap (λ ys. x ∷ ys) (behind_none line i e)
 
-  pub behind_kept : (line : List Claim) (i : ℕ) (c : Claim) → slice_get line i ≡ Some c → t c ≡ false → filter (λ (d : Claim). not (t d)) (drop (suc i) line) ≡ drop (suc i) line → filter (λ (d : Claim). not (t d)) (drop i line) ≡ drop i line
-  behind_kept [] i c e h rest = cc
-  behind_kept (x ∷ line) zero c e h rest = let same : x ≡ c = cc in let stays : t x ≡ false = ap t same ∙ h in rw stays (ap (λ ys. x ∷ ys) rest)
-  behind_kept (x ∷ line) (suc i) c e h rest = behind_kept line i c e h rest
+  pub behind_kept : (line : List Claim) (i : ℕ) (c : Claim) → slice_get line i ≡ Some c → t c ≡ false
+      → take (suc i) line ++ filter (λ (d : Claim). not (t d)) (drop (suc i) line) ≡ take i line ++ filter (λ (d : Claim). not (t d)) (drop i line)
+  behind_kept [] i c e h = cc
+  behind_kept (x ∷ line) zero c e h = let same : x ≡ c = cc in let stays : t x ≡ false = ap t same ∙ h in rw stays refl
+  behind_kept (x ∷ line) (suc i) c e h = ap (λ ys. x ∷ ys) (behind_kept line i c e h)
 
--- those behind one that is taken out move up
-pub behind_taken : (line : List Claim) (i : ℕ) (c : Claim) → IsDistinct same_id (ids line) → slice_get line i ≡ Some c → drop i (without line c.id) ≡ drop (suc i) line
-unfolding IsDistinct
-behind_taken [] i c distinct e = cc
-behind_taken (x ∷ line) zero c distinct e =
-    let same : x ≡ c = cc in
-    let here : same_id x.id c.id ≡ true = subst (λ (d : Claim). same_id x.id d.id ≡ true) same (same_id_itself x.id) in
-    let gone : without line c.id ≡ line = subst (λ (d : Claim). without line d.id ≡ line) same (others_stay x.id line distinct.0) in
-    rw (here, gone) refl
-behind_taken (x ∷ line) (suc i) c distinct e = rw (apart_at x.id line i c distinct.0 e) (behind_taken line i c distinct.1 e)
-
--- of a list and the claims behind its end all stay
-pub none_behind : (ending : Ending) (line : List Claim) (n : ℕ) → n ≡ length line → AllStay ending (drop n line)
-none_behind ending line n e = behind_none (ends ending) line n (past line n e)
-  where
-    past : (xs : List Claim) (k : ℕ) → k ≡ length xs → slice_get xs k ≡ None
-    past [] k h = refl
-    past (x ∷ xs) zero h = let clash : zero ≡ suc (length xs) = h in absurd (omega (arith, clash))
-    past (x ∷ xs) (suc k) h = past xs k (let one : suc k ≡ suc (length xs) = h in omega (arith, one))
+  -- one that ends is taken out, and no other
+  pub behind_taken : (line : List Claim) (i : ℕ) (c : Claim) → IsDistinct same_id (ids line) → slice_get line i ≡ Some c → t c ≡ true
+      → without (take (suc i) line ++ filter (λ (d : Claim). not (t d)) (drop (suc i) line)) c.id ≡ take i line ++ filter (λ (d : Claim). not (t d)) (drop i line)
+  unfolding IsDistinct
+  behind_taken [] i c distinct e h = cc
+  behind_taken (x ∷ line) zero c distinct e h =
+      let kept : List Claim = filter (λ (d : Claim). not (t d)) line in
+      let same : x ≡ c = cc in
+      let here : same_id x.id c.id ≡ true = subst (λ (d : Claim). same_id x.id d.id ≡ true) same (same_id_itself x.id) in
+      let gone : without kept c.id ≡ kept = subst (λ (d : Claim). without kept d.id ≡ kept) same (others_stay x.id kept (apart_kept (λ k. same_id x.id k ≡ false) line distinct.0)) in
+      let ending : t x ≡ true = ap t same ∙ h in
+      rw (here, gone, ending) refl
+  behind_taken (x ∷ line) (suc i) c distinct e h = rw (apart_at x.id line i c distinct.0 e) (ap (λ ys. x ∷ ys) (behind_taken line i c distinct.1 e h))
 
 pub line_left : (l : LineSeen) (table : List Entry) → IsLine l table → (ending : Ending) (new : List Entry) → IsTableOf l.tree (left_by ending l.claims) new → IsLine (record l { claims = left_by ending l.claims }) new
 line_left l table kept ending new zip = record {

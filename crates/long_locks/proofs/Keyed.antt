@@ -1,10 +1,10 @@
 -- Claims by their ids, as a list.
-use Rattle.std.specs.Prelude.{◌≡◌, ℕ, zero, suc, Bool, true, false, List, [], ◌∷◌, ◌++◌, take, drop, insert, remove, Option, None, Some, is_some, slice_get, position, refl}
+use Rattle.std.specs.Prelude.{◌≡◌, ℕ, zero, suc, Bool, true, false, List, [], ◌∷◌, ◌++◌, take, drop, filter, insert, remove, Option, None, Some, is_some, slice_get, position, refl}
 use Rattle.std.proofs.Common.{sym, ap, subst, ◌∙◌, cond, rules}
 use Rattle.std.specs.Map.{keys_of, values_of, lookup, remove_entry}
 use Rattle.std.specs.List.{IsDistinct, AllByRecursion}
 use Rattle.std.specs.Option.{option_map, option_map_or}
-use Rattle.std.proofs.lemmas.List.Elements.{All-cons, All-head, All-tail, All-append, All-take, All-drop, All-push}
+use Rattle.std.proofs.lemmas.List.Elements.{All-cons, All-head, All-tail, All-append, All-take, All-drop, All-push, All-filter}
 use Rattle.std.proofs.lemmas.Bool.Decides.{nat_tests}
 use Rattle.indexmap.specs.IndexMap.{move_index, insert_entry}
 use Rattle.indexmap.specs.Layout.{set_value_at}
@@ -45,6 +45,19 @@ keyed_pushed es c keyed = All-push own es (c.id, c) keyed refl
 pub values_pushed : (es : List Entry) (c : Claim) → values_of (es ++ (c.id, c) ∷ []) ≡ values_of es ++ c ∷ []
 values_pushed [] c = refl
 values_pushed (e ∷ es) c = ap (λ cs. e.1 ∷ cs) (values_pushed es c)
+
+-- those that pass a test keep their keys, and are the claims that pass it
+pub keyed_kept : (t : Claim → Bool) (es : List Entry) → AreKeyed es → AreKeyed (filter (λ (e : Entry). t e.1) es)
+keyed_kept t es keyed = All-filter (λ (e : Entry). t e.1) own es keyed
+
+pub values_kept : (t : Claim → Bool) (es : List Entry) → values_of (filter (λ (e : Entry). t e.1) es) ≡ filter t (values_of es)
+values_kept t [] = refl
+values_kept t (e ∷ es) = by_test (t e.1) (values_kept t es)
+  where
+    by_test : (b : Bool) → values_of (filter (λ (x : Entry). t x.1) es) ≡ filter t (values_of es)
+        → values_of (cond b (e ∷ filter (λ (x : Entry). t x.1) es) (filter (λ (x : Entry). t x.1) es)) ≡ cond b (e.1 ∷ filter t (values_of es)) (filter t (values_of es))
+    by_test true rest = ap (λ cs. e.1 ∷ cs) rest
+    by_test false rest = rest
 
 module _ (eq : ClaimId → ClaimId → Bool) (is : (a b : ClaimId) → eq a b ≡ same_id b a) where
   key_test : (id : ClaimId) (e : Entry) → own e → eq id e.0 ≡ same_id e.1.id id

@@ -14,6 +14,8 @@ use Rattle.indexmap.specs.contracts.index_table.IndexTable as IndexTable
 use Rattle.indexmap.specs.contracts.map.IndexMap as IndexMap
 use Rattle.vault_model.proofs.Sends.{fields, claim_id_send, claim_send}
 use Rattle.lock_table.proofs.Sends.{table_send}
+use Rattle.long_locks.specs.contracts.kept.Kept as Kept
+use Rattle.long_locks.specs.contracts.kept.Kept.TheInside as KeptInside
 use Rattle.long_locks.specs.contracts.claims.Claims as Claims
 use Rattle.long_locks.specs.contracts.claims.Claims.TheInside as ClaimsInside
 use Rattle.long_locks.specs.contracts.line.Line as Line
@@ -31,10 +33,16 @@ module _ (K V S B T : RattleType) (e : eq.Ghosts K.Denot) (h : hash.Ghosts K.Den
       search fields depth 20
 
 module _ (A : RattleType) (g : Ghosts A.Denot) (s : IsSend A) (f : Frees g g.dealloc_token) where
+  kept_send : IsSend (Kept.the_field A g).row
+  kept_send =
+      let T = KeptInside.the_type A g in
+      let c = claim_send in
+      view_send _ _ _ _ _ (recorded_send _ _ _ T.to_one (struct_send (shape T) (search fields depth 20)))
+
   claims_send : IsSend (Claims.the_field A g).row
   claims_send =
       let T = ClaimsInside.the_type A g in
-      let m = index_map_send _ _ _ _ Fold.the_row _ _ _ _ _ claim_id_send claim_send hasher_send s f in
+      let m = index_map_send _ _ _ _ Fold.the_row _ _ _ _ _ claim_id_send kept_send hasher_send s f in
       view_send _ _ _ _ _ (recorded_send _ _ _ T.to_one (struct_send (shape T) (m, tt)))
 
   pub line_send : IsSend (Line.the_field A g).row

@@ -1,21 +1,23 @@
 //! Claims by their ids, in line order.
-ghost use Rattle.std.specs.Prelude.{◌≡◌, ◌<◌, ◌++◌, ◌∷◌, [], true, is_some, length, slice_get, None, IsOk, IfOk, OnOk};
+ghost use Rattle.std.specs.Prelude.{◌≡◌, ◌<◌, ◌++◌, ◌∷◌, [], true, not, is_some, length, slice_get, None, IsOk, IfOk, OnOk};
 ghost use Rattle.std.specs.Option.{option_copied};
 ghost use Rattle.vault_model.specs.declared.claims.Claim.{Claim};
 ghost use Rattle.vault_model.specs.Claims.{claim_of, without, changed, given_to, noted_as};
-ghost use Rattle.long_locks.specs.Lines.{put_first};
+ghost use Rattle.long_locks.specs.Lines.{put_first, ends, left_by};
 
+use crate::ending::{Ending, ends};
+use crate::kept::Kept;
 use indexmap::IndexMap;
 use std::alloc::{Allocator, Global};
 use std::hash::{BuildHasherDefault, FoldHasher};
 use std::marker::Model;
-use vault_model::{Claim, ClaimId, Items, Name, NoMemory, Note, Owner};
+use vault_model::{Claim, ClaimId, Items, Name, NoMemory, Note};
 
 /// Claims in order, each found by its id without a search. Contracts see their list, and the room
 /// that there is for more.
 #[derive(Drop)]
 pub(crate) struct Claims<A: Allocator = Global> {
-    by_id: IndexMap<ClaimId, Claim, BuildHasherDefault<FoldHasher>, A>,
+    by_id: IndexMap<ClaimId, Kept<A>, BuildHasherDefault<FoldHasher>, A>,
 }
 
 impl<A: Allocator> Model for Claims<A> {
@@ -48,6 +50,13 @@ impl<A: Allocator + Copy> Claims<A> {
             by_id: self.by_id.clone()?,
         })
     }
+
+    /// Takes the memory for a claim, before it is put into the line.
+    pub(crate) fn keep(&self, claim: Claim) -> Result<Kept<A>, NoMemory>
+        ensures { IfOk result (λ kept. kept ≡ claim) }
+    {
+        Kept::new(*self.by_id.allocator(), claim)
+    }
 }
 
 impl<A: Allocator> Claims<A> {
@@ -62,15 +71,16 @@ impl<A: Allocator> Claims<A> {
     pub(crate) fn get(&self, id: ClaimId) -> Option<&Claim>
         ensures { option_copied result ≡ claim_of self.now.claims id }
     {
-        self.by_id.get(&id)
+        let kept = self.by_id.get(&id)?;
+        Some(kept.claim())
     }
 
     /// The claim at a position, counted from 0.
     pub(crate) fn at(&self, position: usize) -> Option<&Claim>
         ensures { option_copied result ≡ slice_get self.now.claims position }
     {
-        let (_, claim) = self.by_id.get_index(position)?;
-        Some(claim)
+        let (_, kept) = self.by_id.get_index(position)?;
+        Some(kept.claim())
     }
 
     /// Makes room for one claim more.
@@ -86,12 +96,13 @@ impl<A: Allocator> Claims<A> {
     }
 
     /// Puts a new claim last, where there is room. It takes no memory.
-    pub(crate) fn put_last(&mut self, claim: Claim)
+    pub(crate) fn put_last(&mut self, claim: Kept<A>)
         requires new { claim_of self.old.claims claim.id ≡ None }
         requires room { 0 < self.old.room }
         ensures { self.new.claims ≡ self.old.claims ++ claim ∷ [] }
     {
-        self.by_id.insert(claim.id, claim).unwrap();
+        let id = claim.claim().id;
+        self.by_id.insert(id, claim).unwrap();
     }
 
     /// Gives a claim these items, and the first place. The others keep their order.
@@ -101,7 +112,7 @@ impl<A: Allocator> Claims<A> {
     {
         let index = self.by_id.get_index_of(&id).unwrap();
         self.by_id.move_index(index, 0);
-        self.by_id[0].items = items;
+        self.by_id[0].set_items(items);
     }
 
     /// Gives a claim to a designer, in its place. Where there is none of this id, nothing changes.
@@ -109,7 +120,7 @@ impl<A: Allocator> Claims<A> {
         ensures { self.new.claims ≡ changed self.old.claims id (given_to designer) }
     {
         if let Some(index) = self.by_id.get_index_of(&id) {
-            self.by_id[index].owner = Owner::Designer(designer);
+            self.by_id[index].give(designer);
         }
     }
 
@@ -118,7 +129,7 @@ impl<A: Allocator> Claims<A> {
         ensures { self.new.claims ≡ changed self.old.claims id (noted_as note) }
     {
         if let Some(index) = self.by_id.get_index_of(&id) {
-            self.by_id[index].note = note;
+            self.by_id[index].set_note(note);
         }
     }
 
@@ -127,7 +138,18 @@ impl<A: Allocator> Claims<A> {
         ensures { self.new.claims ≡ without self.old.claims id }
     {
         if let Some(index) = self.by_id.get_index_of(&id) {
-            self.by_id.shift_remove_index(index);
+            drop(self.by_id.shift_remove_index(index));
         }
+    }
+
+    /// Takes those out that end, in one walk. The others keep their order.
+    pub(crate) fn remove_ending(&mut self, ending: Ending)
+        ensures { self.new.claims ≡ left_by ending self.old.claims }
+    {
+        self.by_id.retain(
+            |_id: &ClaimId, kept: &mut Kept<A>| -> bool
+                ensures { (result ≡ not (ends ending kept.old)) × (kept.new ≡ kept.old) }
+            { !ends(ending, kept.claim()) },
+        );
     }
 }

@@ -1,12 +1,12 @@
 //! Claims that end together.
-ghost use Rattle.std.specs.Prelude.{◌≡◌, ◌==◌, ◌+◌, List, map, drop, true, false};
+ghost use Rattle.std.specs.Prelude.{◌≡◌, ◌==◌, ◌+◌, List, map, true, false};
 ghost use Rattle.std.specs.List.{IsDistinct};
 ghost use Rattle.vault_model.specs.declared.place.Place.{Place};
 ghost use Rattle.vault_model.specs.declared.claims.Claim.{Claim};
 ghost use Rattle.vault_model.specs.Claims.{same_id};
 ghost use Rattle.lock_table.specs.Tables.{IsTableOf};
 ghost use Rattle.long_locks.specs.declared.ending.Ending.{Ending};
-ghost use Rattle.long_locks.specs.Lines.{ends, left_by, AllStay};
+ghost use Rattle.long_locks.specs.Lines.{ends, left_by, left_behind};
 
 use crate::claims::Claims;
 use lock_table::Table;
@@ -36,32 +36,26 @@ pub(crate) fn ends(ending: Ending, claim: &Claim) -> bool
     }
 }
 
-// Takes the claim at a position out, if it ends. Of those behind it all stay.
-fn drop_at<A: Allocator>(
-    claims: &mut Claims<A>,
+// Takes the claim at a position out of the table, if it ends. Those that end behind it are out already.
+fn release_at<A: Allocator>(
+    claims: &Claims<A>,
     table: &mut Table<A>,
     ending: Ending,
     position: usize,
 )
-    requires distinct { IsDistinct same_id (map (λ (c : Claim). c.id) claims.old.claims) }
-    requires behind { AllStay ending (drop (position + 1) claims.old.claims) }
-    ensures left { left_by ending claims.new.claims ≡ left_by ending claims.old.claims }
-    ensures distinct { IsDistinct same_id (map (λ (c : Claim). c.id) claims.new.claims) }
-    ensures behind { AllStay ending (drop position claims.new.claims) }
-    ensures table { (tree : List Place) → IsTableOf tree claims.old.claims table.old → IsTableOf tree claims.new.claims table.new }
+    requires { IsDistinct same_id (map (λ (c : Claim). c.id) claims.now.claims) }
+    ensures { (tree : List Place) → IsTableOf tree (left_behind ending (position + 1) claims.now.claims) table.old
+        → IsTableOf tree (left_behind ending position claims.now.claims) table.new }
 {
     let Some(claim) = claims.at(position) else {
         return;
     };
-    if !ends(ending, claim) {
-        return;
+    if ends(ending, claim) {
+        table.release(claim.id);
     }
-    let id = claim.id;
-    claims.remove(id);
-    table.release(id);
 }
 
-/// Takes all out that end. The last one goes first, since nobody waits for it.
+/// Takes all out that end. The last one leaves the table first, since nobody waits for it.
 pub(crate) fn drop_all<A: Allocator>(claims: &mut Claims<A>, table: &mut Table<A>, ending: Ending)
     requires { IsDistinct same_id (map (λ (c : Claim). c.id) claims.old.claims) }
     ensures claims { claims.new.claims ≡ left_by ending claims.old.claims }
@@ -70,6 +64,7 @@ pub(crate) fn drop_all<A: Allocator>(claims: &mut Claims<A>, table: &mut Table<A
     let mut position = claims.len();
     while position > 0 {
         position -= 1;
-        drop_at(claims, table, ending, position);
+        release_at(claims, table, ending, position);
     }
+    claims.remove_ending(ending);
 }

@@ -19,6 +19,7 @@
 mod claims;
 mod ending;
 mod from_claims;
+mod kept;
 mod line;
 mod remembered;
 

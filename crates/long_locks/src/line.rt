@@ -77,8 +77,9 @@ pub(crate) fn put_last<A: Allocator + Copy>(
 {
     let locks = lock_set(tree, claim.items.as_slice());
     claims.reserve_one()?;
+    let kept = claims.keep(claim)?;
     let standing = table.ask(claim.id, locks)?;
-    claims.put_last(claim);
+    claims.put_last(kept);
     Ok(standing)
 }
 

@@ -33,13 +33,13 @@ fn each_request_of_a_script_is_refused(rt: HostRuntime) {
             "run_script",
             b"@1 hello anna\n@1 make /e\n@1 checkout w:/e\n",
             b"@1 OK session 1\n@1 OK place 1\n@1 OK held c1\n",
-            54,
+            55,
         ),
         (
             "run_script, of short claims",
             b"@1 hello anna\n@1 hold r:/\n@1 extend h1 w:/\n@1 list /\n@1 release h1\n@1 quit\n",
             b"@1 OK session 1\n@1 OK held h1\n@1 OK held h1\n@1 OK list 0\n@1 OK released\n@1 OK left\n",
-            60,
+            61,
         ),
     ];
     for (call, script, output, wanted) in rows {

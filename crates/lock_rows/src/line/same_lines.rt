@@ -65,7 +65,7 @@ fn each_request_of_a_copy_is_refused(rt: HostRuntime) {
     let memory = Refusing::new(rt.alloc());
     // Four requests for the claims, thirteen for their modes.
     let made = requests(|number| copies(&rt, &memory, rt.alloc(), number));
-    assert_eq!(rt; made, Some(17), "Line::copy");
+    assert_eq!(rt; made, Some(21), "Line::copy");
 }
 
 // The check-out of this number, of Anna.
@@ -208,6 +208,6 @@ fn each_request_of_a_line_of_claims_is_refused(rt: HostRuntime) {
     let memory = Refusing::new(rt.alloc());
     // Four requests for the claims, twelve for their modes.
     let made = requests(|number| makes_of_claims(&rt, &memory, number));
-    assert_eq!(rt; made, Some(16), "Line::from_claims");
+    assert_eq!(rt; made, Some(19), "Line::from_claims");
     assert!(rt; tells_what_no_line_has(&rt, &memory));
 }

@@ -295,5 +295,5 @@ fn kinds_agree_with_depths(rt: HostRuntime) {
 fn each_request_of_a_body_is_refused(rt: HostRuntime) {
     let memory = Refusing::new(rt.alloc());
     let made = requests(|number| reads_without(&rt, &memory, rt.alloc(), number));
-    assert_eq!(rt; made, Some(29), "read_body");
+    assert_eq!(rt; made, Some(31), "read_body");
 }

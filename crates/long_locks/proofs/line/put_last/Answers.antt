@@ -18,5 +18,5 @@ returns-clause-standing g c =
 pub returns-clause-table : goal.returns-clause-table
 returns-clause-table g c =
     let are : AreLocksOf c.args.tree.now c.args.claim.items c.lock_set-locks.result = record { apart = c.lock_set-locks.ensures.apart; modes = rw c.as_slice.ensures.items at c.lock_set-locks.ensures.modes } in
-    rw (c.put_last.ensures, c.reserve_one.ensures.same, c.in_ok-standing.ensures.asked)
+    rw (c.put_last.ensures, c.in_ok-kept.ensures, c.reserve_one.ensures.same, c.in_ok-standing.ensures.asked)
     (zip_asked c.args.tree.now c.args.claims.now.claims c.args.table.now c.requires.table c.args.claim c.lock_set-locks.result are)

@@ -12,11 +12,13 @@ unwrap-index-requires g c =
 
 pub invariant_of-self : goal.invariant_of-self
 invariant_of-self g c =
+    rw c.set_items.ensures (
     front_keyed id_eq id_eq_is c.self.inside.by_id.entries c.args.id c.self.invariant c.get_index_of.ensures.unique c.unwrap-index.result (sym c.unwrap-index.ensures ∙ c.get_index_of.ensures.index)
     c.move_index.new.self.entries c.move_index.ensures.entries c.args.items c.index_mut.result.now c.index_mut.ensures.value
+    )
 
 pub returns : goal.returns
 returns g c =
-    rw (← c.self.view_is)
+    rw (← c.self.view_is, c.set_items.ensures)
     (front_values id_eq id_eq_is c.self.inside.by_id.entries c.args.id c.self.invariant c.get_index_of.ensures.unique c.unwrap-index.result (sym c.unwrap-index.ensures ∙ c.get_index_of.ensures.index)
     c.move_index.new.self.entries c.move_index.ensures.entries c.args.items c.index_mut.result.now c.index_mut.ensures.value)

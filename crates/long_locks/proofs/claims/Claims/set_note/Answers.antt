@@ -5,12 +5,14 @@ use Rattle.long_locks.proofs.claims.Claims.set_note.Goals as goal
 
 pub invariant_of-self : goal.invariant_of-self
 invariant_of-self g c =
+    rw c.set_note.ensures (
     changed_keyed id_eq id_eq_is (noted_as c.args.note) (λ x. refl) c.self.inside.by_id.entries c.args.id c.self.invariant c.in-Some.ensures.unique c.in-Some.index c.in-Some.ensures.index
     c.index_mut.result.now c.index_mut.ensures.value
+    )
 
 pub returns-in-Some : goal.returns-in-Some
 returns-in-Some g c =
-    rw (← c.self.view_is)
+    rw (← c.self.view_is, c.set_note.ensures)
     (changed_values id_eq id_eq_is (noted_as c.args.note) (λ x. refl) c.self.inside.by_id.entries c.args.id c.self.invariant c.in-Some.ensures.unique c.in-Some.index c.in-Some.ensures.index
     c.index_mut.result.now c.index_mut.ensures.value)
 

@@ -1,0 +1,71 @@
+//! A claim in memory of its own.
+ghost use Rattle.std.specs.Prelude.{◌≡◌, IfOk};
+ghost use Rattle.vault_model.specs.Claims.{given_to, noted_as};
+
+use std::alloc::{AllocError, Allocator, Global};
+use std::marker::Model;
+use vault_model::{Claim, Items, Name, NoMemory, Note, Owner};
+
+/// A claim as a line keeps it: in memory of its own, so that a line is short to move in. Contracts see the claim.
+#[derive(Drop)]
+pub(crate) struct Kept<A: Allocator = Global> {
+    claim: Box<Claim, A>,
+}
+
+impl<A: Allocator> Model for Kept<A> {
+    ghost use Rattle.vault_model.specs.declared.claims.Claim.{Claim};
+
+    ghost Value = { Claim };
+
+    ghost view = { λ k. k.claim.value };
+}
+
+impl<A: Allocator> Kept<A> {
+    /// A claim, kept.
+    pub(crate) fn new(alloc: A, claim: Claim) -> Result<Kept<A>, NoMemory>
+        ensures { IfOk result (λ kept. kept ≡ claim) }
+    {
+        match Box::new(alloc, claim) {
+            Ok(claim) => Ok(Kept { claim }),
+            Err(_) => Err(NoMemory),
+        }
+    }
+
+    /// The claim.
+    pub(crate) fn claim(&self) -> &Claim
+        ensures { result.now ≡ self.now }
+    {
+        &self.claim
+    }
+
+    /// Gives it these items.
+    pub(crate) fn set_items(&mut self, items: Items)
+        ensures { self.new ≡ record self.old { items = items } }
+    {
+        self.claim.items = items;
+    }
+
+    /// Gives it to a designer.
+    pub(crate) fn give(&mut self, designer: Name)
+        ensures { self.new ≡ given_to designer self.old }
+    {
+        self.claim.owner = Owner::Designer(designer);
+    }
+
+    /// Gives it a note.
+    pub(crate) fn set_note(&mut self, note: Note)
+        ensures { self.new ≡ noted_as note self.old }
+    {
+        self.claim.note = note;
+    }
+}
+
+impl<A: Allocator + Clone> Clone for Kept<A> {
+    ghost is_clone = { λ kept copy. copy ≡ kept };
+
+    fn clone(&self) -> Result<Kept<A>, AllocError> {
+        Ok(Kept {
+            claim: self.claim.clone()?,
+        })
+    }
+}
