@@ -1,6 +1,7 @@
 //! What lies under the lock.
-ghost use Rattle.std.specs.Prelude.{◌≡◌, ◌+◌, ◌≤◌, ◌↔◌, IsTrue, IfOk, IfErr, OnOk, OnErr, Ok, Some, true, false};
+ghost use Rattle.std.specs.Prelude.{◌≡◌, ◌≢◌, ◌+◌, ◌≤◌, ◌↔◌, IsTrue, IfOk, IfErr, OnOk, OnErr, Ok, Some, true, false};
 ghost use Rattle.group_commit.specs.History.{entry_of};
+ghost use Rattle.vault_model.specs.declared.replies.Outside.TheVariants.{BadLine};
 ghost use Rattle.vault_store.specs.declared.starting.Started.TheVariants as Started;
 ghost use Rattle.vault_store.specs.Seen.{wants_snapshot};
 ghost use Rattle.group_commit.specs.World.{Stage, StartSnapshot};
@@ -177,6 +178,27 @@ impl<D: Device, S: Tally, T: Tally, A: Allocator + Copy> Desk<D, S, T, A> {
         let started = self.start_snapshot();
         self.pace.started(started);
         started
+    }
+
+    // Stages a command. One that is refused is dropped.
+    pub(crate) fn stage_on(
+        &mut self,
+        session: u32,
+        command: CommandIn<A>,
+        share: &mut Share<S, T>,
+    ) -> Result<Ticket<A>, Outside>
+        ensures ok { IfOk result
+            (λ ticket. (ticket.session ≡ session) × (ticket.command ≡ command)
+            × (share.new ≡ record share.old { staged = share.old.staged + 1 })) }
+        ensures err { IfErr result (λ outside. (outside ≢ BadLine) × (share.new ≡ share.old)) }
+    {
+        match self.stage(session, command, share) {
+            Ok(ticket) => Ok(ticket),
+            Err((outside, command)) => {
+                drop(command);
+                Err(outside)
+            }
+        }
     }
 
     // How many entries aren't settled.

@@ -220,18 +220,19 @@ impl<D: Device, S: Tally, T: Tally, A: Allocator + Copy, G: Gate, H: Wait> Worke
         let shared = self.shared;
         let may_change = may_change(&command);
         let mut desk = shared.desk.lock(self.rt);
-        match desk.stage(session, command, share) {
+        match desk.stage_on(session, command, share) {
             Ok(ticket) => {
                 let wakes = desk.wakes_flusher(may_change);
                 drop(desk);
                 self.wake(wakes);
                 Ok(ticket)
             }
-            Err((outside, _command)) => {
+            Err(outside) => {
                 if outside == Outside::Busy {
                     desk.asks_for_room();
                     shared.work.notify_one();
                 }
+                drop(desk);
                 Err(outside)
             }
         }
@@ -290,19 +291,22 @@ impl<D: Device, S: Tally, T: Tally, A: Allocator + Copy, G: Gate, H: Wait> Worke
         let shared = self.shared;
         let mut desk = shared.desk.lock(self.rt);
         for _ in self.rt.forever() {
-            match desk.stage(session, Command::Leave, share) {
+            match desk.stage_on(session, Command::Leave, share) {
                 Ok(ticket) => {
                     let wakes = desk.wakes_flusher(false);
                     drop(desk);
                     self.wake(wakes);
                     return Some(ticket);
                 }
-                Err((Outside::Busy, _command)) => {
+                Err(Outside::Busy) => {
                     desk.asks_for_room();
                     shared.work.notify_one();
                     desk = shared.settled.wait(self.rt, desk);
                 }
-                Err(_) => return None,
+                Err(_) => {
+                    drop(desk);
+                    return None;
+                }
             }
         }
         None
