@@ -92,70 +92,110 @@ pub(crate) enum Task<'a> {
     Serve(Serving<'a>),
 }
 
+/// An argument that has to be there.
+fn needed<'a>(alloc: Global, id: &'a str, help: &'a str) -> Arg<'a> {
+    Arg::new(alloc, id).required(true).help(help)
+}
+
+/// An option that takes a value.
+fn option<'a>(alloc: Global, name: &'a str, value: &'a str, help: &'a str) -> Arg<'a> {
+    Arg::new(alloc, name)
+        .long(name)
+        .value_name(value)
+        .help(help)
+}
+
 /// A subcommand over two files.
 fn over_files<'a>(alloc: Global, name: &'a str) -> Result<Command<'a>, AllocError> {
-    let first = Arg::new(alloc, "A")
-        .required(true)
-        .help("The path of the vault's first file");
-    let second = Arg::new(alloc, "B")
-        .required(true)
-        .help("The path of the vault's second file, another one");
-    Command::new(alloc, name).arg(first)?.arg(second)
+    let command = Command::new(alloc, name);
+    let first = "The path of the vault's first file";
+    let command = command.arg(needed(alloc, "A", first))?;
+    let second = "The path of the vault's second file, another one";
+    command.arg(needed(alloc, "B", second))
+}
+
+/// The subcommand that runs a script.
+fn script<'a>(alloc: Global) -> Command<'a> {
+    Command::new(alloc, "script")
+        .about("Runs a script from standard input over a new vault, replies to standard output")
+        .after_help(LINES)
+}
+
+/// The subcommand that makes a vault.
+fn create<'a>(alloc: Global) -> Result<Command<'a>, AllocError> {
+    let about =
+        "Makes two files where they are missing and a new vault in them, and prints 'created'";
+    Ok(
+        over_files(alloc, "create")?
+            .about(about)
+            .after_help(CREATED),
+    )
+}
+
+/// The subcommand that reports.
+fn inspect<'a>(alloc: Global) -> Result<Command<'a>, AllocError> {
+    Ok(
+        over_files(alloc, "inspect")?
+            .about("Prints a report on the two files of a vault, and changes neither")
+            .after_help(INSPECTED),
+    )
+}
+
+/// How many connections are served at a time.
+fn workers<'a>(alloc: Global) -> Arg<'a> {
+    let help = "How many connections are served at a time, 1 to 64";
+    option(alloc, "workers", "N", help)
+        .default_value("4")
+        .value_parser(value_parser!(u32).range(1..=64))
+}
+
+/// After how many connections the server ends.
+fn connections<'a>(alloc: Global) -> Arg<'a> {
+    let help = "Ends after so many connections; without it the program serves on";
+    option(alloc, "connections", "M", help).value_parser(value_parser!(u32).range(1..))
+}
+
+/// After how long a silent connection is ended.
+fn idle<'a>(alloc: Global) -> Arg<'a> {
+    let help = "Ends a connection that sends nothing for so long; without it, it may be silent";
+    option(alloc, "idle", "SECONDS", help).value_parser(value_parser!(u32).range(1..))
 }
 
 /// The subcommand that serves.
 fn serve<'a>(alloc: Global) -> Result<Command<'a>, AllocError> {
-    let address = Arg::new(alloc, "ADDR")
-        .required(true)
-        .help("Where to listen, as 127.0.0.1:7070");
-    let workers = Arg::new(alloc, "workers")
-        .long("workers")
-        .value_name("N")
-        .default_value("4")
-        .value_parser(value_parser!(u32).range(1..=64))
-        .help("How many connections are served at a time, 1 to 64");
-    let connections = Arg::new(alloc, "connections")
-        .long("connections")
-        .value_name("M")
-        .value_parser(value_parser!(u32).range(1..))
-        .help("Ends after so many connections; without it the program serves on");
-    let idle = Arg::new(alloc, "idle")
-        .long("idle")
-        .value_name("SECONDS")
-        .value_parser(value_parser!(u32).range(1..))
-        .help("Ends a connection that sends nothing for so long; without it, it may be silent");
-    over_files(alloc, "serve")?
+    let command = over_files(alloc, "serve")?
         .about("Serves the vault in two files over TCP")
-        .after_help(SERVED)
-        .arg(address)?
-        .arg(workers)?
-        .arg(connections)?
-        .arg(idle)
+        .after_help(SERVED);
+    let address = "Where to listen, as 127.0.0.1:7070";
+    let command = command.arg(needed(alloc, "ADDR", address))?;
+    let command = command.arg(workers(alloc))?;
+    let command = command.arg(connections(alloc))?;
+    command.arg(idle(alloc))
 }
 
-/// The command line.
+/// One subcommand more, where there was memory for it.
+fn with<'a>(
+    command: Command<'a>,
+    more: Result<Command<'a>, AllocError>,
+) -> Result<Command<'a>, AllocError> {
+    match more {
+        Ok(more) => command.subcommand(more),
+        Err(error) => Err(error),
+    }
+}
+
+/// The command line. A command is long to drop, so one at a time is alive here.
 fn command_line<'a>(alloc: Global) -> Result<Command<'a>, AllocError> {
-    let script = Command::new(alloc, "script")
-        .about("Runs a script from standard input over a new vault, replies to standard output")
-        .after_help(LINES);
-    let create = over_files(alloc, "create")?
-        .about(
-            "Makes two files where they are missing and a new vault in them, and prints 'created'",
-        )
-        .after_help(CREATED);
-    let inspect = over_files(alloc, "inspect")?
-        .about("Prints a report on the two files of a vault, and changes neither")
-        .after_help(INSPECTED);
-    Command::new(alloc, "vaultd")
+    let command = Command::new(alloc, "vaultd")
         .version(VERSION)
         .about("The server of an engineering design library")
         .after_help(EXAMPLE)
         .subcommand_required(true)
-        .arg_required_else_help(true)
-        .subcommand(script)?
-        .subcommand(create)?
-        .subcommand(inspect)?
-        .subcommand(serve(alloc)?)
+        .arg_required_else_help(true);
+    let command = command.subcommand(script(alloc))?;
+    let command = with(command, create(alloc))?;
+    let command = with(command, inspect(alloc))?;
+    with(command, serve(alloc))
 }
 
 /// A word on the command line, which has it.
@@ -175,17 +215,32 @@ fn serving<'a>(matches: &ArgMatches<'a>) -> Serving<'a> {
     }
 }
 
+/// What was matched, if it is one of the subcommands.
+fn task_in<'a>(matches: &ArgMatches<'a>) -> Option<Task<'a>> {
+    match matches.subcommand() {
+        Some(("script", _)) => Some(Task::Script),
+        Some(("create", files)) => Some(Task::Create(path(files, "A"), path(files, "B"))),
+        Some(("inspect", files)) => Some(Task::Inspect(path(files, "A"), path(files, "B"))),
+        Some(("serve", words)) => Some(Task::Serve(serving(words))),
+        Some(_) | None => None,
+    }
+}
+
+/// The error of a command line without a subcommand.
+fn lacks_subcommand(alloc: Global) -> Result<Error, AllocError> {
+    let mut command = command_line(alloc)?;
+    let error = command.error(ErrorKind::MissingSubcommand, "a subcommand is needed");
+    drop(command);
+    error
+}
+
 /// What the words ask for, the program's own name first.
 pub(crate) fn task_of<'a, S: AsStr>(alloc: Global, words: &'a [S]) -> Result<Task<'a>, Error> {
     let matches = command_line(alloc)?.try_get_matches_from(words)?;
-    match matches.subcommand() {
-        Some(("script", _)) => Ok(Task::Script),
-        Some(("create", files)) => Ok(Task::Create(path(files, "A"), path(files, "B"))),
-        Some(("inspect", files)) => Ok(Task::Inspect(path(files, "A"), path(files, "B"))),
-        Some(("serve", words)) => Ok(Task::Serve(serving(words))),
-        Some(_) | None => {
-            let mut command = command_line(alloc)?;
-            Err(command.error(ErrorKind::MissingSubcommand, "a subcommand is needed")?)
-        }
+    let task = task_in(&matches);
+    drop(matches);
+    match task {
+        Some(task) => Ok(task),
+        None => Err(lacks_subcommand(alloc)?),
     }
 }

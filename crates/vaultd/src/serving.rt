@@ -1,5 +1,7 @@
 //! Serving a vault over TCP.
 
+ghost use Rattle.std.specs.Prelude.{◌<◌, ◌≤◌};
+
 use crate::descriptors::check_limit;
 use crate::failure::Failure;
 use crate::files::open_locked;
@@ -32,6 +34,54 @@ pub(crate) struct Serving<'a> {
     pub(crate) idle: Option<u32>,
 }
 
+/// Opens the vault in the two files.
+fn open<R: Files<File = File> + AllocGlobal>(
+    rt: &R,
+    serving: &Serving<'_>,
+) -> Result<Vault<FileDevice>, Failure> {
+    let first = FileDevice::over(open_locked(rt, serving.first)?);
+    let second = match open_locked(rt, serving.second) {
+        Ok(file) => FileDevice::over(file),
+        Err(failure) => {
+            drop(first);
+            return Err(failure);
+        }
+    };
+    match Vault::open(rt.alloc(), first, second, LIFE) {
+        Ok(vault) => Ok(vault),
+        Err(refused) => {
+            let why = refused.why;
+            drop(refused);
+            Err(Failure::from(why))
+        }
+    }
+}
+
+/// Binds the address, and says so on standard output.
+fn listen<R: Print + Net<Listener = TcpListener, Stream = TcpStream>>(
+    rt: &R,
+    serving: &Serving<'_>,
+) -> Result<TcpListener, Failure> {
+    let listener = TcpListener::bind(rt, serving.address).or(Err(Failure::Read))?;
+    match println!(rt; "listening") {
+        Ok(()) => Ok(listener),
+        Err(_) => Err(Failure::Write),
+    }
+}
+
+/// What the server is to keep to.
+fn terms_of(serving: &Serving<'_>) -> Terms
+    ensures { (0 < result.workers) × (result.workers ≤ 64) }
+{
+    Terms {
+        workers: serving.workers.clamp(1, 64) as usize,
+        connections: serving.connections,
+        idle: serving
+            .idle
+            .map(|seconds| Duration::from_secs(u64::from(seconds))),
+    }
+}
+
 /// Opens the vault, binds the address, says so on standard output, and serves until enough connections were served.
 pub(crate) fn serve<
     R: Files<File = File>
@@ -44,25 +94,19 @@ pub(crate) fn serve<
         + Sync,
 >(rt: &R, serving: &Serving<'_>) -> Result<(), Failure> {
     check_limit(serving.workers)?;
-    let first = FileDevice::over(open_locked(rt, serving.first)?);
-    let second = FileDevice::over(open_locked(rt, serving.second)?);
-    let vault = match Vault::open(rt.alloc(), first, second, LIFE) {
-        Ok(vault) => vault,
-        Err(refused) => return Err(Failure::from(refused.why)),
+    let vault = open(rt, serving)?;
+    let listener = match listen(rt, serving) {
+        Ok(listener) => listener,
+        Err(failure) => {
+            drop(vault);
+            return Err(failure);
+        }
     };
-    let Ok(listener) = TcpListener::bind(rt, serving.address) else {
-        return Err(Failure::Read);
-    };
-    println!(rt; "listening").or(Err(Failure::Write))?;
-    let terms = Terms {
-        workers: serving.workers.clamp(1, 64) as usize,
-        connections: serving.connections,
-        idle: serving
-            .idle
-            .map(|seconds| Duration::from_secs(u64::from(seconds))),
-    };
+    let terms = terms_of(serving);
     let (vault, _) = run_server_on(rt, rt.alloc(), listener, vault, &terms, &OpenGate)?;
-    if vault.is_broken() {
+    let is_broken = vault.is_broken();
+    drop(vault);
+    if is_broken {
         return Err(Failure::Device);
     }
     Ok(())
