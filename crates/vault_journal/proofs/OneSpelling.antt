@@ -3,15 +3,12 @@ use Rattle.std.proofs.Common.{◌≡◌, ◌≢◌, ℕ, ◌+◌, ◌-◌, ◌<�
 use Rattle.std.specs.List.{AllByRecursion}
 use Rattle.std.proofs.lemmas.List.{get_or-append-add, flat_map_more}
 use Rattle.std.proofs.lemmas.List.Concat.{flat_map-cons}
-use Rattle.std.proofs.lemmas.Bool.Decides.{nat_tests}
-use Rattle.vault_model.specs.Name.{IsName, is_name}
 use Rattle.vault_model.specs.Said.{Effect}
-use Rattle.vault_model.specs.declared.effects.Effect.TheVariants.{Made, Nested, Asked, Extended, Saved, CheckedIn, Abandoned, Given, Noted}
 use Rattle.vault_journal.specs.Spelling.{record_of, records_of, HasRecord}
 use Rattle.vault_journal.specs.Reading.{effect_at}
 use Rattle.vault_journal.specs.Rows.{AreRecordsOf, IsFirstFault}
-use Rattle.vault_journal.specs.Laws.{AreBytes, FieldsAreSpelled, EffectsAreSpelled, RecordsAreShort, OneRecordAtTheFront, OneRow, NoFaultInARow, OneFirstFault}
-use Rattle.vault_journal.proofs.Sizes.{record_size}
+use Rattle.vault_journal.specs.Laws.{AreBytes, FieldsAreSpelled, EffectsAreSpelled, OneRecordAtTheFront, OneRow, NoFaultInARow, OneFirstFault}
+use Rattle.vault_journal.proofs.Sizes.{record_some}
 use Rattle.vault_journal.proofs.Takes.{Takes, some_is}
 use Rattle.vault_journal.proofs.Fields.{u8_takes, u8_again, u16_takes, u16_again, u32_takes, u32_again, u64_takes, u64_again, name_takes, name_again, item_takes, item_again, items_take, items_again, content_takes, content_again, note_takes, note_again}
 use Rattle.vault_journal.proofs.Effects.{effect_takes, effect_again}
@@ -31,32 +28,6 @@ fields_are_spelled = record {
 
 pub effects_are_spelled : EffectsAreSpelled
 effects_are_spelled = record { reads = λ e rest has. effect_again e rest has; spelled = λ bytes e rest fits is. let t = effect_takes bytes e rest fits is in (t.0.parts, t.1) }
-
-pub name_is_short : (name : List ℕ) → IsName name → length name ≤ 32
-name_is_short name is = let known : is_name name ≡ true = is in grind (arith, nat_tests)
-
-pub records_are_short : RecordsAreShort
-records_are_short (Made parent child) has = omega (arith, record_size (Made parent child), name_is_short child has.1)
-records_are_short (Nested parent child) has = omega (arith, record_size (Nested parent child), name_is_short child has.1)
-records_are_short (Asked claim owner items) has = omega (arith, record_size (Asked claim owner items), name_is_short owner has.1, has.2.few)
-records_are_short (Extended claim items) has = omega (arith, record_size (Extended claim items), has.1.few)
-records_are_short (Saved claim place content) has = omega (arith, record_size (Saved claim place content), has.2)
-records_are_short (CheckedIn claim) has = omega (arith, record_size (CheckedIn claim))
-records_are_short (Abandoned claim) has = omega (arith, record_size (Abandoned claim))
-records_are_short (Given claim designer) has = omega (arith, record_size (Given claim designer), name_is_short designer has.1)
-records_are_short (Noted claim note) has = omega (arith, record_size (Noted claim note), has.1)
-
--- a record has a byte
-pub record_some : (e : Effect) → 1 ≤ length (record_of e)
-record_some (Made parent child) = omega (arith, record_size (Made parent child))
-record_some (Nested parent child) = omega (arith, record_size (Nested parent child))
-record_some (Asked claim owner items) = omega (arith, record_size (Asked claim owner items))
-record_some (Extended claim items) = omega (arith, record_size (Extended claim items))
-record_some (Saved claim place content) = omega (arith, record_size (Saved claim place content))
-record_some (CheckedIn claim) = omega (arith, record_size (CheckedIn claim))
-record_some (Abandoned claim) = omega (arith, record_size (Abandoned claim))
-record_some (Given claim designer) = omega (arith, record_size (Given claim designer))
-record_some (Noted claim note) = omega (arith, record_size (Noted claim note))
 
 abbrev pair : Effect → List ℕ → Option (Effect × List ℕ)
 pair e behind = Some (e, behind)

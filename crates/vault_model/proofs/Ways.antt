@@ -7,8 +7,7 @@ use Rattle.std.proofs.lemmas.Option.{slice_get-get_or}
 use Rattle.std.proofs.lemmas.List.Quantifiers.{position-Some}
 use Rattle.std.proofs.lemmas.Slice.Eq.{bytes_eq-Decides}
 use Rattle.vault_model.specs.declared.place.Place.{Place}
-use Rattle.vault_model.specs.declared.place.Kind.TheVariants.{Library}
-use Rattle.vault_model.specs.Tree.{new_place, is_child, child, find_below, find_place, path_within, path_of, IsTree}
+use Rattle.vault_model.specs.Tree.{no_place, is_child, child, find_below, find_place, path_within, path_of, IsTree}
 use Rattle.vault_model.specs.Laws.{PathLeadsBack}
 use Rattle.vault_model.proofs.Walks.{Rises, same_at}
 use Rattle.vault_model.proofs.Growth.{none_passes}
@@ -67,7 +66,7 @@ path_leads_back tree place is there = within place place (omega arith) there
   where
     -- any place, to stand for one past the end
     none : Place
-    none = new_place 0 [] Library
+    none = no_place
 
     within : (n p : ℕ) → p ≤ n → p ≤ length tree → find_place tree (path_of tree p) ≡ Some p
     within n zero below inside = refl

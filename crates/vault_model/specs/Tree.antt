@@ -12,6 +12,10 @@ use Rattle.vault_model.specs.Limits.{greatest_depth, part_depth, most_places, mo
 abbrev pub new_place : ℕ → List ℕ → Kind → Place
 new_place parent name kind = record { parent = parent; name = name; kind = kind }
 
+-- what stands for a place where a list of places is asked beyond its end
+abbrev pub no_place : Place
+no_place = new_place 0 [] Library
+
 -- the parent of a place; the library has none
 abbrev pub parent_of : List Place → ℕ → Option ℕ
 parent_of tree zero = None

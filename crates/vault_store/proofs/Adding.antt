@@ -10,8 +10,8 @@ use Rattle.std.proofs.lemmas.List.Elements.{All-get_or, All-map, All-filter, All
 use Rattle.vault_model.specs.Limits.{longest_content}
 use Rattle.vault_model.specs.Shelf.{Draft, IsShelf, versions_of, numbered}
 use Rattle.vault_model.specs.declared.place.Place.{Place}
-use Rattle.vault_model.specs.declared.place.Kind.TheVariants.{Library}
 use Rattle.vault_model.specs.declared.claims.Claim.{Claim}
+use Rattle.vault_model.specs.Tree.{no_place}
 use Rattle.vault_model.specs.Claims.{is_short, without_short}
 use Rattle.vault_model.specs.Drafts.{SavedDraft, drafts_of}
 use Rattle.vault_model.specs.Vault.{Vault, IsDraft, AreDrafts}
@@ -61,11 +61,10 @@ places_more v n (suc i) (y ∷ xs) x within is =
 pub places_next : (v : Vault) (number : ℕ) (a b c : List ℕ) → 0 < number → number ≤ length v.tree → b ≡ a ++ places_bytes current_version v 1 (take (number - 1) v.tree)
     → ((place : Place) → slice_get v.tree (number - 1) ≡ Some place → c ≡ b ++ place_bytes current_version v number place) → c ≡ a ++ places_bytes current_version v 1 (take (number + 1 - 1) v.tree)
 places_next v number a b c some there first next =
-    let none : Place = record { parent = 0; name = []; kind = Library } in
     let i : ℕ = number - 1 in
     let within : i < length v.tree = omega (arith, some, there) in
-    let x : Place = get_or v.tree i none in
-    let at = slice_get-get_or v.tree i none within in
+    let x : Place = get_or v.tree i no_place in
+    let at = slice_get-get_or v.tree i no_place within in
     let here : i + 1 ≡ number = omega (arith, some) in
     let later : suc i ≡ number + 1 - 1 = omega (arith, some) in
     let more = places_more v 1 i v.tree x within (get_or_from_slice_get v.tree i x x at) in

@@ -3,11 +3,11 @@ use Rattle.std.proofs.Common.{◌≡◌, ◌≢◌, ◌⊎◌, inl, inr, ℕ, �
 use Rattle.std.proofs.lemmas.Bool.{cases_eq, cases_Bool}
 use Rattle.std.proofs.lemmas.List.{nil_from_length}
 use Rattle.vault_model.specs.Said.{Effect}
-use Rattle.vault_model.specs.declared.effects.Effect.TheVariants as effects
 use Rattle.vault_device.specs.Disk.{Disk, IsLawful, IsOneCall, IsSync, IsWrite, LeavesSince}
 use Rattle.vault_device.specs.declared.device.Fault.{Fault}
 use Rattle.vault_journal.specs.Spelling.{record_of, records_of}
 use Rattle.vault_journal.specs.Rows.{AreRecordsOf}
+use Rattle.vault_journal.proofs.Sizes.{record_some}
 use Rattle.vault_journal.specs.Gate.{body_of, frame_room, SameBut, IsBehind, IsOpening}
 use Rattle.vault_store.specs.declared.phase.Phase.{Phase}
 use Rattle.vault_store.specs.declared.phase.Phase.TheVariants.{Idle, Written, Bodied, Opening, Start, Closing, Writing, Filled, Ready, SnapOpening}
@@ -325,21 +325,9 @@ module _ {D : Type 0} (disk : D → Disk) (old : StoreSeen D) (active : D) (unbr
     moments = leaves_front disk old active Idle is unbroken lawful_spare refl (body_inside moments);
   }
 
--- each record has a byte
-some_bytes : (effect : Effect) → 0 < length (record_of effect)
-some_bytes (effects.Made parent name) = omega arith
-some_bytes (effects.Nested parent name) = omega arith
-some_bytes (effects.Asked claim owner items) = omega arith
-some_bytes (effects.Extended claim items) = omega arith
-some_bytes (effects.Saved claim place content) = omega arith
-some_bytes (effects.CheckedIn claim) = omega arith
-some_bytes (effects.Abandoned claim) = omega arith
-some_bytes (effects.Given claim designer) = omega arith
-some_bytes (effects.Noted claim note) = omega arith
-
 no_effects : (effects : List Effect) (bytes : List ℕ) → AreRecordsOf effects bytes → length bytes ≡ 0 → effects ≡ []
 no_effects [] bytes records none = refl
-no_effects (effect ∷ rest) bytes records none = absurd (omega (arith, none, ap length records.whole, length-append (record_of effect) (records_of rest), some_bytes effect))
+no_effects (effect ∷ rest) bytes records none = absurd (omega (arith, none, ap length records.whole, length-append (record_of effect) (records_of rest), record_some effect))
 
 module _ {D : Type 0} (disk : D → Disk) (store : StoreSeen D) (is : store.phase ≡ Idle) (unbroken : store.broken ≡ false) (none : length store.buffer ≡ 0) where
   rest_step : (s : StoreState) (buffer : List Effect) → buffer ≡ [] → Keeps disk store (record s { phase = Idle; broken = false; buffer = buffer }) → IsStep disk store store (Ok answers.Idle) (record s { phase = Idle; broken = false; buffer = buffer })

@@ -7,7 +7,7 @@ use Rattle.std.proofs.lemmas.List.Folds.{drop_split}
 use Rattle.std.proofs.lemmas.Nat.{from_be_bytes-to_be_bytes_4}
 use Rattle.vault_model.specs.Said.{Effect}
 use Rattle.vault_journal.specs.Spelling.{in_four, record_of, records_of}
-use Rattle.vault_journal.proofs.OneSpelling.{record_some}
+use Rattle.vault_journal.proofs.Sizes.{record_some}
 use Rattle.std.proofs.lemmas.List.Concat.{flat_map-cons}
 use Rattle.vault_store.specs.Files.{most_records, frame_extra, frame_bytes, frame_of, IsFrame}
 use Rattle.vault_store.specs.Read.{BeginsWithNoFrame}

@@ -16,7 +16,7 @@ use Rattle.vault_model.specs.Shelf.{Draft, versions_of, versions_weight, weight,
 use Rattle.vault_model.specs.Drafts.{SavedDraft, drafts_of}
 use Rattle.vault_model.specs.Vault.{Vault, IsVault, IsNoteOf, IsClaim, IsDraft}
 use Rattle.vault_journal.proofs.Sizes.{flat_map-item_bytes}
-use Rattle.vault_journal.proofs.OneSpelling.{name_is_short}
+use Rattle.vault_journal.proofs.Sizes.{name_is_short}
 use Rattle.vault_journal.specs.Spelling.{in_two, in_four, name_bytes, items_bytes, content_bytes}
 use Rattle.vault_store.specs.declared.front.FileVersion.{FileVersion}
 use Rattle.vault_store.specs.declared.front.FileVersion.TheVariants.{One, Two}

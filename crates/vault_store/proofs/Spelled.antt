@@ -17,8 +17,7 @@ use Rattle.vault_model.specs.declared.place.Place.{Place}
 use Rattle.vault_model.specs.Name.{IsName}
 use Rattle.vault_model.specs.Note.{IsNote}
 use Rattle.vault_model.specs.Limits.{most_versions}
-use Rattle.vault_model.specs.declared.place.Kind.TheVariants.{Library}
-use Rattle.vault_model.specs.Tree.{is_part, IsTree, new_place}
+use Rattle.vault_model.specs.Tree.{is_part, IsTree, no_place}
 use Rattle.vault_model.specs.Claims.{standing_of}
 use Rattle.vault_model.specs.Shelf.{versions_of, IsShelf}
 use Rattle.vault_model.specs.Drafts.{SavedDraft, drafts_of}
@@ -39,7 +38,7 @@ pub places_have : (tree : List Place) → IsTree tree → All (λ (place : Place
 places_have tree is_tree names = All-from_get_or HasPlace tree none (λ i within. record { parent = below i within; name = All-get_or (λ (place : Place). IsName place.name) tree i none within names })
   where
     none : Place
-    none = new_place 0 [] Library
+    none = no_place
 
     below : (i : ℕ) → i < length tree → (get_or tree i none).parent < 2 ^ 32
     below i within =

@@ -1,4 +1,4 @@
-use Rattle.vault_journal.proofs.OneSpelling.{records_are_short}
+use Rattle.vault_journal.proofs.Sizes.{records_are_short}
 use Rattle.vault_journal.proofs.laws.records_are_short.Goals as goal
 
 pub returns : goal.returns

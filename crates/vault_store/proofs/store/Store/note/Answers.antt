@@ -1,5 +1,5 @@
 use Rattle.std.proofs.Common.{IsTrue, List, ℕ, subst, sym, arith}
-use Rattle.vault_journal.proofs.OneSpelling.{records_are_short}
+use Rattle.vault_journal.proofs.Sizes.{records_are_short}
 use Rattle.vault_store.specs.Seen.{StoreSeen, Keeps, has_room}
 use Rattle.vault_store.specs.View.{seen_of}
 use Rattle.vault_store.specs.State.{with_effect}
