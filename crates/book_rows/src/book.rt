@@ -141,17 +141,19 @@ impl Talk {
     }
 }
 
+/// What anna and ben say first.
+const STARTED: [Said<'static>; 6] = [
+    (0, "hello anna", "OK session 1"),
+    (0, "hello ben", "OK session 2"),
+    (1, "make /e", "OK place 1"),
+    (1, "make /e/b", "OK place 2"),
+    (1, "make /e/b/p1", "OK place 3"),
+    (1, "make /e/b/p2", "OK place 4"),
+];
+
 /// Anna and ben have joined, and anna has made `/e`, `/e/b` and the parts `p1` and `p2` in it.
 fn started(rt: &impl Abort, memory: Global) -> Talk {
     let mut talk = Talk::new(rt, memory);
-    let lines = [
-        (0, "hello anna", "OK session 1"),
-        (0, "hello ben", "OK session 2"),
-        (1, "make /e", "OK place 1"),
-        (1, "make /e/b", "OK place 2"),
-        (1, "make /e/b/p1", "OK place 3"),
-        (1, "make /e/b/p2", "OK place 4"),
-    ];
-    talk.hear(rt, &lines);
+    talk.hear(rt, &STARTED);
     talk
 }

@@ -1,7 +1,7 @@
 //! Books made of the parts of a vault, and parts of no vault.
 
-use super::Talk;
 use super::memory::are_alike;
+use super::{Line, Talk};
 use design_tree::Tree;
 use part_versions::Shelf;
 use std::alloc::{Allocator, Global};
@@ -75,26 +75,28 @@ fn made<A: Allocator + Copy>(parts: Parts<A>) -> Result<Book<A>, FromPartsError>
     Book::from_parts(tree, shelf, last_long, claims, drafts)
 }
 
+/// What anna says for the book that is taken apart.
+const TOLD: [Line<'static>; 13] = [
+    (0, "hello anna"),
+    (1, "make /e"),
+    (1, "make /e/b"),
+    (1, "make /e/b/p"),
+    (1, "make /e/b/q"),
+    (1, "checkout w:/e/b/p"),
+    (1, "save c1 /e/b/p 6669727374"),
+    (1, "checkin c1"),
+    (1, "checkout r:/e/b/q"),
+    (1, "checkout w:/e/b/p"),
+    (1, "save c3 /e/b/p 7365636f6e64"),
+    (1, "extend c3 r:/e/b/q"),
+    (1, "checkout w:/e"),
+];
+
 /// A part `/e/b/p` with a version, and beside it `/e/b/q`. The line is c3, which is held with a draft of p, c2, which is held
 /// and looks at q, and c4, which is queued.
 fn told<A: Allocator + Copy>(rt: &impl Abort, memory: Global, alloc: A) -> Talk<A> {
     let mut talk = Talk::new(rt, alloc);
-    let lines = [
-        (0, "hello anna"),
-        (1, "make /e"),
-        (1, "make /e/b"),
-        (1, "make /e/b/p"),
-        (1, "make /e/b/q"),
-        (1, "checkout w:/e/b/p"),
-        (1, "save c1 /e/b/p 6669727374"),
-        (1, "checkin c1"),
-        (1, "checkout r:/e/b/q"),
-        (1, "checkout w:/e/b/p"),
-        (1, "save c3 /e/b/p 7365636f6e64"),
-        (1, "extend c3 r:/e/b/q"),
-        (1, "checkout w:/e"),
-    ];
-    talk.hear(rt, memory, &lines);
+    talk.hear(rt, memory, &TOLD);
     talk
 }
 
@@ -146,14 +148,8 @@ fn a_books_parts_make_it_again(rt: HostRuntime) {
     assert!(rt; are_alike(&rt, &book, &talk.book));
     assert!(rt; book.line().standing(Long(3)) == Some(Standing::Held));
     assert!(rt; book.line().standing(Long(4)) == Some(Standing::Queued(Long(3))));
-    assert_eq!(rt;
-        (
-            book.drafts(3).len(),
-            book.drafts(2).len(),
-            book.drafts(4).len()
-        ),
-        (1, 0, 0)
-    );
+    assert!(rt; book.drafts(3).len() == 1);
+    assert!(rt; book.drafts(2).is_empty() && book.drafts(4).is_empty());
     assert!(rt; book.shelf().fetch(PlaceId(3), 1) == Some(b"first".as_slice()));
     drop(talk);
     drop(book);
@@ -312,5 +308,5 @@ fn makes_of_parts(rt: &impl Abort, alloc: Global, memory: &Refusing<Global>, num
 fn each_request_of_a_book_of_parts_is_refused(rt: HostRuntime) {
     let memory = Refusing::new(rt.alloc());
     let made = requests(|number| makes_of_parts(&rt, rt.alloc(), &memory, number));
-    assert_eq!(rt; made, Some(17), "Book::from_parts");
+    assert_eq!(rt; made, Some(20), "Book::from_parts");
 }
