@@ -3,7 +3,7 @@ use Rattle.std.specs.Prelude.{◌≡◌, ℕ, zero, suc, ◌+◌, ◌<◌, ◌�
 use Rattle.std.proofs.Common.{sym, ap, subst, ◌∙◌, cond, arith, drop, get_or}
 use Rattle.std.proofs.lemmas.List.{drop_more}
 use Rattle.std.specs.List.{list_any, IsDistinct, AllByRecursion, position_or_len}
-use Rattle.std.specs.Option.{option_map, option_and_then}
+use Rattle.std.specs.Option.{option_map, option_and_then, option_or}
 use Rattle.std.proofs.lemmas.Bool.Decides.{nat_tests}
 use Rattle.std.proofs.lemmas.Option.{same_Some}
 use Rattle.vault_model.specs.declared.ids.ClaimId.{ClaimId}
@@ -107,6 +107,28 @@ first_bound t n (x ∷ es) j e = by_test (t x) e (first_bound t (suc n) es j)
     by_test : (b : Bool) → cond b (Some n) (first_from t (suc n) es) ≡ Some j → (first_from t (suc n) es ≡ Some j → suc n ≤ j) → n ≤ j
     by_test true h ih = let same : n ≡ j = cc in omega (arith, same)
     by_test false h ih = let more = ih h in omega (arith, more)
+
+-- the earlier of a number and of the first that passes is looked for before that number alone
+pub first_within : (t : Entry → Bool) (n m : ℕ) (es : List Entry) → option_or (first_from t n (take m es)) (Some (n + m)) ≡ earlier (Some (n + m)) (first_from t n es)
+first_within t n zero [] = refl
+first_within t n (suc m) [] = refl
+first_within t n zero (x ∷ es) = behind (first_from t n (x ∷ es)) (first_bound t n (x ∷ es))
+  where
+    behind : (o : Option ℕ) → ((j : ℕ) → o ≡ Some j → n ≤ j) → Some (n + zero) ≡ earlier (Some (n + zero)) o
+    behind None bound = refl
+    behind (Some j) bound = let more = bound j refl in let test : nat_lt j (n + zero) ≡ false = grind (arith, nat_tests) in rw test refl
+first_within t n (suc m) (x ∷ es) = by_test (t x) (first_within t (suc n) m es)
+  where
+    by_test : (b : Bool) → option_or (first_from t (suc n) (take m es)) (Some (suc n + m)) ≡ earlier (Some (suc n + m)) (first_from t (suc n) es)
+        → option_or (cond b (Some n) (first_from t (suc n) (take m es))) (Some (n + suc m)) ≡ earlier (Some (n + suc m)) (cond b (Some n) (first_from t (suc n) es))
+    by_test true ih = let test : nat_lt n (n + suc m) ≡ true = grind (arith, nat_tests) in rw test refl
+    by_test false ih = let same : n + suc m ≡ suc n + m = omega arith in rw same ih
+
+pub earlier_within : (t : Entry → Bool) (m : ℕ) (es : List Entry) → option_or (position t (take m es)) (Some m) ≡ earlier (Some m) (position t es)
+earlier_within t m es =
+    let same : 0 + m ≡ m = omega arith in
+    let within : option_or (first_from t 0 (take m es)) (Some m) ≡ earlier (Some m) (first_from t 0 es) = rw same at (first_within t 0 m es) in
+    ap (λ o. option_or o (Some m)) (position_first t (take m es)) ∙ (within ∙ ap (earlier (Some m)) (sym (position_first t es)))
 
 same_pick : (b : Bool) (n : ℕ) → cond b n n ≡ n
 same_pick true n = refl

@@ -1,5 +1,5 @@
 //! The queues of all places.
-ghost use Rattle.std.specs.Prelude.{◌≡◌, ◌≢◌, ℕ, ◌+◌, ◌<◌, ◌≤◌, [], ◌∷◌, ◌++◌, true, Some, length, position, slice_get, vec_len, is_none, IfOk, OnOk, OnErr};
+ghost use Rattle.std.specs.Prelude.{◌≡◌, ◌≢◌, ℕ, ◌+◌, ◌<◌, ◌≤◌, [], ◌∷◌, ◌++◌, true, Some, length, take, position, slice_get, vec_len, is_none, IfOk, OnOk, OnErr};
 ghost use Rattle.std.specs.List.{list_all};
 ghost use Rattle.vault_model.specs.Claims.{same_id};
 ghost use Rattle.vault_model.specs.Limits.{most_claims};
@@ -16,17 +16,6 @@ use crate::{Lock, LockSet};
 use lock_modes::{Group, Mode};
 use std::alloc::{AllocError, Allocator};
 use vault_model::{ClaimId, PlaceId};
-
-/// The earlier of two positions.
-pub(crate) fn earlier(one: Option<usize>, other: Option<usize>) -> Option<usize>
-    ensures { result ≡ earlier one other }
-{
-    match (one, other) {
-        (None, _) => other,
-        (Some(_), None) => one,
-        (Some(m), Some(n)) => Some(if n < m { n } else { m }),
-    }
-}
 
 /// The group of all claims at a place.
 pub(crate) fn group_at<A: Allocator>(cells: &[Cell<A>], place: PlaceId) -> Group
@@ -60,6 +49,34 @@ pub(crate) fn place_of<A: Allocator>(entries: &[Kept<A>], id: Option<ClaimId>) -
     ensures { result ≡ place_of entries.now id }
 {
     index_of(entries, id?)
+}
+
+// The entries before a position.
+fn before<A: Allocator>(entries: &[Kept<A>], position: usize) -> &[Kept<A>]
+    ensures { result.now ≡ take position entries.now }
+{
+    if position < entries.len() {
+        &entries[..position]
+    } else {
+        entries
+    }
+}
+
+/// The earlier of a position and of where a claim stands, which is looked for before that position alone.
+pub(crate) fn earlier_of<A: Allocator>(
+    entries: &[Kept<A>],
+    first: Option<usize>,
+    id: Option<ClaimId>,
+) -> Option<usize>
+    ensures { result ≡ earlier first (place_of entries.now id) }
+{
+    let Some(id) = id else {
+        return first;
+    };
+    match first {
+        None => index_of(entries, id),
+        Some(most) => index_of(before(entries, most), id).or(first),
+    }
 }
 
 fn in_way_at<A: Allocator>(cells: &[Cell<A>], lock: Lock) -> Option<ClaimId>
@@ -118,7 +135,7 @@ pub(crate) fn in_way<A: Allocator>(
 {
     let mut first = None;
     for lock in locks.as_slice() {
-        first = earlier(first, place_of(entries, in_way_at(cells, *lock)));
+        first = earlier_of(entries, first, in_way_at(cells, *lock));
     }
     first
 }
@@ -138,7 +155,7 @@ pub(crate) fn held_in_way<A: Allocator>(
     let mut first = None;
     for lock in locks.as_slice() {
         let other = held_in_way_at(cells, id, own.mode_at(lock.place), *lock);
-        first = earlier(first, place_of(entries, other));
+        first = earlier_of(entries, first, other);
     }
     first
 }

@@ -11,8 +11,8 @@ ghost use Rattle.lock_table.specs.Tables.{IsTable, first_in_way, entry_of, entri
 use crate::again::Again;
 use crate::cell::Cell;
 use crate::cells::{
-    admit, cover_at, earlier, group_at, held_at, held_in_way, in_way, index_of, place_of, put_last,
-    reserve, stand, take_out,
+    admit, cover_at, earlier_of, group_at, held_at, held_in_way, in_way, index_of, place_of,
+    put_last, reserve, stand, take_out,
 };
 use crate::entry::Kept;
 use crate::{Extension, LockSet, cells};
@@ -394,7 +394,7 @@ impl<A: Allocator> Table<A> {
         let mut first = place_of(entries, cover_at(cells, place));
         let mut at = place;
         while let Some(parent) = tree.parent(at) {
-            first = earlier(first, place_of(entries, cover_at(cells, parent)));
+            first = earlier_of(entries, first, cover_at(cells, parent));
             at = parent;
         }
         id_at(entries, first)

@@ -12,7 +12,7 @@ pub loop-lock-preserved : goal.loop-lock-preserved
 loop-lock-preserved g c =
     let items = c.as_slice-lock-items.result.now in
     let i = c.loop-lock.lock-index in
-    ap (λ o. earlier o (held_seat_in_way c.args.entries.now c.args.cells.now c.args.id (drop (i + 1) items))) (c.earlier-first.ensures ∙ ap (earlier c.loop-lock.first) (c.place_of.ensures ∙ ap (place_of c.args.entries.now) c.held_in_way_at-other.ensures))
+    ap (λ o. earlier o (held_seat_in_way c.args.entries.now c.args.cells.now c.args.id (drop (i + 1) items))) (c.earlier_of-first.ensures ∙ ap (λ o. earlier c.loop-lock.first (place_of c.args.entries.now o)) c.held_in_way_at-other.ensures)
     ∙ (earlier_associative c.loop-lock.first _ (held_seat_in_way c.args.entries.now c.args.cells.now c.args.id (drop (i + 1) items))
     ∙ (ap (λ xs. earlier c.loop-lock.first (held_seat_in_way c.args.entries.now c.args.cells.now c.args.id xs)) (sym (drop_is items i c.lock-item.result c.loop-lock-test.true c.lock-item.is)) ∙ c.loop-lock.invariant))
 

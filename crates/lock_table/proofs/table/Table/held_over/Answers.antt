@@ -30,7 +30,7 @@ loop-parent-preserved g c =
     record {
       there = omega (arith, c.in-Some.ensures.there);
       first = λ tree. ap (λ o. earlier o (cover_above c.args.tree.now table r))
-          (c.earlier-first.ensures ∙ ap (earlier c.loop-parent.first) (c.place_of.ensures ∙ (ap (λ (xs : List Entry). place_of xs c.cover_at-in-Some.result) (c.as_slice-entries.ensures.value ∙ c.self.view_is) ∙ ap (place_of table) (c.cover_at-in-Some.ensures ∙ ap (λ (xs : List CellSeen). first_of is_cover (seats_at xs r)) c.as_slice-cells.ensures.value))))
+          (c.earlier_of-first.ensures ∙ ap (earlier c.loop-parent.first) (ap (λ (xs : List Entry). place_of xs c.cover_at-in-Some.result) (c.as_slice-entries.ensures.value ∙ c.self.view_is) ∙ ap (place_of table) (c.cover_at-in-Some.ensures ∙ ap (λ (xs : List CellSeen). first_of is_cover (seats_at xs r)) c.as_slice-cells.ensures.value)))
           ∙ (earlier_associative c.loop-parent.first (place_of table (first_of is_cover (seats_at c.self.inside.cells.items r))) (cover_above c.args.tree.now table r)
           ∙ (ap (earlier c.loop-parent.first) (cover_step c.args.tree.now whole.parents table c.self.inside.cells.items kept queues r)
           ∙ (ap (λ o. earlier c.loop-parent.first (cover_of c.args.tree.now table o)) c.in-Some.ensures.parent ∙ c.loop-parent.invariant.first whole)));
