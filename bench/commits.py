@@ -52,8 +52,8 @@ def processor(pid):
     return (int(fields[11]) + int(fields[12])) / os.sysconf("SC_CLK_TCK")
 
 
-def measured(program, folder, options, load, clients):
-    """One run over a new vault: load.c's figures, and the server's processor time a cycle in microseconds."""
+def measured(program, folder, options, load, clients, before=(), most=MOST_CYCLES):
+    """One run over a new vault, behind these lines: load.c's figures, and the server's processor time a cycle in microseconds."""
     files = [f"{folder}/commits.{which}" for which in "ab"]
     for path in files:
         if os.path.exists(path):
@@ -65,11 +65,10 @@ def measured(program, folder, options, load, clients):
     try:
         if server.stdout.readline().strip() != b"listening":
             raise SystemExit("the server didn't start")
-        told(options.port, ["hello z", "make /w", "make /w/a"] + [f"make /w/a/p{k}" for k in range(PARTS)] + ["quit"])
+        told(options.port, ["hello z", "make /w", "make /w/a"] + [f"make /w/a/p{k}" for k in range(PARTS)] + [*before, "quit"])
         with open(f"{folder}/plan", "w", encoding="ascii") as file:
             file.write("\n\n".join(plan(client) for client in range(clients)) + "\n")
-        cycles = MOST_CYCLES
-        cycles = clients if options.tiny else cycles
+        cycles = clients if options.tiny else most
         used = processor(server.pid)
         run = [load, str(options.port), "line", f"{folder}/plan", str(clients), "20", str(cycles), "0", "1000"]
         figures = json.loads(subprocess.run(run, check=True, capture_output=True).stdout)

@@ -1,6 +1,7 @@
 #!/usr/bin/env python3
 """A server that runs without end: so many commands over connections that come and go, with snapshots by themselves, and a kill -9 and a
-restart behind so many of them.
+restart behind so many of them. It runs as the units in contrib/ start it. All places are made among the first commands, and from then on
+each part gets its versions, so that memory may be compared.
 
 The load is made by this program, in a process of its own. Each designer has an assembly of its own, so each reply is known before it comes.
 Behind each stop all that was told is looked for: places by `list`, versions by `count` and `fetch`, check-outs with their items by
@@ -25,14 +26,14 @@ from typing import Callable, Dict, Iterator, List, Optional
 
 from endless_check import Designer, Difference, Search, Talk, compare_counts
 from endless_load import BUSY, MEETING, PARTS, PATIENCE, Crowd, Figures, Work
-from measure import arguments, head, megabytes, prepared, sized, table
+from measure import ALLOCATOR, arguments, head, megabytes, prepared, sized, table
 from vault_files import Claim, Report
 
 # All sessions that may stand at once.
 SESSIONS = WORKERS = 64
 # The memory is compared with that behind so many commands. It may grow by so many times what came to the contents, and by so many
 # kilobytes: a snapshot's bytes, and what an allocator keeps.
-FIRST, OF_CONTENTS, MEMORY = 100_000, 4, 8192
+FIRST, OF_CONTENTS, MEMORY = 100_000, 4, 4096
 # The most that all contents may weigh, of which versions are given a part, and what a short one weighs.
 MOST_WEIGHT, SHORT = 16_777_216 * 3 // 4, 16
 COLUMNS = ("Commands", "A second", "Longest wait", "Refused 80, and the longest", "Snapshots so far",
@@ -56,7 +57,7 @@ class Server:
     def start(self) -> None:
         """Starts the server, and waits until it listens."""
         words = [self.program, "serve", *self.files, f"127.0.0.1:{self.port}", "--workers", str(WORKERS)]
-        self.process = subprocess.Popen(words, stdout=subprocess.PIPE)
+        self.process = subprocess.Popen(words, stdout=subprocess.PIPE, env=os.environ | ALLOCATOR)
         assert self.process.stdout is not None
         if self.process.stdout.readline() != b"listening\n":
             raise Difference("the server didn't start")
@@ -164,7 +165,8 @@ class Endless:
         self.server, self.designers = server, designers
         self.commands, self.kill_every = sized(options.commands, options), sized(options.kill_every, options)
         self.first = min(FIRST, self.kill_every // 2)
-        steps = max(20, self.commands // (len(designers) * PARTS))
+        # A step is some 1.3 commands: so the last part is made by about four fifths of the first commands.
+        steps = max(5, self.first * 3 // (5 * len(designers) * PARTS))
         most = MOST_WEIGHT // (len(designers) * SHORT)
         self.works: Dict[int, Work] = {
             designer.number: Work(designer, random.Random(options.seed * 1000 + designer.number), steps, most) for designer in designers

@@ -9,6 +9,8 @@ import time
 
 PROGRAM = "crates/vaultd/out/vaultd"
 TIME = "/usr/bin/time"
+# What the units in contrib/ tell glibc's allocator: one arena, nothing kept back for a thread, and large pieces given back at once.
+ALLOCATOR = {"GLIBC_TUNABLES": "glibc.malloc.arena_max=1:glibc.malloc.tcache_count=0:glibc.malloc.mmap_threshold=131072"}
 
 
 def arguments(about):

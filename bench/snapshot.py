@@ -18,7 +18,7 @@ import subprocess
 import threading
 import time
 
-from measure import arguments, head, megabytes, prepared, run_once, sized, table
+from measure import ALLOCATOR, arguments, head, megabytes, prepared, run_once, sized, table
 from opening import file_of, made, name, number, saved
 from server import status_of
 
@@ -130,7 +130,7 @@ def one_run(program, files, content, options, connections, before=()):
         file.write(content)
     open(files[1], "wb").close()
     words = [*before, program, "serve", *files, f"127.0.0.1:{options.port}", "--workers", str(WORKERS)]
-    with subprocess.Popen(words, stdout=subprocess.PIPE) as server:
+    with subprocess.Popen(words, stdout=subprocess.PIPE, env=os.environ | ALLOCATOR) as server:
         if server.stdout.readline().strip() != b"listening":
             raise SystemExit("the server didn't start")
         stop = threading.Event()

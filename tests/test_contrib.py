@@ -14,7 +14,10 @@ from typing import List
 
 from servers import MEMORY, TOP, VAULTD, Server
 
-import vault
+sys.path.insert(0, str(TOP / "bench"))
+
+import vault  # noqa: E402
+from measure import ALLOCATOR  # noqa: E402
 
 CONTRIB = TOP / "contrib"
 
@@ -95,6 +98,13 @@ class Contrib(unittest.TestCase):
         template = (CONTRIB / "systemd" / "vaultd@.service").read_text("utf-8").splitlines()
         other = [line.partition("=")[0] for line in set(unit.splitlines()) ^ set(template)]
         self.assertEqual(set(other), {"Description", "Environment", "EnvironmentFile", "StateDirectory", "ExecStart"})
+
+    def test_benches_run_as_the_units(self) -> None:
+        """What benches tell the allocator stands in both units."""
+        for name in ("vaultd.service", "vaultd@.service"):
+            lines = (CONTRIB / "systemd" / name).read_text("utf-8").splitlines()
+            for word, value in ALLOCATOR.items():
+                self.assertIn(f"Environment={word}={value}", lines)
 
     @unittest.skipUnless(shutil.which("man"), "needs man")
     def test_manual(self) -> None:
