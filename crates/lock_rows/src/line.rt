@@ -1,21 +1,22 @@
-ghost use Rattle.std.specs.Prelude.{◌≡◌, List, [], ◌∷◌};
+ghost use Rattle.std.specs.Prelude.{List};
 ghost use Rattle.vault_model.specs.declared.place.Place.{Place};
 ghost use Rattle.vault_model.specs.Vault.{AreThere};
 ghost use Rattle.long_locks.specs.Lines.{IsGrownFrom};
 
 mod giving;
 mod random_lines;
+mod refused;
 mod same_lines;
 
-use crate::line::same_lines::is_same;
-use crate::places::are_there;
+use crate::places::{Wish, are_there, items_of};
+use Intent::{Change, Look};
+use Standing::{Held, Queued};
 use design_tree::Tree;
 use lock_table::Extension;
 use long_locks::Line;
 use std::alloc::{Allocator, Global};
 use std::process::Abort;
-use test_memory::{Refusing, Tried, requests};
-use vault_model::{ClaimId, Intent, Item, Items, Name, NoMemory, PlaceId, Standing};
+use vault_model::{ClaimId, Intent, Items, Name, NoMemory, PlaceId, Standing};
 
 const C1: ClaimId = ClaimId::Long(1);
 
@@ -26,26 +27,6 @@ const C3: ClaimId = ClaimId::Long(3);
 const H1: ClaimId = ClaimId::Short(1);
 
 const H2: ClaimId = ClaimId::Short(2);
-
-const HELD: Standing = Standing::Held;
-
-const fn behind(id: ClaimId) -> Standing {
-    Standing::Queued(id)
-}
-
-pub(crate) fn look(place: u32) -> Item {
-    Item {
-        intent: Intent::Look,
-        place: PlaceId(place),
-    }
-}
-
-pub(crate) fn change(place: u32) -> Item {
-    Item {
-        intent: Intent::Change,
-        place: PlaceId(place),
-    }
-}
 
 pub(crate) fn make<A: Allocator + Copy>(
     rt: &impl Abort,
@@ -70,28 +51,6 @@ pub(crate) fn small_tree<A: Allocator + Copy>(rt: &impl Abort, alloc: A) -> Tree
     tree
 }
 
-pub(crate) fn one(item: Item) -> Items
-    ensures { result ≡ item ∷ [] }
-{
-    Items::new().with(item)
-}
-
-pub(crate) fn two(item: Item, other: Item) -> Items {
-    one(item).with(other)
-}
-
-fn items_of<A: Allocator>(rt: &impl Abort, tree: &Tree<A>, wanted: &[Item]) -> Items
-    ensures { AreThere tree.now result }
-{
-    let mut items = Items::new();
-    for item in wanted {
-        assert!(rt; items.len() < 8);
-        items.push(*item);
-    }
-    assert!(rt; are_there(tree, items.as_slice()));
-    items
-}
-
 pub(crate) fn new_line<A: Allocator + Copy>(rt: &impl Abort, alloc: A) -> Line<A>
     ensures { (tree : List Place) → IsGrownFrom result.tree tree }
 {
@@ -102,13 +61,13 @@ pub(crate) fn check_out<A: Allocator + Copy>(
     rt: &impl Abort,
     line: &mut Line<A>,
     tree: &Tree<A>,
-    wanted: &[Item],
+    items: Items,
 ) -> Result<Standing, NoMemory>
     requires { IsGrownFrom line.old.tree tree.now }
     ensures { IsGrownFrom line.new.tree tree.now }
 {
     let owner = Name::read(b"anna").expect(rt, "a name");
-    let items = items_of(rt, tree, wanted);
+    assert!(rt; are_there(tree, items.as_slice()));
     assert!(rt; line.len() < 256);
     assert!(rt; line.last_long() < 1000);
     line.ask_long(tree, owner, items)
@@ -119,12 +78,12 @@ pub(crate) fn hold<A: Allocator + Copy>(
     line: &mut Line<A>,
     tree: &Tree<A>,
     session: u32,
-    wanted: &[Item],
+    items: Items,
 ) -> Result<Standing, NoMemory>
     requires { IsGrownFrom line.old.tree tree.now }
     ensures { IsGrownFrom line.new.tree tree.now }
 {
-    let items = items_of(rt, tree, wanted);
+    assert!(rt; are_there(tree, items.as_slice()));
     assert!(rt; line.len() < 256);
     assert!(rt; line.last_short() < 1000);
     line.ask_short(tree, session, items)
@@ -135,12 +94,12 @@ pub(crate) fn extend<A: Allocator + Copy>(
     line: &mut Line<A>,
     tree: &Tree<A>,
     id: ClaimId,
-    wanted: &[Item],
+    items: Items,
 ) -> Result<Extension, NoMemory>
     requires { IsGrownFrom line.old.tree tree.now }
     ensures { IsGrownFrom line.new.tree tree.now }
 {
-    let items = items_of(rt, tree, wanted);
+    assert!(rt; are_there(tree, items.as_slice()));
     tree.parent(PlaceId(0));
     assert!(rt; matches!(line.standing(id), Some(Standing::Held)));
     line.extend(tree, id, items)
@@ -151,29 +110,42 @@ fn put_first<A: Allocator + Copy>(
     line: &mut Line<A>,
     tree: &Tree<A>,
     id: ClaimId,
-    wanted: &[Item],
+    items: Items,
 ) -> Result<(), NoMemory>
     requires { IsGrownFrom line.old.tree tree.now }
     ensures { IsGrownFrom line.new.tree tree.now }
 {
-    let items = items_of(rt, tree, wanted);
+    assert!(rt; are_there(tree, items.as_slice()));
     assert!(rt; line.get(id).is_some());
     line.put_first(tree, id, items)
+}
+
+fn covered<A: Allocator>(
+    rt: &impl Abort,
+    line: &Line<A>,
+    tree: &Tree<A>,
+    place: u32,
+) -> Option<ClaimId>
+    requires { IsGrownFrom line.now.tree tree.now }
+{
+    assert!(rt; (place as usize) < tree.len());
+    line.covers(tree, PlaceId(place))
 }
 
 /// A call of a line, with what it has to answer.
 #[derive(Clone, Copy)]
 enum Row {
-    CheckOut(Items, Standing),
-    Hold(u32, Items, Standing),
-    Extend(ClaimId, Items, Extension),
-    PutFirst(ClaimId, Items),
+    CheckOut(&'static [Wish], Standing),
+    Hold(u32, &'static [Wish], Standing),
+    Extend(ClaimId, &'static [Wish], Extension),
+    PutFirst(ClaimId, &'static [Wish]),
     Drop(ClaimId),
     DropSession(u32),
     Restart,
+    Covered(u32, Option<ClaimId>),
     Stands(ClaimId, Option<Standing>),
     /// The first claim, and its items.
-    First(ClaimId, Items),
+    First(ClaimId, &'static [Wish]),
     /// How many claims there are, and the last numbers given.
     Counts(usize, u32, u32),
 }
@@ -195,6 +167,14 @@ fn counts<A: Allocator>(line: &Line<A>) -> (usize, u32, u32) {
     (line.len(), line.last_long(), line.last_short())
 }
 
+// Whether a call answers so.
+fn answers<T: PartialEq + Copy>(told: Result<T, NoMemory>, wanted: T) -> Result<bool, NoMemory> {
+    match told {
+        Ok(told) => Ok(told == wanted),
+        Err(NoMemory) => Err(NoMemory),
+    }
+}
+
 // Whether the line answers as a row says.
 fn act<A: Allocator + Copy>(
     rt: &impl Abort,
@@ -206,21 +186,20 @@ fn act<A: Allocator + Copy>(
     ensures { IsGrownFrom line.new.tree tree.now }
 {
     match *row {
-        Row::CheckOut(items, standing) => {
-            let told = check_out(rt, line, tree, items.as_slice())?;
-            Ok(told == standing)
+        Row::CheckOut(wishes, standing) => {
+            answers(check_out(rt, line, tree, items_of(rt, wishes)), standing)
         }
-        Row::Hold(session, items, standing) => {
-            let told = hold(rt, line, tree, session, items.as_slice())?;
-            Ok(told == standing)
+        Row::Hold(session, wishes, standing) => {
+            answers(
+                hold(rt, line, tree, session, items_of(rt, wishes)),
+                standing,
+            )
         }
-        Row::Extend(id, items, extension) => {
-            let told = extend(rt, line, tree, id, items.as_slice())?;
-            Ok(told == extension)
+        Row::Extend(id, wishes, extension) => {
+            answers(extend(rt, line, tree, id, items_of(rt, wishes)), extension)
         }
-        Row::PutFirst(id, items) => {
-            put_first(rt, line, tree, id, items.as_slice())?;
-            Ok(true)
+        Row::PutFirst(id, wishes) => {
+            answers(put_first(rt, line, tree, id, items_of(rt, wishes)), ())
         }
         Row::Drop(id) => {
             line.drop_claim(id);
@@ -234,8 +213,9 @@ fn act<A: Allocator + Copy>(
             line.restart();
             Ok(true)
         }
+        Row::Covered(place, id) => Ok(covered(rt, line, tree, place) == id),
         Row::Stands(id, standing) => Ok(stands(line, id, standing)),
-        Row::First(id, items) => Ok(begins_with(line, id, &items)),
+        Row::First(id, wishes) => Ok(begins_with(line, id, &items_of(rt, wishes))),
         Row::Counts(len, long, short) => Ok(counts(line) == (len, long, short)),
     }
 }
@@ -260,199 +240,117 @@ fn act_all<A: Allocator + Copy>(
     count
 }
 
-// The same over a new line.
-fn take_all(rt: &impl Abort, alloc: Global, rows: &[Row]) {
+// A line that answered these rows so.
+fn line_behind<A: Allocator + Copy>(
+    rt: &impl Abort,
+    alloc: A,
+    tree: &Tree<A>,
+    rows: &[Row],
+) -> Line<A>
+    ensures { IsGrownFrom result.tree tree.now }
+{
+    let mut line = new_line(rt, alloc);
+    assert!(rt; act_all(rt, &mut line, tree, rows) == rows.len());
+    line
+}
+
+// How many of these rows a new line answers so.
+fn count_right(rt: &impl Abort, alloc: Global, rows: &[Row]) -> usize {
     let tree = small_tree(rt, alloc);
     let mut line = new_line(rt, alloc);
-    assert_eq!(rt; act_all(rt, &mut line, &tree, rows), rows.len());
+    let count = act_all(rt, &mut line, &tree, rows);
     drop(line);
     drop(tree);
+    count
 }
 
-#[test]
-fn line_of_long_and_short_claims(rt: HostRuntime) {
-    let rows = [
-        Row::Hold(2, one(look(3)), HELD),
-        Row::CheckOut(one(change(3)), behind(H1)),
-        Row::Drop(H1),
-        Row::Stands(C1, Some(HELD)),
-        Row::Hold(2, one(look(3)), behind(C1)),
-        Row::Counts(2, 1, 2),
-        Row::DropSession(2),
-        Row::Stands(H2, None),
-        Row::Counts(1, 1, 2),
-    ];
-    take_all(&rt, rt.alloc(), &rows);
-}
+/// A line's name, and the calls of it.
+type Worked = (&'static str, &'static [Row]);
 
-#[test]
-fn short_claims_end_with_the_life(rt: HostRuntime) {
-    let rows = [
-        Row::Hold(2, one(change(2)), HELD),
-        Row::CheckOut(one(look(3)), behind(H1)),
-        Row::Restart,
-        Row::Stands(C1, Some(HELD)),
-        Row::Stands(H1, None),
-        Row::Counts(1, 1, 0),
-    ];
-    take_all(&rt, rt.alloc(), &rows);
-}
-
-#[test]
-fn an_extension_is_not_weighed_against_the_waiting(rt: HostRuntime) {
-    let rows = [
-        Row::CheckOut(one(change(2)), HELD),
-        Row::CheckOut(one(look(1)), behind(C1)),
-        Row::CheckOut(one(look(0)), behind(C1)),
-        Row::Extend(C1, two(change(2), look(1)), Extension::Done),
-        Row::Stands(C1, Some(HELD)),
-        Row::Stands(C2, Some(behind(C1))),
-        Row::Stands(C3, Some(behind(C1))),
-    ];
-    take_all(&rt, rt.alloc(), &rows);
-}
-
-#[test]
-fn extensions_of_held_claims(rt: HostRuntime) {
-    let wanted = two(look(3), change(4));
-    let rows = [
-        Row::CheckOut(one(look(3)), HELD),
-        Row::CheckOut(one(look(3)), HELD),
-        Row::Extend(C1, two(look(3), change(3)), Extension::InTheWay(C2)),
-        Row::Stands(C1, Some(HELD)),
-        Row::Stands(C2, Some(HELD)),
-        Row::CheckOut(one(change(2)), behind(C1)),
-        Row::Extend(C2, wanted, Extension::Done),
-        Row::Stands(C3, Some(behind(C2))),
-        Row::First(C2, wanted),
-    ];
-    take_all(&rt, rt.alloc(), &rows);
-}
-
-fn covered<A: Allocator>(
-    rt: &impl Abort,
-    line: &Line<A>,
-    tree: &Tree<A>,
-    place: u32,
-) -> Option<ClaimId>
-    requires { IsGrownFrom line.now.tree tree.now }
-{
-    assert!(rt; (place as usize) < tree.len());
-    line.covers(tree, PlaceId(place))
-}
-
-#[test]
-fn held_claims_cover_places(rt: HostRuntime) {
-    let tree = small_tree(&rt, rt.alloc());
-    let mut line = new_line(&rt, rt.alloc());
-    let told = check_out(&rt, &mut line, &tree, &[look(1)]);
-    assert_eq!(rt; told, Ok(HELD));
-    assert!(rt; covered(&rt, &line, &tree, 2) == Some(C1));
-    assert!(rt; covered(&rt, &line, &tree, 0) == None);
-    drop(line);
-    drop(tree);
-}
-
-// Tries to make a line.
-fn makes_line(memory: &Refusing<Global>, number: u64) -> Tried {
-    memory.refuse(number);
-    let made = Line::new(memory);
-    let has_refused = memory.has_refused();
-    match made {
-        Ok(line) => {
-            let is_new = counts(&line) == (0, 0, 0);
-            drop(line);
-            Tried::done(!has_refused && is_new)
+// The first of these lines that answers a row otherwise, and how many it answered before.
+fn first_wrong(rt: &impl Abort, alloc: Global, lines: &[Worked]) -> Option<(&'static str, usize)> {
+    for (name, rows) in lines {
+        let count = count_right(rt, alloc, rows);
+        if count != rows.len() {
+            return Some((*name, count));
         }
-        Err(NoMemory) => Tried::refused(has_refused),
     }
+    None
 }
 
-// Tries a row behind so many of these. Refused, the line is as one that only took those, and the next try succeeds.
-fn takes(
-    rt: &impl Abort,
-    memory: &Refusing<Global>,
-    alloc: Global,
-    number: u64,
-    before: (&[Row], usize),
-    row: &Row,
-) -> Tried {
-    let (rows, count) = before;
-    assert!(rt; count <= rows.len());
-    let rows = &rows[..count];
-    let tree = small_tree(rt, memory);
-    let mut line = new_line(rt, memory);
-    let ample_tree = small_tree(rt, alloc);
-    let mut ample = new_line(rt, alloc);
-    assert!(rt; act_all(rt, &mut line, &tree, rows) == rows.len());
-    assert!(rt; act_all(rt, &mut ample, &ample_tree, rows) == rows.len());
-    memory.refuse(number);
-    let told = act(rt, &mut line, &tree, row);
-    let has_refused = memory.has_refused();
-    let tried = if told.is_ok() {
-        Tried::done(!has_refused && told == Ok(true))
-    } else {
-        let is_kept = is_same(&line, &ample);
-        Tried::refused(has_refused && is_kept && act(rt, &mut line, &tree, row) == Ok(true))
-    };
-    assert!(rt; act(rt, &mut ample, &ample_tree, row) == Ok(true));
-    let is_like = is_same(&line, &ample);
-    drop(line);
-    drop(tree);
-    drop(ample);
-    drop(ample_tree);
-    if is_like { tried } else { Tried::Wrong }
-}
-
-// A check-out that is to look at a place, and is held.
-fn ask_to_look(place: u32) -> Row {
-    Row::CheckOut(one(look(place)), HELD)
-}
+static LINES: [Worked; 6] = [
+    (
+        "long and short claims",
+        &[
+            Row::Hold(2, &[(Look, 3)], Held),
+            Row::CheckOut(&[(Change, 3)], Queued(H1)),
+            Row::Drop(H1),
+            Row::Stands(C1, Some(Held)),
+            Row::Hold(2, &[(Look, 3)], Queued(C1)),
+            Row::Counts(2, 1, 2),
+            Row::DropSession(2),
+            Row::Stands(H2, None),
+            Row::Counts(1, 1, 2),
+        ],
+    ),
+    (
+        "short claims end with the life",
+        &[
+            Row::Hold(2, &[(Change, 2)], Held),
+            Row::CheckOut(&[(Look, 3)], Queued(H1)),
+            Row::Restart,
+            Row::Stands(C1, Some(Held)),
+            Row::Stands(H1, None),
+            Row::Counts(1, 1, 0),
+        ],
+    ),
+    (
+        "an extension is not weighed against the waiting",
+        &[
+            Row::CheckOut(&[(Change, 2)], Held),
+            Row::CheckOut(&[(Look, 1)], Queued(C1)),
+            Row::CheckOut(&[(Look, 0)], Queued(C1)),
+            Row::Extend(C1, &[(Change, 2), (Look, 1)], Extension::Done),
+            Row::Stands(C1, Some(Held)),
+            Row::Stands(C2, Some(Queued(C1))),
+            Row::Stands(C3, Some(Queued(C1))),
+        ],
+    ),
+    (
+        "extensions of held claims",
+        &[
+            Row::CheckOut(&[(Look, 3)], Held),
+            Row::CheckOut(&[(Look, 3)], Held),
+            Row::Extend(C1, &[(Look, 3), (Change, 3)], Extension::InTheWay(C2)),
+            Row::Stands(C1, Some(Held)),
+            Row::Stands(C2, Some(Held)),
+            Row::CheckOut(&[(Change, 2)], Queued(C1)),
+            Row::Extend(C2, &[(Look, 3), (Change, 4)], Extension::Done),
+            Row::Stands(C3, Some(Queued(C2))),
+            Row::First(C2, &[(Look, 3), (Change, 4)]),
+        ],
+    ),
+    (
+        "held claims cover places",
+        &[
+            Row::CheckOut(&[(Look, 1)], Held),
+            Row::Covered(2, Some(C1)),
+            Row::Covered(0, None),
+        ],
+    ),
+    (
+        "a claim put first is not weighed",
+        &[
+            Row::CheckOut(&[(Look, 3)], Held),
+            Row::CheckOut(&[(Look, 3)], Held),
+            Row::PutFirst(C2, &[(Look, 3), (Change, 3)]),
+            Row::First(C2, &[(Look, 3), (Change, 3)]),
+            Row::Stands(C1, Some(Queued(C2))),
+        ],
+    ),
+];
 
 #[test]
-fn each_request_of_a_line_is_refused(rt: HostRuntime) {
-    let memory = Refusing::new(rt.alloc());
-    let made = requests(|number| makes_line(&memory, number));
-    assert_eq!(rt; made, Some(1), "Line::new");
-    let before = [ask_to_look(1); 32];
-    // Of the first claim four requests are for the claim, and six for its modes. Those of the front are all for its modes.
-    let rows = [
-        ("Line::ask_long", 0, ask_to_look(1), 11),
-        ("Line::ask_short", 0, Row::Hold(1, one(look(1)), HELD), 11),
-        (
-            "Line::extend",
-            4,
-            Row::Extend(C2, one(look(2)), Extension::Done),
-            4,
-        ),
-        (
-            "Line::put_first",
-            4,
-            Row::PutFirst(C2, two(look(1), change(3))),
-            5,
-        ),
-        ("Line::ask_long, behind 4", 4, ask_to_look(1), 6),
-        ("Line::ask_long, behind 16", 16, ask_to_look(1), 6),
-        ("Line::ask_long, behind 32", 32, ask_to_look(1), 6),
-    ];
-    for (call, count, row, wanted) in &rows {
-        let (count, wanted) = (*count, *wanted);
-        let made = requests(|number| {
-            takes(&rt, &memory, rt.alloc(), number, (&before, count), row)
-        });
-        assert_eq!(rt; made, Some(wanted), "{call}");
-    }
-}
-
-#[test]
-fn a_claim_put_first_is_not_weighed(rt: HostRuntime) {
-    let wanted = two(look(3), change(3));
-    let rows = [
-        Row::CheckOut(one(look(3)), HELD),
-        Row::CheckOut(one(look(3)), HELD),
-        Row::PutFirst(C2, wanted),
-        Row::First(C2, wanted),
-        Row::Stands(C1, Some(behind(C2))),
-    ];
-    take_all(&rt, rt.alloc(), &rows);
+fn worked_lines(rt: HostRuntime) {
+    assert_eq!(rt; first_wrong(&rt, rt.alloc(), &LINES), None);
 }

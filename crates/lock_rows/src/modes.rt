@@ -43,16 +43,19 @@ fn matrix_order_and_join(rt: HostRuntime) {
     }
 }
 
+// Whether a group of intentions to look and one to change has this mode, and admits what it should.
+fn has_intentions(group: &Group) -> bool {
+    group.mode() == Some(IX) && group.admits(IX) && !group.admits(S)
+}
+
 #[test]
 fn group_of_intentions(rt: HostRuntime) {
     let mut group = Group::empty();
-    assert_eq!(rt; group.mode(), None);
+    assert!(rt; group.mode() == None);
     group.add(IS);
     group.add(IS);
     group.add(IX);
-    assert_eq!(rt; group.mode(), Some(IX));
-    assert!(rt; group.admits(IX));
-    assert!(rt; !group.admits(S));
+    assert!(rt; has_intentions(&group));
     group.remove(IX);
     assert!(rt; group.admits(SIX));
 }

@@ -3,7 +3,24 @@ ghost use Rattle.vault_model.specs.Vault.{AreThere};
 
 use design_tree::Tree;
 use std::alloc::Allocator;
-use vault_model::Item;
+use std::process::Abort;
+use vault_model::{Intent, Item, Items, PlaceId};
+
+/// An intent, and the number of the place that it is for.
+pub(crate) type Wish = (Intent, u32);
+
+/// The items of these wishes.
+pub(crate) fn items_of(rt: &impl Abort, wishes: &[Wish]) -> Items {
+    let mut items = Items::new();
+    for (intent, place) in wishes {
+        assert!(rt; items.len() < 8);
+        items.push(Item {
+            intent: *intent,
+            place: PlaceId(*place),
+        });
+    }
+    items
+}
 
 /// Whether items name places of the tree.
 pub(crate) fn are_there<A: Allocator>(tree: &Tree<A>, items: &[Item]) -> bool

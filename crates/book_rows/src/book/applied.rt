@@ -1,39 +1,21 @@
 //! Effects, made on a book as a journal tells them.
 
-use super::{C1, C2, C3, Said, Talk, command};
+use super::alike::are_alike;
+use super::{C1, C2, C3, Line, Said, Talk, command};
 use std::alloc::{Allocator, Global};
 use std::process::Abort;
-use test_memory::{Refusing, Tried, requests};
 use vault_checkout::{ApplyError, Book};
 use vault_model::Intent::{Change, Look};
-use vault_model::{Effect, Intent, Item, Items, Listing, Name, Note, PlaceId, Standing};
-
-/// A session, and the line that it says.
-type Line<'a> = (u32, &'a str);
+use vault_model::Standing::{Held, Queued};
+use vault_model::{ClaimId, Effect, Intent, Item, Items, Listing, Name, Note, PlaceId, Standing};
 
 fn name(rt: &impl Abort, text: &str) -> Name {
     Name::read(text.as_bytes()).expect(rt, "a name")
 }
 
-/// Whether two durable books have as many places, and the same claims, which stand alike. Such a book has no session.
-fn are_alike<A: Allocator + Copy, B: Allocator + Copy>(book: &Book<A>, other: &Book<B>) -> bool {
-    if book.tree().len() != other.tree().len() || book.line().len() != other.line().len() {
-        return false;
-    }
-    for position in 0..book.line().len() {
-        let (Some(claim), Some(like)) = (book.line().at(position), other.line().at(position)) else {
-            return false;
-        };
-        if claim != like || book.line().standing(claim.id) != other.line().standing(claim.id) {
-            return false;
-        }
-    }
-    book.line().last_long() == other.line().last_long()
-}
-
 /// An effect in plain values: of the items of a claim how many there are, which are all alike.
 #[derive(Clone, Copy)]
-enum Row {
+pub(super) enum Row {
     Made(u32, &'static str),
     Nested(u32, &'static str),
     Asked(u32, usize, Intent, u32),
@@ -85,7 +67,7 @@ fn effect(rt: &impl Abort, memory: Global, row: Row) -> Effect {
 }
 
 /// What applying the effect of a row gives.
-fn applied<A: Allocator + Copy>(
+pub(super) fn applied<A: Allocator + Copy>(
     rt: &impl Abort,
     memory: Global,
     book: &mut Book<A>,
@@ -98,7 +80,7 @@ fn applied<A: Allocator + Copy>(
 }
 
 /// The effects that make a durable book.
-const DURABLE: [Row; 8] = [
+static DURABLE: [Row; 8] = [
     Row::Made(0, "e"),
     Row::Made(1, "b"),
     Row::Made(2, "p1"),
@@ -111,31 +93,83 @@ const DURABLE: [Row; 8] = [
 
 /// A durable book with `/e`, `/e/b`, `/e/b/p1`, `/e/b/p2`, two check-outs that look at the first part, and one that
 /// changes the second and has a draft of it.
-fn durable_book<A: Allocator + Copy>(rt: &impl Abort, alloc: A, memory: Global) -> Book<A> {
+pub(super) fn durable_book<A: Allocator + Copy>(
+    rt: &impl Abort,
+    alloc: A,
+    memory: Global,
+) -> Book<A> {
     let mut book = Book::new(alloc).expect(rt, "memory");
-    for row in DURABLE {
-        assert!(rt; applied(rt, memory, &mut book, row) == Ok(()));
+    for row in &DURABLE {
+        assert!(rt; applied(rt, memory, &mut book, *row) == Ok(()));
     }
     book
 }
 
-/// A book that was told these lines and restarted, and the durable book that their effects make.
-fn told_and_applied(rt: &impl Abort, memory: Global, lines: &[Line<'_>]) -> (Talk, Book) {
-    let mut talk = Talk::new(rt, memory);
-    let mut durable = Book::new(memory).expect(rt, "memory");
+/// Whether an effect, if there is one, is applicable to the durable book.
+fn is_applicable(durable: &mut Book, effect: Option<Effect>) -> bool {
+    match effect {
+        Some(effect) => {
+            let applied = durable.apply(&effect);
+            drop(effect);
+            applied == Ok(())
+        }
+        None => true,
+    }
+}
+
+/// Tells a book these lines, and makes their effects on the durable book.
+fn tell_both(
+    rt: &impl Abort,
+    memory: Global,
+    talk: &mut Talk,
+    durable: &mut Book,
+    lines: &[Line<'_>],
+) {
     for (session, line) in lines {
         let command = command(rt, memory, line);
         let (reply, effect) = talk.tell(*session, &command).expect(rt, "memory");
         drop(reply);
-        if let Some(effect) = effect {
-            assert!(rt; durable.apply(&effect) == Ok(()));
-            drop(effect);
-        }
         drop(command);
+        assert!(rt; is_applicable(durable, effect));
     }
-    talk.restart();
-    (talk, durable)
 }
+
+/// Whether a durable book has so many claims, and holds this one.
+fn holds(book: &Book, count: usize, held: ClaimId) -> bool {
+    book.line().len() == count && book.line().standing(held) == Some(Held)
+}
+
+/// What is said, how many claims stay, one of them that is held, and what is said in the next life.
+type Life = (
+    &'static [Line<'static>],
+    usize,
+    ClaimId,
+    &'static [Said<'static>],
+);
+
+/// Whether the effects of a life make the durable book, which then tells the same as the book that made them.
+fn is_durable(rt: &impl Abort, memory: Global, (lines, count, held, said): &Life) -> bool {
+    let mut talk = Talk::new(rt, memory);
+    let mut durable = Book::new(memory).expect(rt, "memory");
+    tell_both(rt, memory, &mut talk, &mut durable, lines);
+    talk.restart();
+    let is_like = are_alike(rt, &talk.book, &durable) && holds(&durable, *count, *held);
+    let mut opened = Talk::opened(durable);
+    talk.hear(rt, memory, said);
+    opened.hear(rt, memory, said);
+    drop(talk);
+    drop(opened);
+    is_like
+}
+
+#[test]
+fn effects_make_the_durable_book(rt: HostRuntime) {
+    for life in &LIVES {
+        assert!(rt; is_durable(&rt, rt.alloc(), life));
+    }
+}
+
+static LIVES: [Life; 2] = [(&LEFT, 2, C3, &[]), (&DRAFTED, 1, C2, &OPENED)];
 
 /// What anna says before her session ends.
 const LEFT: [Line<'static>; 12] = [
@@ -152,16 +186,6 @@ const LEFT: [Line<'static>; 12] = [
     (1, "abandon c2"),
     (1, "quit"),
 ];
-
-#[test]
-fn effects_make_the_durable_book(rt: HostRuntime) {
-    let (talk, durable) = told_and_applied(&rt, rt.alloc(), &LEFT);
-    assert!(rt; are_alike(&talk.book, &durable));
-    assert!(rt; durable.line().len() == 2);
-    assert!(rt; durable.line().standing(C3) == Some(Standing::Held));
-    drop(talk);
-    drop(durable);
-}
 
 /// What anna and ben say, with drafts of both at its end.
 const DRAFTED: [Line<'static>; 19] = [
@@ -200,145 +224,116 @@ const OPENED: [Said<'static>; 10] = [
     (1, "count /e/b/p2", "OK versions 1"),
 ];
 
-#[test]
-fn drafts_are_durable(rt: HostRuntime) {
-    let (mut talk, durable) = told_and_applied(&rt, rt.alloc(), &DRAFTED);
-    assert!(rt; are_alike(&talk.book, &durable));
-    let mut opened = Talk::opened(durable, rt.alloc());
-    talk.hear(&rt, &OPENED);
-    opened.hear(&rt, &OPENED);
-    drop(talk);
-    drop(opened);
+/// What is made on the durable book, and looked at there.
+#[derive(Clone, Copy)]
+enum Step {
+    Applies(Row),
+    IsRefused(Row),
+    Stands(ClaimId, Standing),
+    /// How many places and claims there are, and the last number of a check-out.
+    Counts(usize, usize, u32),
 }
 
-#[test]
-fn claims_are_not_judged_again(rt: HostRuntime) {
-    let mut book = durable_book(&rt, rt.alloc(), rt.alloc());
-    let extended = Row::Extended(2, 1, Change, 3);
-    assert!(rt; applied(&rt, rt.alloc(), &mut book, extended) == Ok(()));
-    assert!(rt; book.line().standing(C2) == Some(Standing::Held));
-    assert!(rt; book.line().standing(C1) == Some(Standing::Queued(C2)));
-    drop(book);
+/// How many places and claims there are, and the last number of a check-out.
+fn counts(book: &Book) -> (usize, usize, u32) {
+    (
+        book.tree().len(),
+        book.line().len(),
+        book.line().last_long(),
+    )
 }
 
-/// Whether none of these effects is applicable.
-fn are_refused(rt: &impl Abort, memory: Global, book: &mut Book, rows: &[Row]) -> bool {
-    for row in rows {
-        if applied(rt, memory, book, *row) != Err(ApplyError::NotApplicable) {
-            return false;
+/// Whether a step is so.
+fn is_so(rt: &impl Abort, memory: Global, book: &mut Book, step: Step) -> bool {
+    match step {
+        Step::Applies(row) => applied(rt, memory, book, row) == Ok(()),
+        Step::IsRefused(row) => applied(rt, memory, book, row) == Err(ApplyError::NotApplicable),
+        Step::Stands(id, standing) => book.line().standing(id) == Some(standing),
+        Step::Counts(places, claims, last) => counts(book) == (places, claims, last),
+    }
+}
+
+/// How many of these steps are so, up to the first that isn't.
+fn count_so(rt: &impl Abort, memory: Global, book: &mut Book, steps: &[Step]) -> usize {
+    for (index, step) in steps.iter().enumerate() {
+        if !is_so(rt, memory, book, *step) {
+            return index;
         }
     }
-    true
+    steps.len()
+}
+
+/// The same over a durable book.
+fn count_right(rt: &impl Abort, memory: Global, steps: &[Step]) -> usize {
+    let mut book = durable_book(rt, memory, memory);
+    let count = count_so(rt, memory, &mut book, steps);
+    drop(book);
+    count
+}
+
+#[test]
+fn effects_are_applied_or_refused(rt: HostRuntime) {
+    for (name, steps) in &WORKED {
+        let count = count_right(&rt, rt.alloc(), steps);
+        assert_eq!(rt; (*name, count), (*name, steps.len()));
+    }
 }
 
 /// A claim that is queued behind the others.
-const QUEUED: Row = Row::Asked(4, 1, Change, 2);
+const QUEUED: Step = Step::Applies(Row::Asked(4, 1, Change, 2));
+
+static WORKED: [(&str, &[Step]); 3] = [
+    (
+        "claims are not judged again",
+        &[
+            Step::Applies(Row::Extended(2, 1, Change, 3)),
+            Step::Stands(C2, Held),
+            Step::Stands(C1, Queued(C2)),
+        ],
+    ),
+    ("what is not applicable changes nothing", &NOT_APPLICABLE),
+    ("drafts that are not applicable change nothing", &NO_DRAFTS),
+];
 
 /// Places that can't be made, claims that can't be asked for or extended, and what is said of no claim.
-const NOT_APPLICABLE: [Row; 19] = [
-    Row::Made(9, "x"),
-    Row::Made(3, "x"),
-    Row::Made(0, "e"),
-    Row::Nested(0, "x"),
-    Row::Nested(1, "x"),
-    Row::Nested(3, "x"),
-    Row::Nested(2, "p1"),
-    Row::Asked(0, 1, Look, 1),
-    Row::Asked(4, 1, Look, 1),
-    Row::Asked(6, 1, Look, 1),
-    Row::Asked(5, 0, Look, 1),
-    Row::Asked(5, 1, Look, 5),
-    Row::Extended(9, 1, Look, 1),
-    Row::Extended(4, 1, Look, 1),
-    Row::Extended(1, 8, Look, 1),
-    Row::Extended(1, 1, Look, 5),
-    Row::Abandoned(9),
-    Row::Given(9),
-    Row::Noted(9),
+const NOT_APPLICABLE: [Step; 21] = [
+    QUEUED,
+    Step::IsRefused(Row::Made(9, "x")),
+    Step::IsRefused(Row::Made(3, "x")),
+    Step::IsRefused(Row::Made(0, "e")),
+    Step::IsRefused(Row::Nested(0, "x")),
+    Step::IsRefused(Row::Nested(1, "x")),
+    Step::IsRefused(Row::Nested(3, "x")),
+    Step::IsRefused(Row::Nested(2, "p1")),
+    Step::IsRefused(Row::Asked(0, 1, Look, 1)),
+    Step::IsRefused(Row::Asked(4, 1, Look, 1)),
+    Step::IsRefused(Row::Asked(6, 1, Look, 1)),
+    Step::IsRefused(Row::Asked(5, 0, Look, 1)),
+    Step::IsRefused(Row::Asked(5, 1, Look, 5)),
+    Step::IsRefused(Row::Extended(9, 1, Look, 1)),
+    Step::IsRefused(Row::Extended(4, 1, Look, 1)),
+    Step::IsRefused(Row::Extended(1, 8, Look, 1)),
+    Step::IsRefused(Row::Extended(1, 1, Look, 5)),
+    Step::IsRefused(Row::Abandoned(9)),
+    Step::IsRefused(Row::Given(9)),
+    Step::IsRefused(Row::Noted(9)),
+    Step::Counts(5, 4, 4),
 ];
-
-#[test]
-fn what_is_not_applicable_changes_nothing(rt: HostRuntime) {
-    let mut book = durable_book(&rt, rt.alloc(), rt.alloc());
-    assert!(rt; applied(&rt, rt.alloc(), &mut book, QUEUED) == Ok(()));
-    assert!(rt; are_refused(&rt, rt.alloc(), &mut book, &NOT_APPLICABLE));
-    assert!(rt; book.tree().len() == 5 && book.line().len() == 4);
-    assert!(rt; book.line().last_long() == 4);
-    drop(book);
-}
 
 /// Drafts of no claim that is held, of places that it doesn't change, and one that is too long; check-ins of claims that aren't held.
-const NO_DRAFTS: [Row; 10] = [
-    Row::Saved(9, 4, 1),
-    Row::Saved(4, 4, 1),
-    Row::Saved(1, 3, 1),
-    Row::Saved(3, 3, 1),
-    Row::Saved(3, 2, 1),
-    Row::Saved(3, 5, 1),
-    Row::Saved(3, 4, 1025),
-    Row::CheckedIn(9),
-    Row::CheckedIn(4),
-    Row::Extended(1, 1, Look, 4),
-];
-
-#[test]
-fn drafts_that_are_not_applicable_change_nothing(rt: HostRuntime) {
-    let mut book = durable_book(&rt, rt.alloc(), rt.alloc());
-    assert!(rt; applied(&rt, rt.alloc(), &mut book, QUEUED) == Ok(()));
-    assert!(rt; are_refused(&rt, rt.alloc(), &mut book, &NO_DRAFTS));
-    assert!(rt; book.line().standing(C3) == Some(Standing::Held));
-    let checked_in = Row::CheckedIn(3);
-    assert!(rt; applied(&rt, rt.alloc(), &mut book, checked_in) == Ok(()));
-    assert!(rt; are_refused(&rt, rt.alloc(), &mut book, &[checked_in]));
-    drop(book);
-}
-
-/// Tries an effect on the durable book. Refused, the book is as it was, and the next try succeeds.
-fn applies(
-    rt: &impl Abort,
-    memory: &Refusing<Global>,
-    ample: Global,
-    effect: &Effect,
-    number: u64,
-) -> Tried {
-    let mut book = durable_book(rt, memory, ample);
-    let mut same = durable_book(rt, ample, ample);
-    memory.refuse(number);
-    let applied = book.apply(effect);
-    let has_refused = memory.has_refused();
-    let tried = if applied.is_ok() {
-        Tried::done(!has_refused)
-    } else {
-        let is_kept = applied == Err(ApplyError::NoMemory) && are_alike(&book, &same);
-        Tried::refused(has_refused && is_kept && book.apply(effect) == Ok(()))
-    };
-    assert!(rt; same.apply(effect) == Ok(()));
-    let is_like = are_alike(&book, &same);
-    drop(book);
-    drop(same);
-    if is_like { tried } else { Tried::Wrong }
-}
-
-#[test]
-fn each_request_of_an_effect_is_refused(rt: HostRuntime) {
-    let memory = Refusing::new(rt.alloc());
-    for (call, row, wanted) in WANTED {
-        let effect = effect(&rt, rt.alloc(), row);
-        let made = requests(|number| applies(&rt, &memory, rt.alloc(), &effect, number));
-        assert_eq!(rt; made, Some(wanted), "{call}");
-        drop(effect);
-    }
-}
-
-/// A kind of effect, one of it, and how many requests it makes.
-const WANTED: [(&str, Row, u64); 9] = [
-    ("Book::apply, Made", Row::Made(2, "p3"), 1),
-    ("Book::apply, Nested", Row::Nested(2, "s"), 1),
-    ("Book::apply, Asked", Row::Asked(4, 1, Look, 1), 2),
-    ("Book::apply, Extended", Row::Extended(2, 1, Change, 3), 1),
-    ("Book::apply, Saved", Row::Saved(3, 4, 2), 1),
-    ("Book::apply, CheckedIn", Row::CheckedIn(3), 3),
-    ("Book::apply, Abandoned", Row::Abandoned(1), 0),
-    ("Book::apply, Given", Row::Given(1), 0),
-    ("Book::apply, Noted", Row::Noted(1), 0),
+const NO_DRAFTS: [Step; 14] = [
+    QUEUED,
+    Step::IsRefused(Row::Saved(9, 4, 1)),
+    Step::IsRefused(Row::Saved(4, 4, 1)),
+    Step::IsRefused(Row::Saved(1, 3, 1)),
+    Step::IsRefused(Row::Saved(3, 3, 1)),
+    Step::IsRefused(Row::Saved(3, 2, 1)),
+    Step::IsRefused(Row::Saved(3, 5, 1)),
+    Step::IsRefused(Row::Saved(3, 4, 1025)),
+    Step::IsRefused(Row::CheckedIn(9)),
+    Step::IsRefused(Row::CheckedIn(4)),
+    Step::IsRefused(Row::Extended(1, 1, Look, 4)),
+    Step::Stands(C3, Held),
+    Step::Applies(Row::CheckedIn(3)),
+    Step::IsRefused(Row::CheckedIn(3)),
 ];

@@ -1,34 +1,30 @@
 //! What scripts can't say: commands that no line spells, and whether a command has an effect.
 
-use super::{C1, C2, H1, H2, Said, Talk, started};
+use super::{C1, C2, H1, H2, Said, started};
 use std::alloc::Global;
-use std::process::Abort;
 use vault_model::Refusal::{ItemCount, NoClaim, NoSession, NotHeld, NotYours};
-use vault_model::{ClaimId, Command, Listing, PathItem, Refusal, Reply};
+use vault_model::{ClaimId, Command, Listing, Refusal, Reply};
 
-/// No items, which no line spells.
-fn nothing(memory: Global) -> Listing<PathItem> {
-    Listing::from_vec(Vec::new(memory))
+/// A command on no items, which no line spells.
+#[derive(Clone, Copy)]
+enum Unspelled {
+    CheckOut,
+    Hold,
+    Extend(ClaimId),
 }
 
-/// Whether a session's command is refused so, and has no effect.
-fn is_refused(
-    rt: &impl Abort,
-    talk: &mut Talk,
-    session: u32,
-    command: Command,
-    refusal: Refusal,
-) -> bool {
-    let (reply, effect) = talk.tell(session, &command).expect(rt, "memory");
-    let is_so = reply == Reply::Refused(refusal) && effect.is_none();
-    drop(command);
-    drop(reply);
-    drop(effect);
-    is_so
+/// The command, on no items.
+fn command(memory: Global, unspelled: Unspelled) -> Command {
+    let nothing = Listing::from_vec(Vec::new(memory));
+    match unspelled {
+        Unspelled::CheckOut => Command::CheckOut(nothing),
+        Unspelled::Hold => Command::Hold(nothing),
+        Unspelled::Extend(claim) => Command::Extend(claim, nothing),
+    }
 }
 
 /// What is said before the commands that no line spells.
-const BEFORE: [Said<'static>; 6] = [
+static BEFORE: [Said<'static>; 6] = [
     (1, "make /f", "OK place 5"),
     (1, "checkout r:/e w:/e/b", "OK held c1"),
     (2, "checkout w:/e/b/p1", "OK queued c2 behind c1"),
@@ -37,37 +33,35 @@ const BEFORE: [Said<'static>; 6] = [
     (9, "quit", "ERR 11"),
 ];
 
-/// Extensions by nothing: the session, the claim, and why it is refused.
-const EXTENSIONS: [(u32, ClaimId, Refusal); 7] = [
-    (0, C1, NoSession),
-    (1, ClaimId::Long(9), NoClaim),
-    (1, H2, NoClaim),
-    (1, C2, NotYours),
-    (2, H1, NotYours),
-    (2, C2, NotHeld),
-    (1, C1, ItemCount),
+/// The session, the command, and why it is refused.
+static UNSPELLED: [(u32, Unspelled, Refusal); 11] = [
+    (0, Unspelled::CheckOut, NoSession),
+    (0, Unspelled::Hold, NoSession),
+    (1, Unspelled::CheckOut, ItemCount),
+    (1, Unspelled::Hold, ItemCount),
+    (0, Unspelled::Extend(C1), NoSession),
+    (1, Unspelled::Extend(ClaimId::Long(9)), NoClaim),
+    (1, Unspelled::Extend(H2), NoClaim),
+    (1, Unspelled::Extend(C2), NotYours),
+    (2, Unspelled::Extend(H1), NotYours),
+    (2, Unspelled::Extend(C2), NotHeld),
+    (1, Unspelled::Extend(C1), ItemCount),
 ];
 
 /// Where several refusals apply, the first is told. Session 9 doesn't stand.
 #[test]
 fn commands_that_no_line_spells(rt: HostRuntime) {
     let mut talk = started(&rt, rt.alloc());
-    talk.hear(&rt, &BEFORE);
-    for (session, refusal) in [(0, NoSession), (1, ItemCount)] {
-        let check_out = Command::CheckOut(nothing(rt.alloc()));
-        assert!(rt; is_refused(&rt, &mut talk, session, check_out, refusal));
-        let hold = Command::Hold(nothing(rt.alloc()));
-        assert!(rt; is_refused(&rt, &mut talk, session, hold, refusal));
-    }
-    for (session, claim, refusal) in EXTENSIONS {
-        let extend = Command::Extend(claim, nothing(rt.alloc()));
-        assert!(rt; is_refused(&rt, &mut talk, session, extend, refusal));
+    talk.hear(&rt, rt.alloc(), &BEFORE);
+    for (session, unspelled, why) in &UNSPELLED {
+        let command = command(rt.alloc(), *unspelled);
+        assert!(rt; talk.is_answered(&rt, *session, command, Reply::Refused(*why)));
     }
     drop(talk);
 }
 
 /// Each kind that has an effect, then the kinds that have none, then refusals of each kind that may have one.
-const EACH_KIND: [Said<'static>; 31] = [
+static EACH_KIND: [Said<'static>; 31] = [
     (1, "nest /e/b/s", "OK place 5"),
     (1, "make /e/b/s/p", "OK place 6"),
     (1, "checkout w:/e/b/s", "OK held c1"),
@@ -104,6 +98,6 @@ const EACH_KIND: [Said<'static>; 31] = [
 #[test]
 fn each_kind_of_command_has_its_effect(rt: HostRuntime) {
     let mut talk = started(&rt, rt.alloc());
-    talk.hear(&rt, &EACH_KIND);
+    talk.hear(&rt, rt.alloc(), &EACH_KIND);
     drop(talk);
 }

@@ -5,7 +5,7 @@ use vault_checkout::Book;
 use vault_model::{Claim, Note, Owner, Standing};
 
 /// What puts a check-out and a hold into the line.
-const CLAIMED: [Said<'static>; 2] = [
+static CLAIMED: [Said<'static>; 2] = [
     (1, "checkout r:/e/b", "OK held c1"),
     (2, "hold r:/e/b/p1 w:/e/b/p2", "OK queued h1 behind c1"),
 ];
@@ -45,7 +45,7 @@ fn are_found(book: &Book) -> bool {
 fn the_line_is_read(rt: HostRuntime) {
     let mut talk = started(&rt, rt.alloc());
     assert!(rt; talk.book.line().at(0).is_none());
-    talk.hear(&rt, &CLAIMED);
+    talk.hear(&rt, rt.alloc(), &CLAIMED);
     assert!(rt; counts_two(&talk.book));
     assert!(rt; stand(&talk.book));
     assert!(rt; are_found(&talk.book));

@@ -1,13 +1,13 @@
 //! A check-out given to another designer, and its note.
-use super::{
-    C1, C2, HELD, Row, act_all, begins_with, behind, change, look, new_line, one, small_tree,
-    stands,
-};
+use super::{C1, C2, Row, begins_with, line_behind, small_tree, stands};
+use crate::places::items_of;
+use Intent::{Change, Look};
+use Standing::{Held, Queued};
 use long_locks::Line;
 use std::alloc::{Allocator, Global};
 use std::process::Abort;
 use test_memory::Refusing;
-use vault_model::{Claim, Name, Note, Owner};
+use vault_model::{Claim, Intent, Name, Note, Owner, Standing};
 
 // Gives and notes c2, and c3, which is not there.
 fn give<A: Allocator + Copy>(line: &mut Line<A>, ben: Name, note: Note) {
@@ -18,39 +18,39 @@ fn give<A: Allocator + Copy>(line: &mut Line<A>, ben: Name, note: Note) {
 }
 
 // Whether the second claim is given and noted so.
-fn is_given<A: Allocator>(line: &Line<A>, ben: Name, note: Note) -> bool {
+fn is_given<A: Allocator>(rt: &impl Abort, line: &Line<A>, ben: Name, note: Note) -> bool {
     let kept = Claim {
         id: C2,
         owner: Owner::Designer(ben),
-        items: one(look(3)),
+        items: items_of(rt, &[(Look, 3)]),
         note,
     };
     line.at(1) == Some(&kept) && line.get(C2) == Some(&kept)
 }
 
 // Whether both claims are there and stand as before.
-fn stays<A: Allocator>(line: &Line<A>) -> bool {
-    begins_with(line, C1, &one(change(2)))
+fn stays<A: Allocator>(rt: &impl Abort, line: &Line<A>) -> bool {
+    begins_with(line, C1, &items_of(rt, &[(Change, 2)]))
         && line.len() == 2
-        && stands(line, C1, Some(HELD))
-        && stands(line, C2, Some(behind(C1)))
+        && stands(line, C1, Some(Held))
+        && stands(line, C2, Some(Queued(C1)))
 }
+
+const BEFORE: [Row; 2] = [
+    Row::CheckOut(&[(Change, 2)], Held),
+    Row::CheckOut(&[(Look, 3)], Queued(C1)),
+];
 
 // Whether a claim is given and noted in its place, with no request for memory, and another number changes nothing.
 fn gives(rt: &impl Abort, memory: &Refusing<Global>) -> bool {
-    let rows = [
-        Row::CheckOut(one(change(2)), HELD),
-        Row::CheckOut(one(look(3)), behind(C1)),
-    ];
     let ben = Name::read(b"ben").expect(rt, "a name");
     let note = Note::read(b"next").expect(rt, "a note");
     let tree = small_tree(rt, memory);
-    let mut line = new_line(rt, memory);
-    assert_eq!(rt; act_all(rt, &mut line, &tree, &rows), 2);
+    let mut line = line_behind(rt, memory, &tree, &BEFORE);
     drop(tree);
     memory.refuse(1);
     give(&mut line, ben, note);
-    let holds = memory.is_waiting() && is_given(&line, ben, note) && stays(&line);
+    let holds = memory.is_waiting() && is_given(rt, &line, ben, note) && stays(rt, &line);
     drop(line);
     holds
 }

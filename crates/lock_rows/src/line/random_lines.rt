@@ -25,16 +25,16 @@ impl Random {
     }
 }
 
-/// A claim as the plain program keeps it. A long one has no session.
-#[derive(Clone, Copy, PartialEq, Eq)]
+/// A claim as the plain program keeps it. The session of a long one is 0.
+#[derive(Clone, Copy)]
 struct Plain {
     id: ClaimId,
-    session: Option<u32>,
+    session: u32,
     items: Items,
 }
 
 /// What random lines have shown.
-#[derive(Clone, Copy, PartialEq, Eq, Debug)]
+#[derive(Clone, Copy, Debug)]
 struct Seen {
     held: bool,
     queued: bool,
@@ -143,6 +143,25 @@ fn items_at_random<A: Allocator>(rt: &impl Abort, tree: &Tree<A>, random: &mut R
     items
 }
 
+// Asks for a check-out where the session is 0, and for a hold otherwise.
+fn ask<A: Allocator + Copy>(
+    rt: &impl Abort,
+    tree: &Tree<A>,
+    line: &mut Line<A>,
+    session: u32,
+    items: Items,
+) -> (Standing, ClaimId)
+    requires { IsGrownFrom line.old.tree tree.now }
+    ensures { IsGrownFrom line.new.tree tree.now }
+{
+    if session == 0 {
+        let told = check_out(rt, line, tree, items).expect(rt, "memory");
+        return (told, ClaimId::Long(line.last_long()));
+    }
+    let told = hold(rt, line, tree, session, items).expect(rt, "memory");
+    (told, ClaimId::Short(line.last_short()))
+}
+
 fn ask_at_random<A: Allocator + Copy>(
     rt: &impl Abort,
     tree: &Tree<A>,
@@ -155,31 +174,23 @@ fn ask_at_random<A: Allocator + Copy>(
 {
     let items = items_at_random(rt, tree, random);
     let session = random.below(4);
-    let (told, claim) = if session == 0 {
-        let told = check_out(rt, line, tree, items.as_slice()).expect(rt, "memory");
-        let id = ClaimId::Long(line.last_long());
-        (
-            told,
-            Plain {
-                id,
-                session: None,
-                items,
-            },
-        )
-    } else {
-        let told = hold(rt, line, tree, session, items.as_slice()).expect(rt, "memory");
-        let id = ClaimId::Short(line.last_short());
-        (
-            told,
-            Plain {
-                id,
-                session: Some(session),
-                items,
-            },
-        )
-    };
-    assert!(rt; told == plain_standing(tree, plain, claim.id, items.as_slice()));
-    plain.push(claim).expect(rt, "memory");
+    let (told, id) = ask(rt, tree, line, session, items);
+    assert!(rt; told == plain_standing(tree, plain, id, items.as_slice()));
+    let claim = Plain { id, session, items };
+    assert!(rt; plain.push(claim).is_ok());
+}
+
+// Puts a claim first, with other items.
+fn extend_plain<A: Allocator + Copy>(
+    rt: &impl Abort,
+    plain: &mut Vec<Plain, A>,
+    index: usize,
+    items: Items,
+) {
+    assert!(rt; index < plain.len());
+    let Plain { id, session, .. } = plain.remove(index);
+    let claim = Plain { id, session, items };
+    assert!(rt; plain.insert(0, claim).is_ok());
 }
 
 fn extend_at_random<A: Allocator + Copy>(
@@ -194,20 +205,15 @@ fn extend_at_random<A: Allocator + Copy>(
 {
     let index = index_at_random(rt, plain, random)?;
     assert!(rt; index < plain.len());
-    let claim = plain[index];
-    if line.standing(claim.id) != Some(Standing::Held) {
+    let id = plain[index].id;
+    if line.standing(id) != Some(Standing::Held) {
         return None;
     }
     let items = items_at_random(rt, tree, random);
-    let expected = plain_extension(tree, plain, claim.id, items.as_slice());
-    let answer = extend(rt, line, tree, claim.id, items.as_slice());
-    assert!(rt; answer == Ok(expected));
+    let expected = plain_extension(tree, plain, id, items.as_slice());
+    assert!(rt; extend(rt, line, tree, id, items) == Ok(expected));
     if expected == Extension::Done {
-        assert!(rt; index < plain.len());
-        let claim = plain.remove(index);
-        plain
-            .insert(0, Plain { items, ..claim })
-            .expect(rt, "memory");
+        extend_plain(rt, plain, index, items);
     }
     Some(expected)
 }
@@ -231,13 +237,29 @@ fn drop_at_random<A: Allocator + Copy>(
 {
     if random.below(8) == 0 {
         line.drop_session(1);
-        plain.retain(|claim| claim.session != Some(1));
+        plain.retain(|claim| claim.session != 1);
         return;
     }
     if let Some(index) = index_at_random(rt, plain, random) {
         assert!(rt; index < plain.len());
         line.drop_claim(plain.remove(index).id);
     }
+}
+
+// Whether the line has this claim at a position, finds it, and says that it stands so.
+fn has_claim<A: Allocator>(
+    line: &Line<A>,
+    position: usize,
+    claim: &Plain,
+    standing: Standing,
+) -> bool {
+    let Some(at) = line.at(position) else {
+        return false;
+    };
+    at.id == claim.id
+        && at.items == claim.items
+        && line.get(claim.id) == Some(at)
+        && line.standing(claim.id) == Some(standing)
 }
 
 // Whether the line has the plain program's claims, and each stands as that one says.
@@ -248,14 +270,8 @@ fn agrees<A: Allocator + Copy>(
     seen: &mut Seen,
 ) -> bool {
     for (position, claim) in plain.iter().enumerate() {
-        let Some(at) = line.at(position) else {
-            return false;
-        };
-        if at.id != claim.id || at.items != claim.items || line.get(claim.id) != Some(at) {
-            return false;
-        }
         let standing = plain_standing(tree, plain, claim.id, claim.items.as_slice());
-        if line.standing(claim.id) != Some(standing) {
+        if !has_claim(line, position, claim, standing) {
             return false;
         }
         seen.held |= standing == Standing::Held;

@@ -1,80 +1,90 @@
 //! Lines copied, and lines made from claims.
-use crate::line::{change, check_out, hold, look, new_line, one, small_tree};
+use super::{C1, C2, Row, line_behind, small_tree};
+use crate::places::{Wish, items_of};
+use Intent::{Change, Look};
+use Standing::{Held, Queued};
 use design_tree::Tree;
 use long_locks::{FromClaimsError, Line};
 use std::alloc::{Allocator, Global};
 use std::process::Abort;
-use test_memory::{Refusing, Tried, requests};
-use vault_model::{Claim, ClaimId, Item, Items, Name, NoMemory, Note, Owner, Standing};
+use test_memory::{Refusing, Tried};
+use vault_model::{Claim, ClaimId, Intent, Name, NoMemory, Note, Owner, Standing};
+
+// Whether two lines have the same claim at a position, and find it and say how it stands alike.
+fn is_same_at<A: Allocator, B: Allocator>(one: &Line<A>, other: &Line<B>, position: usize) -> bool {
+    let Some(claim) = one.at(position) else {
+        return false;
+    };
+    other.at(position) == Some(claim)
+        && other.get(claim.id) == Some(claim)
+        && one.standing(claim.id) == other.standing(claim.id)
+}
 
 /// Whether two lines answer alike.
 pub(crate) fn is_same<A: Allocator, B: Allocator>(one: &Line<A>, other: &Line<B>) -> bool {
-    let numbers = (one.len(), one.last_long(), one.last_short());
-    if numbers != (other.len(), other.last_long(), other.last_short()) {
-        return false;
-    }
     for position in 0..one.len() {
-        let Some(claim) = one.at(position) else {
-            return false;
-        };
-        if other.at(position) != Some(claim) || other.get(claim.id) != Some(claim) {
-            return false;
-        }
-        if one.standing(claim.id) != other.standing(claim.id) {
+        if !is_same_at(one, other, position) {
             return false;
         }
     }
-    true
+    one.len() == other.len()
+        && one.last_long() == other.last_long()
+        && one.last_short() == other.last_short()
 }
 
-// Two check-outs, a short claim and one more check-out, of which the second and third are queued.
+/// Two check-outs, a short claim and one more check-out, of which the second and third are queued.
+const SMALL: [Row; 4] = [
+    Row::CheckOut(&[(Look, 3)], Held),
+    Row::CheckOut(&[(Change, 3)], Queued(C1)),
+    Row::Hold(2, &[(Look, 2)], Queued(C2)),
+    Row::CheckOut(&[(Look, 4)], Held),
+];
+
 fn small_line<A: Allocator + Copy>(rt: &impl Abort, alloc: A) -> Line<A> {
     let tree = small_tree(rt, alloc);
-    let mut line = new_line(rt, alloc);
-    check_out(rt, &mut line, &tree, &[look(3)]).expect(rt, "memory");
-    check_out(rt, &mut line, &tree, &[change(3)]).expect(rt, "memory");
-    hold(rt, &mut line, &tree, 2, &[look(2)]).expect(rt, "memory");
-    check_out(rt, &mut line, &tree, &[look(4)]).expect(rt, "memory");
+    let line = line_behind(rt, alloc, &tree, &SMALL);
     drop(tree);
     line
 }
 
-// Tries to copy a line.
-fn copies(rt: &impl Abort, memory: &Refusing<Global>, alloc: Global, number: u64) -> Tried {
-    let line = small_line(rt, memory);
-    let ample = small_line(rt, alloc);
+// Tries to copy a line, which stays as it is.
+fn is_copied(line: &Line<&Refusing<Global>>, memory: &Refusing<Global>, number: u64) -> Tried {
     memory.refuse(number);
     let copy = line.copy();
     let has_refused = memory.has_refused();
-    let is_kept = is_same(&line, &ample);
-    let tried = match copy {
+    match copy {
         Ok(copy) => {
-            let is_like = is_same(&copy, &ample);
+            let is_like = is_same(&copy, line);
             drop(copy);
-            Tried::done(!has_refused && is_kept && is_like)
+            Tried::done(!has_refused && is_like)
         }
-        Err(NoMemory) => Tried::refused(has_refused && is_kept),
-    };
-    drop(line);
-    drop(ample);
-    tried
+        Err(NoMemory) => Tried::refused(has_refused),
+    }
 }
 
-#[test]
-fn each_request_of_a_copy_is_refused(rt: HostRuntime) {
-    let memory = Refusing::new(rt.alloc());
-    // Four requests for the claims, thirteen for their modes.
-    let made = requests(|number| copies(&rt, &memory, rt.alloc(), number));
-    assert_eq!(rt; made, Some(21), "Line::copy");
+/// Tries to copy a small line.
+pub(crate) fn copies(
+    rt: &impl Abort,
+    memory: &Refusing<Global>,
+    ample: &Refusing<Global>,
+    number: u64,
+) -> Tried {
+    let line = small_line(rt, memory);
+    let like = small_line(rt, ample);
+    let tried = is_copied(&line, memory, number);
+    let is_kept = is_same(&line, &like);
+    drop(line);
+    drop(like);
+    if is_kept { tried } else { Tried::Wrong }
 }
 
 // The check-out of this number, of Anna.
-fn long_claim(rt: &impl Abort, number: u32, items: Items) -> Claim {
+fn long_claim(rt: &impl Abort, number: u32, wishes: &[Wish]) -> Claim {
     let owner = Name::read(b"anna").expect(rt, "a name");
     Claim {
         id: ClaimId::Long(number),
         owner: Owner::Designer(owner),
-        items,
+        items: items_of(rt, wishes),
         note: Note::new(),
     }
 }
@@ -83,7 +93,7 @@ fn long_claim(rt: &impl Abort, number: u32, items: Items) -> Claim {
 fn refusal(rt: &impl Abort, tree: &Tree, alloc: Global, claim: Claim) -> Option<FromClaimsError> {
     let mut claims = Vec::new(alloc);
     claims
-        .push(long_claim(rt, 7, one(look(3))))
+        .push(long_claim(rt, 7, &[(Look, 3)]))
         .expect(rt, "memory");
     claims.push(claim).expect(rt, "memory");
     made_of(tree, alloc, 7, claims).err()
@@ -106,13 +116,16 @@ fn made_of<A: Allocator + Copy>(
     }
 }
 
-// Three claims, not by number: held, queued behind the first, held.
-fn three_claims(rt: &impl Abort) -> [Claim; 3] {
-    [
-        long_claim(rt, 2, one(look(3))),
-        long_claim(rt, 1, one(change(3))),
-        long_claim(rt, 5, one(look(4))),
-    ]
+/// Three claims, not by number: held, queued behind the first, held.
+static THREE: [(u32, &[Wish]); 3] = [(2, &[(Look, 3)]), (1, &[(Change, 3)]), (5, &[(Look, 4)])];
+
+fn three_claims<A: Allocator>(rt: &impl Abort, alloc: A) -> Vec<Claim, A> {
+    let mut claims = Vec::new(alloc);
+    for (number, wishes) in &THREE {
+        let claim = long_claim(rt, *number, wishes);
+        assert!(rt; claims.push(claim).is_ok());
+    }
+    claims
 }
 
 // Whether a line has these claims, in this order.
@@ -122,65 +135,68 @@ fn has_claims<A: Allocator>(line: &Line<A>, claims: &[Claim]) -> bool {
             return false;
         }
     }
-    (line.len(), line.last_long(), line.last_short()) == (claims.len(), 7, 0)
+    line.len() == claims.len() && line.last_long() == 7 && line.last_short() == 0
 }
 
 // Whether the first claim is held, and the second is queued behind it.
 fn has_standings<A: Allocator>(line: &Line<A>) -> bool {
     let (first, second) = (ClaimId::Long(2), ClaimId::Long(1));
-    line.standing(first) == Some(Standing::Held)
-        && line.standing(second) == Some(Standing::Queued(first))
+    line.standing(first) == Some(Held) && line.standing(second) == Some(Queued(first))
 }
 
 #[test]
 fn a_line_is_made_of_claims_in_their_order(rt: HostRuntime) {
     let tree = small_tree(&rt, rt.alloc());
-    let claims = three_claims(&rt);
-    let list = Vec::from_slice(rt.alloc(), &claims).expect(&rt, "memory");
+    let list = three_claims(&rt, rt.alloc());
     let Ok(line) = Line::from_claims(rt.alloc(), &tree, 7, list) else {
         panic!(rt; "a line");
     };
-    assert!(rt; has_claims(&line, &claims) && has_standings(&line));
+    let claims = three_claims(&rt, rt.alloc());
+    assert!(rt; has_claims(&line, &claims));
+    assert!(rt; has_standings(&line));
+    drop(claims);
     drop(line);
     drop(tree);
 }
 
 // The first short claim.
-fn short_claim() -> Claim {
+fn short_claim(rt: &impl Abort) -> Claim {
     Claim {
         id: ClaimId::Short(1),
         owner: Owner::Session(1),
-        items: one(look(4)),
+        items: items_of(rt, &[(Look, 4)]),
         note: Note::new(),
     }
 }
 
-// Numbers of check-outs, and places that they look at: above the last, none, given twice, and of no place.
-const WRONG: [(u32, u32); 4] = [(8, 4), (0, 4), (7, 4), (1, 5)];
+/// Numbers of check-outs, and what they look at. One of these is right; others are above the last, none, given twice, of no place
+/// and of nothing.
+static REFUSED: [(u32, &[Wish], Option<FromClaimsError>); 6] = [
+    (1, &[(Look, 4)], None),
+    (8, &[(Look, 4)], NOT_WELL_FORMED),
+    (0, &[(Look, 4)], NOT_WELL_FORMED),
+    (7, &[(Look, 4)], NOT_WELL_FORMED),
+    (1, &[(Look, 5)], NOT_WELL_FORMED),
+    (1, &[], NOT_WELL_FORMED),
+];
 
 const NOT_WELL_FORMED: Option<FromClaimsError> = Some(FromClaimsError::NotWellFormed);
 
 #[test]
 fn claims_of_no_line_are_refused(rt: HostRuntime) {
-    let alloc = rt.alloc();
-    let tree = small_tree(&rt, alloc);
-    let right = long_claim(&rt, 1, one(look(4)));
-    assert_eq!(rt; refusal(&rt, &tree, alloc, right), None);
-    for (number, place) in &WRONG {
-        let claim = long_claim(&rt, *number, one(look(*place)));
-        assert!(rt; refusal(&rt, &tree, alloc, claim) == NOT_WELL_FORMED);
+    let tree = small_tree(&rt, rt.alloc());
+    for (number, wishes, why) in &REFUSED {
+        let claim = long_claim(&rt, *number, wishes);
+        assert!(rt; refusal(&rt, &tree, rt.alloc(), claim) == *why);
     }
-    let of_nothing = long_claim(&rt, 1, Items::new());
-    assert!(rt; refusal(&rt, &tree, alloc, of_nothing) == NOT_WELL_FORMED);
-    assert!(rt; refusal(&rt, &tree, alloc, short_claim()) == NOT_WELL_FORMED);
+    assert!(rt; refusal(&rt, &tree, rt.alloc(), short_claim(&rt)) == NOT_WELL_FORMED);
     drop(tree);
 }
 
-// Tries to make a line of three claims.
-fn makes_of_claims(rt: &impl Abort, memory: &Refusing<Global>, number: u64) -> Tried {
+/// Tries to make a line of three claims.
+pub(crate) fn makes_of_claims(rt: &impl Abort, memory: &Refusing<Global>, number: u64) -> Tried {
     let tree = small_tree(rt, memory);
-    let claims = three_claims(rt);
-    let list = Vec::from_slice(memory, &claims).expect(rt, "memory");
+    let list = three_claims(rt, memory);
     memory.refuse(number);
     let made = made_of(&tree, memory, 7, list);
     let has_refused = memory.has_refused();
@@ -194,9 +210,8 @@ fn makes_of_claims(rt: &impl Abort, memory: &Refusing<Global>, number: u64) -> T
 
 // Whether what no line has is told, though no memory is there.
 fn tells_what_no_line_has(rt: &impl Abort, memory: &Refusing<Global>) -> bool {
-    let claims = three_claims(rt);
     let tree = small_tree(rt, memory);
-    let list = Vec::from_slice(memory, &claims).expect(rt, "memory");
+    let list = three_claims(rt, memory);
     memory.refuse(1);
     let told = made_of(&tree, memory, 4, list);
     drop(tree);
@@ -204,10 +219,7 @@ fn tells_what_no_line_has(rt: &impl Abort, memory: &Refusing<Global>) -> bool {
 }
 
 #[test]
-fn each_request_of_a_line_of_claims_is_refused(rt: HostRuntime) {
+fn what_no_line_has_is_told_with_no_memory(rt: HostRuntime) {
     let memory = Refusing::new(rt.alloc());
-    // Four requests for the claims, twelve for their modes.
-    let made = requests(|number| makes_of_claims(&rt, &memory, number));
-    assert_eq!(rt; made, Some(19), "Line::from_claims");
     assert!(rt; tells_what_no_line_has(&rt, &memory));
 }

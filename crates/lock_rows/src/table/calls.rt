@@ -1,31 +1,34 @@
 //! Tables of claims, by rows of calls with their answers.
+use super::locks_of;
+use crate::line::small_tree;
+use crate::places::Wish;
+use Extension::{Done, InTheWay};
+use Intent::{Change, Look};
+use Mode::{IS, IX, S, SIX, X};
+use Standing::{Held, Queued};
+use design_tree::Tree;
+use lock_modes::Mode;
+use lock_table::{Extension, Table};
+use std::alloc::{Allocator, Global};
+use std::process::Abort;
+use vault_model::{ClaimId, Intent, NoMemory, PlaceId, Standing};
 
-ghost use Rattle.std.specs.Prelude.{◌≡◌, ◌↔◌, IsTrue, [], ◌∷◌};
+pub(super) const C1: ClaimId = ClaimId::Long(1);
 
-use super::*;
+pub(super) const C2: ClaimId = ClaimId::Long(2);
 
-const C1: ClaimId = ClaimId::Long(1);
-
-const C2: ClaimId = ClaimId::Long(2);
-
-const C3: ClaimId = ClaimId::Long(3);
-
-const HELD: Standing = Standing::Held;
-
-const fn behind(id: ClaimId) -> Standing {
-    Standing::Queued(id)
-}
+pub(super) const C3: ClaimId = ClaimId::Long(3);
 
 fn ask<A: Allocator + Copy>(
     rt: &impl Abort,
     tree: &Tree,
     table: &mut Table<A>,
     id: ClaimId,
-    items: &[Item],
+    wishes: &[Wish],
 ) -> Result<Standing, NoMemory> {
     assert!(rt; table.standing(id).is_none());
     assert!(rt; !table.is_full());
-    table.ask(id, locks_of(rt, tree, items))
+    table.ask(id, locks_of(rt, tree, wishes))
 }
 
 fn extend<A: Allocator + Copy>(
@@ -33,10 +36,10 @@ fn extend<A: Allocator + Copy>(
     tree: &Tree,
     table: &mut Table<A>,
     id: ClaimId,
-    items: &[Item],
+    wishes: &[Wish],
 ) -> Result<Extension, NoMemory> {
     assert!(rt; matches!(table.standing(id), Some(Standing::Held)));
-    table.extend(id, locks_of(rt, tree, items))
+    table.extend(id, locks_of(rt, tree, wishes))
 }
 
 fn put_first<A: Allocator + Copy>(
@@ -44,14 +47,18 @@ fn put_first<A: Allocator + Copy>(
     tree: &Tree,
     table: &mut Table<A>,
     id: ClaimId,
-    items: &[Item],
+    wishes: &[Wish],
 ) -> Result<(), NoMemory> {
     assert!(rt; table.standing(id).is_some());
-    table.put_first(id, locks_of(rt, tree, items))
+    table.put_first(id, locks_of(rt, tree, wishes))
 }
 
 // Whether a claim stands so.
-fn stands<A: Allocator>(table: &Table<A>, id: ClaimId, standing: Option<Standing>) -> bool {
+pub(super) fn stands<A: Allocator>(
+    table: &Table<A>,
+    id: ClaimId,
+    standing: Option<Standing>,
+) -> bool {
     let blocker = match standing {
         Some(Standing::Queued(first)) => Some(first),
         Some(Standing::Held) => None,
@@ -60,7 +67,7 @@ fn stands<A: Allocator>(table: &Table<A>, id: ClaimId, standing: Option<Standing
     table.standing(id) == standing && table.blocker(id) == blocker
 }
 
-fn over<A: Allocator>(
+pub(super) fn over<A: Allocator>(
     rt: &impl Abort,
     tree: &Tree,
     table: &Table<A>,
@@ -72,10 +79,10 @@ fn over<A: Allocator>(
 
 /// A call of a table, with what it has to answer.
 #[derive(Clone, Copy)]
-enum Row {
-    Ask(ClaimId, Items, Standing),
-    Extend(ClaimId, Items, Extension),
-    PutFirst(ClaimId, Items),
+pub(super) enum Row {
+    Ask(ClaimId, &'static [Wish], Standing),
+    Extend(ClaimId, &'static [Wish], Extension),
+    PutFirst(ClaimId, &'static [Wish]),
     Release(ClaimId),
     Stands(ClaimId, Option<Standing>),
     /// The modes of the group of all claims at a place, and of that of the held ones.
@@ -92,26 +99,38 @@ fn has_groups<A: Allocator>(
     table.group_at(PlaceId(place)).mode() == all && table.held_at(PlaceId(place)).mode() == held
 }
 
+// Whether a call answers so.
+fn answers<T: PartialEq + Copy>(told: Result<T, NoMemory>, wanted: T) -> Result<bool, NoMemory> {
+    match told {
+        Ok(told) => Ok(told == wanted),
+        Err(NoMemory) => Err(NoMemory),
+    }
+}
+
+// Whether a claim that asks is told this, and stands so.
+fn is_asked<A: Allocator + Copy>(
+    rt: &impl Abort,
+    tree: &Tree,
+    table: &mut Table<A>,
+    id: ClaimId,
+    wishes: &[Wish],
+    standing: Standing,
+) -> Result<bool, NoMemory> {
+    let told = ask(rt, tree, table, id, wishes)?;
+    Ok(told == standing && stands(table, id, Some(told)))
+}
+
 // Whether the table answers as a row says.
-fn act<A: Allocator + Copy>(
+pub(super) fn act<A: Allocator + Copy>(
     rt: &impl Abort,
     tree: &Tree,
     table: &mut Table<A>,
     row: &Row,
 ) -> Result<bool, NoMemory> {
     match *row {
-        Row::Ask(id, items, standing) => {
-            let told = ask(rt, tree, table, id, items.as_slice())?;
-            Ok(told == standing && stands(table, id, Some(told)))
-        }
-        Row::Extend(id, items, extension) => {
-            let told = extend(rt, tree, table, id, items.as_slice())?;
-            Ok(told == extension)
-        }
-        Row::PutFirst(id, items) => {
-            put_first(rt, tree, table, id, items.as_slice())?;
-            Ok(true)
-        }
+        Row::Ask(id, wishes, standing) => is_asked(rt, tree, table, id, wishes, standing),
+        Row::Extend(id, wishes, told) => answers(extend(rt, tree, table, id, wishes), told),
+        Row::PutFirst(id, wishes) => answers(put_first(rt, tree, table, id, wishes), ()),
         Row::Release(id) => {
             table.release(id);
             Ok(stands(table, id, None))
@@ -123,7 +142,7 @@ fn act<A: Allocator + Copy>(
 }
 
 // How many of these rows it answers so, one after another, up to the first that it doesn't.
-fn act_all<A: Allocator + Copy>(
+pub(super) fn act_all<A: Allocator + Copy>(
     rt: &impl Abort,
     tree: &Tree,
     table: &mut Table<A>,
@@ -137,294 +156,152 @@ fn act_all<A: Allocator + Copy>(
     rows.len()
 }
 
-// The same over a new table.
-fn take_all(rt: &impl Abort, alloc: Global, rows: &[Row]) {
+// How many of these rows a new table answers so.
+fn count_right(rt: &impl Abort, alloc: Global, rows: &[Row]) -> usize {
     let tree = small_tree(rt, alloc);
     let mut table = Table::new(alloc).expect(rt, "memory");
-    assert_eq!(rt; act_all(rt, &tree, &mut table, rows), rows.len());
+    let count = act_all(rt, &tree, &mut table, rows);
     drop(table);
     drop(tree);
+    count
 }
 
-#[test]
-fn newcomers_wait_for_all_before_them(rt: HostRuntime) {
-    let rows = [
-        Row::Ask(C1, one(change(1)), HELD),
-        Row::Ask(C2, one(look(1)), behind(C1)),
-    ];
-    take_all(&rt, rt.alloc(), &rows);
-    let rows = [
-        Row::Ask(C1, one(change(3)), HELD),
-        Row::Ask(C2, one(change(4)), HELD),
-    ];
-    take_all(&rt, rt.alloc(), &rows);
-    let rows = [
-        Row::Ask(C1, two(look(2), change(3)), HELD),
-        Row::Ask(C2, one(look(4)), HELD),
-        Row::Ask(C3, one(look(3)), behind(C1)),
-    ];
-    take_all(&rt, rt.alloc(), &rows);
-    let rows = [
-        Row::Ask(C1, one(look(1)), HELD),
-        Row::Ask(C2, one(change(2)), behind(C1)),
-        Row::Ask(C3, one(look(2)), behind(C2)),
-        Row::Release(C1),
-        Row::Stands(C2, Some(HELD)),
-        Row::Stands(C3, Some(behind(C2))),
-    ];
-    take_all(&rt, rt.alloc(), &rows);
-}
+/// A table's name, and the calls of it.
+type Worked = (&'static str, &'static [Row]);
 
-#[test]
-fn extensions_are_weighed_against_held_claims(rt: HostRuntime) {
-    let rows = [
-        Row::Ask(C1, one(look(3)), HELD),
-        Row::Ask(C2, one(look(3)), HELD),
-        Row::Extend(C1, two(look(3), change(3)), Extension::InTheWay(C2)),
-        Row::Stands(C1, Some(HELD)),
-        Row::Stands(C2, Some(HELD)),
-    ];
-    take_all(&rt, rt.alloc(), &rows);
-    let rows = [
-        Row::Ask(C1, one(look(3)), HELD),
-        Row::Ask(C2, one(look(4)), HELD),
-        Row::Ask(C3, one(change(2)), behind(C1)),
-        Row::Extend(C2, two(look(4), change(4)), Extension::Done),
-        Row::Stands(C3, Some(behind(C2))),
-    ];
-    take_all(&rt, rt.alloc(), &rows);
-    let rows = [
-        Row::Ask(C1, one(change(2)), HELD),
-        Row::Ask(C2, one(look(1)), behind(C1)),
-        Row::Ask(C3, one(look(0)), behind(C1)),
-        Row::Extend(C1, two(change(2), look(1)), Extension::Done),
-        Row::Stands(C2, Some(behind(C1))),
-        Row::Stands(C3, Some(behind(C1))),
-    ];
-    take_all(&rt, rt.alloc(), &rows);
-}
-
-#[test]
-fn a_claim_put_first_is_not_weighed(rt: HostRuntime) {
-    let rows = [
-        Row::Ask(C1, one(look(3)), HELD),
-        Row::Ask(C2, one(look(3)), HELD),
-        Row::PutFirst(C2, one(change(3))),
-        Row::Stands(C2, Some(HELD)),
-        Row::Stands(C1, Some(behind(C2))),
-    ];
-    take_all(&rt, rt.alloc(), &rows);
-}
-
-#[test]
-fn held_claims_cover_what_lies_under_them(rt: HostRuntime) {
-    let rows = [
-        Row::Ask(C1, one(look(1)), HELD),
-        Row::Covered(2, Some(C1)),
-        Row::Covered(0, None),
-    ];
-    take_all(&rt, rt.alloc(), &rows);
-}
-
-#[test]
-fn groups_of_a_line(rt: HostRuntime) {
-    let rows = [
-        Row::Ask(C1, one(look(1)), HELD),
-        Row::Ask(C2, one(change(2)), behind(C1)),
-        Row::Ask(C3, one(look(2)), behind(C2)),
-        Row::Groups(0, Some(IX), Some(IS)),
-        Row::Groups(1, Some(SIX), Some(S)),
-        Row::Groups(2, Some(X), None),
-        Row::Groups(3, None, None),
-        Row::Groups(9, None, None),
-        Row::Release(C1),
-        Row::Groups(1, Some(IX), Some(IX)),
-        Row::Groups(2, Some(X), Some(X)),
-    ];
-    take_all(&rt, rt.alloc(), &rows);
-}
-
-#[test]
-fn a_claim_sent_back_is_counted_as_held_no_more(rt: HostRuntime) {
-    let rows = [
-        Row::Ask(C1, one(look(2)), HELD),
-        Row::Ask(C2, one(look(2)), HELD),
-        Row::Ask(C3, one(change(2)), behind(C1)),
-        Row::PutFirst(C2, one(change(2))),
-        Row::Stands(C1, Some(behind(C2))),
-        Row::Stands(C3, Some(behind(C2))),
-        Row::Groups(2, Some(X), Some(X)),
-        Row::Groups(1, Some(IX), Some(IX)),
-        Row::Release(C2),
-        Row::Groups(2, Some(X), Some(S)),
-        Row::Stands(C3, Some(behind(C1))),
-        Row::Release(C1),
-        Row::Groups(2, Some(X), Some(X)),
-        Row::Release(C3),
-        Row::Groups(2, None, None),
-    ];
-    take_all(&rt, rt.alloc(), &rows);
-}
-
-const CLAIMS: [ClaimId; 4] = [C1, C2, C3, ClaimId::Long(4)];
-
-// Whether two tables answer alike about four claims and all places.
-fn is_same<A: Allocator, B: Allocator>(
-    rt: &impl Abort,
-    tree: &Tree,
-    one: &Table<A>,
-    other: &Table<B>,
-) -> bool {
-    for id in CLAIMS {
-        if one.standing(id) != other.standing(id) || one.blocker(id) != other.blocker(id) {
-            return false;
+// The first of these tables that answers a row otherwise, and how many it answered before.
+fn first_wrong(rt: &impl Abort, alloc: Global, tables: &[Worked]) -> Option<(&'static str, usize)> {
+    for (name, rows) in tables {
+        let count = count_right(rt, alloc, rows);
+        if count != rows.len() {
+            return Some((*name, count));
         }
     }
-    for number in 0..5u32 {
-        let place = PlaceId(number);
-        if one.group_at(place).mode() != other.group_at(place).mode()
-            || one.held_at(place).mode() != other.held_at(place).mode()
-            || over(rt, tree, one, number) != over(rt, tree, other, number)
-        {
-            return false;
-        }
-    }
-    true
+    None
 }
 
-// Tries to make a table.
-fn makes_table(memory: &Refusing<Global>, number: u64) -> Tried {
-    memory.refuse(number);
-    let made = Table::new(memory);
-    let has_refused = memory.has_refused();
-    match made {
-        Ok(table) => {
-            let is_new = stands(&table, C1, None);
-            drop(table);
-            Tried::done(!has_refused && is_new)
-        }
-        Err(NoMemory) => Tried::refused(has_refused),
-    }
-}
-
-// A table that took so many claims for one place, with numbers from 100 down, and then these rows.
-fn table_behind<A: Allocator + Copy>(
-    rt: &impl Abort,
-    alloc: A,
-    tree: &Tree,
-    rows: &[Row],
-    count: u32,
-) -> Table<A> {
-    let mut table = Table::new(alloc).expect(rt, "memory");
-    for number in 0..count.min(40) {
-        let row = Row::Ask(ClaimId::Long(100 - number), one(look(1)), HELD);
-        assert!(rt; act(rt, tree, &mut table, &row) == Ok(true));
-    }
-    assert!(rt; act_all(rt, tree, &mut table, rows) == rows.len());
-    table
-}
-
-// Tries a row behind so many claims and these rows. Refused, the table is as one that only took those, and the next try succeeds.
-fn takes(
-    rt: &impl Abort,
-    memory: &Refusing<Global>,
-    alloc: Global,
-    number: u64,
-    (rows, count): (&[Row], u32),
-    row: &Row,
-) -> Tried {
-    let tree = small_tree(rt, alloc);
-    let mut table = table_behind(rt, memory, &tree, rows, count);
-    let mut ample = table_behind(rt, alloc, &tree, rows, count);
-    memory.refuse(number);
-    let told = act(rt, &tree, &mut table, row);
-    let has_refused = memory.has_refused();
-    let tried = if told.is_ok() {
-        Tried::done(!has_refused && told == Ok(true))
-    } else {
-        let is_kept = is_same(rt, &tree, &table, &ample);
-        Tried::refused(has_refused && is_kept && act(rt, &tree, &mut table, row) == Ok(true))
-    };
-    assert!(rt; act(rt, &tree, &mut ample, row) == Ok(true));
-    let is_like = is_same(rt, &tree, &table, &ample);
-    drop(table);
-    drop(ample);
-    drop(tree);
-    if is_like { tried } else { Tried::Wrong }
-}
-
-// Tries to copy a table of three claims, of which two are queued. The copy goes its own way then.
-fn copies(rt: &impl Abort, memory: &Refusing<Global>, alloc: Global, number: u64) -> Tried {
-    let asked = [
-        Row::Ask(C1, one(look(1)), HELD),
-        Row::Ask(C2, one(change(2)), behind(C1)),
-        Row::Ask(C3, one(look(2)), behind(C2)),
-    ];
-    let tree = small_tree(rt, alloc);
-    let table = table_behind(rt, memory, &tree, &asked, 0);
-    let ample = table_behind(rt, alloc, &tree, &asked, 0);
-    memory.refuse(number);
-    let copy = table.copy();
-    let has_refused = memory.has_refused();
-    let tried = match copy {
-        Ok(mut copy) => {
-            let is_like = is_same(rt, &tree, &copy, &ample);
-            copy.release(C1);
-            let is_apart = stands(&copy, C2, Some(HELD));
-            drop(copy);
-            Tried::done(!has_refused && is_like && is_apart)
-        }
-        Err(NoMemory) => Tried::refused(has_refused),
-    };
-    let is_kept = is_same(rt, &tree, &table, &ample);
-    drop(table);
-    drop(ample);
-    drop(tree);
-    if is_kept { tried } else { Tried::Wrong }
-}
-
-// The first claim, which is to look at a place.
-fn ask_to_look(place: u32) -> Row {
-    Row::Ask(C1, one(look(place)), HELD)
-}
+static TABLES: [Worked; 11] = [
+    (
+        "a newcomer waits for a change above",
+        &[
+            Row::Ask(C1, &[(Change, 1)], Held),
+            Row::Ask(C2, &[(Look, 1)], Queued(C1)),
+        ],
+    ),
+    (
+        "two parts change",
+        &[
+            Row::Ask(C1, &[(Change, 3)], Held),
+            Row::Ask(C2, &[(Change, 4)], Held),
+        ],
+    ),
+    (
+        "a newcomer waits for a change of its part alone",
+        &[
+            Row::Ask(C1, &[(Look, 2), (Change, 3)], Held),
+            Row::Ask(C2, &[(Look, 4)], Held),
+            Row::Ask(C3, &[(Look, 3)], Queued(C1)),
+        ],
+    ),
+    (
+        "a newcomer waits for the waiting",
+        &[
+            Row::Ask(C1, &[(Look, 1)], Held),
+            Row::Ask(C2, &[(Change, 2)], Queued(C1)),
+            Row::Ask(C3, &[(Look, 2)], Queued(C2)),
+            Row::Release(C1),
+            Row::Stands(C2, Some(Held)),
+            Row::Stands(C3, Some(Queued(C2))),
+        ],
+    ),
+    (
+        "a held claim is in the way of an extension",
+        &[
+            Row::Ask(C1, &[(Look, 3)], Held),
+            Row::Ask(C2, &[(Look, 3)], Held),
+            Row::Extend(C1, &[(Look, 3), (Change, 3)], InTheWay(C2)),
+            Row::Stands(C1, Some(Held)),
+            Row::Stands(C2, Some(Held)),
+        ],
+    ),
+    (
+        "a claim waits for an extension",
+        &[
+            Row::Ask(C1, &[(Look, 3)], Held),
+            Row::Ask(C2, &[(Look, 4)], Held),
+            Row::Ask(C3, &[(Change, 2)], Queued(C1)),
+            Row::Extend(C2, &[(Look, 4), (Change, 4)], Done),
+            Row::Stands(C3, Some(Queued(C2))),
+        ],
+    ),
+    (
+        "an extension is not weighed against the waiting",
+        &[
+            Row::Ask(C1, &[(Change, 2)], Held),
+            Row::Ask(C2, &[(Look, 1)], Queued(C1)),
+            Row::Ask(C3, &[(Look, 0)], Queued(C1)),
+            Row::Extend(C1, &[(Change, 2), (Look, 1)], Done),
+            Row::Stands(C2, Some(Queued(C1))),
+            Row::Stands(C3, Some(Queued(C1))),
+        ],
+    ),
+    (
+        "a claim put first is not weighed",
+        &[
+            Row::Ask(C1, &[(Look, 3)], Held),
+            Row::Ask(C2, &[(Look, 3)], Held),
+            Row::PutFirst(C2, &[(Change, 3)]),
+            Row::Stands(C2, Some(Held)),
+            Row::Stands(C1, Some(Queued(C2))),
+        ],
+    ),
+    (
+        "held claims cover what lies under them",
+        &[
+            Row::Ask(C1, &[(Look, 1)], Held),
+            Row::Covered(2, Some(C1)),
+            Row::Covered(0, None),
+        ],
+    ),
+    (
+        "groups of a line",
+        &[
+            Row::Ask(C1, &[(Look, 1)], Held),
+            Row::Ask(C2, &[(Change, 2)], Queued(C1)),
+            Row::Ask(C3, &[(Look, 2)], Queued(C2)),
+            Row::Groups(0, Some(IX), Some(IS)),
+            Row::Groups(1, Some(SIX), Some(S)),
+            Row::Groups(2, Some(X), None),
+            Row::Groups(3, None, None),
+            Row::Groups(9, None, None),
+            Row::Release(C1),
+            Row::Groups(1, Some(IX), Some(IX)),
+            Row::Groups(2, Some(X), Some(X)),
+        ],
+    ),
+    (
+        "a claim sent back is counted as held no more",
+        &[
+            Row::Ask(C1, &[(Look, 2)], Held),
+            Row::Ask(C2, &[(Look, 2)], Held),
+            Row::Ask(C3, &[(Change, 2)], Queued(C1)),
+            Row::PutFirst(C2, &[(Change, 2)]),
+            Row::Stands(C1, Some(Queued(C2))),
+            Row::Stands(C3, Some(Queued(C2))),
+            Row::Groups(2, Some(X), Some(X)),
+            Row::Groups(1, Some(IX), Some(IX)),
+            Row::Release(C2),
+            Row::Groups(2, Some(X), Some(S)),
+            Row::Stands(C3, Some(Queued(C1))),
+            Row::Release(C1),
+            Row::Groups(2, Some(X), Some(X)),
+            Row::Release(C3),
+            Row::Groups(2, None, None),
+        ],
+    ),
+];
 
 #[test]
-fn each_request_of_a_table_is_refused(rt: HostRuntime) {
-    let memory = Refusing::new(rt.alloc());
-    let made = requests(|number| makes_table(&memory, number));
-    assert_eq!(rt; made, Some(0), "Table::new");
-    let made = requests(|number| copies(&rt, &memory, rt.alloc(), number));
-    assert_eq!(rt; made, Some(9), "Table::copy");
-    let before = [
-        Row::Ask(C1, one(look(3)), HELD),
-        Row::Ask(C2, one(look(3)), HELD),
-    ];
-    // Of the first claim the requests are for the entry and the queues of two places.
-    let rows = [
-        ("Table::ask", 0, 0, ask_to_look(1), 6),
-        ("Table::ask, behind 8", 8, 0, ask_to_look(1), 5),
-        ("Table::ask, behind 32", 32, 0, ask_to_look(1), 5),
-        (
-            "Table::extend",
-            0,
-            1,
-            Row::Extend(C1, one(look(2)), Extension::Done),
-            1,
-        ),
-        (
-            "Table::put_first",
-            0,
-            2,
-            Row::PutFirst(C2, one(change(3))),
-            1,
-        ),
-    ];
-    for (call, count, len, row, wanted) in &rows {
-        let (count, wanted) = (*count, *wanted);
-        let rows = &before[..*len];
-        let made = requests(|number| {
-            takes(&rt, &memory, rt.alloc(), number, (rows, count), row)
-        });
-        assert_eq!(rt; made, Some(wanted), "{call}");
-    }
+fn worked_tables(rt: HostRuntime) {
+    assert_eq!(rt; first_wrong(&rt, rt.alloc(), &TABLES), None);
 }

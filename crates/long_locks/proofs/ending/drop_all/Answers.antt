@@ -1,7 +1,4 @@
-use Rattle.std.specs.Prelude.{◌≡◌, ◌+◌, ◌-◌}
-use Rattle.std.proofs.Common.{sym, subst, arith}
-use Rattle.lock_table.specs.Tables.{IsTableOf}
-use Rattle.long_locks.specs.Lines.{ends, left_behind}
+use Rattle.long_locks.specs.Lines.{ends}
 use Rattle.long_locks.proofs.Endings.{none_behind}
 use Rattle.long_locks.proofs.ending.drop_all.Goals as goal
 
