@@ -17,6 +17,7 @@ pub mod Queuing
 pub mod Covering
 pub mod Others
 pub mod Seats
+pub mod Shorts
 pub mod Stale
 pub mod Blockers
 mod Taken

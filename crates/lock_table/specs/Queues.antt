@@ -3,7 +3,7 @@ use Rattle.std.specs.Bool.{⊤}
 use Rattle.std.specs.Prelude.{◌≡◌, ℕ, ◌<◌, ◌≤◌, Bool, true, false, ◌&&◌, not, nat_lt, if◌then◌else◌, List, [], ◌∷◌, ◌++◌, length, map, take, drop, filter, find, position, slice_get, Option, None, Some, All}
 use Rattle.std.specs.Option.{option_map, option_and_then, is_none}
 use Rattle.vault_model.specs.declared.ids.ClaimId.{ClaimId}
-use Rattle.vault_model.specs.Claims.{same_id}
+use Rattle.vault_model.specs.Claims.{same_id, is_short}
 use Rattle.lock_modes.specs.declared.mode.Mode.{Mode}
 use Rattle.lock_modes.specs.declared.mode.Mode.TheVariants.{S}
 use Rattle.lock_modes.specs.Modes.{at_least, compatible}
@@ -12,7 +12,7 @@ use Rattle.lock_table.specs.declared.locks.Lock.{Lock}
 use Rattle.lock_table.specs.declared.entry.Entry.{Entry}
 use Rattle.lock_table.specs.declared.cell.Seat.{Seat}
 use Rattle.lock_table.specs.declared.again.Again.{Again}
-use Rattle.lock_table.specs.declared.again.Again.TheVariants.{Behind, Queued, Everyone}
+use Rattle.lock_table.specs.declared.again.Again.TheVariants.{Behind, BehindShort, Queued, Everyone}
 use Rattle.lock_table.specs.Locks.{mode_at, AreApart}
 use Rattle.lock_table.specs.Tables.{first_in_way, entries_before, is_held_in}
 
@@ -35,6 +35,10 @@ AreCounted seats all held = (all ≡ group_of (seat_modes seats)) × (held ≡ g
 -- the seats of other claims, and the held ones of them
 abbrev pub seats_without : ClaimId → List Seat → List Seat
 seats_without id seats = filter (λ (s : Seat). not (same_id s.id id)) seats
+
+-- the seats of long claims
+abbrev pub long_seats : List Seat → List Seat
+long_seats seats = filter (λ (s : Seat). not (is_short s.id)) seats
 
 abbrev pub other_held : ClaimId → List Seat → List Seat
 other_held id seats = seats_without id (held_seats seats)
@@ -138,6 +142,8 @@ pub record AreQueues (table : List Entry) (cells : List CellSeen) : Type 0 where
 abbrev pub is_taken : Again → Option ClaimId → Bool
 is_taken (Behind id) None = false
 is_taken (Behind id) (Some other) = same_id other id
+is_taken BehindShort None = false
+is_taken BehindShort (Some other) = is_short other
 is_taken Queued None = false
 is_taken Queued (Some other) = true
 is_taken Everyone o = true

@@ -2,13 +2,14 @@
 ghost use Rattle.std.specs.Prelude.{◌≡◌};
 ghost use Rattle.lock_table.specs.Queues.{is_taken};
 
-use crate::cell::is_same;
+use crate::cell::{is_same, is_short};
 use vault_model::ClaimId;
 
-/// Those that waited for one claim, those that waited for any, or all.
+/// Those that waited for one claim, for any short one, or for any, or all.
 #[derive(Clone, Copy)]
 pub(crate) enum Again {
     Behind(ClaimId),
+    BehindShort,
     Queued,
     Everyone,
 }
@@ -22,8 +23,9 @@ impl Again {
             (Again::Everyone, _) => true,
             (Again::Queued, Some(_)) => true,
             (Again::Behind(id), Some(other)) => is_same(other, id),
+            (Again::BehindShort, Some(other)) => is_short(other),
             (Again::Queued, None) => false,
-            (Again::Behind(_), None) => false,
+            (Again::Behind(_) | Again::BehindShort, None) => false,
         }
     }
 }

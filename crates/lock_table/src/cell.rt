@@ -1,10 +1,10 @@
 //! The queue of one place, counted.
 ghost use Rattle.std.specs.Prelude.{◌≡◌, suc, ◌+◌, ◌<◌, ◌≤◌, [], ◌∷◌, ◌++◌, true, false, length, position, vec_capacity, OnOk, OnErr};
-ghost use Rattle.vault_model.specs.Claims.{same_id};
+ghost use Rattle.vault_model.specs.Claims.{same_id, is_short};
 ghost use Rattle.vault_model.specs.Limits.{most_claims};
 ghost use Rattle.lock_modes.specs.Groups.{group_of, with_one, size, count_of};
 ghost use Rattle.lock_table.specs.declared.cell.Seat.{Seat};
-ghost use Rattle.lock_table.specs.Queues.{seat_modes, held_seats, first_of, with_own, HasOwn, IsOwn, HasSeat, seats_without, restood, is_in_way, is_held_in_way, is_cover};
+ghost use Rattle.lock_table.specs.Queues.{AreCounted, seat_modes, held_seats, long_seats, first_of, with_own, HasOwn, IsOwn, HasSeat, seats_without, restood, is_in_way, is_held_in_way, is_cover};
 
 use lock_modes::{Group, Mode};
 use std::alloc::{AllocError, Allocator, Global};
@@ -49,6 +49,32 @@ pub(crate) fn is_same(id: ClaimId, other: ClaimId) -> bool
         (ClaimId::Long(_), ClaimId::Short(_)) => false,
         (ClaimId::Short(_), ClaimId::Long(_)) => false,
     }
+}
+
+/// Whether an id is that of a short claim.
+pub(crate) fn is_short(id: ClaimId) -> bool
+    ensures { result ≡ is_short id }
+{
+    match id {
+        ClaimId::Long(_) => false,
+        ClaimId::Short(_) => true,
+    }
+}
+
+// The group of all these seats, and the group of the held ones.
+fn groups_of(seats: &[Seat]) -> (Group, Group)
+    requires { length seats.now ≤ most_claims }
+    ensures { AreCounted seats.now result.0 result.1 }
+{
+    let mut all = Group::empty();
+    let mut held = Group::empty();
+    for seat in seats {
+        all.add(seat.mode);
+        if seat.is_held {
+            held.add(seat.mode);
+        }
+    }
+    (all, held)
 }
 
 // The group without one member of this mode, where there is a mode.
@@ -162,6 +188,18 @@ impl<A: Allocator> Cell<A> {
         self.held = without(self.held, is_held.then_some(mode));
         let index = index_from_end(&self.queue, id).unwrap();
         let _ = self.queue.remove(index);
+    }
+
+    /// Takes the seats of all short claims out.
+    pub(crate) fn take_short_out(&mut self)
+        requires { length self.old.seats ≤ most_claims }
+        ensures seats { self.new.seats ≡ long_seats self.old.seats }
+        ensures room { self.new.room ≡ self.old.room }
+    {
+        self.queue.retain(|seat| !is_short(seat.id));
+        let (all, held) = groups_of(&self.queue);
+        self.all = all;
+        self.held = held;
     }
 
     /// Makes a claim's seat held, or queued, where it has one.

@@ -8,7 +8,7 @@ ghost use Rattle.lock_table.specs.declared.entry.Entry.{Entry};
 ghost use Rattle.lock_modes.specs.Modes.{compatible};
 ghost use Rattle.lock_modes.specs.Groups.{group_of, members};
 ghost use Rattle.lock_table.specs.Locks.{mode_at, AreApart};
-ghost use Rattle.lock_table.specs.Queues.{seat_modes, held_seats, first_of, is_in_way, is_held_in_way, is_cover, IsOwn, seats_at, room_at, HaveRoom, HasSeat, seats_without, restood, by_lock, seat_of, earlier, place_of, seat_in_way, held_seat_in_way};
+ghost use Rattle.lock_table.specs.Queues.{seat_modes, held_seats, first_of, is_in_way, is_held_in_way, is_cover, IsOwn, seats_at, room_at, HaveRoom, HasSeat, seats_without, long_seats, restood, by_lock, seat_of, earlier, place_of, seat_in_way, held_seat_in_way};
 
 use crate::cell::{Cell, Seat, is_same};
 use crate::entry::Kept;
@@ -270,6 +270,30 @@ pub(crate) fn take_out<A: Allocator>(
 {
     for lock in locks.as_slice() {
         take_out_at(cells, id, *lock, is_held);
+    }
+}
+
+fn take_short_out_at<A: Allocator>(cells: &mut Vec<Cell<A>, A>, index: usize)
+    requires few { length (seats_at cells.old.items index) ≤ most_claims }
+    ensures here { seats_at cells.new.items index ≡ long_seats (seats_at cells.old.items index) }
+    ensures elsewhere { (p : ℕ) → p ≢ index → seats_at cells.new.items p ≡ seats_at cells.old.items p }
+    ensures room { (p : ℕ) → room_at cells.old.items p ≤ room_at cells.new.items p }
+    ensures many { vec_len cells.new ≡ vec_len cells.old }
+{
+    if index >= cells.len() {
+        return;
+    }
+    cells[index].take_short_out();
+}
+
+/// Takes the seats of all short claims out, place by place.
+pub(crate) fn take_short_out<A: Allocator>(cells: &mut Vec<Cell<A>, A>)
+    requires { (p : ℕ) → length (seats_at cells.old.items p) ≤ most_claims }
+    ensures seats { (p : ℕ) → seats_at cells.new.items p ≡ long_seats (seats_at cells.old.items p) }
+    ensures room { (p : ℕ) → room_at cells.old.items p ≤ room_at cells.new.items p }
+{
+    for index in 0..cells.len() {
+        take_short_out_at(cells, index);
     }
 }
 

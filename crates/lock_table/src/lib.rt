@@ -2,7 +2,7 @@
 //!
 //! Promises: `lock_set` gives the mode of a claim at each place. Two lock sets conflict exactly where the claims overlap. A
 //! table answers as the model's line does, and a new place changes no standing (`laws`). At each place it tells the group of all
-//! claims' modes and that of the held ones' (`group_at`, `held_at`).
+//! claims' modes and that of the held ones' (`group_at`, `held_at`). All short claims leave at once (`release_short`).
 //! Stands on: vault_model, design_tree, lock_modes. Must not know: owners, kinds of claims, drafts.
 //!
 //! Invariants:

@@ -1,18 +1,18 @@
 //! The lock table: the standing of claims by their modes.
-ghost use Rattle.std.specs.Prelude.{◌≡◌, ◌≢◌, IsTrue, ℕ, ◌+◌, ◌<◌, ◌≤◌, ◌==◌, Bool, nat_le, not, ◌&&◌, true, false, List, [], ◌∷◌, ◌++◌, length, map, is_some, is_none, find, position, slice_get, take, set, vec_len, None, Some, All, IfOk, OnOk, OnErr};
+ghost use Rattle.std.specs.Prelude.{◌≡◌, ◌≢◌, IsTrue, ℕ, ◌+◌, ◌<◌, ◌≤◌, ◌==◌, Bool, nat_le, not, ◌&&◌, true, false, List, [], ◌∷◌, ◌++◌, length, map, is_some, is_none, find, position, slice_get, take, set, vec_len, if◌then◌else◌, Option, None, Some, All, IfOk, OnOk, OnErr};
 ghost use Rattle.std.specs.List.{IsDistinct, list_any, remove};
 ghost use Rattle.std.specs.Option.{option_map, option_copied, option_and_then};
-ghost use Rattle.vault_model.specs.Claims.{same_id, standing_by};
+ghost use Rattle.vault_model.specs.Claims.{same_id, is_short, standing_by};
 ghost use Rattle.vault_model.specs.Limits.{most_claims};
 ghost use Rattle.lock_table.specs.declared.entry.Entry.{Entry};
 ghost use Rattle.lock_table.specs.Queues.{AreQueues, AreSeated, IsWeighing, IsHeldAs, held_by, is_taken, blocker_at, blockers_of, seats_at, room_at, seats_by, queue_of, group_in, held_group_in};
-ghost use Rattle.lock_table.specs.Tables.{IsTable, first_in_way, entry_of, entries_before, entries_without, blocker_in, standing_in, is_held_in, held_in_way, extension_by, put_first, extended_by, locks_cover, held_over_in};
+ghost use Rattle.lock_table.specs.Tables.{IsTable, first_in_way, entry_of, entries_before, entries_without, long_entries, blocker_in, standing_in, is_held_in, held_in_way, extension_by, put_first, extended_by, locks_cover, held_over_in};
 
 use crate::again::Again;
-use crate::cell::Cell;
+use crate::cell::{Cell, is_short};
 use crate::cells::{
     admit, cover_at, earlier_of, group_at, held_at, held_in_way, in_way, index_of, place_of,
-    put_last, reserve, stand, take_out,
+    put_last, reserve, stand, take_out, take_short_out,
 };
 use crate::entry::Kept;
 use crate::{Extension, LockSet, cells};
@@ -203,6 +203,59 @@ fn take_away<A: Allocator>(
     weigh_again(entries, blockers, cells, Again::Behind(id), index);
 }
 
+// Takes the entry at a position out, if its claim is short, and what stands beside it.
+fn remove_short<A: Allocator>(
+    entries: &mut Vec<Kept<A>, A>,
+    blockers: &mut Vec<Option<ClaimId>, A>,
+    index: usize,
+)
+    requires there { index < vec_len entries.old }
+    requires many { vec_len blockers.old ≡ vec_len entries.old }
+    ensures done { (e : Entry) → slice_get entries.old.items index ≡ Some e
+        → entries.new.items ≡ (if is_short e.id then remove entries.old.items index else entries.old.items) }
+    ensures beside { (old : Entry → Option ClaimId) → blockers.old.items ≡ map old entries.old.items
+        → blockers.new.items ≡ map old entries.new.items }
+    ensures many { vec_len blockers.new ≡ vec_len entries.new }
+{
+    if is_short(entries[index].id()) {
+        let _ = entries.remove(index);
+        let _ = blockers.remove(index);
+    }
+}
+
+// Takes the entries of all short claims out, and what stands beside them.
+fn keep_long<A: Allocator>(entries: &mut Vec<Kept<A>, A>, blockers: &mut Vec<Option<ClaimId>, A>)
+    requires { vec_len blockers.old ≡ vec_len entries.old }
+    ensures done { entries.new.items ≡ long_entries entries.old.items }
+    ensures beside { (old : Entry → Option ClaimId) → blockers.old.items ≡ map old entries.old.items
+        → blockers.new.items ≡ map old entries.new.items }
+{
+    let mut index = entries.len();
+    while index > 0 {
+        index -= 1;
+        remove_short(entries, blockers, index);
+    }
+}
+
+// Takes all short claims out of the line.
+fn take_short_away<A: Allocator>(
+    entries: &mut Vec<Kept<A>, A>,
+    blockers: &mut Vec<Option<ClaimId>, A>,
+    cells: &mut Vec<Cell<A>, A>,
+)
+    requires table { IsTable entries.old.items }
+    requires queues { AreQueues entries.old.items cells.old.items }
+    requires blockers { blockers.old.items ≡ blockers_of entries.old.items }
+    ensures done { entries.new.items ≡ long_entries entries.old.items }
+    ensures table { IsTable entries.new.items }
+    ensures queues { AreQueues entries.new.items cells.new.items }
+    ensures blockers { blockers.new.items ≡ blockers_of entries.new.items }
+{
+    take_short_out(cells);
+    keep_long(entries, blockers);
+    weigh_again(entries, blockers, cells, Again::BehindShort, 0);
+}
+
 fn put_first<A: Allocator + Copy>(
     entries: &mut Vec<Kept<A>, A>,
     blockers: &mut Vec<Option<ClaimId>, A>,
@@ -365,6 +418,16 @@ impl<A: Allocator> Table<A> {
         };
         let entries = &mut self.entries;
         take_away(entries, &mut self.blockers, &mut self.cells, id, index);
+    }
+
+    /// Takes all short claims out of the table, as a restart does.
+    ///
+    /// It looks once through the queues of all places, and along the line, and weighs those again that
+    /// waited for a short claim.
+    pub fn release_short(&mut self)
+        ensures { self.new ≡ long_entries self.old }
+    {
+        take_short_away(&mut self.entries, &mut self.blockers, &mut self.cells);
     }
 
     /// How a claim stands, if it is there. It looks once along the line.

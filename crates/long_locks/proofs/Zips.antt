@@ -8,12 +8,14 @@ use Rattle.vault_model.specs.declared.claims.Item.{Item}
 use Rattle.vault_model.specs.declared.claims.Claim.{Claim}
 use Rattle.vault_model.specs.declared.ids.ClaimId.{ClaimId}
 use Rattle.vault_model.specs.Tree.{IsTree}
-use Rattle.vault_model.specs.Claims.{same_id, standing_by, standing_behind, claim_of, before, without, changed}
+use Rattle.vault_model.specs.Claims.{same_id, is_short, standing_by, standing_behind, claim_of, before, without, changed}
 use Rattle.vault_model.proofs.InPlace.{one_id, one_items}
 use Rattle.vault_model.specs.Vault.{AreThere}
 use Rattle.lock_table.specs.declared.locks.Lock.{Lock}
 use Rattle.lock_table.specs.declared.entry.Entry.{Entry}
-use Rattle.lock_table.specs.Tables.{standing_in, entries_without, first_in_way, AreLocksOf, IsEntryOf, IsTableOf}
+use Rattle.lock_table.specs.Tables.{standing_in, entries_without, long_entries, first_in_way, AreLocksOf, IsEntryOf, IsTableOf}
+use Rattle.long_locks.specs.declared.ending.Ending.TheVariants.{AllShort}
+use Rattle.long_locks.specs.Lines.{left_by}
 use Rattle.lock_table.proofs.Lines.{filter_both, way_law, standing_law}
 
 pub zip_length : {X Y : Type 0} (R : X → Y → Type 0) (xs : List X) (ys : List Y) → AllZip R xs ys → length ys ≡ length xs
@@ -48,6 +50,9 @@ module _ (tree : List Place) (line : List Claim) (table : List Entry) (zip : IsT
 
   pub zip_without : (id : ClaimId) → IsTableOf tree (without line id) (entries_without table id)
   zip_without id = filter_both (IsEntryOf tree) (λ (c : Claim). not (same_id c.id id)) (λ (e : Entry). not (same_id e.id id)) (λ c e of. ap (λ k. not (same_id k id)) (sym of.id)) line table zip
+
+  pub zip_long : IsTableOf tree (left_by AllShort line) (long_entries table)
+  zip_long = filter_both (IsEntryOf tree) (λ (c : Claim). not (is_short c.id)) (λ (e : Entry). not (is_short e.id)) (λ c e of. ap (λ k. not (is_short k)) (sym of.id)) line table zip
 
   pub zip_asked : (c : Claim) (locks : List Lock) → AreLocksOf tree c.items locks → IsTableOf tree (line ++ c ∷ []) (table ++ record { id = c.id; locks = locks } ∷ [])
   zip_asked c locks are = zip_push (IsEntryOf tree) line table c (record { id = c.id; locks = locks }) zip (record { id = refl; locks = are })

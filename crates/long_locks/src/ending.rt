@@ -55,16 +55,37 @@ fn release_at<A: Allocator>(
     }
 }
 
-/// Takes all out that end. The last one leaves the table first, since nobody waits for it.
-pub(crate) fn drop_all<A: Allocator>(claims: &mut Claims<A>, table: &mut Table<A>, ending: Ending)
-    requires { IsDistinct same_id (map (λ (c : Claim). c.id) claims.old.claims) }
-    ensures claims { claims.new.claims ≡ left_by ending claims.old.claims }
-    ensures table { (tree : List Place) → IsTableOf tree claims.old.claims table.old → IsTableOf tree claims.new.claims table.new }
+// Takes all out of the table that end. The last one leaves first, since nobody waits for it.
+fn release_each<A: Allocator>(claims: &Claims<A>, table: &mut Table<A>, ending: Ending)
+    requires { IsDistinct same_id (map (λ (c : Claim). c.id) claims.now.claims) }
+    ensures { (tree : List Place) → IsTableOf tree claims.now.claims table.old
+        → IsTableOf tree (left_by ending claims.now.claims) table.new }
 {
     let mut position = claims.len();
     while position > 0 {
         position -= 1;
         release_at(claims, table, ending, position);
     }
+}
+
+// Takes all out of the table that end: a session's one after another, all short ones together.
+fn release_all<A: Allocator>(claims: &Claims<A>, table: &mut Table<A>, ending: Ending)
+    requires { IsDistinct same_id (map (λ (c : Claim). c.id) claims.now.claims) }
+    ensures { (tree : List Place) → IsTableOf tree claims.now.claims table.old
+        → IsTableOf tree (left_by ending claims.now.claims) table.new }
+{
+    match ending {
+        Ending::Session(_) => release_each(claims, table, ending),
+        Ending::AllShort => table.release_short(),
+    }
+}
+
+/// Takes all out that end.
+pub(crate) fn drop_all<A: Allocator>(claims: &mut Claims<A>, table: &mut Table<A>, ending: Ending)
+    requires { IsDistinct same_id (map (λ (c : Claim). c.id) claims.old.claims) }
+    ensures claims { claims.new.claims ≡ left_by ending claims.old.claims }
+    ensures table { (tree : List Place) → IsTableOf tree claims.old.claims table.old → IsTableOf tree claims.new.claims table.new }
+{
+    release_all(claims, table, ending);
     claims.remove_ending(ending);
 }

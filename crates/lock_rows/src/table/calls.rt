@@ -19,6 +19,10 @@ pub(super) const C2: ClaimId = ClaimId::Long(2);
 
 pub(super) const C3: ClaimId = ClaimId::Long(3);
 
+const H1: ClaimId = ClaimId::Short(1);
+
+const H2: ClaimId = ClaimId::Short(2);
+
 fn ask<A: Allocator + Copy>(
     rt: &impl Abort,
     tree: &Tree,
@@ -84,6 +88,7 @@ pub(super) enum Row {
     Extend(ClaimId, &'static [Wish], Extension),
     PutFirst(ClaimId, &'static [Wish]),
     Release(ClaimId),
+    ReleaseShort,
     Stands(ClaimId, Option<Standing>),
     /// The modes of the group of all claims at a place, and of that of the held ones.
     Groups(u32, Option<Mode>, Option<Mode>),
@@ -135,6 +140,10 @@ pub(super) fn act<A: Allocator + Copy>(
             table.release(id);
             Ok(stands(table, id, None))
         }
+        Row::ReleaseShort => {
+            table.release_short();
+            Ok(true)
+        }
         Row::Stands(id, standing) => Ok(stands(table, id, standing)),
         Row::Groups(place, all, held) => Ok(has_groups(table, place, all, held)),
         Row::Covered(place, id) => Ok(over(rt, tree, table, place) == id),
@@ -180,7 +189,7 @@ fn first_wrong(rt: &impl Abort, alloc: Global, tables: &[Worked]) -> Option<(&'s
     None
 }
 
-static TABLES: [Worked; 11] = [
+static TABLES: [Worked; 12] = [
     (
         "a newcomer waits for a change above",
         &[
@@ -277,6 +286,25 @@ static TABLES: [Worked; 11] = [
             Row::Release(C1),
             Row::Groups(1, Some(IX), Some(IX)),
             Row::Groups(2, Some(X), Some(X)),
+        ],
+    ),
+    (
+        "short claims leave together",
+        &[
+            Row::Ask(H1, &[(Look, 1)], Held),
+            Row::Ask(C1, &[(Change, 2)], Queued(H1)),
+            Row::Ask(H2, &[(Look, 3)], Queued(C1)),
+            Row::Ask(C2, &[(Look, 2)], Queued(C1)),
+            Row::ReleaseShort,
+            Row::Stands(H1, None),
+            Row::Stands(H2, None),
+            Row::Stands(C1, Some(Held)),
+            Row::Stands(C2, Some(Queued(C1))),
+            Row::Groups(0, Some(IX), Some(IX)),
+            Row::Groups(1, Some(IX), Some(IX)),
+            Row::Groups(2, Some(X), Some(X)),
+            Row::Groups(3, None, None),
+            Row::Ask(H1, &[(Look, 3)], Queued(C1)),
         ],
     ),
     (

@@ -1,0 +1,52 @@
+use Rattle.std.specs.Prelude.{◌≡◌, not, List, length, map}
+use Rattle.std.proofs.Common.{ap, sym, subst, ◌∙◌, arith}
+use Rattle.std.proofs.lemmas.List.Elements.{All-filter}
+use Rattle.vault_model.specs.Claims.{is_short}
+use Rattle.lock_table.specs.declared.entry.Entry.{Entry}
+use Rattle.lock_table.specs.declared.again.Again.TheVariants.{BehindShort}
+use Rattle.lock_table.specs.Locks.{AreApart}
+use Rattle.lock_table.specs.Tables.{IsTable, is_held_in, long_entries}
+use Rattle.lock_table.specs.Queues.{AreQueues, IsWeighing, long_seats, queue_of, blocker_at}
+use Rattle.lock_table.proofs.Queuing.{seats_bound}
+use Rattle.lock_table.proofs.Shorts.{table_long, stale_long, fewer_long}
+use Rattle.lock_table.proofs.Stale.{weigh_start}
+use Rattle.lock_table.proofs.table.take_short_away.Goals as goal
+
+pub take_short_out-requires : goal.take_short_out-requires
+take_short_out-requires g c = λ p.
+    let same = ap length (c.requires.queues.queues p) in
+    let bound = seats_bound (is_held_in c.args.entries.now.items) c.args.entries.now.items p in
+    omega (arith, same, bound, c.requires.table.few)
+
+pub weigh_again-requires-clause-table : goal.weigh_again-requires-clause-table
+weigh_again-requires-clause-table g c =
+    subst (λ (t : List Entry). IsTable t) (sym (c.deref.ensures.value ∙ c.keep_long.ensures.done)) (table_long c.args.entries.now.items c.requires.table)
+
+pub weigh_again-requires-clause-weighing : goal.weigh_again-requires-clause-weighing
+weigh_again-requires-clause-weighing g c =
+    let table = c.args.entries.now.items in
+    let done : c.keep_long.new.entries.items ≡ long_entries table = c.keep_long.ensures.done in
+    let beside : c.keep_long.new.blockers.items ≡ map (blocker_at table) (long_entries table) = c.keep_long.ensures.beside (blocker_at table) c.requires.blockers ∙ ap (map (blocker_at table)) done in
+    let stale = stale_long table c.keep_long.new.blockers.items c.take_short_out.new.cells.items beside (λ p. c.take_short_out.ensures.seats p ∙ ap long_seats (c.requires.queues.queues p)) in
+    subst (λ (t : List Entry). IsWeighing BehindShort t c.keep_long.new.blockers.items c.take_short_out.new.cells.items 0) (sym (c.deref.ensures.value ∙ done))
+    (weigh_start BehindShort (long_entries table) c.keep_long.new.blockers.items c.take_short_out.new.cells.items stale)
+
+pub returns-clause-table : goal.returns-clause-table
+returns-clause-table g c = subst (λ (t : List Entry). IsTable t) (sym c.keep_long.ensures.done) (table_long c.args.entries.now.items c.requires.table)
+
+pub returns-clause-queues : goal.returns-clause-queues
+returns-clause-queues g c =
+    let table = c.args.entries.now.items in
+    let done : c.keep_long.new.entries.items ≡ long_entries table = c.keep_long.ensures.done in
+    subst (λ (t : List Entry). AreQueues t c.weigh_again.new.cells.items) (sym done) (record {
+      queues = λ p. c.weigh_again.ensures.queues p ∙ ap (λ (t : List Entry). queue_of t p) (c.deref.ensures.value ∙ done);
+      room = λ p.
+          let now = ap length (c.weigh_again.ensures.queues p ∙ ap (λ (t : List Entry). queue_of t p) (c.deref.ensures.value ∙ done)) in
+          let fewer = fewer_long (is_held_in (long_entries table)) (is_held_in table) table p in
+          let old = ap length (c.requires.queues.queues p) in
+          let room = c.requires.queues.room p in
+          let more = c.take_short_out.ensures.room p in
+          let last = c.weigh_again.ensures.room p in
+          omega (arith, now, fewer, old, room, more, last);
+      apart = All-filter (λ (e : Entry). not (is_short e.id)) (λ (e : Entry). AreApart e.locks) table c.requires.queues.apart;
+    })
