@@ -1,104 +1,27 @@
 -- What claims wait for, before and after a claim leaves the line or moves to its front.
-use Rattle.std.specs.Prelude.{◌≡◌, ℕ, zero, suc, ◌+◌, Bool, true, false, not, ◌&&◌, List, [], ◌∷◌, ◌++◌, map, find, take, drop, position, slice_get, Option, None, Some, is_none, is_some, All, refl}
-use Rattle.std.proofs.Common.{sym, ap, subst, ◌∙◌, cond, arith}
-use Rattle.std.specs.List.{prefix_len, position_or_len, remove, IsDistinct}
+use Rattle.std.specs.Prelude.{◌≡◌, ℕ, zero, suc, Bool, true, false, List, [], ◌∷◌, map, find, take, drop, position, slice_get, Option, None, Some, is_some, All, refl}
+use Rattle.std.proofs.Common.{sym, ap, subst, ◌∙◌, cond}
+use Rattle.std.specs.List.{position_or_len, remove, IsDistinct}
 use Rattle.std.specs.Option.{option_map}
-use Rattle.std.proofs.lemmas.List.Elements.{All-nil, All-cons, All-head, All-tail, All-filter}
+use Rattle.std.proofs.lemmas.List.Elements.{All-nil, All-cons, All-head, All-tail}
 use Rattle.vault_model.specs.declared.ids.ClaimId.{ClaimId}
 use Rattle.vault_model.specs.Claims.{same_id}
-use Rattle.vault_model.proofs.Stays.{same_id_itself, same_id_turned, same_id_is}
+use Rattle.vault_model.proofs.Stays.{same_id_itself}
 use Rattle.lock_modes.specs.declared.mode.Mode.{Mode}
 use Rattle.lock_modes.specs.Modes.{incompatible}
 use Rattle.lock_modes.proofs.Joins.{incompatible_symmetric}
 use Rattle.lock_table.specs.declared.locks.Lock.{Lock}
 use Rattle.lock_table.specs.declared.entry.Entry.{Entry}
-use Rattle.lock_table.specs.declared.again.Again.{Again}
-use Rattle.lock_table.specs.declared.again.Again.TheVariants.{Behind, Queued, Everyone}
+use Rattle.lock_table.specs.declared.again.Again.TheVariants.{Behind}
 use Rattle.lock_table.specs.Locks.{mode_at, AreApart, conflict}
-use Rattle.lock_table.specs.Tables.{first_in_way, entry_of, entries_before, entries_without, is_held_in, held_in_way, put_first}
-use Rattle.lock_table.specs.Queues.{CellSeen, AreStale, IsWeighing, seats_at, seats_by, seat_of, blocker_at, blockers_of, is_taken}
+use Rattle.lock_table.specs.Tables.{entry_of, entries_before, entries_without, is_held_in}
+use Rattle.lock_table.specs.Queues.{CellSeen, IsWeighing, seats_at, seats_by, blocker_at, blockers_of, is_taken}
+use Rattle.lock_table.proofs.Leaving.{is_id, before_its, before_other, still_waits, all_stay}
 use Rattle.lock_table.proofs.LockConflicts.{lock_from, lock_to}
 use Rattle.std.proofs.lemmas.Option.{same_Some}
 use Rattle.lock_table.proofs.Removals.{ids, is_its, own_index, remove_first, none_its}
 use Rattle.lock_table.proofs.Queuing.{located, not_located, own_id}
-use Rattle.lock_table.proofs.Seats.{seats_same}
-use Rattle.lock_table.proofs.Stale.{all_map, all_of, all_both, map_same}
-
--- the entries before one, entry by entry
-pub before_its : (x : Entry) (xs : List Entry) (k : ClaimId) → same_id x.id k ≡ true → entries_before (x ∷ xs) k ≡ []
-before_its x xs k h = rw h refl
-
-pub before_other : (x : Entry) (xs : List Entry) (k : ClaimId) → same_id x.id k ≡ false → entries_before (x ∷ xs) k ≡ x ∷ entries_before xs k
-before_other x xs k h = rw h (let one : 1 + prefix_len (λ (y : Entry). not (same_id y.id k)) xs ≡ suc (prefix_len (λ (y : Entry). not (same_id y.id k)) xs) = omega arith in rw one refl)
-
-differ : (x : ClaimId) (id k : ClaimId) → same_id x id ≡ true → same_id k id ≡ false → same_id x k ≡ false
-differ x id k same other = same_id_turned k x (subst (λ y. same_id k y ≡ false) (sym (same_id_is x id same)) other)
-
--- a claim that has left is before no other
-pub before_without : (xs : List Entry) (id k : ClaimId) → same_id k id ≡ false → entries_before (entries_without xs id) k ≡ entries_without (entries_before xs k) id
-before_without [] id k other = refl
-before_without (x ∷ xs) id k other = by_tests (same_id x.id id) refl (same_id x.id k) refl (before_without xs id k other)
-  where
-    by_tests : (b : Bool) → same_id x.id id ≡ b → (c : Bool) → same_id x.id k ≡ c → entries_before (entries_without xs id) k ≡ entries_without (entries_before xs k) id
-        → entries_before (cond (not b) (x ∷ entries_without xs id) (entries_without xs id)) k ≡ entries_without (entries_before (x ∷ xs) k) id
-    by_tests true g c h ih =
-        let apart = differ x.id id k g other in
-        ih ∙ sym (ap (λ (ys : List Entry). entries_without ys id) (before_other x xs k apart) ∙ rw g refl)
-    by_tests false g true h ih = before_its x (entries_without xs id) k h ∙ sym (ap (λ (ys : List Entry). entries_without ys id) (before_its x xs k h))
-    by_tests false g false h ih =
-        before_other x (entries_without xs id) k h ∙ (ap (λ (ys : List Entry). x ∷ ys) ih ∙ sym (ap (λ (ys : List Entry). entries_without ys id) (before_other x xs k h) ∙ rw g refl))
-
--- who doesn't wait for the claim that has left waits for the same as before
-find_without : (t : Entry → Bool) (ys : List Entry) (id : ClaimId) → is_taken (Behind id) (option_map (λ (e : Entry). e.id) (find t ys)) ≡ false
-    → option_map (λ (e : Entry). e.id) (find t ys) ≡ option_map (λ (e : Entry). e.id) (find t (entries_without ys id))
-find_without t [] id h = refl
-find_without t (y ∷ ys) id h = by_tests (same_id y.id id) refl (t y) refl h (find_without t ys id)
-  where
-    by_tests : (b : Bool) → same_id y.id id ≡ b → (c : Bool) → t y ≡ c → is_taken (Behind id) (option_map (λ (e : Entry). e.id) (cond c (Some y) (find t ys))) ≡ false
-        → (is_taken (Behind id) (option_map (λ (e : Entry). e.id) (find t ys)) ≡ false → option_map (λ (e : Entry). e.id) (find t ys) ≡ option_map (λ (e : Entry). e.id) (find t (entries_without ys id)))
-        → option_map (λ (e : Entry). e.id) (cond c (Some y) (find t ys)) ≡ option_map (λ (e : Entry). e.id) (find t (cond (not b) (y ∷ entries_without ys id) (entries_without ys id)))
-    by_tests true g true k h ih = cc
-    by_tests true g false k h ih = ih h
-    by_tests false g true k h ih = rw k refl
-    by_tests false g false k h ih = rw k (ih h)
-
-pub still_waits : (table : List Entry) (id : ClaimId) (e : Entry) → same_id e.id id ≡ false → is_taken (Behind id) (blocker_at table e) ≡ false → blocker_at table e ≡ blocker_at (entries_without table id) e
-still_waits table id e other kept =
-    find_without (λ (x : Entry). conflict e.locks x.locks) (entries_before table e.id) id kept ∙ ap (λ (xs : List Entry). first_in_way xs e.locks) (sym (before_without table id e.id other))
-
-pub all_filtered : (id : ClaimId) (P : Entry → Type 0) → ((e : Entry) → same_id e.id id ≡ false → P e) → (xs : List Entry) → All P (entries_without xs id)
-all_filtered id P f [] = All-nil P
-all_filtered id P f (x ∷ xs) = by_test (same_id x.id id) refl (all_filtered id P f xs)
-  where
-    by_test : (b : Bool) → same_id x.id id ≡ b → All P (entries_without xs id) → All P (cond (not b) (x ∷ entries_without xs id) (entries_without xs id))
-    by_test true h ih = ih
-    by_test false h ih = All-cons P x (entries_without xs id) (f x h) ih
-
--- when a claim moves to the front, held
-pub stale_first : (again : Again) (table : List Entry) (id : ClaimId) (locks : List Lock) (blockers : List (Option ClaimId)) (cells : List CellSeen) → blockers ≡ None ∷ map (blocker_at table) (entries_without table id)
-    → ((p : ℕ) → seats_at cells p ≡ seat_of true id (mode_at locks p) ++ seats_by (is_held_in table) (entries_without table id) p)
-    → All (λ (e : Entry). is_taken again (blocker_at table e) ≡ false → blocker_at table e ≡ blocker_at (put_first table id locks) e) (entries_without table id)
-    → AreStale again (put_first table id locks) blockers cells
-stale_first again table id locks blockers cells were seats enough = record {
-  old = old;
-  were = were ∙ rw (same_id_itself id) (ap (λ xs. None ∷ xs) (map_same (blocker_at table) old (entries_without table id) (all_filtered id (λ (e : Entry). blocker_at table e ≡ old e) (λ e h. rw h refl) table)));
-  seats = λ p. seats p ∙ rw (same_id_itself id)
-      (ap (λ xs. seat_of true id (mode_at locks p) ++ xs) (seats_same (is_held_in table) (λ (e : Entry). is_none (old e)) (entries_without table id) p (all_filtered id (λ (e : Entry). is_held_in table e ≡ is_none (old e)) (λ e h. rw h refl) table)));
-  right = All-cons (λ (e : Entry). is_taken again (old e) ≡ false → old e ≡ blocker_at (put_first table id locks) e) first (entries_without table id) (λ h. rw (same_id_itself id) refl)
-      (all_both (λ (e : Entry). is_taken again (blocker_at table e) ≡ false → blocker_at table e ≡ blocker_at (put_first table id locks) e) (λ (e : Entry). same_id e.id id ≡ false) (λ (e : Entry). is_taken again (old e) ≡ false → old e ≡ blocker_at (put_first table id locks) e) (λ e h g. rw g h) (entries_without table id) enough
-      (all_filtered id (λ (e : Entry). same_id e.id id ≡ false) (λ e h. h) table));
-}
-  where
-    first : Entry
-    first = record { id = id; locks = locks }
-
-    old : Entry → Option ClaimId
-    old e = cond (same_id e.id id) None (blocker_at table e)
-
--- a change that weighs everyone has nothing to keep
-pub everyone : (table : List Entry) (id : ClaimId) (locks : List Lock)
-    → All (λ (e : Entry). is_taken Everyone (blocker_at table e) ≡ false → blocker_at table e ≡ blocker_at (put_first table id locks) e) (entries_without table id)
-everyone table id locks = all_of (λ (e : Entry). is_taken Everyone (blocker_at table e) ≡ false → blocker_at table e ≡ blocker_at (put_first table id locks) e) (λ e h. cc) (entries_without table id)
+use Rattle.lock_table.proofs.Stale.{all_map, all_both}
 
 -- conflict is the same both ways
 conflict_from : (xs ys : List Lock) → AreApart xs → conflict xs ys ≡ true → conflict ys xs ≡ true
@@ -119,42 +42,13 @@ conflict_none xs ys apart e = by_test (conflict ys xs) refl
     by_test true h = let back = conflict_from ys xs apart h in cc
     by_test false h = refl
 
-none_passes : (t : Entry → Bool) (es : List Entry) → option_map (λ (e : Entry). e.id) (find t es) ≡ None → All (λ (e : Entry). t e ≡ false) es
+pub none_passes : (t : Entry → Bool) (es : List Entry) → option_map (λ (e : Entry). e.id) (find t es) ≡ None → All (λ (e : Entry). t e ≡ false) es
 none_passes t [] h = All-nil (λ (e : Entry). t e ≡ false)
 none_passes t (x ∷ es) h = by_test (t x) refl h (none_passes t es)
   where
     by_test : (b : Bool) → t x ≡ b → option_map (λ (e : Entry). e.id) (cond b (Some x) (find t es)) ≡ None → (option_map (λ (e : Entry). e.id) (find t es) ≡ None → All (λ (e : Entry). t e ≡ false) es) → All (λ (e : Entry). t e ≡ false) (x ∷ es)
     by_test true g k ih = cc
     by_test false g k ih = All-cons (λ (e : Entry). t e ≡ false) x es g (ih k)
-
-module _ (table : List Entry) (id : ClaimId) (locks : List Lock) (free : held_in_way table id locks ≡ None) (apart : All (λ (e : Entry). AreApart e.locks) table) where
-  not_taken : (o : Option ClaimId) → is_taken Queued o ≡ false → o ≡ None
-  not_taken None h = refl
-  not_taken (Some k) h = cc
-
-  held_stays : (e : Entry) → same_id e.id id ≡ false → AreApart e.locks → (not (same_id e.id id) && conflict locks e.locks && is_held_in table e) ≡ false → is_taken Queued (blocker_at table e) ≡ false
-      → blocker_at table e ≡ blocker_at (put_first table id locks) e
-  held_stays e other own passes kept =
-      let none : blocker_at table e ≡ None = not_taken (blocker_at table e) kept in
-      let mine : conflict locks e.locks ≡ false = clear (conflict locks e.locks) (rw (other, none) at passes) in
-      let back : conflict e.locks locks ≡ false = conflict_none locks e.locks own mine in
-      let waits : blocker_at table e ≡ blocker_at (entries_without table id) e = still_waits table id e other (ap (is_taken (Behind id)) none) in
-      waits ∙ sym (ap (λ (xs : List Entry). first_in_way xs e.locks) (before_other (record { id = id; locks = locks }) (entries_without table id) e.id (same_id_turned e.id id other)) ∙ rw back refl)
-    where
-      clear : (b : Bool) → (true && b && true) ≡ false → b ≡ false
-      clear true h = h
-      clear false h = refl
-
-  -- an extension leaves the held claims held
-  pub queued_alone : All (λ (e : Entry). is_taken Queued (blocker_at table e) ≡ false → blocker_at table e ≡ blocker_at (put_first table id locks) e) (entries_without table id)
-  queued_alone =
-      all_both (λ (e : Entry). same_id e.id id ≡ false)
-      (λ (e : Entry). is_taken Queued (blocker_at table e) ≡ false → same_id e.id id ≡ false → blocker_at table e ≡ blocker_at (put_first table id locks) e) (λ (e : Entry). is_taken Queued (blocker_at table e) ≡ false → blocker_at table e ≡ blocker_at (put_first table id locks) e) (λ e other stays kept. stays kept other)
-      (entries_without table id) (all_filtered id (λ (e : Entry). same_id e.id id ≡ false) (λ e h. h) table)
-      (All-filter (λ (e : Entry). not (same_id e.id id)) (λ (e : Entry). is_taken Queued (blocker_at table e) ≡ false → same_id e.id id ≡ false → blocker_at table e ≡ blocker_at (put_first table id locks) e) table
-      (all_both (λ (e : Entry). AreApart e.locks) (λ (e : Entry). (not (same_id e.id id) && conflict locks e.locks && is_held_in table e) ≡ false)
-      (λ (e : Entry). is_taken Queued (blocker_at table e) ≡ false → same_id e.id id ≡ false → blocker_at table e ≡ blocker_at (put_first table id locks) e)
-      (λ e own passes kept other. held_stays e other own passes kept) table apart (none_passes (λ (e : Entry). not (same_id e.id id) && conflict locks e.locks && is_held_in table e) table free)))
 
 -- lists taken out of and put into alike
 pub remove_map : (f : Entry → Option ClaimId) (xs : List Entry) (i : ℕ) → remove (map f xs) i ≡ map f (remove xs i)
@@ -226,7 +120,7 @@ free_waits t (y ∷ ys) id all = by_test (t y) (free_waits t ys id (All-tail (λ
 front_stays : (table : List Entry) (id : ClaimId) → All (λ (e : Entry). blocker_at table e ≡ blocker_at (entries_without table id) e) (entries_before table id)
 front_stays table id =
     all_both (IsFree id table) (λ (e : Entry). same_id e.id id ≡ false) (λ (e : Entry). blocker_at table e ≡ blocker_at (entries_without table id) e)
-    (λ e free other. still_waits table id e other (free_waits (λ (x : Entry). conflict e.locks x.locks) (entries_before table e.id) id free)) (entries_before table id) (front_free table id) (front_others table id)
+    (λ e free other. still_waits (is_id id) table e other (free_waits (λ (x : Entry). conflict e.locks x.locks) (entries_before table e.id) id free)) (entries_before table id) (front_free table id) (front_others table id)
 
 take_removed : (xs : List Entry) (i : ℕ) → take i (remove xs i) ≡ take i xs
 take_removed [] zero = refl
@@ -255,7 +149,7 @@ weighing_left table id i distinct at blockers cells were seats = record {
   seats = seats;
   done = subst (λ (xs : List Entry). All (λ (e : Entry). blocker_at table e ≡ blocker_at (entries_without table id) e) xs) (sym (front_is table id i distinct at)) (front_stays table id);
   left = all_behind (λ (e : Entry). is_taken (Behind id) (blocker_at table e) ≡ false → blocker_at table e ≡ blocker_at (entries_without table id) e) (entries_without table id) i
-      (all_filtered id (λ (e : Entry). is_taken (Behind id) (blocker_at table e) ≡ false → blocker_at table e ≡ blocker_at (entries_without table id) e) (λ e h. still_waits table id e h) table);
+      (all_stay (is_id id) (λ (e : Entry). is_taken (Behind id) (blocker_at table e) ≡ false → blocker_at table e ≡ blocker_at (entries_without table id) e) (λ e h. still_waits (is_id id) table e h) table);
 }
 
 -- where a claim isn't there, the line without it is the line

@@ -5,6 +5,7 @@ pub mod Conflicts
 pub mod LockConflicts
 pub mod Ancestors
 pub mod Removals
+pub mod Leaving
 pub mod TablesKept
 pub mod Covers
 pub mod Lines
@@ -20,5 +21,6 @@ pub mod Seats
 pub mod Shorts
 pub mod Stale
 pub mod Blockers
+pub mod Waiting
 mod Taken
 mod Ends

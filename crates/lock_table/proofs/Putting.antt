@@ -1,15 +1,17 @@
--- Cells in a list: one changed, one more, and a claim put last at the places of its locks.
-use Rattle.std.specs.Prelude.{◌≡◌, ◌≢◌, ◌⊎◌, ℕ, zero, suc, ◌<◌, ◌≤◌, Bool, true, false, ◌==◌, nat_eq, List, [], ◌∷◌, ◌++◌, length, slice_get, Option, None, Some, All, refl}
-use Rattle.std.proofs.Common.{sym, ap, subst, ◌∙◌, arith, get_or, set, inl, inr, eqb, append-nil, length-append}
+-- Cells in a list: one changed, one more, and those at the places of some locks changed one after another.
+use Rattle.std.specs.Prelude.{◌≡◌, ◌≢◌, ◌⊎◌, ℕ, zero, suc, ◌+◌, ◌<◌, ◌≤◌, Bool, true, false, ◌==◌, nat_eq, List, [], ◌∷◌, ◌++◌, length, slice_get, drop, Option, None, Some, is_some, All, refl}
+use Rattle.std.proofs.Common.{sym, ap, subst, ◌∙◌, arith, get_or, set, inl, inr, eqb, append-nil}
 use Rattle.std.specs.List.{IsDistinct, AllByRecursion}
 use Rattle.std.proofs.lemmas.Bool.Decides.{eqb_tells}
-use Rattle.std.proofs.lemmas.List.Elements.{All-nil, All-cons, All-head, All-tail}
+use Rattle.std.proofs.lemmas.List.{drop_all}
+use Rattle.std.proofs.lemmas.List.Elements.{All-head, All-tail}
 use Rattle.vault_model.specs.declared.ids.ClaimId.{ClaimId}
 use Rattle.lock_modes.specs.declared.mode.Mode.{Mode}
 use Rattle.lock_table.specs.declared.locks.Lock.{Lock}
 use Rattle.lock_table.specs.declared.cell.Seat.{Seat}
 use Rattle.lock_table.specs.Locks.{mode_at, AreApart}
 use Rattle.lock_table.specs.Queues.{CellSeen, seats_of, room_of, seats_at, room_at, HaveRoom, by_lock, seat_of}
+use Rattle.lock_table.proofs.Positions.{drop_is}
 use Rattle.lock_table.proofs.JoinedAt.{places}
 
 at_set_same : {T : Type 0} (xs : List T) (q : ℕ) (c : T) → q < length xs → slice_get (set xs q c) q ≡ Some c
@@ -116,83 +118,14 @@ none_there p (l ∷ ls) all = rw (turned (eqb_tells l.place p)) (none_there p ls
             by_test (inr other) = other.1 refl
     turned (inr other) = other.0
 
--- a claim is put last: what it has now, and what the locks that are left give
-pub record IsPutting (start cells : List CellSeen) (held : Bool) (id : ClaimId) (locks rest : List Lock) : Type 0 where
-  pub seats : (p : ℕ) → seats_at cells p ++ seat_of held id (mode_at rest p) ≡ seats_at start p ++ seat_of held id (mode_at locks p)
-  pub room : (p : ℕ) → room_at start p ≤ room_at cells p
-  pub left : HaveRoom cells rest
-  pub apart : AreApart rest
-
-module _ (start : List CellSeen) (held : Bool) (id : ClaimId) (locks : List Lock) where
-  pub put_start : HaveRoom start locks → AreApart locks → IsPutting start start held id locks locks
-  put_start left apart = record { seats = λ p. refl; room = λ p. omega arith; left = left; apart = apart }
-
-  pub put_done : (cells : List CellSeen) → IsPutting start cells held id locks [] → (p : ℕ) → seats_at cells p ≡ seats_at start p ++ seat_of held id (mode_at locks p)
-  put_done cells putting p = sym (append-nil (seats_at cells p)) ∙ putting.seats p
-
-  module _ (cells : List CellSeen) (l : Lock) (ls : List Lock) (putting : IsPutting start cells held id locks (l ∷ ls)) where
-    own_mode : mode_at (l ∷ ls) l.place ≡ Some l.mode
-    own_mode = by_test (eqb_tells l.place l.place)
-      where
-        by_test : ((eqb l.place l.place ≡ true) × (l.place ≡ l.place)) ⊎ ((eqb l.place l.place ≡ false) × (l.place ≢ l.place)) → mode_at (l ∷ ls) l.place ≡ Some l.mode
-        by_test (inl same) = rw same.0 refl
-        by_test (inr other) = absurd (other.1 refl)
-
-    other_mode : (p : ℕ) → (eqb l.place p ≡ false) → mode_at (l ∷ ls) p ≡ mode_at ls p
-    other_mode p e = rw e refl
-
-    pub put_room : length (seats_at cells l.place) < room_at cells l.place
-    put_room = All-head (λ (x : Lock). length (seats_at cells x.place) < room_at cells x.place) l ls putting.left
-
-    pub put_inside : l.place < length cells
-    put_inside = let room = put_room in there_at cells l.place (omega (arith, room))
-
-    pub put_few : (most : ℕ) → ((p : ℕ) → length (seats_at start p) < most) → length (seats_at cells l.place) < most
-    put_few most few =
-        let same = ap length (ap (λ o. seats_at cells l.place ++ seat_of held id o) (sym own_mode) ∙ putting.seats l.place) in
-        let one = length-append (seats_at cells l.place) (seat_of held id (Some l.mode)) in
-        let all = length-append (seats_at start l.place) (seat_of held id (mode_at locks l.place)) in
-        let bound = at_most (mode_at locks l.place) in
-        let here = few l.place in
-        omega (arith, same, one, all, bound, here)
-      where
-        at_most : (o : Option Mode) → length (seat_of held id o) ≤ 1
-        at_most None = omega arith
-        at_most (Some m) = omega arith
-
-    pub put_step : (new : List CellSeen) → IsChanged cells new l.place (seats_at cells l.place ++ record { id = id; mode = l.mode; is_held = held } ∷ []) → IsPutting start new held id locks ls
-    unfolding IsDistinct
-    put_step new change = record {
-      seats = λ p. by_place p (eqb_tells l.place p);
-      room = λ p. let before = putting.room p in let after = change.room p in omega (arith, before, after);
-      left = still ls putting.apart.0 (All-tail (λ (x : Lock). length (seats_at cells x.place) < room_at cells x.place) l ls putting.left);
-      apart = putting.apart.1;
-    }
-      where
-        by_place : (p : ℕ) → ((eqb l.place p ≡ true) × (l.place ≡ p)) ⊎ ((eqb l.place p ≡ false) × (l.place ≢ p))
-            → seats_at new p ++ seat_of held id (mode_at ls p) ≡ seats_at start p ++ seat_of held id (mode_at locks p)
-        by_place p (inl same) = subst (λ q. seats_at new q ++ seat_of held id (mode_at ls q) ≡ seats_at start q ++ seat_of held id (mode_at locks q)) same.1
-            (ap (λ o. seats_at new l.place ++ seat_of held id o) (none_there l.place ls putting.apart.0) ∙ (append-nil (seats_at new l.place)
-            ∙ (change.here ∙ (ap (λ o. seats_at cells l.place ++ seat_of held id o) (sym own_mode) ∙ putting.seats l.place))))
-        by_place p (inr other) =
-            ap (λ xs. xs ++ seat_of held id (mode_at ls p)) (change.elsewhere p (λ e. other.1 (sym e)))
-            ∙ (ap (λ o. seats_at cells p ++ seat_of held id o) (sym (other_mode p other.0)) ∙ putting.seats p)
-
-        apart_from : (x : Lock) → nat_eq l.place x.place ≡ false → x.place ≢ l.place
-        apart_from x e = by_test (eqb_tells l.place x.place)
-          where
-            by_test : ((eqb l.place x.place ≡ true) × (l.place ≡ x.place)) ⊎ ((eqb l.place x.place ≡ false) × (l.place ≢ x.place)) → x.place ≢ l.place
-            by_test (inl same) = cc
-            by_test (inr other) = λ h. other.1 (sym h)
-
-        still : (xs : List Lock) → AllByRecursion (λ y. nat_eq l.place y ≡ false) (places xs) → All (λ (x : Lock). length (seats_at cells x.place) < room_at cells x.place) xs → HaveRoom new xs
-        still [] apart room = All-nil (λ (x : Lock). length (seats_at new x.place) < room_at new x.place)
-        still (x ∷ xs) apart room =
-            let here = All-head (λ (x : Lock). length (seats_at cells x.place) < room_at cells x.place) x xs room in
-            let same = ap length (change.elsewhere x.place (apart_from x apart.0)) in
-            let more = change.room x.place in
-            All-cons (λ (x : Lock). length (seats_at new x.place) < room_at new x.place) x xs (omega (arith, here, same, more))
-            (still xs apart.1 (All-tail (λ (x : Lock). length (seats_at cells x.place) < room_at cells x.place) x xs room))
+-- what holds of each lock's place holds of a place where there is a mode
+pub mode_listed : (P : ℕ → Type 0) (ls : List Lock) (p : ℕ) → All (λ (l : Lock). P l.place) ls → is_some (mode_at ls p) ≡ true → P p
+mode_listed P [] p all e = cc
+mode_listed P (l ∷ ls) p all e = by_test (eqb_tells l.place p) (mode_listed P ls p (All-tail (λ (x : Lock). P x.place) l ls all))
+  where
+    by_test : ((eqb l.place p ≡ true) × (l.place ≡ p)) ⊎ ((eqb l.place p ≡ false) × (l.place ≢ p)) → (is_some (mode_at ls p) ≡ true → P p) → P p
+    by_test (inl same) rest = subst P same.1 (All-head (λ (x : Lock). P x.place) l ls all)
+    by_test (inr other) rest = rest (rw other.0 at e)
 
 -- the seats at the places of locks are changed, one place after another
 module _ (change : Mode → List Seat → List Seat) (start : List CellSeen) (locks : List Lock) where
@@ -210,21 +143,18 @@ module _ (change : Mode → List Seat → List Seat) (start : List CellSeen) (lo
     apart = apart;
   }
 
-  pub turn_done : (cells : List CellSeen) → IsTurning cells [] → (p : ℕ) → seats_at cells p ≡ by_lock change (mode_at locks p) (seats_at start p)
-  turn_done cells turning p = turning.turned p refl
-
   module _ (cells : List CellSeen) (l : Lock) (ls : List Lock) (turning : IsTurning cells (l ∷ ls)) where
-    pub turn_mode : mode_at (l ∷ ls) l.place ≡ Some l.mode
+    turn_mode : mode_at (l ∷ ls) l.place ≡ Some l.mode
     turn_mode = by_test (eqb_tells l.place l.place)
       where
         by_test : ((eqb l.place l.place ≡ true) × (l.place ≡ l.place)) ⊎ ((eqb l.place l.place ≡ false) × (l.place ≢ l.place)) → mode_at (l ∷ ls) l.place ≡ Some l.mode
         by_test (inl same) = rw same.0 refl
         by_test (inr other) = absurd (other.1 refl)
 
-    pub turn_head : (seats_at cells l.place ≡ seats_at start l.place) × (mode_at locks l.place ≡ Some l.mode)
+    turn_head : (seats_at cells l.place ≡ seats_at start l.place) × (mode_at locks l.place ≡ Some l.mode)
     turn_head = turning.left l.place l.mode turn_mode
 
-    pub turn_step : (new : List CellSeen) → seats_at new l.place ≡ change l.mode (seats_at cells l.place) → ((p : ℕ) → p ≢ l.place → seats_at new p ≡ seats_at cells p) → ((p : ℕ) → room_at cells p ≤ room_at new p) → IsTurning new ls
+    turn_step : (new : List CellSeen) → seats_at new l.place ≡ change l.mode (seats_at cells l.place) → ((p : ℕ) → p ≢ l.place → seats_at new p ≡ seats_at cells p) → ((p : ℕ) → room_at cells p ≤ room_at new p) → IsTurning new ls
     unfolding IsDistinct
     turn_step new here elsewhere more = record {
       left = λ p m h. left_by p m h (eqb_tells l.place p);
@@ -245,6 +175,39 @@ module _ (change : Mode → List Seat → List Seat) (start : List CellSeen) (lo
         turned_by p h (inl same) = subst (λ q. seats_at new q ≡ by_lock change (mode_at locks q) (seats_at start q)) same.1
             (here ∙ (ap (change l.mode) turn_head.0 ∙ ap (λ o. by_lock change o (seats_at start l.place)) (sym turn_head.1)))
         turned_by p h (inr other) = elsewhere p (λ e. other.1 (sym e)) ∙ turning.turned p (rw other.0 h)
+
+  -- the same with the locks that are left read from a position on
+  module _ (cells : List CellSeen) (i : ℕ) (turning : IsTurning cells (drop i locks)) where
+    module _ (l : Lock) (inside : i < length locks) (is : l ≡ get_or locks i l) where
+      at_lock : IsTurning cells (l ∷ drop (i + 1) locks)
+      at_lock = subst (IsTurning cells) (drop_is locks i l inside is) turning
+
+      pub turn_seats : seats_at cells l.place ≡ seats_at start l.place
+      turn_seats = (turn_head cells l (drop (i + 1) locks) at_lock).0
+
+      pub turn_mode_at : mode_at locks l.place ≡ Some l.mode
+      turn_mode_at = (turn_head cells l (drop (i + 1) locks) at_lock).1
+
+      pub turn_next : (new : List CellSeen) → seats_at new l.place ≡ change l.mode (seats_at cells l.place) → ((p : ℕ) → p ≢ l.place → seats_at new p ≡ seats_at cells p) → ((p : ℕ) → room_at cells p ≤ room_at new p) → IsTurning new (drop (i + 1) locks)
+      turn_next = turn_step cells l (drop (i + 1) locks) at_lock
+
+      -- where each of the locks had room at first, there is room still; and no place had more seats
+      pub turn_room : HaveRoom start locks → length (seats_at cells l.place) < room_at cells l.place
+      turn_room there =
+          let room = mode_listed (λ q. length (seats_at start q) < room_at start q) locks l.place there (ap is_some turn_mode_at) in
+          let more = turning.room l.place in
+          let same = ap length turn_seats in
+          omega (arith, room, more, same)
+
+      pub turn_few : (most : ℕ) → ((p : ℕ) → length (seats_at start p) < most) → length (seats_at cells l.place) < most
+      turn_few most few = let here = few l.place in let same = ap length turn_seats in omega (arith, here, same)
+
+    pub turn_done : length locks ≤ i → (p : ℕ) → seats_at cells p ≡ by_lock change (mode_at locks p) (seats_at start p)
+    turn_done end p = turning.turned p (ap (λ (ls : List Lock). mode_at ls p) (drop_all i locks end))
+
+pub last_lock : (held : Bool) (id : ClaimId) (o : Option Mode) (seats : List Seat) → by_lock (λ m xs. xs ++ record { id = id; mode = m; is_held = held } ∷ []) o seats ≡ seats ++ seat_of held id o
+last_lock held id None seats = sym (append-nil seats)
+last_lock held id (Some m) seats = refl
 
 pub first_lock : (id : ClaimId) (o : Option Mode) (seats : List Seat) → by_lock (λ m xs. record { id = id; mode = m; is_held = true } ∷ xs) o seats ≡ seat_of true id o ++ seats
 first_lock id None seats = refl

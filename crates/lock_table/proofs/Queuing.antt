@@ -1,14 +1,14 @@
 -- What a table keeps of its queues, through each change, and what it reads from them.
-use Rattle.std.specs.Prelude.{◌≡◌, ◌≢◌, ◌⊎◌, ℕ, zero, suc, ◌<◌, ◌≤◌, Bool, true, false, not, ◌&&◌, ◌||◌, nat_lt, List, [], ◌∷◌, ◌++◌, length, map, filter, find, take, position, slice_get, Option, None, Some, is_some, is_none, All, Result, Ok, Err, OnErr, refl}
-use Rattle.std.proofs.Common.{sym, ap, subst, ◌∙◌, cond, arith, get_or, inl, inr, eqb, length-append}
+use Rattle.std.specs.Prelude.{◌≡◌, ℕ, zero, suc, ◌<◌, ◌≤◌, Bool, true, false, not, ◌&&◌, ◌||◌, nat_lt, List, [], ◌∷◌, ◌++◌, length, map, filter, find, take, position, slice_get, Option, None, Some, is_some, is_none, All, Result, Ok, Err, OnErr, refl}
+use Rattle.std.proofs.Common.{sym, ap, subst, ◌∙◌, cond, arith, get_or, length-append}
 use Rattle.std.specs.List.{list_any, position_or_len, IsDistinct, AllByRecursion}
 use Rattle.std.specs.Option.{option_map, option_and_then}
-use Rattle.std.proofs.lemmas.Bool.Decides.{eqb_tells, nat_tests}
+use Rattle.std.proofs.lemmas.Bool.Decides.{nat_tests}
 use Rattle.std.proofs.lemmas.List.Elements.{All-nil, All-cons, All-head, All-tail, All-filter}
 use Rattle.std.proofs.lemmas.List.Folds.{find_at}
 use Rattle.std.proofs.lemmas.Option.{same_Some}
 use Rattle.vault_model.specs.declared.ids.ClaimId.{ClaimId}
-use Rattle.vault_model.specs.Claims.{same_id, standing_by}
+use Rattle.vault_model.specs.Claims.{same_id}
 use Rattle.vault_model.proofs.Stays.{same_id_is}
 use Rattle.vault_model.specs.Limits.{most_claims}
 use Rattle.lock_modes.specs.declared.mode.Mode.{Mode}
@@ -16,8 +16,9 @@ use Rattle.lock_modes.specs.Modes.{incompatible}
 use Rattle.lock_table.specs.declared.locks.Lock.{Lock}
 use Rattle.lock_table.specs.declared.entry.Entry.{Entry}
 use Rattle.lock_table.specs.Locks.{mode_at, AreApart, conflict}
-use Rattle.lock_table.specs.Tables.{IsTable, first_in_way, entry_of, entries_before, entries_without, is_held_in, held_in_way, put_first, standing_in, blocker_in}
+use Rattle.lock_table.specs.Tables.{IsTable, first_in_way, entry_of, entries_before, entries_without, is_held_in, held_in_way, put_first}
 use Rattle.lock_table.specs.Queues.{CellSeen, AreQueues, seat_modes, held_seats, seats_at, room_at, HaveRoom, seat_of, seats_by, seats_from, modes_by, modes_in, first_of, place_of, is_held_in_way, seat_in_way, held_seat_in_way, blocker_at, blockers_of}
+use Rattle.lock_table.proofs.Putting.{mode_listed}
 use Rattle.lock_table.proofs.Positions.{first_from, queue_first, any_first, earliest_same, first_same, id_found, first_taken, if_lower}
 use Rattle.lock_table.proofs.Weighing.{FindFirst, all_push, length_from, seats_from-push, queue_law, way_law}
 use Rattle.lock_table.proofs.Counts.{length_modes}
@@ -49,14 +50,6 @@ few_seated table cells kept queues room p =
     let same = ap length (from_queues table cells kept queues p) in
     let bound = length_from [] table p in
     omega (arith, same, bound, room)
-
-pub mode_listed : (P : ℕ → Type 0) (ls : List Lock) (p : ℕ) → All (λ (l : Lock). P l.place) ls → is_some (mode_at ls p) ≡ true → P p
-mode_listed P [] p all e = cc
-mode_listed P (l ∷ ls) p all e = by_test (eqb_tells l.place p) (mode_listed P ls p (All-tail (λ (x : Lock). P x.place) l ls all))
-  where
-    by_test : ((eqb l.place p ≡ true) × (l.place ≡ p)) ⊎ ((eqb l.place p ≡ false) × (l.place ≢ p)) → (is_some (mode_at ls p) ≡ true → P p) → P p
-    by_test (inl same) rest = subst P same.1 (All-head (λ (x : Lock). P x.place) l ls all)
-    by_test (inr other) rest = rest (rw other.0 at e)
 
 -- a claim put last keeps to the room
 pub put_room_kept : (cells new : List CellSeen) (locks : List Lock) (held : Bool) (id : ClaimId) → HaveRoom cells locks → ((p : ℕ) → length (seats_at cells p) ≤ room_at cells p)
@@ -252,12 +245,6 @@ pub none_is : {T : Type 0} (o : Option T) → is_none o ≡ true → None ≡ o
 none_is None e = refl
 none_is (Some x) e = cc
 
-pub blocker_absent : (table : List Entry) (id : ClaimId) → position (is_its id) table ≡ None → None ≡ blocker_in table id
-blocker_absent table id e = sym (ap (option_and_then (λ (x : Entry). first_in_way (entries_before table id) x.locks)) (not_located table id e))
-
-pub standing_absent : (table : List Entry) (id : ClaimId) → position (is_its id) table ≡ None → None ≡ standing_in table id
-standing_absent table id e = sym (ap (option_map (λ (x : Entry). standing_by (first_in_way (entries_before table id) x.locks))) (not_located table id e))
-
 -- what stands beside a claim is what it waits for
 pub mapped_at : (f : Entry → Option ClaimId) (xs : List Entry) (i : ℕ) (e : Entry) → slice_get xs i ≡ Some e → slice_get (map f xs) i ≡ Some (f e)
 mapped_at f [] i e h = cc
@@ -277,21 +264,20 @@ get_there [] k x d h = cc
 get_there (y ∷ xs) zero x d h = same_Some y x h
 get_there (y ∷ xs) (suc k) x d h = get_there xs k x d h
 
-pub blocker_beside : (table : List Entry) (blockers : List (Option ClaimId)) (id : ClaimId) (i : ℕ) (b : Option ClaimId) → blockers ≡ blockers_of table → position (is_its id) table ≡ Some i → b ≡ get_or blockers i b → b ≡ blocker_in table id
-blocker_beside table blockers id i b beside e is =
+-- what stands beside a claim's entry, if it is there
+abbrev pub Waits : List Entry → ClaimId → Option (Option ClaimId)
+Waits table id = option_map (λ (e : Entry). first_in_way (entries_before table id) e.locks) (entry_of table id)
+
+pub waits_absent : (table : List Entry) (id : ClaimId) → position (is_its id) table ≡ None → None ≡ Waits table id
+waits_absent table id e = sym (ap (option_map (λ (x : Entry). first_in_way (entries_before table id) x.locks)) (not_located table id e))
+
+pub waits_beside : (table : List Entry) (blockers : List (Option ClaimId)) (id : ClaimId) (i : ℕ) (b : Option ClaimId) → blockers ≡ blockers_of table → position (is_its id) table ≡ Some i → b ≡ get_or blockers i b → Some b ≡ Waits table id
+waits_beside table blockers id i b beside e is =
     let here = located table id i e in
     let own = own_id table id here.entry here.found in
     let there : slice_get blockers i ≡ Some (blocker_at table here.entry) = ap (λ xs. slice_get xs i) beside ∙ mapped_at (blocker_at table) table i here.entry here.there in
-    is ∙ (get_there blockers i (blocker_at table here.entry) b there
-    ∙ (ap (λ k. first_in_way (entries_before table k) here.entry.locks) own ∙ sym (ap (option_and_then (λ (x : Entry). first_in_way (entries_before table id) x.locks)) here.found)))
-
-pub standing_beside : (table : List Entry) (blockers : List (Option ClaimId)) (id : ClaimId) (i : ℕ) (b : Option ClaimId) → blockers ≡ blockers_of table → position (is_its id) table ≡ Some i → b ≡ get_or blockers i b
-    → Some (standing_by b) ≡ standing_in table id
-standing_beside table blockers id i b beside e is =
-    let here = located table id i e in
-    ap (λ x. Some (standing_by x)) (blocker_beside table blockers id i b beside e is
-    ∙ ap (option_and_then (λ (x : Entry). first_in_way (entries_before table id) x.locks)) here.found)
-    ∙ sym (ap (option_map (λ (x : Entry). standing_by (first_in_way (entries_before table id) x.locks))) here.found)
+    ap Some (is ∙ (get_there blockers i (blocker_at table here.entry) b there ∙ ap (λ k. first_in_way (entries_before table k) here.entry.locks) own))
+    ∙ sym (ap (option_map (λ (x : Entry). first_in_way (entries_before table id) x.locks)) here.found)
 
 pub on_error : {T E P : Type 0} (r : Result T E) → P → OnErr r P
 on_error (Ok x) p = tt
@@ -312,11 +298,11 @@ modes_bound (e ∷ es) p = by_mode (mode_at e.locks p) (modes_bound es p)
 pub seats_bound : (held : Entry → Bool) (es : List Entry) (p : ℕ) → length (seats_by held es p) ≤ length es
 seats_bound held es p = let same = seats_count held es p in let bound = modes_bound es p in omega (arith, same, bound)
 
-pub seats_fewer : (f g : Entry → Bool) (table : List Entry) (id : ClaimId) (p : ℕ) → length (seats_by f (entries_without table id) p) ≤ length (seats_by g table p)
-seats_fewer f g table id p =
-    let one = seats_count f (entries_without table id) p in
+pub seats_fewer : (f g : Entry → Bool) (gone : ClaimId → Bool) (table : List Entry) (p : ℕ) → length (seats_by f (filter (λ (e : Entry). not (gone e.id)) table) p) ≤ length (seats_by g table p)
+seats_fewer f g gone table p =
+    let one = seats_count f (filter (λ (e : Entry). not (gone e.id)) table) p in
     let all = seats_count g table p in
-    let fewer = modes_fewer (λ (e : Entry). not (same_id e.id id)) table p in
+    let fewer = modes_fewer (λ (e : Entry). not (gone e.id)) table p in
     omega (arith, one, all, fewer)
 
 filter_fewer : (test : Entry → Bool) (es : List Entry) → length (filter test es) ≤ length es
@@ -371,14 +357,6 @@ held_way_read cells table id locks kept queues one other seen a b c =
     ∙ (ap (λ (xs : List Entry). option_and_then (λ i. option_map (λ (e : Entry). e.id) (slice_get table i)) (held_seat_in_way xs seen id locks)) b
     ∙ (ap (λ (xs : List CellSeen). option_and_then (λ i. option_map (λ (e : Entry). e.id) (slice_get table i)) (held_seat_in_way table xs id locks)) c
     ∙ held_way_id cells table id locks kept queues))
-
-pub way_read : (cells : List CellSeen) (table : List Entry) (locks : List Lock) → IsDistinct same_id (ids table) → FindFirst cells table → (one other : List Entry) (seen : List CellSeen) → one ≡ table → other ≡ table → seen ≡ cells
-    → option_and_then (λ i. option_map (λ (e : Entry). e.id) (slice_get one i)) (seat_in_way other seen locks) ≡ first_in_way table locks
-way_read cells table locks distinct found one other seen a b c =
-    ap (λ (xs : List Entry). option_and_then (λ i. option_map (λ (e : Entry). e.id) (slice_get xs i)) (seat_in_way other seen locks)) a
-    ∙ (ap (λ (xs : List Entry). option_and_then (λ i. option_map (λ (e : Entry). e.id) (slice_get table i)) (seat_in_way xs seen locks)) b
-    ∙ (ap (λ (xs : List CellSeen). option_and_then (λ i. option_map (λ (e : Entry). e.id) (slice_get table i)) (seat_in_way table xs locks)) c
-    ∙ way_id cells table locks distinct found))
 
 -- as many seats as claims that have a mode there, with the first
 pub put_count : (cells : List CellSeen) (table : List Entry) (id : ClaimId) (locks : List Lock) (p : ℕ) → seats_at cells p ≡ seat_of true id (mode_at locks p) ++ seats_by (is_held_in table) (entries_without table id) p

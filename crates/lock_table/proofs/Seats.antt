@@ -16,6 +16,7 @@ use Rattle.lock_table.specs.declared.entry.Entry.{Entry}
 use Rattle.lock_table.specs.Locks.{mode_at}
 use Rattle.lock_table.specs.Tables.{entry_of, entries_without}
 use Rattle.lock_table.specs.Queues.{CellSeen, AreCounted, seat_modes, held_seats, seat_of, seats_by, seats_without, restood, by_lock, held_by, with_own, HasOwn, HasSeat}
+use Rattle.lock_table.proofs.Leaving.{is_id, kept_by}
 use Rattle.lock_table.proofs.Removals.{ids}
 use Rattle.lock_table.proofs.Counts.{with_one_swap}
 use Rattle.lock_table.proofs.Others.{with_one_same, count_own, restood_none, without_none, no_mode, rest_apart}
@@ -163,17 +164,6 @@ counted_restood seats new id i s b all held held' counted at differs up down is 
     by_flag false e false k = absurd (differs (k ∙ sym e))
 
 -- the seats of a table
-pub without_by : (id : ClaimId) (held : Entry → Bool) (es : List Entry) (p : ℕ) → seats_without id (seats_by held es p) ≡ seats_by held (entries_without es id) p
-without_by id held [] p = refl
-without_by id held (e ∷ es) p = by_tests (mode_at e.locks p) refl (same_id e.id id) refl (without_by id held es p)
-  where
-    by_tests : (o : Option Mode) → mode_at e.locks p ≡ o → (b : Bool) → same_id e.id id ≡ b → seats_without id (seats_by held es p) ≡ seats_by held (entries_without es id) p
-        → seats_without id (seat_of (held e) e.id o ++ seats_by held es p) ≡ seats_by held (cond (not b) (e ∷ entries_without es id) (entries_without es id)) p
-    by_tests None h true k ih = ih
-    by_tests None h false k ih = rw h ih
-    by_tests (Some m) h true k ih = rw k ih
-    by_tests (Some m) h false k ih = rw (h, k) (ap (λ xs. record { id = e.id; mode = m; is_held = held e } ∷ xs) ih)
-
 pub seats_same : (f g : Entry → Bool) (es : List Entry) (p : ℕ) → All (λ (e : Entry). f e ≡ g e) es → seats_by f es p ≡ seats_by g es p
 seats_same f g [] p all = refl
 seats_same f g (e ∷ es) p all =
@@ -201,8 +191,8 @@ pub left_by : (id : ClaimId) (held : Entry → Bool) (es : List Entry) (p : ℕ)
 left_by id held es p e distinct found = by_mode (mode_at e.locks p) refl
   where
     by_mode : (o : Option Mode) → mode_at e.locks p ≡ o → by_lock (λ m. seats_without id) o (seats_by held es p) ≡ seats_by held (entries_without es id) p
-    by_mode None h = sym (without_none id (seats_by held es p) (no_mode id held es p e distinct found h)) ∙ without_by id held es p
-    by_mode (Some m) h = without_by id held es p
+    by_mode None h = sym (without_none id (seats_by held es p) (no_mode id held es p e distinct found h)) ∙ kept_by (is_id id) held es p
+    by_mode (Some m) h = kept_by (is_id id) held es p
 
 pub stood_by : (id : ClaimId) (held : Entry → Bool) (b : Bool) (es : List Entry) (p : ℕ) (e : Entry) → IsDistinct same_id (ids es) → entry_of es id ≡ Some e
     → by_lock (λ m. restood id b) (mode_at e.locks p) (seats_by held es p) ≡ seats_by (held_by held id b) es p

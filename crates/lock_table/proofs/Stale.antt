@@ -65,7 +65,7 @@ apart_front (b ∷ before) es e distinct = All-cons (λ (x : Entry). same_id x.i
     last [] all = all.0
     last (x ∷ xs) all = last xs all.1
 
-listed : (P : ClaimId → Type 0) (es : List Entry) → AllByRecursion P (ids es) → All (λ (x : Entry). P x.id) es
+pub listed : (P : ClaimId → Type 0) (es : List Entry) → AllByRecursion P (ids es) → All (λ (x : Entry). P x.id) es
 listed P [] all = All-nil (λ (x : Entry). P x.id)
 listed P (x ∷ es) all = All-cons (λ (y : Entry). P y.id) x es all.0 (listed P es all.1)
 

@@ -1,6 +1,7 @@
 -- For each place the queue of the claims that have a mode there, in line order: Gray, Lorie, Putzolu, Traiger (1976).
 use Rattle.std.specs.Bool.{⊤}
-use Rattle.std.specs.Prelude.{◌≡◌, ℕ, ◌<◌, ◌≤◌, Bool, true, false, ◌&&◌, not, nat_lt, if◌then◌else◌, List, [], ◌∷◌, ◌++◌, length, map, take, drop, filter, find, position, slice_get, Option, None, Some, All}
+use Rattle.std.specs.Prelude.{◌≡◌, ℕ, ◌<◌, ◌≤◌, Bool, true, false, ◌&&◌, not, nat_lt, if◌then◌else◌, List, [], ◌∷◌, ◌++◌, length, map, take, drop, filter, find, position, slice_get, Option, None, Some, is_some, All}
+use Rattle.std.specs.List.{list_any}
 use Rattle.std.specs.Option.{option_map, option_and_then, is_none}
 use Rattle.vault_model.specs.declared.ids.ClaimId.{ClaimId}
 use Rattle.vault_model.specs.Claims.{same_id, is_short}
@@ -12,8 +13,8 @@ use Rattle.lock_table.specs.declared.locks.Lock.{Lock}
 use Rattle.lock_table.specs.declared.entry.Entry.{Entry}
 use Rattle.lock_table.specs.declared.cell.Seat.{Seat}
 use Rattle.lock_table.specs.declared.again.Again.{Again}
-use Rattle.lock_table.specs.declared.again.Again.TheVariants.{Behind, BehindShort, Queued, Everyone}
-use Rattle.lock_table.specs.Locks.{mode_at, AreApart}
+use Rattle.lock_table.specs.declared.again.Again.TheVariants.{Behind, BehindShort, Everyone}
+use Rattle.lock_table.specs.Locks.{mode_at, AreApart, conflict}
 use Rattle.lock_table.specs.Tables.{first_in_way, entries_before, is_held_in}
 
 -- the queue of a place, and how many seats it has memory for
@@ -138,15 +139,34 @@ pub record AreQueues (table : List Entry) (cells : List CellSeen) : Type 0 where
   pub room : (p : ℕ) → length (seats_at cells p) ≤ room_at cells p
   pub apart : All (λ (e : Entry). AreApart e.locks) table
 
+-- a claim waits for one of those that are gone
+abbrev pub waits_for : (ClaimId → Bool) → Option ClaimId → Bool
+waits_for gone None = false
+waits_for gone (Some other) = gone other
+
 -- which claims are weighed again, by what they waited for
 abbrev pub is_taken : Again → Option ClaimId → Bool
-is_taken (Behind id) None = false
-is_taken (Behind id) (Some other) = same_id other id
-is_taken BehindShort None = false
-is_taken BehindShort (Some other) = is_short other
-is_taken Queued None = false
-is_taken Queued (Some other) = true
+is_taken (Behind id) o = waits_for (λ other. same_id other id) o
+is_taken BehindShort o = waits_for is_short o
 is_taken Everyone o = true
+
+-- what entries wait for, where those that pass a test wait for one claim now
+abbrev pub waits_where : (Entry → Bool) → ClaimId → (Entry → Option ClaimId) → Entry → Option ClaimId
+waits_where test id old e = if test e then Some id else old e
+
+-- a seat is the entry's, queued, and in the way of a mode; one of these is; one at the place of one of these locks is
+abbrev pub is_queued_at : Mode → Seat → Entry → Bool
+is_queued_at m s e = (not s.is_held && not (compatible m s.mode)) && same_id e.id s.id
+
+abbrev pub is_queued_in : Mode → List Seat → Entry → Bool
+is_queued_in m seats e = list_any (λ (s : Seat). is_queued_at m s e) seats
+
+abbrev pub is_queued_against : List CellSeen → List Lock → Entry → Bool
+is_queued_against cells locks e = list_any (λ (l : Lock). is_queued_in l.mode (seats_at cells l.place) e) locks
+
+-- what an entry waits for, where these locks stand before it now: their claim, if it is queued and they are in its way
+abbrev pub waits_behind : List Entry → ClaimId → List Lock → Entry → Option ClaimId
+waits_behind table id locks e = if is_some (blocker_at table e) && conflict locks e.locks then Some id else blocker_at table e
 
 -- each entry's old blocker stands beside it, the seats are held by them, and those that aren't weighed again are right
 pub record AreStale (again : Again) (table : List Entry) (blockers : List (Option ClaimId)) (cells : List CellSeen) : Type 0 where

@@ -5,12 +5,11 @@ ghost use Rattle.lock_table.specs.Queues.{is_taken};
 use crate::cell::{is_same, is_short};
 use vault_model::ClaimId;
 
-/// Those that waited for one claim, for any short one, or for any, or all.
+/// Those that waited for one claim, for any short one, or all.
 #[derive(Clone, Copy)]
 pub(crate) enum Again {
     Behind(ClaimId),
     BehindShort,
-    Queued,
     Everyone,
 }
 
@@ -21,10 +20,8 @@ impl Again {
     {
         match (self, blocker) {
             (Again::Everyone, _) => true,
-            (Again::Queued, Some(_)) => true,
             (Again::Behind(id), Some(other)) => is_same(other, id),
             (Again::BehindShort, Some(other)) => is_short(other),
-            (Again::Queued, None) => false,
             (Again::Behind(_) | Again::BehindShort, None) => false,
         }
     }

@@ -218,6 +218,13 @@ impl<A: Allocator> Cell<A> {
         self.queue[index] = Seat { is_held, ..seat };
     }
 
+    /// The seats.
+    pub(crate) fn queue(&self) -> &[Seat]
+        ensures { result.now ≡ self.now.seats }
+    {
+        &self.queue
+    }
+
     /// The group of all seats.
     pub(crate) fn all(&self) -> Group
         ensures { result ≡ group_of (seat_modes self.now.seats) }

@@ -79,12 +79,23 @@ pub(crate) fn earlier_of<A: Allocator>(
     }
 }
 
-fn in_way_at<A: Allocator>(cells: &[Cell<A>], lock: Lock) -> Option<ClaimId>
+/// The claim of the first seat at a lock's place that is in its way.
+pub(crate) fn in_way_at<A: Allocator>(cells: &[Cell<A>], lock: Lock) -> Option<ClaimId>
     ensures { result ≡ first_of (is_in_way lock.mode) (seats_at cells.now lock.place) }
 {
     match cells.get(lock.place.number() as usize) {
         Some(cell) => cell.in_way(lock.mode),
         None => None,
+    }
+}
+
+/// The seats at a place.
+pub(crate) fn queue_at<A: Allocator>(cells: &[Cell<A>], place: PlaceId) -> &[Seat]
+    ensures { result.now ≡ seats_at cells.now place }
+{
+    match cells.get(place.number() as usize) {
+        Some(cell) => cell.queue(),
+        None => &[],
     }
 }
 
@@ -195,6 +206,21 @@ pub(crate) fn reserve<A: Allocator + Copy>(
     Ok(())
 }
 
+fn put_last_at<A: Allocator>(cells: &mut Vec<Cell<A>, A>, id: ClaimId, lock: Lock, is_held: bool)
+    requires room { length (seats_at cells.old.items lock.place) < room_at cells.old.items lock.place }
+    requires few { length (seats_at cells.old.items lock.place) < most_claims }
+    ensures here { seats_at cells.new.items lock.place ≡ seats_at cells.old.items lock.place
+        ++ record { id = id; mode = lock.mode; is_held = is_held } ∷ [] }
+    ensures elsewhere { (p : ℕ) → p ≢ lock.place → seats_at cells.new.items p ≡ seats_at cells.old.items p }
+    ensures room { (p : ℕ) → room_at cells.old.items p ≤ room_at cells.new.items p }
+{
+    cells[lock.place.number() as usize].put_last(Seat {
+        id,
+        mode: lock.mode,
+        is_held,
+    });
+}
+
 /// Puts a claim last at the place of each of its locks.
 pub(crate) fn put_last<A: Allocator>(
     cells: &mut Vec<Cell<A>, A>,
@@ -208,11 +234,7 @@ pub(crate) fn put_last<A: Allocator>(
     ensures room { (p : ℕ) → room_at cells.old.items p ≤ room_at cells.new.items p }
 {
     for lock in locks.as_slice() {
-        cells[lock.place.number() as usize].put_last(Seat {
-            id,
-            mode: lock.mode,
-            is_held,
-        });
+        put_last_at(cells, id, *lock, is_held);
     }
 }
 

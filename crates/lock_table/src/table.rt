@@ -4,20 +4,21 @@ ghost use Rattle.std.specs.List.{IsDistinct, list_any, remove};
 ghost use Rattle.std.specs.Option.{option_map, option_copied, option_and_then};
 ghost use Rattle.vault_model.specs.Claims.{same_id, is_short, standing_by};
 ghost use Rattle.vault_model.specs.Limits.{most_claims};
+ghost use Rattle.lock_table.specs.declared.cell.Seat.{Seat};
 ghost use Rattle.lock_table.specs.declared.entry.Entry.{Entry};
-ghost use Rattle.lock_table.specs.Queues.{AreQueues, AreSeated, IsWeighing, IsHeldAs, held_by, is_taken, blocker_at, blockers_of, seats_at, room_at, seats_by, queue_of, group_in, held_group_in};
+ghost use Rattle.lock_table.specs.Queues.{AreQueues, AreSeated, IsWeighing, IsHeldAs, held_by, is_taken, blocker_at, blockers_of, seats_at, room_at, seats_by, queue_of, group_in, held_group_in, is_queued_at, is_queued_in, is_queued_against, waits_where, waits_behind};
 ghost use Rattle.lock_table.specs.Tables.{IsTable, first_in_way, entry_of, entries_before, entries_without, long_entries, blocker_in, standing_in, is_held_in, held_in_way, extension_by, put_first, extended_by, locks_cover, held_over_in};
 
 use crate::again::Again;
-use crate::cell::{Cell, is_short};
+use crate::cell::{Cell, Seat, is_short};
 use crate::cells::{
-    admit, cover_at, earlier_of, group_at, held_at, held_in_way, in_way, index_of, place_of,
-    put_last, reserve, stand, take_out, take_short_out,
+    admit, cover_at, earlier_of, group_at, held_at, held_in_way, in_way, in_way_at, index_of,
+    place_of, put_last, queue_at, reserve, stand, take_out, take_short_out,
 };
 use crate::entry::Kept;
-use crate::{Extension, LockSet, cells};
+use crate::{Extension, Lock, LockSet, cells};
 use design_tree::Tree;
-use lock_modes::Group;
+use lock_modes::{Group, Mode};
 use std::alloc::{Allocator, Global};
 use std::marker::Model;
 use vault_model::{ClaimId, MOST_CLAIMS, NoMemory, PlaceId, Standing};
@@ -65,6 +66,22 @@ fn id_at<A: Allocator>(entries: &[Kept<A>], index: Option<usize>) -> Option<Clai
 {
     let entry = entries.get(index?)?;
     Some(entry.id())
+}
+
+// The claim for which a newcomer waits. The groups are asked first.
+fn first_behind<A: Allocator>(
+    entries: &[Kept<A>],
+    cells: &[Cell<A>],
+    locks: &LockSet,
+) -> Option<ClaimId>
+    requires distinct { IsDistinct same_id (map (λ (e : Entry). e.id) entries.now) }
+    requires seated { AreSeated entries.now cells.now }
+    ensures { result ≡ first_in_way entries.now locks.now }
+{
+    if admit(cells, locks) {
+        return None;
+    }
+    id_at(entries, in_way(entries, cells, locks))
 }
 
 // The claim before which a claim at this position waits.
@@ -256,6 +273,87 @@ fn take_short_away<A: Allocator>(
     weigh_again(entries, blockers, cells, Again::BehindShort, 0);
 }
 
+// Has the claim of a seat wait for another, if it is queued there and in the way of a mode.
+fn wait_at_seat<A: Allocator>(
+    entries: &[Kept<A>],
+    blockers: &mut Vec<Option<ClaimId>, A>,
+    seat: Seat,
+    id: ClaimId,
+    mode: Mode,
+)
+    requires distinct { IsDistinct same_id (map (λ (e : Entry). e.id) entries.now) }
+    requires many { length blockers.old.items ≡ length entries.now }
+    ensures waits { (old : Entry → Option ClaimId) → blockers.old.items ≡ map old entries.now
+        → blockers.new.items ≡ map (waits_where (is_queued_at mode seat) id old) entries.now }
+    ensures many { length blockers.new.items ≡ length entries.now }
+{
+    if seat.is_held || mode.compatible(seat.mode) {
+        return;
+    }
+    if let Some(index) = index_of(entries, seat.id) {
+        blockers[index] = Some(id);
+    }
+}
+
+// The same for the claims of some seats.
+fn wait_in_queue<A: Allocator>(
+    entries: &[Kept<A>],
+    blockers: &mut Vec<Option<ClaimId>, A>,
+    seats: &[Seat],
+    id: ClaimId,
+    mode: Mode,
+)
+    requires distinct { IsDistinct same_id (map (λ (e : Entry). e.id) entries.now) }
+    requires many { length blockers.old.items ≡ length entries.now }
+    ensures wait { (old : Entry → Option ClaimId) → blockers.old.items ≡ map old entries.now
+        → blockers.new.items ≡ map (waits_where (is_queued_in mode seats.now) id old) entries.now }
+    ensures many { length blockers.new.items ≡ length entries.now }
+{
+    for seat in seats {
+        wait_at_seat(entries, blockers, *seat, id, mode);
+    }
+}
+
+// The same at the place of a lock. The group is asked first.
+fn wait_at<A: Allocator>(
+    entries: &[Kept<A>],
+    blockers: &mut Vec<Option<ClaimId>, A>,
+    cells: &[Cell<A>],
+    id: ClaimId,
+    lock: Lock,
+)
+    requires distinct { IsDistinct same_id (map (λ (e : Entry). e.id) entries.now) }
+    requires many { length blockers.old.items ≡ length entries.now }
+    ensures wait { (old : Entry → Option ClaimId) → blockers.old.items ≡ map old entries.now
+        → blockers.new.items ≡ map (waits_where (is_queued_in lock.mode (seats_at cells.now lock.place)) id old) entries.now }
+    ensures many { length blockers.new.items ≡ length entries.now }
+{
+    let Lock { place, mode } = lock;
+    if in_way_at(cells, lock).is_none() {
+        return;
+    }
+    wait_in_queue(entries, blockers, queue_at(cells, place), id, mode);
+}
+
+// Has those claims wait for one that are queued and have a mode in the way of its locks.
+fn wait_behind<A: Allocator>(
+    entries: &[Kept<A>],
+    blockers: &mut Vec<Option<ClaimId>, A>,
+    cells: &[Cell<A>],
+    id: ClaimId,
+    locks: &LockSet,
+)
+    requires distinct { IsDistinct same_id (map (λ (e : Entry). e.id) entries.now) }
+    requires many { length blockers.old.items ≡ length entries.now }
+    ensures wait { (old : Entry → Option ClaimId) → blockers.old.items ≡ map old entries.now
+        → blockers.new.items ≡ map (waits_where (is_queued_against cells.now locks.now) id old) entries.now }
+    ensures many { length blockers.new.items ≡ length entries.now }
+{
+    for lock in locks.as_slice() {
+        wait_at(entries, blockers, cells, id, *lock);
+    }
+}
+
 fn put_first<A: Allocator + Copy>(
     entries: &mut Vec<Kept<A>, A>,
     blockers: &mut Vec<Option<ClaimId>, A>,
@@ -268,8 +366,8 @@ fn put_first<A: Allocator + Copy>(
     requires queues { AreQueues entries.old.items cells.old.items }
     requires blockers { blockers.old.items ≡ blockers_of entries.old.items }
     requires there { is_some (entry_of entries.old.items id) ≡ true }
-    requires enough { All (λ (e : Entry). is_taken again (blocker_at entries.old.items e) ≡ false
-        → blocker_at entries.old.items e ≡ blocker_at (put_first entries.old.items id locks) e) (entries_without entries.old.items id) }
+    requires enough { All (λ (e : Entry). is_taken again (waits_behind entries.old.items id locks e) ≡ false
+        → waits_behind entries.old.items id locks e ≡ blocker_at (put_first entries.old.items id locks) e) (entries_without entries.old.items id) }
     ensures done { OnOk result (entries.new.items ≡ put_first entries.old.items id locks) }
     ensures table { IsTable entries.new.items }
     ensures queues { AreQueues entries.new.items cells.new.items }
@@ -283,6 +381,7 @@ fn put_first<A: Allocator + Copy>(
     cells::put_first(cells, id, &locks);
     move_first(entries, index, kept);
     move_first(blockers, index, None);
+    wait_behind(entries, blockers, cells, id, &locks);
     weigh_again(entries, blockers, cells, again, 0);
     Ok(())
 }
@@ -343,13 +442,8 @@ impl<A: Allocator + Copy> Table<A> {
         self.entries.reserve(1)?;
         self.blockers.reserve(1)?;
         reserve(&mut self.cells, &locks)?;
-        let is_held = admit(&self.cells, &locks);
-        let blocker = if is_held {
-            None
-        } else {
-            id_at(&self.entries, in_way(&self.entries, &self.cells, &locks))
-        };
-        put_last(&mut self.cells, id, &locks, is_held);
+        let blocker = first_behind(&self.entries, &self.cells, &locks);
+        put_last(&mut self.cells, id, &locks, blocker.is_none());
         self.entries.push(kept).unwrap();
         self.blockers.push(blocker).unwrap();
         Ok(standing_by(blocker))
@@ -359,7 +453,8 @@ impl<A: Allocator + Copy> Table<A> {
     /// no other held claim is in the way.
     ///
     /// It asks the held group of each of its places, and looks through the queues of those that refuse.
-    /// Done, it looks once along the line, and weighs the queued claims again.
+    /// Done, those queued at its places wait for it that it is in the way of. It looks once along the
+    /// line for these and for those that waited for it before, and weighs no others again.
     pub fn extend(&mut self, id: ClaimId, locks: LockSet) -> Result<Extension, NoMemory>
         requires held { standing_in self.old id ≡ Some Standing.Held }
         ensures answer { IfOk result (λ extension. extension ≡ extension_by (held_in_way self.old id locks)) }
@@ -369,18 +464,14 @@ impl<A: Allocator + Copy> Table<A> {
         ensures memory { OnErr result (held_in_way self.old id locks ≡ None) }
         ensures unchanged { OnErr result (self.new ≡ self.old) }
     {
-        let index = index_of(&self.entries, id).unwrap();
-        let own = self.entries[index].locks();
-        let first = held_in_way(&self.entries, &self.cells, id, own, &locks);
-        match id_at(&self.entries, first) {
-            Some(other) => Ok(Extension::InTheWay(other)),
-            None => {
-                let entries = &mut self.entries;
-                let blockers = &mut self.blockers;
-                put_first(entries, blockers, &mut self.cells, id, locks, Again::Queued)?;
-                Ok(Extension::Done)
-            }
+        if let Some(other) = self.other_in_way(id, &locks) {
+            return Ok(Extension::InTheWay(other));
         }
+        let entries = &mut self.entries;
+        let blockers = &mut self.blockers;
+        let again = Again::Behind(id);
+        put_first(entries, blockers, &mut self.cells, id, locks, again)?;
+        Ok(Extension::Done)
     }
 
     /// Gives a claim another lock set, in place of its own, and the first place in the line, without
@@ -430,21 +521,40 @@ impl<A: Allocator> Table<A> {
         take_short_away(&mut self.entries, &mut self.blockers, &mut self.cells);
     }
 
+    // What stands beside a claim's entry, if it is there.
+    fn beside(&self, id: ClaimId) -> Option<Option<ClaimId>>
+        ensures { result ≡ option_map (λ (e : Entry). first_in_way (entries_before self.now id) e.locks) (entry_of self.now id) }
+    {
+        let index = index_of(&self.entries, id)?;
+        Some(self.blockers[index])
+    }
+
     /// How a claim stands, if it is there. It looks once along the line.
     pub fn standing(&self, id: ClaimId) -> Option<Standing>
         ensures standing { result ≡ standing_in self.now id }
         ensures table { IsTable self.now }
     {
-        let index = index_of(&self.entries, id)?;
-        Some(standing_by(self.blockers[index]))
+        self.see_whole();
+        let blocker = self.beside(id)?;
+        Some(standing_by(blocker))
     }
 
     /// The claim behind which a claim is queued.
     pub fn blocker(&self, id: ClaimId) -> Option<ClaimId>
         ensures { result ≡ blocker_in self.now id }
     {
-        let index = index_of(&self.entries, id)?;
-        self.blockers[index]
+        self.beside(id)?
+    }
+
+    // The first held claim but one that is in the way of these locks, which are to take the place of its own.
+    fn other_in_way(&self, id: ClaimId, locks: &LockSet) -> Option<ClaimId>
+        requires { standing_in self.now id ≡ Some Standing.Held }
+        ensures { result ≡ held_in_way self.now id locks.now }
+    {
+        let index = index_of(&self.entries, id).unwrap();
+        let own = self.entries[index].locks();
+        let first = held_in_way(&self.entries, &self.cells, id, own, locks);
+        id_at(&self.entries, first)
     }
 
     /// The first held claim that covers a place: it has S, SIX or X there, or at a place above.

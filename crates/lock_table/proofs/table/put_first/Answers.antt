@@ -1,14 +1,17 @@
-use Rattle.std.specs.Prelude.{◌≡◌, ◌≤◌, ℕ, List, ◌∷◌, ◌++◌, Some, None, position, length, true}
+use Rattle.std.specs.Prelude.{◌≡◌, ◌≤◌, ℕ, List, ◌∷◌, ◌++◌, Some, None, position, map, length, true}
 use Rattle.std.proofs.Common.{refl, ap, sym, subst, ◌∙◌, arith, rules}
 use Rattle.std.proofs.lemmas.List.{length-map}
-use Rattle.std.specs.List.{remove}
+use Rattle.std.specs.List.{IsDistinct}
+use Rattle.vault_model.specs.Claims.{same_id}
 use Rattle.lock_table.specs.declared.entry.Entry.{Entry}
 use Rattle.lock_table.specs.Locks.{mode_at}
 use Rattle.lock_table.specs.Tables.{IsTable, put_first, entries_without, is_held_in}
-use Rattle.lock_table.specs.Queues.{AreQueues, IsWeighing, seats_at, room_at, seat_of, queue_of, blockers_of, blocker_at}
+use Rattle.lock_table.specs.Queues.{CellSeen, AreQueues, IsWeighing, is_queued_against, waits_where, seats_at, room_at, seat_of, queue_of, blockers_of, blocker_at}
+use Rattle.lock_table.proofs.Leaving.{is_id}
 use Rattle.lock_table.proofs.Removals.{is_its, own_index}
 use Rattle.lock_table.proofs.TablesKept.{table_extended}
-use Rattle.lock_table.proofs.Blockers.{leave_law, taken_out, taken_beside, stale_first}
+use Rattle.lock_table.proofs.Blockers.{leave_law, taken_beside}
+use Rattle.lock_table.proofs.Waiting.{moved, was_first, were_first, stale_first}
 use Rattle.lock_table.proofs.Stale.{weigh_start}
 use Rattle.lock_table.proofs.Queuing.{located, seats_count, seats_bound, seats_fewer, one_less, room_left, first_room, put_count, same_length, apart_first}
 use Rattle.lock_table.proofs.table.put_first.Goals as goal
@@ -39,7 +42,7 @@ put_first-requires-clause-room g c =
     let at : position (is_its c.args.id) table ≡ Some c.unwrap-index.result = ap (position (is_its c.args.id)) (sym c.deref.ensures.value) ∙ (sym c.index_of.ensures ∙ c.unwrap-index.ensures) in
     let left = leave_law table c.deref-2.result.now c.leave.new.cells.items c.args.id c.unwrap-index.result c.deref-2.ensures.value at c.leave.ensures.seats in
     room_left c.reserve.new.cells.items c.leave.new.cells.items c.args.locks
-    (λ p. let one = ap length (left p) in let all = ap length (c.reserve.ensures.seats p ∙ c.requires.queues.queues p) in let fewer = seats_fewer (is_held_in table) (is_held_in table) table c.args.id p in omega (arith, one, all, fewer))
+    (λ p. let one = ap length (left p) in let all = ap length (c.reserve.ensures.seats p ∙ c.requires.queues.queues p) in let fewer = seats_fewer (is_held_in table) (is_held_in table) (is_id c.args.id) table p in omega (arith, one, all, fewer))
     c.leave.ensures.room c.in_ok-reserve.ensures.there
 
 pub put_first-requires-clause-few : goal.put_first-requires-clause-few
@@ -73,29 +76,54 @@ weigh_again-requires-clause-table g c =
     let table = c.args.entries.now.items in
     let at : position (is_its c.args.id) table ≡ Some c.unwrap-index.result = ap (position (is_its c.args.id)) (sym c.deref.ensures.value) ∙ (sym c.index_of.ensures ∙ c.unwrap-index.ensures) in
     let made : c.in_ok-kept.kept ≡ record { id = c.args.id; locks = c.args.locks } = search rules in
-    let done : c.move_first.new.items.items ≡ put_first table c.args.id c.args.locks = c.move_first.ensures ∙ (ap (λ (k : Entry). k ∷ remove table c.unwrap-index.result) made ∙ ap (λ (xs : List Entry). record { id = c.args.id; locks = c.args.locks } ∷ xs) (taken_out table c.args.id c.unwrap-index.result c.requires.table.distinct at)) in
+    let done : c.move_first.new.items.items ≡ put_first table c.args.id c.args.locks = moved table c.args.id c.args.locks c.unwrap-index.result c.requires.table.distinct at c.move_first.new.items.items c.in_ok-kept.kept made c.move_first.ensures in
     let kept : IsTable (put_first table c.args.id c.args.locks) = table_extended table c.args.id c.args.locks c.requires.table (same_length table c.args.id c.args.locks c.requires.table.distinct c.requires.there) in
-    subst (λ (t : List Entry). IsTable t) (sym (c.deref-4.ensures.value ∙ done)) kept
+    subst (λ (t : List Entry). IsTable t) (sym (c.deref-6.ensures.value ∙ done)) kept
+
+pub wait_behind-requires-clause-distinct : goal.wait_behind-requires-clause-distinct
+wait_behind-requires-clause-distinct g c =
+    let table = c.args.entries.now.items in
+    let at : position (is_its c.args.id) table ≡ Some c.unwrap-index.result = ap (position (is_its c.args.id)) (sym c.deref.ensures.value) ∙ (sym c.index_of.ensures ∙ c.unwrap-index.ensures) in
+    let made : c.in_ok-kept.kept ≡ record { id = c.args.id; locks = c.args.locks } = search rules in
+    let done : c.move_first.new.items.items ≡ put_first table c.args.id c.args.locks = moved table c.args.id c.args.locks c.unwrap-index.result c.requires.table.distinct at c.move_first.new.items.items c.in_ok-kept.kept made c.move_first.ensures in
+    let kept : IsTable (put_first table c.args.id c.args.locks) = table_extended table c.args.id c.args.locks c.requires.table (same_length table c.args.id c.args.locks c.requires.table.distinct c.requires.there) in
+    subst (λ (t : List Entry). IsDistinct same_id (map (λ (e : Entry). e.id) t)) (sym (c.deref-4.ensures.value ∙ done)) kept.distinct
+
+pub wait_behind-requires-clause-many : goal.wait_behind-requires-clause-many
+wait_behind-requires-clause-many g c =
+    let table = c.args.entries.now.items in
+    let at : position (is_its c.args.id) table ≡ Some c.unwrap-index.result = ap (position (is_its c.args.id)) (sym c.deref.ensures.value) ∙ (sym c.index_of.ensures ∙ c.unwrap-index.ensures) in
+    let made : c.in_ok-kept.kept ≡ record { id = c.args.id; locks = c.args.locks } = search rules in
+    let done : c.move_first.new.items.items ≡ put_first table c.args.id c.args.locks = moved table c.args.id c.args.locks c.unwrap-index.result c.requires.table.distinct at c.move_first.new.items.items c.in_ok-kept.kept made c.move_first.ensures in
+    let beside = c.move_first-2.ensures ∙ ap (λ xs. None ∷ xs) (taken_beside table c.args.blockers.now.items c.args.id c.unwrap-index.result c.requires.table.distinct at c.requires.blockers) in
+    ap length (were_first table c.args.id c.args.locks c.move_first-2.new.items.items beside) ∙ (length-map (put_first table c.args.id c.args.locks) (was_first table c.args.id c.args.locks) ∙ ap length (sym (c.deref-4.ensures.value ∙ done)))
 
 pub weigh_again-requires-clause-weighing : goal.weigh_again-requires-clause-weighing
 weigh_again-requires-clause-weighing g c =
     let table = c.args.entries.now.items in
     let at : position (is_its c.args.id) table ≡ Some c.unwrap-index.result = ap (position (is_its c.args.id)) (sym c.deref.ensures.value) ∙ (sym c.index_of.ensures ∙ c.unwrap-index.ensures) in
     let made : c.in_ok-kept.kept ≡ record { id = c.args.id; locks = c.args.locks } = search rules in
-    let done : c.move_first.new.items.items ≡ put_first table c.args.id c.args.locks = c.move_first.ensures ∙ (ap (λ (k : Entry). k ∷ remove table c.unwrap-index.result) made ∙ ap (λ (xs : List Entry). record { id = c.args.id; locks = c.args.locks } ∷ xs) (taken_out table c.args.id c.unwrap-index.result c.requires.table.distinct at)) in
+    let done : c.move_first.new.items.items ≡ put_first table c.args.id c.args.locks = moved table c.args.id c.args.locks c.unwrap-index.result c.requires.table.distinct at c.move_first.new.items.items c.in_ok-kept.kept made c.move_first.ensures in
     let kept : IsTable (put_first table c.args.id c.args.locks) = table_extended table c.args.id c.args.locks c.requires.table (same_length table c.args.id c.args.locks c.requires.table.distinct c.requires.there) in
+    let now = put_first table c.args.id c.args.locks in
+    let cells = c.put_first.new.cells.items in
+    let old = was_first table c.args.id c.args.locks in
     let left = leave_law table c.deref-2.result.now c.leave.new.cells.items c.args.id c.unwrap-index.result c.deref-2.ensures.value at c.leave.ensures.seats in
     let beside = c.move_first-2.ensures ∙ ap (λ xs. None ∷ xs) (taken_beside table c.args.blockers.now.items c.args.id c.unwrap-index.result c.requires.table.distinct at c.requires.blockers) in
-    subst (λ (t : List Entry). IsWeighing c.args.again t c.move_first-2.new.items.items c.put_first.new.cells.items 0) (sym (c.deref-4.ensures.value ∙ done))
-    (weigh_start c.args.again (put_first table c.args.id c.args.locks) c.move_first-2.new.items.items c.put_first.new.cells.items (stale_first c.args.again table c.args.id c.args.locks c.move_first-2.new.items.items c.put_first.new.cells.items beside
-    (λ p. c.put_first.ensures.seats p ∙ ap (λ xs. seat_of true c.args.id (mode_at c.args.locks p) ++ xs) (left p)) c.requires.enough))
+    let were : c.move_first-2.new.items.items ≡ map old c.deref-4.result.now = were_first table c.args.id c.args.locks c.move_first-2.new.items.items beside ∙ ap (map old) (sym (c.deref-4.ensures.value ∙ done)) in
+    let waits : c.wait_behind.new.blockers.items ≡ map (waits_where (is_queued_against cells c.args.locks) c.args.id old) now = c.wait_behind.ensures.wait old were
+    ∙ (ap (map (waits_where (is_queued_against c.deref-5.result.now c.args.locks) c.args.id old)) (c.deref-4.ensures.value ∙ done)
+    ∙ ap (λ (seen : List CellSeen). map (waits_where (is_queued_against seen c.args.locks) c.args.id old) now) c.deref-5.ensures.value) in
+    subst (λ (t : List Entry). IsWeighing c.args.again t c.wait_behind.new.blockers.items cells 0) (sym (c.deref-6.ensures.value ∙ done))
+    (weigh_start c.args.again now c.wait_behind.new.blockers.items cells (stale_first table c.args.id c.args.locks c.args.again cells kept.distinct
+    (λ p. c.put_first.ensures.seats p ∙ ap (λ xs. seat_of true c.args.id (mode_at c.args.locks p) ++ xs) (left p)) c.requires.enough c.wait_behind.new.blockers.items waits))
 
 pub returns-clause-done : goal.returns-clause-done
 returns-clause-done g c =
     let table = c.args.entries.now.items in
     let at : position (is_its c.args.id) table ≡ Some c.unwrap-index.result = ap (position (is_its c.args.id)) (sym c.deref.ensures.value) ∙ (sym c.index_of.ensures ∙ c.unwrap-index.ensures) in
     let made : c.in_ok-kept.kept ≡ record { id = c.args.id; locks = c.args.locks } = search rules in
-    let done : c.move_first.new.items.items ≡ put_first table c.args.id c.args.locks = c.move_first.ensures ∙ (ap (λ (k : Entry). k ∷ remove table c.unwrap-index.result) made ∙ ap (λ (xs : List Entry). record { id = c.args.id; locks = c.args.locks } ∷ xs) (taken_out table c.args.id c.unwrap-index.result c.requires.table.distinct at)) in
+    let done : c.move_first.new.items.items ≡ put_first table c.args.id c.args.locks = moved table c.args.id c.args.locks c.unwrap-index.result c.requires.table.distinct at c.move_first.new.items.items c.in_ok-kept.kept made c.move_first.ensures in
     let kept : IsTable (put_first table c.args.id c.args.locks) = table_extended table c.args.id c.args.locks c.requires.table (same_length table c.args.id c.args.locks c.requires.table.distinct c.requires.there) in
     done
 
@@ -104,7 +132,7 @@ returns-clause-table g c =
     let table = c.args.entries.now.items in
     let at : position (is_its c.args.id) table ≡ Some c.unwrap-index.result = ap (position (is_its c.args.id)) (sym c.deref.ensures.value) ∙ (sym c.index_of.ensures ∙ c.unwrap-index.ensures) in
     let made : c.in_ok-kept.kept ≡ record { id = c.args.id; locks = c.args.locks } = search rules in
-    let done : c.move_first.new.items.items ≡ put_first table c.args.id c.args.locks = c.move_first.ensures ∙ (ap (λ (k : Entry). k ∷ remove table c.unwrap-index.result) made ∙ ap (λ (xs : List Entry). record { id = c.args.id; locks = c.args.locks } ∷ xs) (taken_out table c.args.id c.unwrap-index.result c.requires.table.distinct at)) in
+    let done : c.move_first.new.items.items ≡ put_first table c.args.id c.args.locks = moved table c.args.id c.args.locks c.unwrap-index.result c.requires.table.distinct at c.move_first.new.items.items c.in_ok-kept.kept made c.move_first.ensures in
     let kept : IsTable (put_first table c.args.id c.args.locks) = table_extended table c.args.id c.args.locks c.requires.table (same_length table c.args.id c.args.locks c.requires.table.distinct c.requires.there) in
     subst (λ (t : List Entry). IsTable t) (sym done) kept
 
@@ -113,18 +141,18 @@ returns-clause-queues g c =
     let table = c.args.entries.now.items in
     let at : position (is_its c.args.id) table ≡ Some c.unwrap-index.result = ap (position (is_its c.args.id)) (sym c.deref.ensures.value) ∙ (sym c.index_of.ensures ∙ c.unwrap-index.ensures) in
     let made : c.in_ok-kept.kept ≡ record { id = c.args.id; locks = c.args.locks } = search rules in
-    let done : c.move_first.new.items.items ≡ put_first table c.args.id c.args.locks = c.move_first.ensures ∙ (ap (λ (k : Entry). k ∷ remove table c.unwrap-index.result) made ∙ ap (λ (xs : List Entry). record { id = c.args.id; locks = c.args.locks } ∷ xs) (taken_out table c.args.id c.unwrap-index.result c.requires.table.distinct at)) in
+    let done : c.move_first.new.items.items ≡ put_first table c.args.id c.args.locks = moved table c.args.id c.args.locks c.unwrap-index.result c.requires.table.distinct at c.move_first.new.items.items c.in_ok-kept.kept made c.move_first.ensures in
     let kept : IsTable (put_first table c.args.id c.args.locks) = table_extended table c.args.id c.args.locks c.requires.table (same_length table c.args.id c.args.locks c.requires.table.distinct c.requires.there) in
     let left = leave_law table c.deref-2.result.now c.leave.new.cells.items c.args.id c.unwrap-index.result c.deref-2.ensures.value at c.leave.ensures.seats in
     let now = put_first table c.args.id c.args.locks in
-    let same : c.deref-4.result.now ≡ now = c.deref-4.ensures.value ∙ done in
+    let same : c.deref-6.result.now ≡ now = c.deref-6.ensures.value ∙ done in
     let there = room_left c.reserve.new.cells.items c.leave.new.cells.items c.args.locks
-    (λ p. let one = ap length (left p) in let all = ap length (c.reserve.ensures.seats p ∙ c.requires.queues.queues p) in let fewer = seats_fewer (is_held_in table) (is_held_in table) table c.args.id p in omega (arith, one, all, fewer))
+    (λ p. let one = ap length (left p) in let all = ap length (c.reserve.ensures.seats p ∙ c.requires.queues.queues p) in let fewer = seats_fewer (is_held_in table) (is_held_in table) (is_id c.args.id) table p in omega (arith, one, all, fewer))
     c.leave.ensures.room c.in_ok-reserve.ensures.there in
     let rest : (p : ℕ) → length (seats_at c.leave.new.cells.items p) ≤ room_at c.leave.new.cells.items p = λ p.
     let one = ap length (left p) in
     let all = ap length (c.requires.queues.queues p) in
-    let fewer = seats_fewer (is_held_in table) (is_held_in table) table c.args.id p in
+    let fewer = seats_fewer (is_held_in table) (is_held_in table) (is_id c.args.id) table p in
     let old = c.requires.queues.room p in
     let a = c.reserve.ensures.room p in
     let b = c.leave.ensures.room p in
@@ -143,4 +171,4 @@ returns-clause-queues g c =
     })
 
 pub returns-clause-blockers : goal.returns-clause-blockers
-returns-clause-blockers g c = c.weigh_again.ensures.blockers ∙ ap (λ (t : List Entry). blockers_of t) c.deref-4.ensures.value
+returns-clause-blockers g c = c.weigh_again.ensures.blockers ∙ ap (λ (t : List Entry). blockers_of t) c.deref-6.ensures.value

@@ -5,7 +5,7 @@ use Rattle.lock_table.specs.declared.entry.Entry.{Entry}
 use Rattle.lock_table.specs.declared.again.Again.TheVariants.{Behind}
 use Rattle.lock_table.specs.Tables.{IsTable, entries_without, is_held_in}
 use Rattle.lock_table.specs.Queues.{AreQueues, IsWeighing, queue_of, blockers_of, blocker_at}
-use Rattle.lock_table.proofs.TablesKept.{table_without}
+use Rattle.lock_table.proofs.Leaving.{is_id, table_kept}
 use Rattle.lock_table.proofs.Blockers.{leave_law, taken_out, taken_beside, weighing_left}
 use Rattle.lock_table.proofs.Queuing.{located, seats_fewer, apart_without}
 use Rattle.lock_table.proofs.table.take_away.Goals as goal
@@ -40,7 +40,7 @@ pub weigh_again-requires-clause-table : goal.weigh_again-requires-clause-table
 weigh_again-requires-clause-table g c =
     let table = c.args.entries.now.items in
     let done : c.remove.new.self.items ≡ entries_without table c.args.id = c.remove.ensures.items ∙ taken_out table c.args.id c.args.index c.requires.table.distinct c.requires.there in
-    subst (λ (t : List Entry). IsTable t) (sym (c.deref-3.ensures.value ∙ done)) (table_without table c.args.id c.requires.table)
+    subst (λ (t : List Entry). IsTable t) (sym (c.deref-3.ensures.value ∙ done)) (table_kept (is_id c.args.id) table c.requires.table)
 
 pub weigh_again-requires-clause-weighing : goal.weigh_again-requires-clause-weighing
 weigh_again-requires-clause-weighing g c =
@@ -58,7 +58,7 @@ pub returns-clause-table : goal.returns-clause-table
 returns-clause-table g c =
     let table = c.args.entries.now.items in
     let done : c.remove.new.self.items ≡ entries_without table c.args.id = c.remove.ensures.items ∙ taken_out table c.args.id c.args.index c.requires.table.distinct c.requires.there in
-    subst (λ (t : List Entry). IsTable t) (sym done) (table_without table c.args.id c.requires.table)
+    subst (λ (t : List Entry). IsTable t) (sym done) (table_kept (is_id c.args.id) table c.requires.table)
 
 pub returns-clause-queues : goal.returns-clause-queues
 returns-clause-queues g c =
@@ -69,7 +69,7 @@ returns-clause-queues g c =
       queues = λ p. c.weigh_again.ensures.queues p ∙ ap (λ (t : List Entry). queue_of t p) (same ∙ done);
       room = λ p.
           let now = ap length (c.weigh_again.ensures.queues p ∙ ap (λ (t : List Entry). queue_of t p) (same ∙ done)) in
-          let fewer = seats_fewer (is_held_in (entries_without table c.args.id)) (is_held_in table) table c.args.id p in
+          let fewer = seats_fewer (is_held_in (entries_without table c.args.id)) (is_held_in table) (is_id c.args.id) table p in
           let old = ap length (c.requires.queues.queues p) in
           let room = c.requires.queues.room p in
           let more = c.leave.ensures.room p in

@@ -7,8 +7,9 @@ use Rattle.lock_table.specs.declared.again.Again.TheVariants.{BehindShort}
 use Rattle.lock_table.specs.Locks.{AreApart}
 use Rattle.lock_table.specs.Tables.{IsTable, is_held_in, long_entries}
 use Rattle.lock_table.specs.Queues.{AreQueues, IsWeighing, long_seats, queue_of, blocker_at}
-use Rattle.lock_table.proofs.Queuing.{seats_bound}
-use Rattle.lock_table.proofs.Shorts.{table_long, stale_long, fewer_long}
+use Rattle.lock_table.proofs.Queuing.{seats_bound, seats_fewer}
+use Rattle.lock_table.proofs.Leaving.{table_kept}
+use Rattle.lock_table.proofs.Shorts.{stale_long}
 use Rattle.lock_table.proofs.Stale.{weigh_start}
 use Rattle.lock_table.proofs.table.take_short_away.Goals as goal
 
@@ -20,7 +21,7 @@ take_short_out-requires g c = λ p.
 
 pub weigh_again-requires-clause-table : goal.weigh_again-requires-clause-table
 weigh_again-requires-clause-table g c =
-    subst (λ (t : List Entry). IsTable t) (sym (c.deref.ensures.value ∙ c.keep_long.ensures.done)) (table_long c.args.entries.now.items c.requires.table)
+    subst (λ (t : List Entry). IsTable t) (sym (c.deref.ensures.value ∙ c.keep_long.ensures.done)) (table_kept is_short c.args.entries.now.items c.requires.table)
 
 pub weigh_again-requires-clause-weighing : goal.weigh_again-requires-clause-weighing
 weigh_again-requires-clause-weighing g c =
@@ -32,7 +33,7 @@ weigh_again-requires-clause-weighing g c =
     (weigh_start BehindShort (long_entries table) c.keep_long.new.blockers.items c.take_short_out.new.cells.items stale)
 
 pub returns-clause-table : goal.returns-clause-table
-returns-clause-table g c = subst (λ (t : List Entry). IsTable t) (sym c.keep_long.ensures.done) (table_long c.args.entries.now.items c.requires.table)
+returns-clause-table g c = subst (λ (t : List Entry). IsTable t) (sym c.keep_long.ensures.done) (table_kept is_short c.args.entries.now.items c.requires.table)
 
 pub returns-clause-queues : goal.returns-clause-queues
 returns-clause-queues g c =
@@ -42,7 +43,7 @@ returns-clause-queues g c =
       queues = λ p. c.weigh_again.ensures.queues p ∙ ap (λ (t : List Entry). queue_of t p) (c.deref.ensures.value ∙ done);
       room = λ p.
           let now = ap length (c.weigh_again.ensures.queues p ∙ ap (λ (t : List Entry). queue_of t p) (c.deref.ensures.value ∙ done)) in
-          let fewer = fewer_long (is_held_in (long_entries table)) (is_held_in table) table p in
+          let fewer = seats_fewer (is_held_in (long_entries table)) (is_held_in table) is_short table p in
           let old = ap length (c.requires.queues.queues p) in
           let room = c.requires.queues.room p in
           let more = c.take_short_out.ensures.room p in

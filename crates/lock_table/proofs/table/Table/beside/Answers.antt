@@ -1,18 +1,16 @@
-use Rattle.std.specs.Prelude.{◌≡◌, List, None, Some, position, length}
+use Rattle.std.specs.Prelude.{◌≡◌, None, Some, position, length}
 use Rattle.std.proofs.Common.{ap, sym, ◌∙◌, arith, rules}
-use Rattle.lock_table.specs.declared.entry.Entry.{Entry}
-use Rattle.lock_table.specs.Tables.{blocker_in}
+use Rattle.std.proofs.lemmas.List.{length-map}
 use Rattle.lock_table.specs.Queues.{blocker_at}
 use Rattle.lock_table.proofs.Removals.{is_its}
-use Rattle.lock_table.proofs.Queuing.{located, blocker_absent, blocker_beside}
-use Rattle.std.proofs.lemmas.List.{length-map}
-use Rattle.lock_table.proofs.table.Table.blocker.Goals as goal
+use Rattle.lock_table.proofs.Queuing.{located, Waits, waits_absent, waits_beside}
+use Rattle.lock_table.proofs.table.Table.beside.Goals as goal
 
 pub returns-in_err-index : goal.returns-in_err-index
 returns-in_err-index g c =
     let none : c.index_of.result ≡ None = search rules in
     let nothing : c.from_residual.result ≡ None = search rules in
-    nothing ∙ (blocker_absent c.self.inside.entries.items c.args.id (ap (position (is_its c.args.id)) (sym c.deref.ensures.value) ∙ (sym c.index_of.ensures ∙ none)) ∙ ap (λ (t : List Entry). blocker_in t c.args.id) c.self.view_is)
+    nothing ∙ (waits_absent c.self.inside.entries.items c.args.id (ap (position (is_its c.args.id)) (sym c.deref.ensures.value) ∙ (sym c.index_of.ensures ∙ none)) ∙ ap (λ t. Waits t c.args.id) c.self.view_is)
 
 pub index-requires : goal.index-requires
 index-requires g c =
@@ -26,7 +24,6 @@ index-requires g c =
 pub returns : goal.returns
 returns g c =
     let table = c.self.inside.entries.items in
-    let blockers = c.self.inside.blockers.items in
     let some : c.index_of.result ≡ Some c.in_ok-index.index = search rules in
     let at : position (is_its c.args.id) table ≡ Some c.in_ok-index.index = ap (position (is_its c.args.id)) (sym c.deref.ensures.value) ∙ (sym c.index_of.ensures ∙ some) in
-    blocker_beside table blockers c.args.id c.in_ok-index.index c.index.result.now c.self.invariant.2 at c.index.ensures ∙ ap (λ (t : List Entry). blocker_in t c.args.id) c.self.view_is
+    waits_beside table c.self.inside.blockers.items c.args.id c.in_ok-index.index c.index.result.now c.self.invariant.2 at c.index.ensures ∙ ap (λ t. Waits t c.args.id) c.self.view_is

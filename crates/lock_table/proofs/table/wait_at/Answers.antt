@@ -1,0 +1,14 @@
+use Rattle.std.specs.Prelude.{◌≡◌, is_none, true}
+use Rattle.std.proofs.Common.{sym, ◌∙◌}
+use Rattle.lock_table.specs.Queues.{seats_at, is_queued_in}
+use Rattle.lock_table.proofs.Queuing.{none_is}
+use Rattle.lock_table.proofs.Seats.{none_flag}
+use Rattle.lock_table.proofs.Waiting.{none_against, waits_nobody}
+use Rattle.lock_table.proofs.table.wait_at.Goals as goal
+
+pub returns-then-is_none-clause-wait : goal.returns-then-is_none-clause-wait
+returns-then-is_none-clause-wait g c = λ old were.
+    let place = c.args.lock.place in
+    let nobody : is_none c.in_way_at.result ≡ true = sym (none_flag c.in_way_at.result c.is_none.result c.is_none.ensures) ∙ c.if-is_none.true in
+    waits_nobody (is_queued_in c.args.lock.mode (seats_at c.args.cells.now place)) c.args.entries.now c.args.blockers.now.items c.args.id
+    (none_against c.args.lock.mode (seats_at c.args.cells.now place) (sym (none_is c.in_way_at.result nobody ∙ c.in_way_at.ensures))) old were
