@@ -92,7 +92,8 @@ pub length_modes : (seats : List Seat) → length (seat_modes seats) ≡ length 
 length_modes [] = refl
 length_modes (s ∷ seats) = ap suc (length_modes seats)
 
-length_held : (seats : List Seat) → length (held_seats seats) ≤ length seats
+-- no more seats are held than there are
+pub length_held : (seats : List Seat) → length (held_seats seats) ≤ length seats
 length_held [] = omega arith
 length_held (s ∷ seats) = by_test s.is_held (length_held seats)
   where

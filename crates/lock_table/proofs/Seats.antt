@@ -18,7 +18,7 @@ use Rattle.lock_table.specs.Tables.{entry_of, entries_without}
 use Rattle.lock_table.specs.Queues.{CellSeen, AreCounted, seat_modes, held_seats, seat_of, seats_by, seats_without, restood, by_lock, held_by, with_own, HasOwn, HasSeat}
 use Rattle.lock_table.proofs.Leaving.{is_id, kept_by}
 use Rattle.lock_table.proofs.Removals.{ids}
-use Rattle.lock_table.proofs.Counts.{with_one_swap}
+use Rattle.lock_table.proofs.Counts.{with_one_swap, length_held}
 use Rattle.lock_table.proofs.Others.{with_one_same, count_own, restood_none, without_none, no_mode, rest_apart}
 
 -- a seat put first
@@ -63,14 +63,6 @@ module _ (id : ClaimId) where
     pub up : s.is_held ≡ false → group_of (seat_modes (held_seats (restood id true seats))) ≡ with_one (group_of (seat_modes (held_seats seats))) s.mode
     pub down : s.is_held ≡ true → group_of (seat_modes (held_seats seats)) ≡ with_one (group_of (seat_modes (held_seats (restood id false seats)))) s.mode
     pub fewer : s.is_held ≡ false → length (held_seats seats) < length seats
-
-  length_held : (seats : List Seat) → length (held_seats seats) ≤ length seats
-  length_held [] = omega arith
-  length_held (s ∷ seats) = by_test s.is_held (length_held seats)
-    where
-      by_test : (b : Bool) → length (held_seats seats) ≤ length seats → length (cond b (s ∷ held_seats seats) (held_seats seats)) ≤ suc (length seats)
-      by_test true ih = omega (arith, ih)
-      by_test false ih = omega (arith, ih)
 
   at_here : (s : Seat) (seats : List Seat) → same_id s.id id ≡ true → IsAt (s ∷ seats) 0 s
   at_here s seats e = record {
@@ -124,6 +116,10 @@ module _ (id : ClaimId) where
           let same : position_or_len is_its seats ≡ i = same_Some (position_or_len is_its seats) i k in
           let inside : position_or_len is_its seats < length seats = grind (arith, nat_tests, h) in
           subst (λ j. IsAt seats j s) same (at_position seats s inside (subst (λ j. s ≡ get_or seats j s) (sym same) is))
+
+  -- the same read of a copy of the queue
+  pub seat_read : (seats seen : List Seat) (i : ℕ) (s : Seat) → seen ≡ seats → position is_its seen ≡ Some i → s ≡ get_or seats i s → IsAt seats i s
+  seat_read seats seen i s same e is = seat_found seats i s (ap (position is_its) (sym same) ∙ e) is
 
   pub seat_absent : (seats : List Seat) (b : Bool) → position is_its seats ≡ None → restood id b seats ≡ seats
   seat_absent seats b e = by_test (nat_lt (position_or_len is_its seats) (length seats)) refl e
