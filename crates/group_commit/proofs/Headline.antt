@@ -10,6 +10,7 @@ use Rattle.vault_model.specs.Vault.{Vault, durable}
 use Rattle.vault_device.specs.Disk.{Disk}
 use Rattle.vault_store.specs.Phases.{is_idle, is_opening, may_open}
 use Rattle.vault_store.specs.Laws.{CrashLeavesWhatIsKept, OneGateIsOpened, OneVault, NothingIsWrong}
+use Rattle.vault_store.proofs.Busy.{opening_is_busy, may_open_is_busy}
 use Rattle.group_commit.specs.declared.mark.Mark.{Mark}
 use Rattle.group_commit.specs.declared.mark.Mark.TheVariants.{Told}
 use Rattle.group_commit.specs.Entries.{Entry, Kept, mark_at}
@@ -24,13 +25,12 @@ use Rattle.group_commit.specs.Positions.{HasTold}
 use Rattle.group_commit.specs.Ticket.{Told as Receipt, entry_in}
 use Rattle.group_commit.specs.Recovered.{world_after, events_until, IsOneRun, history_of, life_begins, IsRecovered, IsKeptThrough, ReceiptsAreFoundAgain}
 use Rattle.group_commit.proofs.Guarded.{history_is_guarded}
-use Rattle.group_commit.proofs.Order.{opening_is_busy}
 use Rattle.group_commit.proofs.Sound.{IsSound, first_stays, run_sound, run-append, first_part, second_part}
 use Rattle.group_commit.proofs.Stays.{StandsSettled, stays}
 use Rattle.group_commit.proofs.ViewLaw.{view_at_is}
 use Rattle.group_commit.proofs.Recovery.{prefix_is}
 use Rattle.group_commit.proofs.Prefixes.{get_take, get_drop, get_behind, no_short}
-use Rattle.group_commit.proofs.Pasts.{IsFound, IsFoundIn, may_open_is_busy, found_between, found_by_stop, opened_as, of_a_vault, reaches, begins_sound, past_sound, one_run, until_first}
+use Rattle.group_commit.proofs.Pasts.{IsFound, IsFoundIn, found_between, found_by_stop, opened_as, of_a_vault, reaches, begins_sound, past_sound, one_run, until_first}
 
 -- a vault is the durable one after so many entries of a life, which are all that are settled and maybe more
 record IsCut (open_gate : Bool) (w : World) (left : Vault) : Type 0 where

@@ -8,12 +8,12 @@ use Rattle.vault_store.specs.Files.{StandFor}
 use Rattle.vault_store.specs.Phases.{is_opening}
 use Rattle.vault_store.specs.Seen.{of_file, Keeps, settled_reading, sealed_reading, gate_at, gated, IsByGate, IsLeftWhile, IsLeft}
 use Rattle.vault_store.specs.Laws.{CrashLeavesWhatIsKept, OneGateIsOpened}
+use Rattle.vault_store.proofs.Busy.{opening_is_busy}
 use Rattle.group_commit.specs.World.{new_world}
 use Rattle.group_commit.specs.Runs.{run}
 use Rattle.group_commit.specs.View.{View, view_at, MayLeave}
 use Rattle.group_commit.specs.Seen.{VaultSeen, state_of}
 use Rattle.group_commit.specs.Promises.{ImagesStand, RecoveryGivesOnePrefix}
-use Rattle.group_commit.proofs.Order.{opening_is_busy}
 use Rattle.group_commit.proofs.Sound.{after_run, first_stays}
 use Rattle.group_commit.proofs.Recovery.{is_prefix, left_is_recovered}
 

@@ -3,7 +3,7 @@ use Rattle.std.specs.Prelude.{nat_le, Bool, true, false, cond}
 use Rattle.std.proofs.Common.{◌≡◌, ◌≢◌, ◌-◌, ℕ, ◌≤◌, true, false, cond, refl, arith}
 use Rattle.vault_store.specs.declared.phase.Phase.{Phase}
 use Rattle.vault_store.specs.declared.phase.Phase.TheVariants.{Idle, Written, Bodied, Opening, Start, Closing, Writing, Filled, Ready, SnapOpening}
-use Rattle.vault_store.specs.Phases.{Waiting, Nothing, NoEffects, Effects, DeviceCall, NoCall, Write, Sync, row, settled_by, after_fault, is_idle, is_opening, most_piece}
+use Rattle.vault_store.specs.Phases.{Waiting, Nothing, NoEffects, Effects, DeviceCall, NoCall, Write, Sync, row, settled_by, after_fault, is_idle, most_piece}
 use Rattle.group_commit.specs.Phases.{InOrder}
 
 -- a commit or a snapshot goes on
@@ -87,19 +87,6 @@ more_settled all retired settled sealed (Writing left) waiting length o = omega 
 more_settled all retired settled sealed Filled waiting length o = omega arith
 more_settled all retired settled sealed Ready waiting length o = omega arith
 more_settled all retired settled sealed SnapOpening waiting length o = o.sealing refl
-
--- a gate is opened in a commit or a snapshot alone
-pub opening_is_busy : (phase : Phase) → is_opening phase ≡ true → is_idle phase ≡ false
-opening_is_busy Opening h = refl
-opening_is_busy SnapOpening h = refl
-opening_is_busy Idle h = absurd (cc)
-opening_is_busy Written h = refl
-opening_is_busy Bodied h = refl
-opening_is_busy Start h = refl
-opening_is_busy Closing h = refl
-opening_is_busy (Writing left) h = refl
-opening_is_busy Filled h = refl
-opening_is_busy Ready h = refl
 
 -- a failed call is made in a commit or a snapshot, or begins one
 pub fault_is_busy : (phase : Phase) (waiting : Waiting) (length : ℕ) → let r = row phase waiting length in r.call ≢ NoCall → is_idle (after_fault r.call phase r.next) ≡ false

@@ -1,5 +1,5 @@
 -- The past of a vault is one run of events.
-use Rattle.std.proofs.Common.{◌≡◌, ◌⊎◌, inl, inr, ⊎_elim, ℕ, zero, suc, Bool, true, false, cond, ◌+◌, List, [], ◌∷◌, ◌++◌, Some, refl, sym, ap, ◌∙◌, subst, append_assoc}
+use Rattle.std.proofs.Common.{◌≡◌, ◌⊎◌, inl, inr, ⊎_elim, ℕ, zero, suc, Bool, false, cond, ◌+◌, List, [], ◌∷◌, ◌++◌, Some, refl, sym, ap, ◌∙◌, subst, append_assoc}
 use Rattle.std.specs.Prelude.{IsTrue, None, slice_get}
 use Rattle.std.proofs.lemmas.List.{append-nil}
 use Rattle.std.proofs.lemmas.Option.{same_Some}
@@ -8,9 +8,10 @@ use Rattle.vault_device.specs.Disk.{Disk}
 use Rattle.vault_store.specs.declared.phase.Phase.{Phase}
 use Rattle.vault_store.specs.declared.phase.Phase.TheVariants.{Idle, Written, Bodied, Opening, Start, Closing, Writing, Filled, Ready, SnapOpening}
 use Rattle.vault_store.specs.Files.{StandFor}
-use Rattle.vault_store.specs.Phases.{is_idle, is_opening, may_open}
+use Rattle.vault_store.specs.Phases.{is_opening, may_open}
 use Rattle.vault_store.specs.Seen.{settled_reading, sealed_reading, IsLeftInside}
 use Rattle.vault_store.specs.Laws.{CrashLeavesWhatIsKept, OneGateIsOpened, OneVault}
+use Rattle.vault_store.proofs.Busy.{may_open_is_busy}
 use Rattle.group_commit.specs.World.{World, world_of, Act, Pump, GateLeft}
 use Rattle.group_commit.specs.Runs.{Event, Within, Crash, happened, run, IsRun}
 use Rattle.group_commit.specs.View.{View, view_of, opened_view, view_at, ViewAllows, view_acted, MayLeave}
@@ -100,18 +101,6 @@ found_so w view left s e whole found = ⊎_elim
     one_pump w (view_acted snapshot_length view Pump) (opened_view left) first
     (opens_so (run snapshot_length w first.more) (view_acted snapshot_length view Pump) left (run_sound snapshot_length w first.more first.is_run s) first.shows may))
     (pump_or_none view.phase view left found)
-
-pub may_open_is_busy : (p : Phase) → may_open p ≡ true → is_idle p ≡ false
-may_open_is_busy Idle e = absurd (cc)
-may_open_is_busy Written e = refl
-may_open_is_busy Bodied e = refl
-may_open_is_busy Opening e = refl
-may_open_is_busy Start e = refl
-may_open_is_busy Closing e = refl
-may_open_is_busy (Writing bytes) e = refl
-may_open_is_busy Filled e = refl
-may_open_is_busy Ready e = refl
-may_open_is_busy SnapOpening e = refl
 
 -- what is found in two files
 pub record IsFoundIn (open_gate : Bool) (v : View) (x y : List ℕ) : Type 0 where

@@ -1,5 +1,5 @@
 -- What a pump leaves.
-use Rattle.std.proofs.Common.{◌≡◌, ◌≢◌, ℕ, ◌+◌, ◌-◌, ◌≤◌, Bool, true, false, cond, List, [], ◌∷◌, length, drop, refl, sym, ap, ◌∙◌, subst, arith, length-drop, ◌⊎◌, inl, inr, ⊎_elim}
+use Rattle.std.proofs.Common.{◌≡◌, ◌≢◌, ℕ, ◌+◌, ◌-◌, ◌≤◌, Bool, true, false, cond, List, [], ◌∷◌, length, drop, refl, sym, ap, ◌∙◌, subst, arith, length-drop, ◌⊎◌, inl, ⊎_elim}
 use Rattle.std.proofs.lemmas.List.{drop_all}
 use Rattle.std.specs.Prelude.{IsTrue, not, ◌&&◌, Result, Ok, Err, IfOk, OnOk, OnErr}
 use Rattle.vault_model.specs.Said.{Effect}
@@ -18,6 +18,7 @@ use Rattle.vault_store.specs.State.{StoreState, waiting_in, row_of, advanced, fa
 use Rattle.vault_store.specs.Snapshot.{current_version}
 use Rattle.vault_store.specs.Seen.{StoreSeen, other, first_of, second_of, Keeps, IsLeftInside}
 use Rattle.vault_store.proofs.Asides.{length-behind}
+use Rattle.vault_store.proofs.Busy.{idle_or_busy, snapshot_is_busy}
 use Rattle.group_commit.specs.Entries.{Kept}
 use Rattle.group_commit.specs.History.{effects}
 use Rattle.group_commit.specs.Phases.{waiting, InOrder}
@@ -81,19 +82,6 @@ busy_rows v busy =
 vault_under_way : (v : View) → is_idle v.phase ≡ false → IsUnderWay (vault_row v)
 vault_under_way v busy = under_way v.phase _ _ busy
 
--- rows of Idle
-pub idle_is : (p : Phase) → is_idle p ≡ true → p ≡ Idle
-idle_is Idle h = refl
-idle_is Written h = absurd (cc)
-idle_is Bodied h = absurd (cc)
-idle_is Opening h = absurd (cc)
-idle_is Start h = absurd (cc)
-idle_is Closing h = absurd (cc)
-idle_is (Writing left) h = absurd (cc)
-idle_is Filled h = absurd (cc)
-idle_is Ready h = absurd (cc)
-idle_is SnapOpening h = absurd (cc)
-
 -- what the store's row in Idle says of the vault's
 record IsIdleRow (u : List Kept) (q r : Row) : Type 0 where
   none : q.answer ≡ answers.Idle → u ≡ [] → r ≡ rests
@@ -116,14 +104,6 @@ unsettled v = drop (v.settled - v.retired) v.kept
 vault_idle : (v : View) → v.phase ≡ Idle → IsIdleRow (unsettled v) (row_of (state_of v)) (vault_row v)
 vault_idle v idle = subst (λ p. IsIdleRow (unsettled v) (row_of (state_of (record v { phase = p }))) (vault_row (record v { phase = p }))) (sym idle) (idle_row (unsettled v) (effects_from v v.settled) _ _ (λ e. ap (effects (view_at v v.settled)) e))
 
--- by whether something is under way
-by_idle : (v : View) → (v.phase ≡ Idle) ⊎ (is_idle v.phase ≡ false)
-by_idle v = at (is_idle v.phase) refl
-  where
-    at : (b : Bool) → is_idle v.phase ≡ b → (v.phase ≡ Idle) ⊎ (is_idle v.phase ≡ false)
-    at true e = inl (idle_is v.phase e)
-    at false e = inr e
-
 all_settled : (v : View) → v.settled ≡ length_of v → unsettled v ≡ []
 all_settled v e = drop_all (v.settled - v.retired) v.kept (omega arith)
 
@@ -133,13 +113,13 @@ some_unsettled v o h e = h (let l = length-drop (v.settled - v.retired) v.kept i
 -- The vault's row, by what the store answered.
 
 pub row_rests : (v : View) → (row_of (state_of v)).answer ≡ answers.Idle → v.settled ≡ length_of v → vault_row v ≡ rests
-row_rests v e whole = ⊎_elim (λ idle. (vault_idle v idle).none e (all_settled v whole)) (λ busy. absurd ((under_way v.phase _ _ busy).not_idle e)) (by_idle v)
+row_rests v e whole = ⊎_elim (λ idle. (vault_idle v idle).none e (all_settled v whole)) (λ busy. absurd ((under_way v.phase _ _ busy).not_idle e)) (idle_or_busy v.phase)
 
 pub row_settles_all : (v : View) → IsSoundView v → (row_of (state_of v)).answer ≡ answers.Idle → v.settled ≢ length_of v → vault_row v ≡ ends NoCall All
-row_settles_all v s e some = ⊎_elim (λ idle. (vault_idle v idle).all e (some_unsettled v s.order some)) (λ busy. absurd ((under_way v.phase _ _ busy).not_idle e)) (by_idle v)
+row_settles_all v s e some = ⊎_elim (λ idle. (vault_idle v idle).all e (some_unsettled v s.order some)) (λ busy. absurd ((under_way v.phase _ _ busy).not_idle e)) (idle_or_busy v.phase)
 
 pub row_settles : (v : View) → (row_of (state_of v)).answer ≡ answers.Settled → (is_idle v.phase ≡ false) × ((vault_row v).settles ≡ TheSealed) × ((vault_row v).seals ≡ false) × ((vault_row v).answer ≡ answers.Settled)
-row_settles v e = ⊎_elim (λ idle. absurd ((vault_idle v idle).not_settled e)) (λ busy. (busy, (vault_under_way v busy).settled (answered busy), (vault_under_way v busy).seals, answered busy)) (by_idle v)
+row_settles v e = ⊎_elim (λ idle. absurd ((vault_idle v idle).not_settled e)) (λ busy. (busy, (vault_under_way v busy).settled (answered busy), (vault_under_way v busy).seals, answered busy)) (idle_or_busy v.phase)
   where
     answered : is_idle v.phase ≡ false → (vault_row v).answer ≡ answers.Settled
     answered busy = ap (λ (r : Row). r.answer) (busy_rows v busy) ∙ e
@@ -151,7 +131,7 @@ pub row_moves : (v : View) → (row_of (state_of v)).answer ≡ answers.Moved �
 row_moves v e busy = let answered : (vault_row v).answer ≡ answers.Moved = ap (λ (r : Row). r.answer) (busy_rows v busy) ∙ e in ((vault_under_way v busy).moved answered, (vault_under_way v busy).seals, answered)
 
 pub never_broken : (v : View) → (row_of (state_of v)).answer ≢ answers.Broken
-never_broken v e = ⊎_elim (λ idle. (vault_idle v idle).not_broken e) (λ busy. (under_way v.phase _ _ busy).not_broken e) (by_idle v)
+never_broken v e = ⊎_elim (λ idle. (vault_idle v idle).not_broken e) (λ busy. (under_way v.phase _ _ busy).not_broken e) (idle_or_busy v.phase)
 
 pub row_fails_sealing : (v : View) → (row_of (state_of v)).call ≢ NoCall → v.phase ≡ Idle → vault_row v ≡ seals Write Written
 row_fails_sealing v called idle = (vault_idle v idle).called called
@@ -161,7 +141,7 @@ row_fails v busy = ((vault_under_way v busy).seals, (vault_under_way v busy).cal
 
 -- where the vault's row makes no call, nor does the store's
 pub row_still : (v : View) → (vault_row v).call ≡ NoCall → (row_of (state_of v)).call ≡ NoCall
-row_still v e = ⊎_elim (λ idle. (vault_idle v idle).still e) (λ busy. absurd ((vault_under_way v busy).calls e)) (by_idle v)
+row_still v e = ⊎_elim (λ idle. (vault_idle v idle).still e) (λ busy. absurd ((vault_under_way v busy).calls e)) (idle_or_busy v.phase)
 
 -- a vault whose store made the step, with the settled and the sealed length of its row
 module _ {D : Type 0} (disk : D → Disk) (seen : VaultSeen D) (book : Vault) (k : IsSoundVault disk seen book) (store : StoreSeen D) where
@@ -219,22 +199,21 @@ pub record IsStoreStep {D : Type 0} (disk : D → Disk) (old new : StoreSeen D) 
   pub rests : (result ≡ Ok answers.Idle) ⊎ (result ≡ Ok answers.Broken) → new ≡ old
   pub moments : (x y : List ℕ) → IsTrue (disk (first_of old)).honest → IsTrue (disk (second_of old)).honest → MayBeLeft (disk (first_of old)) (disk (second_of old)) (disk (first_of new)) (disk (second_of new)) x y → IsLeftInside old s x y
 
+-- what the call promised of any state, at the one that the vault shows
+pub store_step : {D : Type 0} {disk : D → Disk} {old new : StoreSeen D} {s : StoreState} {result answer : Result Pumped DeviceFault} → result ≡ answer → Keeps disk old s
+    → ((s : StoreState) → Keeps disk old s → IsStep disk old new result s) → AreStoreNumbers old new result
+    → IsAtMostOneCall (disk (first_of old)) (disk (second_of old)) (disk (first_of new)) (disk (second_of new)) result
+    → ((result ≡ Ok answers.Idle) ⊎ (result ≡ Ok answers.Broken) → new ≡ old)
+    → ((s : StoreState) (x y : List ℕ) → Keeps disk old s → IsTrue (disk (first_of old)).honest → IsTrue (disk (second_of old)).honest
+    → MayBeLeft (disk (first_of old)) (disk (second_of old)) (disk (first_of new)) (disk (second_of new)) x y → IsLeftInside old s x y)
+    → IsStoreStep disk old new s answer
+store_step {D} {disk} {old} {new} {s} same keeps step numbers calls rests moments =
+    subst (IsStoreStep disk old new s) same
+    (record { step = step s keeps; numbers = numbers; calls = calls; rests = rests; moments = λ x y h i left. moments s x y keeps h i left })
+
 chosen : {A : Type 0} (b c : Bool) (x y z w : A) → b ≡ c → (c ≡ true → x ≡ z) → (c ≡ false → y ≡ w) → cond b x y ≡ cond c z w
 chosen b true x y z w e t f = ap (λ d. cond d x y) e ∙ t refl
 chosen b false x y z w e t f = ap (λ d. cond d x y) e ∙ f refl
-
--- a snapshot under way
-snapshot_is_busy : (p : Phase) → is_snapshot p ≡ true → is_idle p ≡ false
-snapshot_is_busy Idle e = absurd (cc)
-snapshot_is_busy Written e = refl
-snapshot_is_busy Bodied e = refl
-snapshot_is_busy Opening e = refl
-snapshot_is_busy Start e = refl
-snapshot_is_busy Closing e = refl
-snapshot_is_busy (Writing left) e = refl
-snapshot_is_busy Filled e = refl
-snapshot_is_busy Ready e = refl
-snapshot_is_busy SnapOpening e = refl
 
 clash : {b : Bool} → b ≡ false → b ≡ true → {P : Type 0} → P
 clash e f = let x : false ≡ true = sym e ∙ f in absurd (cc)
@@ -319,7 +298,7 @@ module _ {D : Type 0} (disk : D → Disk) (seen : VaultSeen D) (book : Vault) (k
       ok_pump seen.view.settled seen.view.sealed answers.Idle answers.Idle made (row_is_settled rests r) (row_is_sealed rests r) (row_answers rests r) (λ _. made.rests (inl refl)) (record { renewed = refl; under = λ e. clash refl e; gains = λ _. refl })
 
   idle_phase : (row_of (state_of seen.view)).answer ≡ answers.Idle → seen.view.phase ≡ Idle
-  idle_phase e = ⊎_elim (λ idle. idle) (λ busy. absurd ((under_way seen.view.phase _ _ busy).not_idle e)) (by_idle seen.view)
+  idle_phase e = ⊎_elim (λ idle. idle) (λ busy. absurd ((under_way seen.view.phase _ _ busy).not_idle e)) (idle_or_busy seen.view.phase)
 
   no_frame : seen.view.phase ≡ Idle → ◌≡◌ {A = ℕ} 0 (gained seen.view (Ok answers.Settled))
   no_frame idle = ap (λ p. cond (is_idle p) 0 (frame_extra + length (records_of (effects_between seen.view seen.view.settled seen.view.sealed)))) (sym idle)
@@ -391,7 +370,7 @@ module _ {D : Type 0} (disk : D → Disk) (seen : VaultSeen D) (book : Vault) (k
         answer = sym r.2;
         calls = (vault_under_way seen.view busy).calls;
       })
-      (by_idle seen.view)
+      (idle_or_busy seen.view.phase)
 
   pub moved : (sealed : ℕ) → Made (Ok answers.Moved) → sealed ≡ sealed_next → IsPump disk seen (after_pump seen.view.settled sealed) (Ok answers.Moved)
   moved sealed made is =
@@ -415,7 +394,7 @@ module _ {D : Type 0} (disk : D → Disk) (seen : VaultSeen D) (book : Vault) (k
         ap (λ b. cond b (length_of seen.view) seen.view.sealed) busy ∙ sym (after_same (vault_row seen.view).call seen.view.sealed) ∙ ap (λ b. after_fault (vault_row seen.view).call seen.view.sealed (cond b (length_of seen.view) seen.view.sealed)) (sym r.0),
         r.1,
       ))
-      (by_idle seen.view)
+      (idle_or_busy seen.view.phase)
 
   pub fault : (sealed : ℕ) (why : DeviceFault) → Made (Err why) → sealed ≡ sealed_next → IsPump disk seen (after_step disk seen book k store seen.view.settled sealed true) (Err why)
   fault sealed why made is =

@@ -5,11 +5,11 @@ use Rattle.std.proofs.lemmas.List.{take_at, append-nil}
 use Rattle.vault_model.specs.Vault.{Vault, new_vault, durable}
 use Rattle.group_commit.specs.History.{Restart, replay, members}
 use Rattle.vault_store.specs.Phases.{is_opening}
+use Rattle.vault_store.proofs.Busy.{opening_is_busy}
 use Rattle.group_commit.specs.World.{World, history, history_to, vault_at, GateLeft, StaysClosed, IsOpen, kept_by, crashed, recovered}
 use Rattle.group_commit.specs.View.{view_of, opened_view, view_at, MayLeave}
 use Rattle.group_commit.specs.Laws.{IsPrefix}
 use Rattle.group_commit.proofs.Folds.{replay-append, members_rest}
-use Rattle.group_commit.proofs.Order.{opening_is_busy}
 use Rattle.group_commit.proofs.Sound.{IsSound}
 use Rattle.group_commit.proofs.Stays.{keeps_settled, keeps_at_most_all, length-history_to}
 use Rattle.group_commit.proofs.ViewLaw.{view_at_is}

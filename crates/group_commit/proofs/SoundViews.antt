@@ -1,5 +1,5 @@
 -- Each call keeps the view sound.
-use Rattle.std.proofs.Common.{◌≡◌, ◌≢◌, inl, inr, ℕ, ◌+◌, ◌≤◌, ◌<◌, [], ◌∷◌, ◌++◌, length, Some, refl, sym, ap, ◌∙◌, subst, arith, length-append}
+use Rattle.std.proofs.Common.{◌≡◌, ◌≢◌, inl, inr, ℕ, ◌+◌, ◌≤◌, ◌<◌, Bool, true, [], ◌∷◌, ◌++◌, length, Some, refl, sym, ap, ◌∙◌, subst, arith, length-append}
 use Rattle.std.proofs.lemmas.Bool.{cases_eq}
 use Rattle.std.proofs.lemmas.List.{take_all}
 use Rattle.std.proofs.lemmas.List.Elements.{All-nil}
@@ -7,6 +7,8 @@ use Rattle.vault_model.specs.Said.{Command}
 use Rattle.vault_model.specs.declared.session.Session.{Session}
 use Rattle.vault_model.specs.Vault.{Vault, IsVault, CountsBelow}
 use Rattle.vault_model.specs.After.{IsDurable}
+use Rattle.vault_store.specs.declared.phase.Phase.{Phase}
+use Rattle.vault_store.specs.declared.phase.Phase.TheVariants.{Start}
 use Rattle.group_commit.specs.declared.mark.Mark.{Mark}
 use Rattle.group_commit.specs.declared.mark.Mark.TheVariants.{Open, Told, Forgotten}
 use Rattle.group_commit.specs.Entries.{opened, mark_at, with_mark, told_in}
@@ -53,44 +55,35 @@ staged_sound v session command room s =
       counts = s.counts;
     }
 
--- a pump
-pub pumped_sound : (v : View) → IsSoundView v → IsSoundView (view_acted snapshot_length v Pump)
-pumped_sound v s = record {
+-- the numbers and the phase of a step: no fewer entries are settled, and all stays in order
+steps_sound : (v : View) (settled sealed : ℕ) (phase : Phase) (broken : Bool) → InOrder (length_of v) v.retired settled sealed phase → v.settled ≤ settled
+    → IsSoundView v → IsSoundView (record v { settled = settled; sealed = sealed; phase = phase; broken = broken })
+steps_sound v settled sealed phase broken order more s = record {
   well_formed = s.well_formed;
   legal = s.legal;
-  order = order_row (length_of v) v.retired v.settled v.sealed v.phase _ _ s.order;
-  told = λ p e. let here : v.retired + p < v.settled = s.told p e in let more : v.settled ≤ (view_acted snapshot_length v Pump).settled = more_settled (length_of v) v.retired v.settled v.sealed v.phase _ _ s.order in omega arith;
+  order = order;
+  told = λ p e. let here : v.retired + p < v.settled = s.told p e in omega (arith, here, more);
   told_least = s.told_least;
   told_most = s.told_most;
   few = s.few;
   counts = s.counts;
 }
+
+-- a pump
+pub pumped_sound : (v : View) → IsSoundView v → IsSoundView (view_acted snapshot_length v Pump)
+pumped_sound v s =
+    let new = view_acted snapshot_length v Pump in
+    steps_sound v new.settled new.sealed new.phase v.broken (order_row (length_of v) v.retired v.settled v.sealed v.phase _ _ s.order) (more_settled (length_of v) v.retired v.settled v.sealed v.phase _ _ s.order) s
 
 -- a pump that failed
 pub failed_sound : (v : View) → IsSoundView v → IsSoundView (view_acted snapshot_length v Fault)
-failed_sound v s = record {
-  well_formed = s.well_formed;
-  legal = s.legal;
-  order = order_fault (length_of v) v.retired v.settled v.sealed v.phase _ _ s.order;
-  told = s.told;
-  told_least = s.told_least;
-  told_most = s.told_most;
-  few = s.few;
-  counts = s.counts;
-}
+failed_sound v s =
+    let new = view_acted snapshot_length v Fault in
+    steps_sound v v.settled new.sealed new.phase true (order_fault (length_of v) v.retired v.settled v.sealed v.phase _ _ s.order) (omega arith) s
 
 -- the start of a snapshot
 pub started_sound : (v : View) → IsSoundView v → IsSoundView (view_acted snapshot_length v StartSnapshot)
-started_sound v s = record {
-  well_formed = s.well_formed;
-  legal = s.legal;
-  order = order_start (length_of v) v.retired v.settled v.sealed v.phase s.order;
-  told = s.told;
-  told_least = s.told_least;
-  told_most = s.told_most;
-  few = s.few;
-  counts = s.counts;
-}
+started_sound v s = steps_sound v v.settled (length_of v) Start v.broken (order_start (length_of v) v.retired v.settled v.sealed v.phase s.order) (omega arith) s
 
 -- an entry that is closed
 marked_sound : (m : Mark) (told : ℕ) (v : View) (place : ℕ) → m ≢ Open → (m ≡ Told → v.retired + place < v.settled) → place < length v.kept

@@ -7,11 +7,12 @@ use Rattle.group_commit.specs.declared.mark.Mark.TheVariants.{Told, Forgotten}
 use Rattle.group_commit.specs.Entries.{Entry, Kept, opened}
 use Rattle.group_commit.specs.History.{Given, Restart, entry_of, members}
 use Rattle.vault_store.specs.Phases.{is_opening}
+use Rattle.vault_store.proofs.Busy.{opening_is_busy}
 use Rattle.group_commit.specs.World.{World, history, history_to, vault_of, Act, Stage, Pump, Fault, StartSnapshot, Tell, Forget, Retire, acted, GateLeft, StaysClosed, IsOpen, kept_by, crashed}
 use Rattle.group_commit.specs.Runs.{Event, Within, Crash, run, IsRun}
 use Rattle.group_commit.proofs.Folds.{members-append, members_rest}
 use Rattle.group_commit.proofs.Marks.{members-with_mark}
-use Rattle.group_commit.proofs.Order.{more_settled, opening_is_busy}
+use Rattle.group_commit.proofs.Order.{more_settled}
 use Rattle.group_commit.proofs.Sound.{IsSound, act_sound, crash_sound}
 
 pub get_front : {A : Type 0} (xs ys : List A) (k : ℕ) (x : A) → slice_get xs k ≡ Some x → slice_get (xs ++ ys) k ≡ Some x

@@ -94,31 +94,13 @@ pumps : (snapshot : Vault → ℕ) (w : World) → IsSound w → view_of (acted 
 pumps snapshot w s =
     let r = row_is snapshot w s in
     let n = sym (len_is w s) in
-    λ i. record {
-      base = vault_at w w.retired;
-      kept = drop w.retired w.life;
-      settled = settled_by (r i).settles w.settled w.sealed (n i);
-      sealed = cond (r i).seals (n i) w.sealed;
-      retired = w.retired;
-      told = told_in w.life;
-      phase = (r i).next;
-      broken = w.broken;
-    }
+    λ i. record (view_of w) { settled = settled_by (r i).settles w.settled w.sealed (n i); sealed = cond (r i).seals (n i) w.sealed; phase = (r i).next }
 
 fails : (snapshot : Vault → ℕ) (w : World) → IsSound w → view_of (acted snapshot w Fault) ≡ view_acted snapshot (view_of w) Fault
 fails snapshot w s =
     let r = row_is snapshot w s in
     let n = sym (len_is w s) in
-    λ i. record {
-      base = vault_at w w.retired;
-      kept = drop w.retired w.life;
-      settled = w.settled;
-      sealed = after_fault (r i).call w.sealed (cond (r i).seals (n i) w.sealed);
-      retired = w.retired;
-      told = told_in w.life;
-      phase = after_fault (r i).call w.phase (r i).next;
-      broken = true;
-    }
+    λ i. record (view_of w) { sealed = after_fault (r i).call w.sealed (cond (r i).seals (n i) w.sealed); phase = after_fault (r i).call w.phase (r i).next; broken = true }
 
 retires : (snapshot : Vault → ℕ) (w : World) → view_of (acted snapshot w Retire) ≡ view_acted snapshot (view_of w) Retire
 retires snapshot w =

@@ -1,18 +1,19 @@
 -- From what is read of two files to what they are found to be.
-use Rattle.std.proofs.Common.{◌≡◌, inl, inr, ℕ, ◌<◌, ◌≤◌, IsTrue, Bool, true, false, cond, List, ◌++◌, length, take, Option, Some, None, refl, sym, subst, arith}
+use Rattle.std.proofs.Common.{◌≡◌, inl, inr, ℕ, ◌<◌, ◌≤◌, IsTrue, Bool, true, false, cond, List, length, Option, Some, None, refl, sym, subst, arith}
 use Rattle.std.specs.Prelude.{◌==◌}
 use Rattle.std.proofs.lemmas.Bool.Decides.{nat_tests}
 use Rattle.vault_model.specs.Vault.{Vault}
 use Rattle.vault_device.specs.Disk.{Disk}
-use Rattle.vault_journal.specs.Gate.{IsClosed}
 use Rattle.vault_store.specs.declared.front.Head.{Head}
 use Rattle.vault_store.specs.declared.front.Head.TheVariants as heads
 use Rattle.vault_store.specs.declared.opening.File.TheVariants.{First, Second}
 use Rattle.vault_store.specs.declared.opening.OpenError.TheVariants as why
 use Rattle.vault_store.specs.declared.front.FileVersion.{FileVersion}
-use Rattle.vault_store.specs.Files.{head_of, snapshot_bytes, frames_bytes, Holds, IsSpare, HasHead, HasRightHead}
+use Rattle.vault_store.specs.Files.{frames_bytes, Holds, IsSpare, HasHead, HasRightHead}
 use Rattle.vault_store.specs.Parts.{IsHead, IsWhole}
+use Rattle.vault_store.specs.Faults.{IsBodyFault}
 use Rattle.vault_store.specs.Read.{AreReads}
+use Rattle.vault_store.proofs.Wholes.{whole_holds}
 use Rattle.vault_inspector.specs.declared.report.FileState.{FileState}
 use Rattle.vault_inspector.specs.declared.report.FileState.TheVariants.{Closed, Open, Older, Damaged}
 use Rattle.vault_inspector.specs.declared.inspecting.Right.{Right}
@@ -33,28 +34,20 @@ read_behind old mid r state vault reads honest read head =
 -- a whole file with a right head is read
 holds : (file : List ℕ) (r : Right) (vault : Vault) (frames tail : ℕ) → HasHead r.version r.generation file → (whole : IsWhole r.version r.generation file vault frames tail)
     → Holds file (record { vault = vault; version = r.version; generation = r.generation; tail = tail; journal_length = length (frames_bytes whole.list) })
-holds file r vault frames tail head whole = record {
-  front = front;
-  is_front = record {
-    base = whole.base;
-    frames = whole.list;
-    spelled = whole.spelled;
-    given = head.given;
-    fits = head.fits;
-    each = whole.each;
-    bytes = refl;
-    leads = whole.leads;
-    tail_is = whole.tail_is;
-    journal_is = refl;
-  };
-  ends = record {
-    begins = subst (λ (n : ℕ). take n file ≡ front) whole.tail_is whole.begins;
-    closed = subst (λ (n : ℕ). IsClosed n file) whole.tail_is whole.closed;
-  };
-}
-  where
-    front : List ℕ
-    front = (head_of r.version r.generation ++ snapshot_bytes r.version whole.base) ++ frames_bytes whole.list
+holds file r vault frames tail head whole = whole_holds file r.version r.generation vault frames tail _ head whole refl
+
+-- what was read of the active file: all of it, or a fault behind its head
+by_read : (file : List ℕ) (r : Right) (P : FileState → Option Vault → Type 0)
+    → ((frames tail : ℕ) (v : Vault) → IsWhole r.version r.generation file v frames tail → P (Open r.generation frames tail r.version) (Some v))
+    → ((offset : ℕ) → IsBodyFault r.version file offset → P (Damaged offset) None)
+    → (state : FileState) (vault : Option Vault) → IsActiveRead r file state vault → P state vault
+by_read file r P whole fault Closed vault read = absurd read
+by_read file r P whole fault (Open own frames tail version) None read = absurd read
+by_read file r P whole fault (Open own frames tail version) (Some v) read =
+    subst (λ (n : FileVersion). P (Open own frames tail n) (Some v)) (sym read.0) (subst (λ (k : ℕ). P (Open k frames tail r.version) (Some v)) (sym read.1) (whole frames tail v read.2))
+by_read file r P whole fault (Older own) vault read = absurd read
+by_read file r P whole fault (Damaged offset) None read = fault offset read
+by_read file r P whole fault (Damaged offset) (Some v) read = absurd read
 
 -- a head beside that of the active file: closed, right and of a smaller generation, of the same one, or faulty
 module _ (first second : List ℕ) (a b : Head) (is_a : IsHead first a) (is_b : IsHead second b) where
@@ -69,17 +62,8 @@ module _ (first second : List ℕ) (a b : Head) (is_a : IsHead first a) (is_b : 
     first_active : IsFirstActive first second r.version r.generation
     first_active = record { head = first_head; newest = λ other right. let told = generation_told second b other is_b right in subst (λ (n : ℕ). n ≤ r.generation) told.2 (first_newest told.0 told.1) }
 
-    first_open : (own frames tail : ℕ) (version : FileVersion) → version ≡ r.version → own ≡ r.generation → IsFirstState first second (Open r.generation frames tail r.version) → IsFirstState first second (Open own frames tail version)
-    first_open own frames tail version same_version same is =
-        subst (λ (n : FileVersion). IsFirstState first second (Open own frames tail n)) (sym same_version) (subst (λ (k : ℕ). IsFirstState first second (Open k frames tail r.version)) (sym same) is)
-
     pub first_is : (state : FileState) (vault : Option Vault) → IsActiveRead r first state vault → IsFirstState first second state
-    first_is Closed vault read = absurd read
-    first_is (Open own frames tail version) None read = absurd read
-    first_is (Open own frames tail version) (Some v) read = first_open own frames tail version read.0 read.1 (first_active, (v, read.2))
-    first_is (Older own) vault read = absurd read
-    first_is (Damaged offset) None read = inr (r.version, r.generation, first_active, read)
-    first_is (Damaged offset) (Some v) read = absurd read
+    first_is = by_read first r (λ state vault. IsFirstState first second state) (λ frames tail v whole. (first_active, (v, whole))) (λ offset fault. inr (r.version, r.generation, first_active, fault))
 
     pub second_beside : (h : Head) → IsHead second h → ((other : Right) → right_in h ≡ Some other → other.generation ≤ r.generation) → IsSecondState first second (beside h r.generation)
     second_beside heads.Closed is newest = is
@@ -91,12 +75,10 @@ module _ (first second : List ℕ) (a b : Head) (is_a : IsHead first a) (is_b : 
         by_test false other = let less : own < r.generation = (let most = newest (record { version = v; generation = own }) refl in grind (arith, nat_tests, other, most)) in ((v, is), (r.generation, less, (r.version, first_head)))
 
     first_vault : (state : FileState) (vault : Option Vault) → IsActiveRead r first state vault → IsSpare r.generation second → IsVaultFound first second vault
-    first_vault Closed vault read spare = absurd read
-    first_vault (Open own frames tail version) None read spare = absurd read
-    first_vault (Open own frames tail version) (Some v) read spare = (_, inl (holds first r v frames tail first_head read.2, spare), refl)
-    first_vault (Older own) vault read spare = absurd read
-    first_vault (Damaged offset) None read spare = (why.Damaged First offset, tt, inr (record { version = r.version; generation = r.generation; head = first_head; spare = spare; fault = read }))
-    first_vault (Damaged offset) (Some v) read spare = absurd read
+    first_vault state vault read spare =
+        by_read first r (λ state found. IsVaultFound first second found)
+        (λ frames tail v whole. (_, inl (holds first r v frames tail first_head whole, spare), refl))
+        (λ offset fault. (why.Damaged First offset, tt, inr (record { version = r.version; generation = r.generation; head = first_head; spare = spare; fault = fault }))) state vault read
 
     vault_of_first : (h : Head) → IsHead second h → ((other : Right) → right_in h ≡ Some other → other.generation ≤ r.generation)
         → (state : FileState) (vault : Option Vault) → IsActiveRead r first state vault → IsVaultFound first second (found vault (beside h r.generation))
@@ -125,17 +107,8 @@ module _ (first second : List ℕ) (a b : Head) (is_a : IsHead first a) (is_b : 
     second_active : IsSecondActive first second r.version r.generation
     second_active = record { head = second_head; newest = λ other right. let told = generation_told first a other is_a right in subst (λ (n : ℕ). n < r.generation) told.2 (second_newest told.0 told.1) }
 
-    second_open : (own frames tail : ℕ) (version : FileVersion) → version ≡ r.version → own ≡ r.generation → IsSecondState first second (Open r.generation frames tail r.version) → IsSecondState first second (Open own frames tail version)
-    second_open own frames tail version same_version same is =
-        subst (λ (n : FileVersion). IsSecondState first second (Open own frames tail n)) (sym same_version) (subst (λ (k : ℕ). IsSecondState first second (Open k frames tail r.version)) (sym same) is)
-
     pub active_second : (state : FileState) (vault : Option Vault) → IsActiveRead r second state vault → IsSecondState first second state
-    active_second Closed vault read = absurd read
-    active_second (Open own frames tail version) None read = absurd read
-    active_second (Open own frames tail version) (Some v) read = second_open own frames tail version read.0 read.1 (second_active, (v, read.2))
-    active_second (Older own) vault read = absurd read
-    active_second (Damaged offset) None read = inr (inr (r.version, r.generation, second_active, read))
-    active_second (Damaged offset) (Some v) read = absurd read
+    active_second = by_read second r (λ state vault. IsSecondState first second state) (λ frames tail v whole. (second_active, (v, whole))) (λ offset fault. inr (inr (r.version, r.generation, second_active, fault)))
 
     not_same : (own : ℕ) → own < r.generation → (own == r.generation) ≡ true → ⊥
     not_same own less same = let equal : own ≡ r.generation = grind (arith, nat_tests, same) in omega (arith, equal, less)
@@ -150,12 +123,10 @@ module _ (first second : List ℕ) (a b : Head) (is_a : IsHead first a) (is_b : 
         by_test false other = ((v, is), (r.generation, newest (record { version = v; generation = own }) refl, (r.version, second_head)))
 
     second_vault : (state : FileState) (vault : Option Vault) → IsActiveRead r second state vault → IsSpare r.generation first → IsVaultFound first second vault
-    second_vault Closed vault read spare = absurd read
-    second_vault (Open own frames tail version) None read spare = absurd read
-    second_vault (Open own frames tail version) (Some v) read spare = (_, inr (holds second r v frames tail second_head read.2, spare), refl)
-    second_vault (Older own) vault read spare = absurd read
-    second_vault (Damaged offset) None read spare = (why.Damaged Second offset, tt, inr (inr (record { version = r.version; generation = r.generation; head = second_head; spare = spare; fault = read })))
-    second_vault (Damaged offset) (Some v) read spare = absurd read
+    second_vault state vault read spare =
+        by_read second r (λ state found. IsVaultFound first second found)
+        (λ frames tail v whole. (_, inr (holds second r v frames tail second_head whole, spare), refl))
+        (λ offset fault. (why.Damaged Second offset, tt, inr (inr (record { version = r.version; generation = r.generation; head = second_head; spare = spare; fault = fault })))) state vault read
 
     vault_of_second : (h : Head) → IsHead first h → ((other : Right) → right_in h ≡ Some other → other.generation < r.generation)
         → (state : FileState) (vault : Option Vault) → IsActiveRead r second state vault → IsVaultFound first second (found vault (beside h r.generation))

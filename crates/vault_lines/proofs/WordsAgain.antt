@@ -175,75 +175,40 @@ pub record AreWords (words : List (List ℕ)) : Type 0 where
   pub all : words ≡ first ∷ others
   pub apart : AllByRecursion (IsFree 32) (first ∷ others)
 
+-- a keyword, and the words behind it
+are_words : {words : List (List ℕ)} (first : List ℕ) (others : List (List ℕ)) → words ≡ first ∷ others
+    → list_all (λ b. not (b == 32)) first ≡ true → AllByRecursion (IsFree 32) others → AreWords words
+are_words first others all looked apart = record { first = first; others = others; all = all; apart = (by_looking first looked, apart) }
+
 words_of : (words : List (List ℕ)) (command : Command) → Spells words command → AreWords words
-words_of words (commands.Join name) h =
-    record { first = codes "hello"; others = name ∷ []; all = h.1; apart = (by_looking (codes "hello") refl, (in_name name h.0, tt)) }
-words_of words (commands.Make path None) h =
-    record { first = codes "make"; others = path_text path ∷ []; all = h.1; apart = (by_looking (codes "make") refl, (in_path path h.0, tt)) }
-words_of words (commands.Make path (Some number)) h = record {
-  first = codes "make";
-  others = path_text path ∷ claim_text (Long number) ∷ [];
-  all = h.2;
-  apart = (by_looking (codes "make") refl, (in_path path h.0, (in_claim (Long number) h.1, tt)));
-}
-words_of words (commands.Nest path None) h =
-    record { first = codes "nest"; others = path_text path ∷ []; all = h.1; apart = (by_looking (codes "nest") refl, (in_path path h.0, tt)) }
-words_of words (commands.Nest path (Some number)) h = record {
-  first = codes "nest";
-  others = path_text path ∷ claim_text (Long number) ∷ [];
-  all = h.2;
-  apart = (by_looking (codes "nest") refl, (in_path path h.0, (in_claim (Long number) h.1, tt)));
-}
-words_of words (commands.CheckOut items) h =
-    record { first = codes "checkout"; others = map item_text items; all = h.1; apart = (by_looking (codes "checkout") refl, in_items items h.0.1) }
-words_of words (commands.Extend claim items) h = record {
-  first = codes "extend";
-  others = claim_text claim ∷ map item_text items;
-  all = h.2;
-  apart = (by_looking (codes "extend") refl, (in_claim claim h.0, in_items items h.1.1));
-}
-words_of words (commands.Save number path content) h = record {
-  first = codes "save";
-  others = claim_text (Long number) ∷ path_text path ∷ h.2.0 ∷ [];
-  all = h.2.2;
-  apart = (by_looking (codes "save") refl, (in_claim (Long number) h.0, (in_path path h.1, (in_content h.2.0 content h.2.1, tt))));
-}
-words_of words (commands.CheckIn number) h =
-    record { first = codes "checkin"; others = claim_text (Long number) ∷ []; all = h.1; apart = (by_looking (codes "checkin") refl, (in_claim (Long number) h.0, tt)) }
-words_of words (commands.Abandon number) h =
-    record { first = codes "abandon"; others = claim_text (Long number) ∷ []; all = h.1; apart = (by_looking (codes "abandon") refl, (in_claim (Long number) h.0, tt)) }
-words_of words (commands.Hold items) h =
-    record { first = codes "hold"; others = map item_text items; all = h.1; apart = (by_looking (codes "hold") refl, in_items items h.0.1) }
-words_of words (commands.Release number) h =
-    record { first = codes "release"; others = claim_text (Short number) ∷ []; all = h.1; apart = (by_looking (codes "release") refl, (in_claim (Short number) h.0, tt)) }
-words_of words (commands.State claim) h =
-    record { first = codes "state"; others = claim_text claim ∷ []; all = h.1; apart = (by_looking (codes "state") refl, (in_claim claim h.0, tt)) }
-words_of words (commands.List path) h =
-    record { first = codes "list"; others = path_text path ∷ []; all = h.1; apart = (by_looking (codes "list") refl, (in_path path h.0, tt)) }
-words_of words (commands.Fetch path version) h = record {
-  first = codes "fetch";
-  others = path_text path ∷ decimal version ∷ [];
-  all = h.2;
-  apart = (by_looking (codes "fetch") refl, (in_path path h.0, (in_number version h.1, tt)));
-}
-words_of words (commands.Count path) h =
-    record { first = codes "count"; others = path_text path ∷ []; all = h.1; apart = (by_looking (codes "count") refl, (in_path path h.0, tt)) }
-words_of words (commands.Give number designer) h = record {
-  first = codes "give";
-  others = claim_text (Long number) ∷ designer ∷ [];
-  all = h.2;
-  apart = (by_looking (codes "give") refl, (in_claim (Long number) h.0, (in_name designer h.1, tt)));
-}
-words_of words (commands.Note number text) h = record {
-  first = codes "note";
-  others = claim_text (Long number) ∷ h.1.0 ∷ [];
-  all = h.1.2;
-  apart = (by_looking (codes "note") refl, (in_claim (Long number) h.0, (in_content h.1.0 text h.1.1, tt)));
-}
-words_of words (commands.ReadNote number) h =
-    record { first = codes "note"; others = claim_text (Long number) ∷ []; all = h.1; apart = (by_looking (codes "note") refl, (in_claim (Long number) h.0, tt)) }
-words_of words commands.Leave h =
-    record { first = codes "quit"; others = []; all = h; apart = (by_looking (codes "quit") refl, tt) }
+words_of words (commands.Join name) h = are_words (codes "hello") (name ∷ []) h.1 refl (in_name name h.0, tt)
+words_of words (commands.Make path None) h = are_words (codes "make") (path_text path ∷ []) h.1 refl (in_path path h.0, tt)
+words_of words (commands.Make path (Some number)) h =
+    are_words (codes "make") (path_text path ∷ claim_text (Long number) ∷ []) h.2 refl (in_path path h.0, (in_claim (Long number) h.1, tt))
+words_of words (commands.Nest path None) h = are_words (codes "nest") (path_text path ∷ []) h.1 refl (in_path path h.0, tt)
+words_of words (commands.Nest path (Some number)) h =
+    are_words (codes "nest") (path_text path ∷ claim_text (Long number) ∷ []) h.2 refl (in_path path h.0, (in_claim (Long number) h.1, tt))
+words_of words (commands.CheckOut items) h = are_words (codes "checkout") (map item_text items) h.1 refl (in_items items h.0.1)
+words_of words (commands.Extend claim items) h =
+    are_words (codes "extend") (claim_text claim ∷ map item_text items) h.2 refl (in_claim claim h.0, in_items items h.1.1)
+words_of words (commands.Save number path content) h =
+    are_words (codes "save") (claim_text (Long number) ∷ path_text path ∷ h.2.0 ∷ []) h.2.2 refl
+    (in_claim (Long number) h.0, (in_path path h.1, (in_content h.2.0 content h.2.1, tt)))
+words_of words (commands.CheckIn number) h = are_words (codes "checkin") (claim_text (Long number) ∷ []) h.1 refl (in_claim (Long number) h.0, tt)
+words_of words (commands.Abandon number) h = are_words (codes "abandon") (claim_text (Long number) ∷ []) h.1 refl (in_claim (Long number) h.0, tt)
+words_of words (commands.Hold items) h = are_words (codes "hold") (map item_text items) h.1 refl (in_items items h.0.1)
+words_of words (commands.Release number) h = are_words (codes "release") (claim_text (Short number) ∷ []) h.1 refl (in_claim (Short number) h.0, tt)
+words_of words (commands.State claim) h = are_words (codes "state") (claim_text claim ∷ []) h.1 refl (in_claim claim h.0, tt)
+words_of words (commands.List path) h = are_words (codes "list") (path_text path ∷ []) h.1 refl (in_path path h.0, tt)
+words_of words (commands.Fetch path version) h =
+    are_words (codes "fetch") (path_text path ∷ decimal version ∷ []) h.2 refl (in_path path h.0, (in_number version h.1, tt))
+words_of words (commands.Count path) h = are_words (codes "count") (path_text path ∷ []) h.1 refl (in_path path h.0, tt)
+words_of words (commands.Give number designer) h =
+    are_words (codes "give") (claim_text (Long number) ∷ designer ∷ []) h.2 refl (in_claim (Long number) h.0, (in_name designer h.1, tt))
+words_of words (commands.Note number text) h =
+    are_words (codes "note") (claim_text (Long number) ∷ h.1.0 ∷ []) h.1.2 refl (in_claim (Long number) h.0, (in_content h.1.0 text h.1.1, tt))
+words_of words (commands.ReadNote number) h = are_words (codes "note") (claim_text (Long number) ∷ []) h.1 refl (in_claim (Long number) h.0, tt)
+words_of words commands.Leave h = are_words (codes "quit") [] h refl tt
 
 pub line_again : (line : List ℕ) (command : Command) → LineSpells line command → command_of line ≡ Some command
 line_again line command h =

@@ -1,5 +1,5 @@
 -- What is read is spelled so.
-use Rattle.std.proofs.Common.{◌≡◌, ℕ, ◌<◌, ◌^◌, ◌==◌, ◌&&◌, true, List, [], ◌∷◌, length, map, Some, None, refl, sym, ap, ◌∙◌, arith, inl, inr}
+use Rattle.std.proofs.Common.{◌≡◌, ℕ, ◌<◌, ◌^◌, ◌==◌, ◌&&◌, true, cond, List, [], ◌∷◌, length, map, Option, Some, None, refl, sym, ap, ◌∙◌, arith, inl, inr}
 use Rattle.std.specs.Prelude.{decimal, codes, nat_lt, nat_le}
 use Rattle.std.specs.List.{slice_split, AllByRecursion}
 use Rattle.std.specs.Option.{option_map}
@@ -17,10 +17,11 @@ use Rattle.vault_model.specs.declared.ids.Intent.TheVariants.{Look, Change}
 use Rattle.vault_model.specs.declared.ids.ClaimId.{ClaimId}
 use Rattle.vault_model.specs.declared.ids.ClaimId.TheVariants.{Long, Short}
 use Rattle.vault_model.specs.declared.claims.PathItem.{PathItem}
+use Rattle.vault_model.specs.declared.commands.Command.TheVariants as commands
 use Rattle.vault_model.proofs.PathTexts.{path_is_its_text}
 use Rattle.vault_model.proofs.Lists.{and_then_some}
 use Rattle.vault_model.proofs.Lists.{chosen}
-use Rattle.vault_lines.specs.Reading.{each_in}
+use Rattle.vault_lines.specs.Reading.{◌>>=◌, each_in}
 use Rattle.vault_lines.specs.Words.{number_in, positive_in, long_in, short_in, claim_in, content_in}
 use Rattle.vault_lines.specs.Items.{intent_in, item_in, items_in}
 use Rattle.vault_lines.specs.Keywords.{keyword_in, keyword_text, all_keywords}
@@ -59,25 +60,24 @@ positive_found word n e =
           along (λ m. IsClaimNumber m × (word ≡ decimal m)) same ((above, found.0), found.1)
     ]
 
-long_found : (word : List ℕ) (n : ℕ) → long_in word ≡ Some n → IsClaimNumber n × (word ≡ 99 ∷ decimal n)
-long_found [] n e = cc e
-long_found (letter ∷ digits) n e =
-    elim (chosen (letter == 99) (positive_in digits) None (Some n) e) [
+-- a number behind a letter
+lettered_found : (first letter : ℕ) (digits : List ℕ) (n : ℕ) → cond (letter == first) (positive_in digits) None ≡ Some n
+    → IsClaimNumber n × (letter ∷ digits ≡ first ∷ decimal n)
+lettered_found first letter digits n e =
+    elim (chosen (letter == first) (positive_in digits) None (Some n) e) [
       | inr h ↦ cc (h.1)
       | inl h ↦
           let found = positive_found digits n h.1 in
-          (found.0, ap (λ k. k ∷ digits) (eqb-true _ _ h.0) ∙ ap (λ ds. 99 ∷ ds) found.1)
+          (found.0, ap (λ k. k ∷ digits) (eqb-true _ _ h.0) ∙ ap (λ ds. first ∷ ds) found.1)
     ]
+
+long_found : (word : List ℕ) (n : ℕ) → long_in word ≡ Some n → IsClaimNumber n × (word ≡ 99 ∷ decimal n)
+long_found [] n e = cc e
+long_found (letter ∷ digits) n e = lettered_found 99 letter digits n e
 
 short_found : (word : List ℕ) (n : ℕ) → short_in word ≡ Some n → IsClaimNumber n × (word ≡ 104 ∷ decimal n)
 short_found [] n e = cc e
-short_found (letter ∷ digits) n e =
-    elim (chosen (letter == 104) (positive_in digits) None (Some n) e) [
-      | inr h ↦ cc (h.1)
-      | inl h ↦
-          let found = positive_found digits n h.1 in
-          (found.0, ap (λ k. k ∷ digits) (eqb-true _ _ h.0) ∙ ap (λ ds. 104 ∷ ds) found.1)
-    ]
+short_found (letter ∷ digits) n e = lettered_found 104 letter digits n e
 
 claim_found : (word : List ℕ) (id : ClaimId) → claim_in word ≡ Some id → IsClaimId id × (word ≡ claim_text id)
 claim_found [] id e = cc e
@@ -150,51 +150,109 @@ items_found (word ∷ words) (item ∷ items) e =
     let found = each_found (word ∷ words) (item ∷ items) e in
     ((omega arith, found.0), found.1)
 
-hello_found : (words : List (List ℕ)) (command : Command) → arguments_in keywords.Hello words ≡ Some command → Spells (codes "hello" ∷ words) command
-hello_found [] command e = cc e
-hello_found (word ∷ []) command e =
-    let name = bind_some (name_in word) _ command e in
-    let found = name_found word name.0 name.1 in
-    along (λ c. Spells (codes "hello" ∷ word ∷ []) c) (same_Some _ _ name.2) (found.0, ap (λ w. codes "hello" ∷ w ∷ []) found.1)
-hello_found (word ∷ other ∷ words) command e = cc e
+-- a kind of word: how it is read, what that gives, and how it is spelled
+record Kind (A : Type 0) : Type 1 where
+  read : List ℕ → Option A
+  Is : A → Type 0
+  text : A → List ℕ
+  found : (word : List ℕ) (x : A) → read word ≡ Some x → Is x × (word ≡ text x)
 
-make_found : (words : List (List ℕ)) (command : Command) → arguments_in keywords.Make words ≡ Some command → Spells (codes "make" ∷ words) command
-make_found [] command e = cc e
-make_found (word ∷ []) command e =
-    let path = bind_some (path_in word) _ command e in
-    let found = path_found word path.0 path.1 in
-    along (λ c. Spells (codes "make" ∷ word ∷ []) c) (same_Some _ _ path.2) (found.0, ap (λ w. codes "make" ∷ w ∷ []) found.1)
-make_found (word ∷ other ∷ []) command e =
-    let path = bind_some (path_in word) _ command e in
-    let claim = bind_some (long_in other) _ command path.2 in
-    let place = path_found word path.0 path.1 in
-    let number = long_found other claim.0 claim.1 in
-    along (λ c. Spells (codes "make" ∷ word ∷ other ∷ []) c) (same_Some _ _ claim.2)
-    (place.0, number.0, ap (λ w. codes "make" ∷ w ∷ other ∷ []) place.1 ∙ ap (λ w. codes "make" ∷ path_text path.0 ∷ w ∷ []) number.1)
-make_found (word ∷ other ∷ another ∷ words) command e = cc e
+abbrev names : Kind (List ℕ)
+names = record { read = name_in; Is = IsName; text = λ name. name; found = name_found }
 
-nest_found : (words : List (List ℕ)) (command : Command) → arguments_in keywords.Nest words ≡ Some command → Spells (codes "nest" ∷ words) command
-nest_found [] command e = cc e
-nest_found (word ∷ []) command e =
-    let path = bind_some (path_in word) _ command e in
-    let found = path_found word path.0 path.1 in
-    along (λ c. Spells (codes "nest" ∷ word ∷ []) c) (same_Some _ _ path.2) (found.0, ap (λ w. codes "nest" ∷ w ∷ []) found.1)
-nest_found (word ∷ other ∷ []) command e =
-    let path = bind_some (path_in word) _ command e in
-    let claim = bind_some (long_in other) _ command path.2 in
-    let place = path_found word path.0 path.1 in
-    let number = long_found other claim.0 claim.1 in
-    along (λ c. Spells (codes "nest" ∷ word ∷ other ∷ []) c) (same_Some _ _ claim.2)
-    (place.0, number.0, ap (λ w. codes "nest" ∷ w ∷ other ∷ []) place.1 ∙ ap (λ w. codes "nest" ∷ path_text path.0 ∷ w ∷ []) number.1)
-nest_found (word ∷ other ∷ another ∷ words) command e = cc e
+abbrev paths : Kind (List (List ℕ))
+paths = record { read = path_in; Is = IsPath; text = path_text; found = path_found }
 
-check_out_found : (words : List (List ℕ)) (command : Command) → arguments_in keywords.CheckOut words ≡ Some command → Spells (codes "checkout" ∷ words) command
-check_out_found words command e =
-    let items = bind_some (items_in words) _ command e in
+abbrev numbers : Kind ℕ
+numbers = record { read = number_in; Is = λ n. n < 2 ^ 32; text = decimal; found = number_found }
+
+abbrev longs : Kind ℕ
+longs = record { read = long_in; Is = IsClaimNumber; text = λ n. claim_text (Long n); found = long_found }
+
+abbrev shorts : Kind ℕ
+shorts = record { read = short_in; Is = IsClaimNumber; text = λ n. claim_text (Short n); found = short_found }
+
+abbrev claims : Kind ClaimId
+claims = record { read = claim_in; Is = IsClaimId; text = claim_text; found = claim_found }
+
+-- what is read of the words behind a keyword is spelled by them
+abbrev AreFound : Keyword → List (List ℕ) → Type 0
+AreFound keyword words = (command : Command) → arguments_in keyword words ≡ Some command → Spells (keyword_text keyword ∷ words) command
+
+none_found : (keyword : Keyword) (words : List (List ℕ)) → arguments_in keyword words ≡ None → AreFound keyword words
+none_found keyword words none command e = let clash : None ≡ Some command = sym none ∙ e in absurd (cc)
+
+one_found : {A : Type 0} (kind : Kind A) (keyword : Keyword) (make : A → Command) (word : List ℕ)
+    → arguments_in keyword (word ∷ []) ≡ (kind.read word >>= λ x. Some (make x))
+    → ((x : A) → kind.Is x → Spells (keyword_text keyword ∷ kind.text x ∷ []) (make x)) → AreFound keyword (word ∷ [])
+one_found kind keyword make word reads spells command e =
+    let read = bind_some (kind.read word) _ command (sym reads ∙ e) in
+    let found = kind.found word read.0 read.1 in
+    along (Spells (keyword_text keyword ∷ word ∷ [])) (same_Some _ _ read.2)
+    (along (λ w. Spells (keyword_text keyword ∷ w ∷ []) (make read.0)) (sym found.1) (spells read.0 found.0))
+
+two_found : {A B : Type 0} (kind : Kind A) (another : Kind B) (keyword : Keyword) (make : A → B → Command) (word other : List ℕ)
+    → arguments_in keyword (word ∷ other ∷ []) ≡ (kind.read word >>= λ x. another.read other >>= λ y. Some (make x y))
+    → ((x : A) (y : B) → kind.Is x → another.Is y → Spells (keyword_text keyword ∷ kind.text x ∷ another.text y ∷ []) (make x y))
+    → AreFound keyword (word ∷ other ∷ [])
+two_found kind another keyword make word other reads spells command e =
+    let read = bind_some (kind.read word) _ command (sym reads ∙ e) in
+    let also = bind_some (another.read other) _ command read.2 in
+    let found = kind.found word read.0 read.1 in
+    let beside = another.found other also.0 also.1 in
+    along (Spells (keyword_text keyword ∷ word ∷ other ∷ [])) (same_Some _ _ also.2)
+    (along (λ w. Spells (keyword_text keyword ∷ w ∷ other ∷ []) (make read.0 also.0)) (sym found.1)
+    (along (λ w. Spells (keyword_text keyword ∷ kind.text read.0 ∷ w ∷ []) (make read.0 also.0)) (sym beside.1) (spells read.0 also.0 found.0 beside.0)))
+
+-- a keyword with one word behind it
+one_word : {A : Type 0} (kind : Kind A) (keyword : Keyword) (make : A → Command) → arguments_in keyword [] ≡ None
+    → ((word : List ℕ) → arguments_in keyword (word ∷ []) ≡ (kind.read word >>= λ x. Some (make x)))
+    → ((word other : List ℕ) (words : List (List ℕ)) → arguments_in keyword (word ∷ other ∷ words) ≡ None)
+    → ((x : A) → kind.Is x → Spells (keyword_text keyword ∷ kind.text x ∷ []) (make x))
+    → (words : List (List ℕ)) → AreFound keyword words
+one_word kind keyword make none one more spells [] = none_found keyword [] none
+one_word kind keyword make none one more spells (word ∷ []) = one_found kind keyword make word (one word) spells
+one_word kind keyword make none one more spells (word ∷ other ∷ words) = none_found keyword (word ∷ other ∷ words) (more word other words)
+
+-- one with two
+two_words : {A B : Type 0} (kind : Kind A) (another : Kind B) (keyword : Keyword) (make : A → B → Command) → arguments_in keyword [] ≡ None
+    → ((word : List ℕ) → arguments_in keyword (word ∷ []) ≡ None)
+    → ((word other : List ℕ) → arguments_in keyword (word ∷ other ∷ []) ≡ (kind.read word >>= λ x. another.read other >>= λ y. Some (make x y)))
+    → ((word other third : List ℕ) (words : List (List ℕ)) → arguments_in keyword (word ∷ other ∷ third ∷ words) ≡ None)
+    → ((x : A) (y : B) → kind.Is x → another.Is y → Spells (keyword_text keyword ∷ kind.text x ∷ another.text y ∷ []) (make x y))
+    → (words : List (List ℕ)) → AreFound keyword words
+two_words kind another keyword make none one two more spells [] = none_found keyword [] none
+two_words kind another keyword make none one two more spells (word ∷ []) = none_found keyword (word ∷ []) (one word)
+two_words kind another keyword make none one two more spells (word ∷ other ∷ []) = two_found kind another keyword make word other (two word other) spells
+two_words kind another keyword make none one two more spells (word ∷ other ∷ third ∷ words) =
+    none_found keyword (word ∷ other ∷ third ∷ words) (more word other third words)
+
+-- one with a path, and maybe the check-out in whose name a place is made there
+place_words : (keyword : Keyword) (make : List (List ℕ) → Option ℕ → Command) → arguments_in keyword [] ≡ None
+    → ((word : List ℕ) → arguments_in keyword (word ∷ []) ≡ (path_in word >>= λ path. Some (make path None)))
+    → ((word other : List ℕ) → arguments_in keyword (word ∷ other ∷ []) ≡ (path_in word >>= λ path. long_in other >>= λ n. Some (make path (Some n))))
+    → ((word other third : List ℕ) (words : List (List ℕ)) → arguments_in keyword (word ∷ other ∷ third ∷ words) ≡ None)
+    → ((path : List (List ℕ)) → IsPath path → Spells (keyword_text keyword ∷ path_text path ∷ []) (make path None))
+    → ((path : List (List ℕ)) (n : ℕ) → IsPath path → IsClaimNumber n → Spells (keyword_text keyword ∷ path_text path ∷ claim_text (Long n) ∷ []) (make path (Some n)))
+    → (words : List (List ℕ)) → AreFound keyword words
+place_words keyword make none one two more alone named [] = none_found keyword [] none
+place_words keyword make none one two more alone named (word ∷ []) = one_found paths keyword (λ path. make path None) word (one word) alone
+place_words keyword make none one two more alone named (word ∷ other ∷ []) =
+    two_found paths longs keyword (λ path n. make path (Some n)) word other (two word other) named
+place_words keyword make none one two more alone named (word ∷ other ∷ third ∷ words) =
+    none_found keyword (word ∷ other ∷ third ∷ words) (more word other third words)
+
+-- one with items alone
+all_items : (keyword : Keyword) (make : List PathItem → Command) (words : List (List ℕ))
+    → arguments_in keyword words ≡ (items_in words >>= λ items. Some (make items))
+    → ((items : List PathItem) → AreItems items → Spells (keyword_text keyword ∷ map item_text items) (make items)) → AreFound keyword words
+all_items keyword make words reads spells command e =
+    let items = bind_some (items_in words) _ command (sym reads ∙ e) in
     let found = items_found words items.0 items.1 in
-    along (λ c. Spells (codes "checkout" ∷ words) c) (same_Some _ _ items.2) (found.0, ap (λ ws. codes "checkout" ∷ ws) found.1)
+    along (Spells (keyword_text keyword ∷ words)) (same_Some _ _ items.2)
+    (along (λ ws. Spells (keyword_text keyword ∷ ws) (make items.0)) (sym found.1) (spells items.0 found.0))
 
-extend_found : (words : List (List ℕ)) (command : Command) → arguments_in keywords.Extend words ≡ Some command → Spells (codes "extend" ∷ words) command
+extend_found : (words : List (List ℕ)) → AreFound keywords.Extend words
 extend_found [] command e = cc e
 extend_found (word ∷ words) command e =
     let claim = bind_some (claim_in word) _ command e in
@@ -204,7 +262,7 @@ extend_found (word ∷ words) command e =
     along (λ c. Spells (codes "extend" ∷ word ∷ words) c) (same_Some _ _ items.2)
     (named.0, found.0, ap (λ w. codes "extend" ∷ w ∷ words) named.1 ∙ ap (λ ws. codes "extend" ∷ claim_text claim.0 ∷ ws) found.1)
 
-save_found : (words : List (List ℕ)) (command : Command) → arguments_in keywords.Save words ≡ Some command → Spells (codes "save" ∷ words) command
+save_found : (words : List (List ℕ)) → AreFound keywords.Save words
 save_found [] command e = cc e
 save_found (claim ∷ []) command e = cc e
 save_found (claim ∷ place ∷ []) command e = cc e
@@ -226,90 +284,9 @@ save_found (claim ∷ place ∷ digits ∷ []) command e =
     )
 save_found (claim ∷ place ∷ digits ∷ other ∷ words) command e = cc e
 
-check_in_found : (words : List (List ℕ)) (command : Command) → arguments_in keywords.CheckIn words ≡ Some command → Spells (codes "checkin" ∷ words) command
-check_in_found [] command e = cc e
-check_in_found (word ∷ []) command e =
-    let claim = bind_some (long_in word) _ command e in
-    let found = long_found word claim.0 claim.1 in
-    along (λ c. Spells (codes "checkin" ∷ word ∷ []) c) (same_Some _ _ claim.2) (found.0, ap (λ w. codes "checkin" ∷ w ∷ []) found.1)
-check_in_found (word ∷ other ∷ words) command e = cc e
-
-abandon_found : (words : List (List ℕ)) (command : Command) → arguments_in keywords.Abandon words ≡ Some command → Spells (codes "abandon" ∷ words) command
-abandon_found [] command e = cc e
-abandon_found (word ∷ []) command e =
-    let claim = bind_some (long_in word) _ command e in
-    let found = long_found word claim.0 claim.1 in
-    along (λ c. Spells (codes "abandon" ∷ word ∷ []) c) (same_Some _ _ claim.2) (found.0, ap (λ w. codes "abandon" ∷ w ∷ []) found.1)
-abandon_found (word ∷ other ∷ words) command e = cc e
-
-hold_found : (words : List (List ℕ)) (command : Command) → arguments_in keywords.Hold words ≡ Some command → Spells (codes "hold" ∷ words) command
-hold_found words command e =
-    let items = bind_some (items_in words) _ command e in
-    let found = items_found words items.0 items.1 in
-    along (λ c. Spells (codes "hold" ∷ words) c) (same_Some _ _ items.2) (found.0, ap (λ ws. codes "hold" ∷ ws) found.1)
-
-release_found : (words : List (List ℕ)) (command : Command) → arguments_in keywords.Release words ≡ Some command → Spells (codes "release" ∷ words) command
-release_found [] command e = cc e
-release_found (word ∷ []) command e =
-    let claim = bind_some (short_in word) _ command e in
-    let found = short_found word claim.0 claim.1 in
-    along (λ c. Spells (codes "release" ∷ word ∷ []) c) (same_Some _ _ claim.2) (found.0, ap (λ w. codes "release" ∷ w ∷ []) found.1)
-release_found (word ∷ other ∷ words) command e = cc e
-
-state_found : (words : List (List ℕ)) (command : Command) → arguments_in keywords.State words ≡ Some command → Spells (codes "state" ∷ words) command
-state_found [] command e = cc e
-state_found (word ∷ []) command e =
-    let claim = bind_some (claim_in word) _ command e in
-    let found = claim_found word claim.0 claim.1 in
-    along (λ c. Spells (codes "state" ∷ word ∷ []) c) (same_Some _ _ claim.2) (found.0, ap (λ w. codes "state" ∷ w ∷ []) found.1)
-state_found (word ∷ other ∷ words) command e = cc e
-
-list_found : (words : List (List ℕ)) (command : Command) → arguments_in keywords.List words ≡ Some command → Spells (codes "list" ∷ words) command
-list_found [] command e = cc e
-list_found (word ∷ []) command e =
-    let path = bind_some (path_in word) _ command e in
-    let found = path_found word path.0 path.1 in
-    along (λ c. Spells (codes "list" ∷ word ∷ []) c) (same_Some _ _ path.2) (found.0, ap (λ w. codes "list" ∷ w ∷ []) found.1)
-list_found (word ∷ other ∷ words) command e = cc e
-
-fetch_found : (words : List (List ℕ)) (command : Command) → arguments_in keywords.Fetch words ≡ Some command → Spells (codes "fetch" ∷ words) command
-fetch_found [] command e = cc e
-fetch_found (word ∷ []) command e = cc e
-fetch_found (word ∷ other ∷ []) command e =
-    let path = bind_some (path_in word) _ command e in
-    let version = bind_some (number_in other) _ command path.2 in
-    let found = path_found word path.0 path.1 in
-    let number = number_found other version.0 version.1 in
-    along (λ c. Spells (codes "fetch" ∷ word ∷ other ∷ []) c) (same_Some _ _ version.2)
-    (found.0, number.0, ap (λ w. codes "fetch" ∷ w ∷ other ∷ []) found.1 ∙ ap (λ w. codes "fetch" ∷ path_text path.0 ∷ w ∷ []) number.1)
-fetch_found (word ∷ other ∷ another ∷ words) command e = cc e
-
-count_found : (words : List (List ℕ)) (command : Command) → arguments_in keywords.Count words ≡ Some command → Spells (codes "count" ∷ words) command
-count_found [] command e = cc e
-count_found (word ∷ []) command e =
-    let path = bind_some (path_in word) _ command e in
-    let found = path_found word path.0 path.1 in
-    along (λ c. Spells (codes "count" ∷ word ∷ []) c) (same_Some _ _ path.2) (found.0, ap (λ w. codes "count" ∷ w ∷ []) found.1)
-count_found (word ∷ other ∷ words) command e = cc e
-
-give_found : (words : List (List ℕ)) (command : Command) → arguments_in keywords.Give words ≡ Some command → Spells (codes "give" ∷ words) command
-give_found [] command e = cc e
-give_found (word ∷ []) command e = cc e
-give_found (word ∷ other ∷ []) command e =
-    let claim = bind_some (long_in word) _ command e in
-    let name = bind_some (name_in other) _ command claim.2 in
-    let number = long_found word claim.0 claim.1 in
-    let found = name_found other name.0 name.1 in
-    along (λ c. Spells (codes "give" ∷ word ∷ other ∷ []) c) (same_Some _ _ name.2)
-    (number.0, found.0, ap (λ w. codes "give" ∷ w ∷ other ∷ []) number.1 ∙ ap (λ w. codes "give" ∷ claim_text (Long claim.0) ∷ w ∷ []) found.1)
-give_found (word ∷ other ∷ another ∷ words) command e = cc e
-
-note_found : (words : List (List ℕ)) (command : Command) → arguments_in keywords.Note words ≡ Some command → Spells (codes "note" ∷ words) command
+note_found : (words : List (List ℕ)) → AreFound keywords.Note words
 note_found [] command e = cc e
-note_found (word ∷ []) command e =
-    let claim = bind_some (long_in word) _ command e in
-    let found = long_found word claim.0 claim.1 in
-    along (λ c. Spells (codes "note" ∷ word ∷ []) c) (same_Some _ _ claim.2) (found.0, ap (λ w. codes "note" ∷ w ∷ []) found.1)
+note_found (word ∷ []) command e = one_found longs keywords.Note commands.ReadNote word refl (λ n is. (is, refl)) command e
 note_found (word ∷ digits ∷ []) command e =
     let claim = bind_some (long_in word) _ command e in
     let text = bind_some (content_in digits) _ command claim.2 in
@@ -318,29 +295,32 @@ note_found (word ∷ digits ∷ []) command e =
     (number.0, (digits, content_found digits text.0 text.1, ap (λ w. codes "note" ∷ w ∷ digits ∷ []) number.1))
 note_found (word ∷ digits ∷ other ∷ words) command e = cc e
 
-quit_found : (words : List (List ℕ)) (command : Command) → arguments_in keywords.Quit words ≡ Some command → Spells (codes "quit" ∷ words) command
+quit_found : (words : List (List ℕ)) → AreFound keywords.Quit words
 quit_found [] command e = along (λ c. Spells (codes "quit" ∷ []) c) (same_Some _ _ e) refl
 quit_found (word ∷ words) command e = cc e
 
-arguments_found : (keyword : Keyword) (words : List (List ℕ)) (command : Command)
-    → arguments_in keyword words ≡ Some command → Spells (keyword_text keyword ∷ words) command
-arguments_found keywords.Hello words command e = hello_found words command e
-arguments_found keywords.Make words command e = make_found words command e
-arguments_found keywords.Nest words command e = nest_found words command e
-arguments_found keywords.CheckOut words command e = check_out_found words command e
-arguments_found keywords.Extend words command e = extend_found words command e
-arguments_found keywords.Save words command e = save_found words command e
-arguments_found keywords.CheckIn words command e = check_in_found words command e
-arguments_found keywords.Abandon words command e = abandon_found words command e
-arguments_found keywords.Hold words command e = hold_found words command e
-arguments_found keywords.Release words command e = release_found words command e
-arguments_found keywords.State words command e = state_found words command e
-arguments_found keywords.List words command e = list_found words command e
-arguments_found keywords.Fetch words command e = fetch_found words command e
-arguments_found keywords.Count words command e = count_found words command e
-arguments_found keywords.Give words command e = give_found words command e
-arguments_found keywords.Note words command e = note_found words command e
-arguments_found keywords.Quit words command e = quit_found words command e
+arguments_found : (keyword : Keyword) (words : List (List ℕ)) → AreFound keyword words
+arguments_found keywords.Hello = one_word names keywords.Hello commands.Join refl (λ _. refl) (λ _ _ _. refl) (λ name is. (is, refl))
+arguments_found keywords.Make =
+    place_words keywords.Make commands.Make refl (λ _. refl) (λ _ _. refl) (λ _ _ _ _. refl) (λ path is. (is, refl)) (λ path n is number. (is, number, refl))
+arguments_found keywords.Nest =
+    place_words keywords.Nest commands.Nest refl (λ _. refl) (λ _ _. refl) (λ _ _ _ _. refl) (λ path is. (is, refl)) (λ path n is number. (is, number, refl))
+arguments_found keywords.CheckOut = λ words. all_items keywords.CheckOut commands.CheckOut words refl (λ items are. (are, refl))
+arguments_found keywords.Extend = extend_found
+arguments_found keywords.Save = save_found
+arguments_found keywords.CheckIn = one_word longs keywords.CheckIn commands.CheckIn refl (λ _. refl) (λ _ _ _. refl) (λ n is. (is, refl))
+arguments_found keywords.Abandon = one_word longs keywords.Abandon commands.Abandon refl (λ _. refl) (λ _ _ _. refl) (λ n is. (is, refl))
+arguments_found keywords.Hold = λ words. all_items keywords.Hold commands.Hold words refl (λ items are. (are, refl))
+arguments_found keywords.Release = one_word shorts keywords.Release commands.Release refl (λ _. refl) (λ _ _ _. refl) (λ n is. (is, refl))
+arguments_found keywords.State = one_word claims keywords.State commands.State refl (λ _. refl) (λ _ _ _. refl) (λ id is. (is, refl))
+arguments_found keywords.List = one_word paths keywords.List commands.List refl (λ _. refl) (λ _ _ _. refl) (λ path is. (is, refl))
+arguments_found keywords.Fetch =
+    two_words paths numbers keywords.Fetch commands.Fetch refl (λ _. refl) (λ _ _. refl) (λ _ _ _ _. refl) (λ path n is number. (is, number, refl))
+arguments_found keywords.Count = one_word paths keywords.Count commands.Count refl (λ _. refl) (λ _ _ _. refl) (λ path is. (is, refl))
+arguments_found keywords.Give =
+    two_words longs names keywords.Give commands.Give refl (λ _. refl) (λ _ _. refl) (λ _ _ _ _. refl) (λ n name number is. (number, is, refl))
+arguments_found keywords.Note = note_found
+arguments_found keywords.Quit = quit_found
 
 words_found : (words : List (List ℕ)) (command : Command) → words_in words ≡ Some command → Spells words command
 words_found [] command e = cc e

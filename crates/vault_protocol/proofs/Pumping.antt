@@ -14,7 +14,7 @@ use Rattle.group_commit.specs.World.{Pump, StartSnapshot}
 use Rattle.group_commit.specs.View.{book_of, view_row, view_acted}
 use Rattle.group_commit.specs.Seen.{VaultSeen, snapshot_length}
 use Rattle.group_commit.specs.Calls.{AreNumbers, MayStart, generation_after, tail_after}
-use Rattle.group_commit.proofs.Pumps.{idle_is}
+use Rattle.vault_store.proofs.Busy.{idle_is}
 use Rattle.vault_protocol.specs.Talk.{Line, Talk, pumped, may_start, started}
 use Rattle.vault_protocol.proofs.Staging.{talk_of}
 use Rattle.vault_model.proofs.Lists.{refuted}

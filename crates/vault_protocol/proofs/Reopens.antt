@@ -14,11 +14,11 @@ use Rattle.vault_store.specs.Files.{header, frame_extra, Reading, AreRead}
 use Rattle.vault_store.specs.Phases.{is_snapshot, is_opening}
 use Rattle.vault_store.specs.Seen.{of_file, first_of, second_of, Keeps, settled_reading, sealed_reading, gate_at, gated, IsByGate, IsLeftWhile}
 use Rattle.vault_store.specs.Laws.{AreHonest, OneReading}
+use Rattle.vault_store.proofs.Busy.{opening_is_busy}
 use Rattle.group_commit.specs.View.{view_at}
 use Rattle.group_commit.specs.Seen.{VaultSeen, snapshot_length, state_of, effects_between}
 use Rattle.group_commit.specs.Calls.{behind_snapshot, gained, generation_after, tail_after}
 use Rattle.group_commit.specs.Promises.{ImagesStand}
-use Rattle.group_commit.proofs.Order.{opening_is_busy}
 use Rattle.vault_device.specs.Picks.{gives_one}
 use Rattle.vault_device.proofs.Picks.{picks_decide}
 

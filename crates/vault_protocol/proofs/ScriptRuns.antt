@@ -13,7 +13,7 @@ use Rattle.group_commit.specs.History.{entry_of}
 use Rattle.group_commit.specs.World.{Act, Stage, Pump, StartSnapshot, Tell, Retire}
 use Rattle.group_commit.specs.View.{View, opened_view, view_at, book_of, ViewAllows, view_acted, MayLeave}
 use Rattle.group_commit.specs.Seen.{snapshot_length}
-use Rattle.group_commit.proofs.Pumps.{idle_is}
+use Rattle.vault_store.proofs.Busy.{idle_is}
 use Rattle.vault_device.specs.Picks.{gives_one}
 use Rattle.vault_lines.specs.Grammar.{command_of}
 use Rattle.vault_protocol.specs.Talk.{Line, Known, Awaited, Talk, Said, told, told_text, reply_at, behind, said_of, said_now, said, with_text, pumped, pumps, pumps_needed, committed, may_start, started, is_full, staged, is_awaited, crashed}

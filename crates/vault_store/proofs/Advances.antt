@@ -25,6 +25,7 @@ use Rattle.vault_store.proofs.Disks.{to_written, to_bodied, to_gated, to_idle, b
 use Rattle.vault_store.proofs.Kept.{IsMove, phase_kept, sealed_kept, settled_kept}
 use Rattle.vault_store.proofs.Left.{IsLeftHere, left, inside_front, inside_either}
 use Rattle.vault_store.proofs.Placed.{inside_exchanged, calls_placed, moments_placed}
+use Rattle.vault_store.proofs.Rests.{still_numbers}
 use Rattle.vault_store.specs.Snapshot.{current_version}
 
 -- a state in a phase is the state with that phase
@@ -118,17 +119,6 @@ module _ {D : Type 0} (disk : D → Disk) (old : StoreSeen D) (active : D) (p : 
       (inside_either disk old (record s { phase = p; broken = false }) here files.front files.is_front v w busy commit opens
       (move one files.front (records_of s.sealing) v (sym files.is_front.tail_is) files.active may.0) (aside_left commit files.spare w ((lawful_spare two).only_now w may.1)))) x y
 
-  -- the numbers of a step that changes the phase alone
-  phase_numbers : (q : Phase) (broken : Bool) (result : Result Advanced Fault) → is_idle p ≡ false → renews old result ≡ false → gained old result ≡ 0 → AreNumbers old (record old { active = active; phase = q; broken = broken }) result
-  phase_numbers q broken result busy still none = record {
-    which = ap (λ (b : Bool). cond b (other old.which) old.which) (sym still);
-    version = ap (λ (b : Bool). cond b current_version old.version) (sym still);
-    generation = ap (λ (b : Bool). cond b (old.generation + 1) old.generation) (sym still);
-    tail = let same : old.tail ≡ old.tail + gained old result = omega (arith, none) in same ∙ ap (λ (b : Bool). cond b (length old.rest) (old.tail + gained old result)) (sym still);
-    journal_length = let same : old.journal_length ≡ old.journal_length + gained old result = omega (arith, none) in same ∙ ap (λ (b : Bool). cond b 0 (old.journal_length + gained old result)) (sym still);
-    buffer = ap (λ (b : Bool). cond (b && not old.broken) [] old.buffer) (sym (ap is_idle is ∙ busy));
-  }
-
   -- a step that changes the phase alone, by a call that was counted
   pub phase_advance : {A E : Type 0} (q : Phase) (broken : Bool) (made : Result A E) (result : Result Advanced Fault) → is_idle p ≡ false → renews old result ≡ false → gained old result ≡ 0 → ((result ≡ Ok answers.Idle) ⊎ (result ≡ Ok answers.Broken) → ⊥)
       → IsOneCall (disk old.active) (disk active) made → (IsErr result → IsErr made)
@@ -137,7 +127,7 @@ module _ {D : Type 0} (disk : D → Disk) (old : StoreSeen D) (active : D) (p : 
       → IsAdvance disk old (record old { active = active; phase = q; broken = broken }) result
   phase_advance q broken made result busy still none moved call failed step moments = record {
     step = λ s keeps. subst (λ (t : StoreState). IsStep disk old (record old { active = active; phase = q; broken = broken }) result t) (in_phase s keeps) (step s (keeps_in s keeps));
-    numbers = phase_numbers q broken result busy still none;
+    numbers = still_numbers old active old.spare old.buffer old.sealed q broken result still none (ap (λ (b : Bool). cond (b && not old.broken) [] old.buffer) (sym (ap is_idle is ∙ busy)));
     rests = λ idle. absurd (moved idle);
     calls = calls_placed disk old.which old.active old.spare active old.spare result (active_called (disk old.active) (disk old.spare) (disk active) made result call failed);
     moments = moments;
@@ -287,14 +277,9 @@ module _ {D : Type 0} (disk : D → Disk) (old : StoreSeen D) (active : D) (unbr
   seal_err fault s (e ∷ es) some few move same keeps = (refl, λ e. cc, sealed_kept disk old active same (record s { buffer = e ∷ es }) true some few move keeps)
 
   seal_numbers : (broken : Bool) (result : Result Advanced Fault) → old.phase ≡ Idle → renews old result ≡ false → gained old result ≡ 0 → AreNumbers old (sealed_seen broken) result
-  seal_numbers broken result is still none = record {
-    which = ap (λ (b : Bool). cond b (other old.which) old.which) (sym still);
-    version = ap (λ (b : Bool). cond b current_version old.version) (sym still);
-    generation = ap (λ (b : Bool). cond b (old.generation + 1) old.generation) (sym still);
-    tail = let same : old.tail ≡ old.tail + gained old result = omega (arith, none) in same ∙ ap (λ (b : Bool). cond b (length old.rest) (old.tail + gained old result)) (sym still);
-    journal_length = let same : old.journal_length ≡ old.journal_length + gained old result = omega (arith, none) in same ∙ ap (λ (b : Bool). cond b 0 (old.journal_length + gained old result)) (sym still);
-    buffer = ap (λ (b : Bool). cond b [] old.buffer) (sym (ap (λ (q : Phase). is_idle q && not old.broken) is ∙ ap (λ (b : Bool). not b) unbroken));
-  }
+  seal_numbers broken result is still none =
+      still_numbers old active old.spare [] (length old.buffer) Written broken result still none
+      (ap (λ (b : Bool). cond b [] old.buffer) (sym (ap (λ (q : Phase). is_idle q && not old.broken) is ∙ ap (λ (b : Bool). not b) unbroken)))
 
   -- the body is written
   pub body_behind : old.phase ≡ Idle → 0 < length old.buffer → length old.buffer + 5 ≤ frame_room → IsOneCall {A = Unit {0}} {E = Fault} (disk old.active) (disk active) (Ok tt)

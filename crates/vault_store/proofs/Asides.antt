@@ -1,7 +1,7 @@
 -- The spare file, from phase to phase.
-use Rattle.std.proofs.Common.{◌≡◌, inl, inr, ℕ, ◌+◌, ◌<◌, ◌≤◌, ◌^◌, Bool, true, false, List, [], ◌∷◌, ◌++◌, length, get_or, set, take, drop, refl, sym, ◌∙◌, ap, subst, arith, append_assoc, length-append, take-append-drop}
+use Rattle.std.proofs.Common.{◌≡◌, inl, inr, ℕ, ◌+◌, ◌<◌, ◌≤◌, ◌^◌, Bool, true, false, List, [], ◌∷◌, ◌++◌, length, get_or, set, drop, refl, sym, ◌∙◌, ap, subst, arith, append_assoc, length-append, take-append-drop}
 use Rattle.std.proofs.lemmas.Bool.{cases_eq, cases_lt, false≢true}
-use Rattle.std.proofs.lemmas.List.{set-get_or, take_at, drop_more, get_or_at, append-nil, take_all}
+use Rattle.std.proofs.lemmas.List.{set-get_or, drop_more, append-nil, take_all}
 use Rattle.vault_model.specs.Vault.{Vault}
 use Rattle.vault_device.specs.Disk.{Disk, IsTorn}
 use Rattle.vault_device.proofs.Torn.{torn_byte}
@@ -13,6 +13,7 @@ use Rattle.vault_store.specs.Snapshot.{current_version, snapshot_of, HasSnapshot
 use Rattle.vault_store.specs.Files.{header, mark, version_number, current_head, snapshot_bytes, behind_gate, IsFront, EndsBehind, IsSpare}
 use Rattle.vault_store.specs.Phases.{is_snapshot}
 use Rattle.vault_store.specs.Spares.{ClosedMayStand, HasFirst, IsAside, IsSpareIn, LeavesSpareIn, IsSpareOn}
+use Rattle.vault_store.proofs.Fronts.{ends_before}
 use Rattle.vault_store.proofs.Spelled.{now_spelled}
 
 -- a closed file is a spare, and so is what a torn write leaves of a spare without a closed head gate
@@ -84,13 +85,7 @@ module _ (MayStand : List ℕ → Type 0) (disk : Disk) (shut : Bool) (rest : Li
 
 -- with its head gate open, and a closed gate at their end, these bytes are a file
 pub file_opened : (front rest file : List ℕ) → front ++ 0 ∷ [] ≡ 1 ∷ rest → HasFirst (length rest) rest file → get_or file 0 0 ≡ 1 → EndsBehind front file
-file_opened front rest file is has one = record {
-  begins = ap (λ (l : List ℕ). take (length front) l) whole ∙ take_at front (0 ∷ tail) (length front) refl;
-  closed = record {
-    stands = omega (arith, ap length whole, length-append front (0 ∷ tail));
-    shut = λ open_gate. let e = ap (λ (l : List ℕ). get_or l (length front) 0) whole ∙ get_or_at front 0 tail 0 (length front) refl in cc;
-  };
-}
+file_opened front rest file is has one = ends_before front tail file whole
   where
     tail : List ℕ
     tail = drop (length rest) (drop 1 file)

@@ -9,7 +9,6 @@ use Rattle.std.proofs.lemmas.List.{drop_more, drop_all, drop-drop, drop-take, ta
 use Rattle.vault_model.specs.Vault.{Vault}
 use Rattle.vault_device.specs.Disk.{Disk, IsOneCall, IsRead}
 use Rattle.vault_journal.specs.Spelling.{in_four}
-use Rattle.vault_journal.specs.Gate.{IsClosed}
 use Rattle.vault_store.specs.declared.body.ReadError.{ReadError}
 use Rattle.vault_store.specs.declared.front.FileVersion.{FileVersion}
 use Rattle.vault_store.specs.Snapshot.{spelling_of, HasSpelling}
@@ -19,6 +18,7 @@ use Rattle.vault_store.specs.Faults.{version_in, snapshot_length, snapshot_in, I
 use Rattle.vault_store.specs.Parts.{IsWhole}
 use Rattle.vault_store.specs.Read.{AreReads, IsWhy, IsBaseRead, IsBaseFault, IsFrameWrong, AreAllRead, AreContents, IsFaultBehindHead}
 use Rattle.vault_store.proofs.Rights.{version_told, told_once}
+use Rattle.vault_store.proofs.Wholes.{whole_holds}
 use Rattle.vault_store.proofs.Behind.{honest_behind, and_reads, why_behind, passed_on}
 
 pub one_read : {A E : Type 0} (old new : Disk) (result : Result A E) → IsOneCall old new result → (IsTrue old.honest → IsRead old new) → AreReads old new
@@ -173,22 +173,8 @@ module _ (disk : Disk) (version : FileVersion) (v : Vault) (frames tail journal_
   }
 
   holds_here : Holds disk.shown (record { vault = v; version = version; generation = generation; tail = tail; journal_length = journal_length })
-  holds_here = record {
-    front = front;
-    is_front = record {
-      base = contents.base;
-      frames = contents.list;
-      spelled = contents.spelled;
-      given = head.given;
-      fits = head.fits;
-      each = contents.each;
-      bytes = refl;
-      leads = contents.leads;
-      tail_is = tail_there;
-      journal_is = contents.journal_is;
-    };
-    ends = record { begins = ap (λ (n : ℕ). take n disk.shown) (sym tail_there) ∙ begins; closed = subst (λ (n : ℕ). IsClosed n disk.shown) tail_there (contents.closed honest) };
-  }
+  unfolding whole_here
+  holds_here = whole_holds disk.shown version generation v frames tail journal_length head whole_here contents.journal_is
 
 module _ (disk : Disk) (version : FileVersion) (v : Vault) (frames tail journal_length generation : ℕ) (contents : AreContents disk version v frames tail journal_length) (honest : IsTrue disk.honest) where
   pub whole_read : (w : FileVersion) → HasHead w generation disk.shown → IsWhole w generation disk.shown v frames tail

@@ -26,6 +26,7 @@ use Rattle.vault_store.proofs.Asides.{torn_spare, renewed_front, length-behind}
 use Rattle.vault_store.proofs.Named.{spelled_stays}
 use Rattle.vault_store.proofs.Placed.{calls_placed}
 use Rattle.vault_store.proofs.Renewals.{to_active}
+use Rattle.vault_store.proofs.Rests.{rest_kept}
 use Rattle.vault_store.proofs.Renewed.{spare_called, leaves_renewed, snap_phase, snap_keeps}
 use Rattle.vault_store.proofs.Rights.{holds_head, head_open}
 use Rattle.vault_store.proofs.Short.{spelled_short}
@@ -151,30 +152,18 @@ module _ {D : Type 0} (disk : D → Disk) (old : StoreSeen D) (spare : D) (unbro
 
   exchanged_kept : (s : StoreState) → Keeps disk old (record s { phase = SnapOpening; broken = false })
       → Keeps disk (exchanged_seen false) (record { settled = s.sealed; sealed = s.sealed; noted = s.noted; sealing = []; buffer = s.buffer; phase = Idle; broken = false })
-  exchanged_kept s keeps = record {
-    phase = refl;
-    broken = refl;
-    spelled = renewal.spelled;
-    sealing = tt;
-    few = λ commit. omega arith;
-    sealed_bytes = refl;
-    under_way = λ busy commit. absurd (false≢true (sym busy));
-    none = λ idle. refl;
-    sealed = refl;
-    buffer = keeps.buffer;
-    noted = keeps.noted;
-    renewal = λ snapshot. absurd (false≢true snapshot);
-    files = λ one two.
-        let files = keeps.files two (was_honest one) in record {
-          front = current_head (old.generation + 1) ++ snapshot_bytes current_version s.sealed;
-          is_front =
-              subst (λ (n : ℕ). IsFront (current_head (old.generation + 1) ++ snapshot_bytes current_version s.sealed) (record { vault = s.sealed; version = current_version; generation = old.generation + 1; tail = n; journal_length = 0 })) (sym (ap length renewal.bytes ∙ length-behind (old.generation + 1) s.sealed))
-              (renewed_front (old.generation + 1) s.sealed renewal.spelled (omega arith) renewal.fits);
-          active =
-              to_active (disk old.spare) (disk spare) old.rest (current_head (old.generation + 1) ++ snapshot_bytes current_version s.sealed) (ap (λ (l : List ℕ). 1 ∷ l) (sym renewal.bytes)) (lawful_spare (was_honest one)) files.spare (sync (was_honest one));
-          spare = beside files.front (record s { phase = SnapOpening; broken = false }) files.is_front files.active;
-        };
-  }
+  exchanged_kept s keeps =
+      rest_kept disk (exchanged_seen false) s.sealed s.noted s.buffer refl refl refl renewal.spelled keeps.buffer keeps.noted
+      (λ one two.
+      let files = keeps.files two (was_honest one) in record {
+        front = current_head (old.generation + 1) ++ snapshot_bytes current_version s.sealed;
+        is_front =
+            subst (λ (n : ℕ). IsFront (current_head (old.generation + 1) ++ snapshot_bytes current_version s.sealed) (record { vault = s.sealed; version = current_version; generation = old.generation + 1; tail = n; journal_length = 0 })) (sym (ap length renewal.bytes ∙ length-behind (old.generation + 1) s.sealed))
+            (renewed_front (old.generation + 1) s.sealed renewal.spelled (omega arith) renewal.fits);
+        active =
+            to_active (disk old.spare) (disk spare) old.rest (current_head (old.generation + 1) ++ snapshot_bytes current_version s.sealed) (ap (λ (l : List ℕ). 1 ∷ l) (sym renewal.bytes)) (lawful_spare (was_honest one)) files.spare (sync (was_honest one));
+        spare = beside files.front (record s { phase = SnapOpening; broken = false }) files.is_front files.active;
+      })
     where
       renewal : IsRenewal old.generation s.sealed old.rest
       renewal = keeps.renewal refl

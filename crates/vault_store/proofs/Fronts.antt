@@ -29,15 +29,19 @@ body_written gate records old within =
     ∙ drop_at (take (gate + 1) old) (body_of records ++ rest) (gate + 1) (length-take-le (gate + 1) old (omega arith)) in
     ap (λ (l : List ℕ). take (length (body_of records)) l) behind ∙ take_at (body_of records) rest (length (body_of records)) refl
 
--- with its gate open, a frame belongs to the front
-pub ends_opened : (front records file : List ℕ) → length front < length file → take (length front) file ≡ front → get_or file (length front) 0 ≡ 1 → HasBody (length front) records file → EndsBehind (front ++ frame_bytes records) file
-ends_opened front records file within begins one body = record {
-  begins = ap (λ (l : List ℕ). take (length longer) l) whole ∙ take_at longer (0 ∷ tail) (length longer) refl;
+-- what begins with these bytes, and a closed gate behind them, ends behind them
+pub ends_before : (front tail file : List ℕ) → file ≡ front ++ 0 ∷ tail → EndsBehind front file
+ends_before front tail file whole = record {
+  begins = ap (λ (l : List ℕ). take (length front) l) whole ∙ take_at front (0 ∷ tail) (length front) refl;
   closed = record {
-    stands = omega (arith, ap length whole, length-append longer (0 ∷ tail));
-    shut = λ is. let e = ap (λ (l : List ℕ). get_or l (length longer) 0) whole ∙ get_or_at longer 0 tail 0 (length longer) refl in cc;
+    stands = omega (arith, ap length whole, length-append front (0 ∷ tail));
+    shut = λ is. let e = ap (λ (l : List ℕ). get_or l (length front) 0) whole ∙ get_or_at front 0 tail 0 (length front) refl in cc;
   };
 }
+
+-- with its gate open, a frame belongs to the front
+pub ends_opened : (front records file : List ℕ) → length front < length file → take (length front) file ≡ front → get_or file (length front) 0 ≡ 1 → HasBody (length front) records file → EndsBehind (front ++ frame_bytes records) file
+ends_opened front records file within begins one body = ends_before longer tail file whole
   where
     longer : List ℕ
     longer = front ++ frame_bytes records

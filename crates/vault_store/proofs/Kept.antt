@@ -15,6 +15,7 @@ use Rattle.vault_store.specs.OnDisk.{IsOnDisk}
 use Rattle.vault_store.specs.Seen.{StoreSeen, Keeps, settled_reading}
 use Rattle.vault_store.proofs.Asides.{still_aside}
 use Rattle.vault_store.proofs.Named.{spelled_stays}
+use Rattle.vault_store.proofs.Rests.{rest_kept}
 use Rattle.vault_store.proofs.Frames.{applied_more, records_more, longer_front}
 
 pub note_kept : {D : Type 0} (disk : D → Disk) (store : StoreSeen D) (s : StoreState) (effect : Effect) (next : Vault) → HasRecord effect → Keeps disk store s → after s.noted effect ≡ Some next
@@ -108,27 +109,16 @@ module _ {D : Type 0} (disk : D → Disk) (old : StoreSeen D) (active : D) (same
       → Keeps disk old (record s { phase = Opening; broken = false })
       → Keeps disk (record old { active = active; tail = tail; journal_length = journal_length; sealed = 0; phase = Idle; broken = false })
       (record { settled = s.sealed; sealed = s.sealed; noted = s.noted; sealing = []; buffer = s.buffer; phase = Idle; broken = false })
-  settled_kept s tail journal_length tail_is journal_is move keeps = record {
-    phase = refl;
-    broken = refl;
-    spelled = spelled_stays s.settled s.sealed s.sealing keeps.spelled keeps.sealing keeps.sealed;
-    sealing = tt;
-    few = λ commit. omega arith;
-    sealed_bytes = refl;
-    under_way = λ busy commit. absurd (false≢true (sym busy));
-    none = λ idle. refl;
-    sealed = refl;
-    buffer = keeps.buffer;
-    noted = keeps.noted;
-    renewal = λ snapshot. absurd (false≢true snapshot);
-    files = λ one two.
-        let files = keeps.files (honest_before one) two in record {
-          front = files.front ++ frame_bytes (records_of s.sealing);
-          is_front = longer_front files.front (settled_reading old s) s.sealing s.sealed tail journal_length files.is_front frame keeps.sealed (omega (arith, tail_is, keeps.sealed_bytes)) (omega (arith, journal_is, keeps.sealed_bytes));
-          active = move (honest_before one) files.front (records_of s.sealing) (sym files.is_front.tail_is) files.active;
-          spare = still_aside (IsSpare old.generation) (disk old.spare) old.shut old.rest Opening Idle false refl refl files.spare;
-        };
-  }
+  settled_kept s tail journal_length tail_is journal_is move keeps =
+      rest_kept disk (record old { active = active; tail = tail; journal_length = journal_length; sealed = 0; phase = Idle; broken = false }) s.sealed s.noted s.buffer refl refl refl
+      (spelled_stays s.settled s.sealed s.sealing keeps.spelled keeps.sealing keeps.sealed) keeps.buffer keeps.noted
+      (λ one two.
+      let files = keeps.files (honest_before one) two in record {
+        front = files.front ++ frame_bytes (records_of s.sealing);
+        is_front = longer_front files.front (settled_reading old s) s.sealing s.sealed tail journal_length files.is_front frame keeps.sealed (omega (arith, tail_is, keeps.sealed_bytes)) (omega (arith, journal_is, keeps.sealed_bytes));
+        active = move (honest_before one) files.front (records_of s.sealing) (sym files.is_front.tail_is) files.active;
+        spare = still_aside (IsSpare old.generation) (disk old.spare) old.shut old.rest Opening Idle false refl refl files.spare;
+      })
     where
       frame : IsFrame s.sealing
       frame = record { some = keeps.under_way refl refl; each = keeps.sealing; few = keeps.few refl }

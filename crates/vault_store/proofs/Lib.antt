@@ -1,9 +1,11 @@
 mod Fronts
 mod Disks
+pub mod Busy
 mod Renewals
 mod Frames
 mod Named
 pub mod Asides
+mod Rests
 mod Kept
 mod Placed
 pub mod Left
@@ -32,6 +34,7 @@ mod Made
 mod Behind
 mod Stepped
 mod Steps
+pub mod Wholes
 mod Bodies
 mod Opened
 mod HandedOn

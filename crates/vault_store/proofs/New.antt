@@ -18,6 +18,7 @@ use Rattle.vault_store.specs.State.{at_rest}
 use Rattle.vault_store.specs.Seen.{StoreSeen, Keeps}
 use Rattle.vault_store.specs.Sound.{IsSoundStore}
 use Rattle.vault_store.specs.Create.{new_front, new_file, IsFilled}
+use Rattle.vault_store.proofs.Rests.{rest_kept}
 use Rattle.vault_store.proofs.Spelled.{now_spelled}
 
 pub new_snapshot : HasSnapshot new_vault
@@ -72,23 +73,11 @@ module _ {D : Type 0} (disk : D → Disk) (first second first_new second_new : D
   }
 
   pub new_kept : Keeps disk new_seen (at_rest new_vault)
-  new_kept = record {
-    phase = refl;
-    broken = refl;
-    spelled = new_snapshot;
-    sealing = tt;
-    few = λ commit. omega arith;
-    sealed_bytes = refl;
-    under_way = λ busy commit. absurd (cc);
-    none = λ idle. refl;
-    sealed = refl;
-    buffer = record { each = tt; whole = refl };
-    noted = refl;
-    renewal = λ snapshot. absurd (false≢true snapshot);
-    files = λ one two. record {
-      front = new_front;
-      is_front = new_is_front;
-      active = new_idle (disk first) (disk first_new) (file (subst IsTrue same one));
-      spare = new_aside (IsSpare 1) (inl (inl (omega arith))) (λ y torn. inl (inl (omega (arith, torn.no_longer)))) two;
-    };
-  }
+  new_kept =
+      rest_kept disk new_seen new_vault new_vault [] refl refl refl new_snapshot (record { each = tt; whole = refl }) refl
+      (λ one two. record {
+        front = new_front;
+        is_front = new_is_front;
+        active = new_idle (disk first) (disk first_new) (file (subst IsTrue same one));
+        spare = new_aside (IsSpare 1) (inl (inl (omega arith))) (λ y torn. inl (inl (omega (arith, torn.no_longer)))) two;
+      })

@@ -29,6 +29,7 @@ use Rattle.vault_store.proofs.Bodies.{holds_read}
 use Rattle.vault_store.proofs.Named.{frames_spelled}
 use Rattle.vault_store.proofs.HandedOn.{handed_behind, settled_reads}
 use Rattle.vault_store.proofs.Placed.{both_honest}
+use Rattle.vault_store.proofs.Rests.{rest_kept}
 
 -- what is known of the head gates of both files, of the spare's
 pub shut_placed : {D : Type 0} (disk : D → Disk) (which : File) (first second : D) (shut one other : Bool) → shut ≡ of_file which other one
@@ -212,28 +213,15 @@ module _ {D : Type 0} (disk : D → Disk) (which : File) (first second one two a
 
       pub opened_kept : Keeps disk opened_seen (at_rest v)
       opened_kept =
-          record {
-            phase = refl;
-            broken = refl;
-            spelled = frames_spelled contents.base v contents.list contents.spelled.has contents.each contents.leads;
-            sealing = tt;
-            few = λ commit. omega arith;
-            sealed_bytes = refl;
-            under_way = λ busy commit. absurd (cc);
-            none = λ idle. refl;
-            sealed = refl;
-            buffer = record { each = tt; whole = refl };
-            noted = refl;
-            renewal = λ snapshot. absurd (false≢true snapshot);
-            files = λ honest other.
-                let here = both_honest disk which first second (subst IsTrue handed_active.called.same_honesty (subst IsTrue reads.called.same_honesty honest)) (subst IsTrue handed_spare.called.same_honesty other) in
-                let holds = active_holds here.0 here.1 in record {
-                  front = holds.front;
-                  is_front = holds.is_front;
-                  active = record { settled = settled_active honest; ends = subst (EndsBehind holds.front) (sym (still_shown honest)) holds.ends };
-                  spare = let stands = subst (IsSpare g) (sym (spare_shown other)) (newer_here here.0 here.1).1 in opened_aside (IsSpare g) other stands (λ y isnt torn. torn_spare g (disk spare).shown y stands isnt torn);
-                };
-          }
+          rest_kept disk opened_seen v v [] refl refl refl (frames_spelled contents.base v contents.list contents.spelled.has contents.each contents.leads) (record { each = tt; whole = refl }) refl
+          (λ honest other.
+          let here = both_honest disk which first second (subst IsTrue handed_active.called.same_honesty (subst IsTrue reads.called.same_honesty honest)) (subst IsTrue handed_spare.called.same_honesty other) in
+          let holds = active_holds here.0 here.1 in record {
+            front = holds.front;
+            is_front = holds.is_front;
+            active = record { settled = settled_active honest; ends = subst (EndsBehind holds.front) (sym (still_shown honest)) holds.ends };
+            spare = let stands = subst (IsSpare g) (sym (spare_shown other)) (newer_here here.0 here.1).1 in opened_aside (IsSpare g) other stands (λ y isnt torn. torn_spare g (disk spare).shown y stands isnt torn);
+          })
 
 -- where no fault was counted until the active file was read on, and none then, none was counted of either device
 pub opened_quiet : {D : Type 0} (disk : D → Disk) (which : File) (first second one two active spare active_new : D) → AreQuiet (disk first) (disk second) (disk one) (disk two)

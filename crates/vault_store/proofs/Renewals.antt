@@ -10,24 +10,11 @@ use Rattle.vault_journal.specs.Gate.{IsClosed, SameBut, IsOpening}
 use Rattle.vault_store.specs.declared.phase.Phase.{Phase}
 use Rattle.vault_store.specs.declared.phase.Phase.TheVariants.{Idle, Written, Bodied, Opening, Start, Closing, Writing, Filled, Ready, SnapOpening}
 use Rattle.vault_store.specs.Files.{EndsBehind}
-use Rattle.vault_store.specs.Phases.{is_idle, is_snapshot, most_piece, piece_size, behind_piece}
+use Rattle.vault_store.specs.Phases.{is_snapshot, most_piece, piece_size, behind_piece}
 use Rattle.vault_store.specs.OnDisk.{IsIdle, IsOnDisk}
 use Rattle.vault_store.specs.Spares.{HasFirst, IsAside, IsShutting, IsFilling, IsReady, IsRenewing, IsSpareIn, LeavesSpareIn}
 use Rattle.vault_store.proofs.Asides.{file_opened}
 use Rattle.vault_store.proofs.Disks.{settled_by_sync}
-
--- a snapshot's phases are not idle
-pub snapshot_busy : (p : Phase) → is_snapshot p ≡ true → is_idle p ≡ false
-snapshot_busy Idle is = absurd (cc)
-snapshot_busy Written is = refl
-snapshot_busy Bodied is = refl
-snapshot_busy Opening is = refl
-snapshot_busy Start is = refl
-snapshot_busy Closing is = refl
-snapshot_busy (Writing left) is = refl
-snapshot_busy Filled is = refl
-snapshot_busy Ready is = refl
-snapshot_busy SnapOpening is = refl
 
 -- a snapshot leaves the active file
 module _ (disk : Disk) (front records : List ℕ) where

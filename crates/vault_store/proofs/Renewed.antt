@@ -11,19 +11,21 @@ use Rattle.vault_store.specs.declared.phase.Phase.{Phase}
 use Rattle.vault_store.specs.declared.phase.Phase.TheVariants.{Idle, Written, Bodied, Opening, Start, Closing, Writing, Filled, Ready, SnapOpening}
 use Rattle.vault_store.specs.declared.phase.Advanced.{Advanced}
 use Rattle.vault_store.specs.declared.phase.Advanced.TheVariants as answers
-use Rattle.vault_store.specs.Snapshot.{current_version, snapshot_of}
+use Rattle.vault_store.specs.Snapshot.{snapshot_of}
 use Rattle.vault_store.specs.Files.{header, IsSpare}
 use Rattle.vault_store.specs.Phases.{is_idle, is_snapshot, may_open, most_piece, piece_size, behind_piece}
 use Rattle.vault_store.specs.State.{StoreState}
 use Rattle.vault_store.specs.Spares.{ClosedMayStand, HasFirst, IsAside, IsFilling, IsSpareIn, IsSpareOn}
-use Rattle.vault_store.specs.Seen.{StoreSeen, of_file, other, first_of, second_of, Keeps, IsLeftInside}
+use Rattle.vault_store.specs.Seen.{StoreSeen, of_file, first_of, second_of, Keeps, IsLeftInside}
 use Rattle.vault_store.specs.Sound.{IsReached, IsBounded, IsActive, IsSoundStore}
 use Rattle.vault_store.specs.Step.{renews, gained, IsAtMostOneCall, IsStep, AreNumbers, MayBeLeft, IsAdvance}
 use Rattle.vault_store.proofs.Advances.{at_phase, moved_on, failed_on, none_called}
 use Rattle.vault_store.proofs.Asides.{closed_spare, spare_leaves, length-behind}
 use Rattle.vault_store.proofs.Left.{inside_front, inside_renewed}
 use Rattle.vault_store.proofs.Placed.{inside_exchanged, calls_placed, moments_placed}
-use Rattle.vault_store.proofs.Renewals.{snapshot_busy, idle_of, idle_leaves, idle_in, shut_torn, to_shutting, still_shut, to_filling, piece_closed, to_longer, to_ready, head_torn, to_renewing, piece_within, piece_ends, piece_leaves, piece_snapshot, leaves_less}
+use Rattle.vault_store.proofs.Rests.{still_numbers}
+use Rattle.vault_store.proofs.Busy.{snapshot_is_busy}
+use Rattle.vault_store.proofs.Renewals.{idle_of, idle_leaves, idle_in, shut_torn, to_shutting, still_shut, to_filling, piece_closed, to_longer, to_ready, head_torn, to_renewing, piece_within, piece_ends, piece_leaves, piece_snapshot, leaves_less}
 
 -- what one call of the spare's device leaves of the counts of both
 pub spare_called : {A E : Type 0} (first second new : Disk) (made : Result A E) {B F : Type 0} (result : Result B F) → IsOneCall second new made → (IsErr result → IsErr made) → IsAtMostOneCall first second first new result
@@ -69,7 +71,7 @@ module _ {D : Type 0} (disk : D → Disk) (old : StoreSeen D) (spare : D) (same 
     few = λ commit. absurd (false≢true (sym commit ∙ of_q));
     sealed_bytes = keeps.sealed_bytes ∙ ap (λ (b : Bool). cond b 0 (length (records_of s.sealing))) (of_p ∙ sym of_q);
     under_way = λ busy commit. absurd (false≢true (sym commit ∙ of_q));
-    none = λ idle. absurd (false≢true (sym (snapshot_busy q of_q) ∙ idle));
+    none = λ idle. absurd (false≢true (sym (snapshot_is_busy q of_q) ∙ idle));
     sealed = keeps.sealed;
     buffer = keeps.buffer;
     noted = keeps.noted;
@@ -144,14 +146,8 @@ module _ {D : Type 0} (disk : D → Disk) (old : StoreSeen D) (spare : D) (p : P
 
   -- the numbers of a step that isn't the last
   spare_numbers : (q : Phase) (broken : Bool) (result : Result Advanced Fault) → renews old result ≡ false → gained old result ≡ 0 → AreNumbers old (record old { spare = spare; phase = q; broken = broken }) result
-  spare_numbers q broken result still none = record {
-    which = ap (λ (b : Bool). cond b (other old.which) old.which) (sym still);
-    version = ap (λ (b : Bool). cond b current_version old.version) (sym still);
-    generation = ap (λ (b : Bool). cond b (old.generation + 1) old.generation) (sym still);
-    tail = let same : old.tail ≡ old.tail + gained old result = omega (arith, none) in same ∙ ap (λ (b : Bool). cond b (length old.rest) (old.tail + gained old result)) (sym still);
-    journal_length = let same : old.journal_length ≡ old.journal_length + gained old result = omega (arith, none) in same ∙ ap (λ (b : Bool). cond b 0 (old.journal_length + gained old result)) (sym still);
-    buffer = ap (λ (b : Bool). cond (b && not old.broken) [] old.buffer) (sym (ap is_idle is ∙ snapshot_busy p of_p));
-  }
+  spare_numbers q broken result still none =
+      still_numbers old old.active spare old.buffer old.sealed q broken result still none (ap (λ (b : Bool). cond (b && not old.broken) [] old.buffer) (sym (ap is_idle is ∙ snapshot_is_busy p of_p)))
 
   -- such a step
   pub spare_advance : (q : Phase) (broken : Bool) (result : Result Advanced Fault) → renews old result ≡ false → gained old result ≡ 0 → ((result ≡ Ok answers.Idle) ⊎ (result ≡ Ok answers.Broken) → ⊥)

@@ -1,4 +1,4 @@
-use Rattle.std.proofs.Common.{◌≡◌, ◌≢◌, ◌∙◌, List, Some, true, false, sym, ap, subst}
+use Rattle.std.proofs.Common.{◌≡◌, ◌≢◌, ◌∙◌, List, Some, true, false, sym, ap, subst, rules}
 use Rattle.group_commit.specs.declared.mark.Mark.TheVariants.{Open}
 use Rattle.group_commit.specs.declared.answers.Retired.TheVariants as answers
 use Rattle.group_commit.specs.Entries.{Kept, mark_at}
@@ -19,24 +19,17 @@ invariant_of-self g c =
     retired_kept disk seen c.self.inside.book k c.pop-entry.result c.pop-entry.new.self c.pop-entry.ensures (replay c.self.inside.base.value (members c.and-self-inside.result.items)) next
     (settled_more disk seen c.self.inside.book k c.if-self.false)
 
-pub returns-clause-retired : goal.returns-clause-retired
-returns-clause-retired g c =
+pub returns : goal.returns
+returns g c =
     let seen = seen_of c.self.inside in
     let disk = g.D.Device.disk in
     let k = c.self.invariant in
     let base = replay c.self.inside.base.value (members c.and-self-inside.result.items) in
     let next = ap (λ (l : List Kept). replay c.self.inside.base.value (members l)) c.and-self-inside.ensures ∙ gone_one c.self.inside.base.value c.self.inside.bygone.items c.pop-entry.result in
+    let settled = settled_more disk seen c.self.inside.book k c.if-self.false in
     let closed : mark_at seen.view.kept 0 ≢ Some Open = λ e. let clash : true ≡ false = sym (c.first_is_open.ensures.1 e) ∙ c.if-first_is_open.false in cc in
-    subst (λ (old : VaultSeen _). IsRetired old (retired seen base c.pop-entry.new.self) answers.One) c.self.view_is
-    (retires disk seen c.self.inside.book k c.pop-entry.result c.pop-entry.new.self c.pop-entry.ensures base next (settled_more disk seen c.self.inside.book k c.if-self.false) closed)
-
-pub returns-clause-next : goal.returns-clause-next
-returns-clause-next g c =
-    let seen = seen_of c.self.inside in
-    let disk = g.D.Device.disk in
-    let k = c.self.invariant in
-    let base = replay c.self.inside.base.value (members c.and-self-inside.result.items) in
-    let next = ap (λ (l : List Kept). replay c.self.inside.base.value (members l)) c.and-self-inside.ensures ∙ gone_one c.self.inside.base.value c.self.inside.bygone.items c.pop-entry.result in
-    let closed : mark_at seen.view.kept 0 ≢ Some Open = λ e. let clash : true ≡ false = sym (c.first_is_open.ensures.1 e) ∙ c.if-first_is_open.false in cc in
-    subst (λ (old : VaultSeen _). IsNext disk old (retired seen base c.pop-entry.new.self)) c.self.view_is
-    (retiring_is_next disk seen c.self.inside.book k c.pop-entry.result c.pop-entry.new.self c.pop-entry.ensures base next (settled_more disk seen c.self.inside.book k c.if-self.false) closed)
+    record {
+      retired = subst (λ (old : VaultSeen _). IsRetired old (retired seen base c.pop-entry.new.self) answers.One) c.self.view_is (retires disk seen c.self.inside.book k c.pop-entry.result c.pop-entry.new.self c.pop-entry.ensures base next settled closed);
+      same = search rules;
+      next = subst (λ (old : VaultSeen _). IsNext disk old (retired seen base c.pop-entry.new.self)) c.self.view_is (retiring_is_next disk seen c.self.inside.book k c.pop-entry.result c.pop-entry.new.self c.pop-entry.ensures base next settled closed);
+    }
