@@ -30,6 +30,23 @@ const PLACES: [&str; 18] = [
     "make /e/b/n/o/q/r/z",
 ];
 
+// Claims of each kind, held and queued, with drafts and notes: who says what.
+const CLAIMS: [(u32, &str); 13] = [
+    (1, "checkout w:/e/b"),
+    (1, "save c1 /e/b/p 6162"),
+    (1, "save c1 /e/b/q -"),
+    (1, "note c1 6e6f"),
+    (2, "checkout r:/e/c w:/e/b/p"),
+    (2, "note c2 71"),
+    (2, "checkout w:/f/b/q"),
+    (2, "save c3 /f/b/q 63"),
+    (2, "give c3 anna"),
+    (1, "extend c1 r:/e/c"),
+    (1, "checkout w:/e/c/p"),
+    (1, "hold r:/f/b/p"),
+    (2, "hold r:/e/c"),
+];
+
 // What the files of version 1 hold.
 const WRITTEN: [&str; 2] = ["make /e", "checkout w:/e"];
 
@@ -97,6 +114,17 @@ impl Run {
         }
     }
 
+    // The sessions make claims, and in every second run a snapshot of them is begun.
+    fn make_claims(&mut self, vault: &mut Vault<MemDevice>) {
+        for (session, line) in &CLAIMS {
+            self.tell(vault, *session, line);
+        }
+        self.judge.commit(vault);
+        if self.dice.one_in(2) {
+            self.judge.start(vault);
+        }
+    }
+
     // The door asks so many questions, and the tickets are given up.
     fn ask_often(&mut self, vault: &mut Vault<MemDevice>, times: u32) {
         for _ in 0..times {
@@ -144,6 +172,7 @@ impl Run {
         }
         match self.mood.beginning {
             Beginning::Bare | Beginning::Places | Beginning::FirstVersion => {}
+            Beginning::Claims => self.make_claims(vault),
             Beginning::Versions => fill(&mut self.judge, vault, &mut self.line),
             Beginning::FullBuffer => self.save_often(vault, BUFFER, false),
             Beginning::LongJournal => self.save_often(vault, JOURNAL, true),

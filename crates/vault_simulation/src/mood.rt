@@ -55,6 +55,8 @@ pub(crate) enum Beginning {
     Bare,
     /// Places for them.
     Places,
+    /// Claims, too: check-outs with drafts and notes, one of them given away, and holds; some of them queued.
+    Claims,
     /// Versions, too, so many that a snapshot is written in two pieces.
     Versions,
     /// More records than the open buffer has room for.
@@ -112,6 +114,7 @@ fn drawn_beginning(dice: &mut Dice) -> Beginning {
         12 => Beginning::FullHistory,
         13..33 => Beginning::Versions,
         33..53 => Beginning::FirstVersion,
+        53..83 => Beginning::Claims,
         _ => Beginning::Places,
     }
 }
