@@ -1,20 +1,18 @@
 //! Tests of the running server, through its public calls: conversations in memory, a flusher beside workers, and a server over
-//! TCP on this machine.
+//! TCP on this machine. Each is a row of a table, and one function tells all rows of a table.
 //!
 //! Promises: nothing; it has no public function.
 //! Only tested: what `vault_sessions` says is only tested.
 //! Stands on: vault_sessions, and what it stands on.
-//! Start at: connections.rt for a conversation, serving.rt for a server.
+//! Start at: talks.rt for a conversation, serving.rt for a server.
 #![tactic(auto)]
 
 #[cfg(test)]
-mod connections;
-#[cfg(test)]
 mod devices;
 #[cfg(test)]
-mod flushing;
+mod filling;
 #[cfg(test)]
-mod limits;
+mod holding;
 #[cfg(test)]
 mod memory;
 #[cfg(test)]
@@ -22,12 +20,10 @@ mod pacing;
 #[cfg(test)]
 mod refusing;
 #[cfg(test)]
-mod renewing;
+mod server;
 #[cfg(test)]
 mod serving;
 #[cfg(test)]
 mod talk;
 #[cfg(test)]
-mod tcp;
-#[cfg(test)]
-mod turns;
+mod talks;

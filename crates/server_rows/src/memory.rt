@@ -1,51 +1,83 @@
-//! Each request of a conversation for memory refused in turn.
+//! Requests for memory of a conversation refused in turn, and that for a snapshot.
 
-use crate::talk::{Talk, converse, new_vault};
+use crate::devices::{Devices, Piece};
+use crate::filling::{COMMITS, CREATION, CREATION_BESIDE, Start};
+use crate::talk::{COMMIT, Came, Flusher, NOTHING, PLAIN, SNAPSHOT, Talk, come_to_that, talked};
 use std::alloc::Global;
+use std::process::Abort;
 use std::sync::Wait;
+use std::thread::Threads;
 use std::time::Clock;
 use test_memory::{Refusing, Tried, requests};
-use vault_sessions::{Ended, Totals};
+use vault_sessions::{Ended, Flushed, Totals};
 
-const ASKED: &[u8] = b"hello anna\nmake /e\nlist /\n";
+// Without the memory for a snapshot what was staged is committed, and the snapshot is begun behind that. The first request is for the
+// share, and the second for the snapshot.
+static LATER: [Talk; 1] = [Talk {
+    name: "a refused snapshot is begun later",
+    start: Start::Long,
+    came: Came {
+        entries: 1020,
+        calls: (
+            CREATION + (COMMITS + 1) * COMMIT,
+            CREATION_BESIDE + SNAPSHOT,
+        ),
+        ..NOTHING
+    },
+    ..PLAIN
+}];
+
+static ASKED: Talk = Talk {
+    name: "each request refused",
+    says: &[&[(b"hello anna\nmake /e\nlist /\n", 1)]],
+    hears: &[(b"OK session 1\nOK place 1\nOK list 1 e\n", 1)],
+    came: Came {
+        ended: Some(Ended::EndOfInput),
+        answers: 3,
+        totals: Totals { staged: 4, told: 3 },
+        entries: 4,
+        calls: (CREATION + COMMIT, CREATION_BESIDE),
+        ..NOTHING
+    },
+    ..PLAIN
+};
 
 const TOLD: &[u8] = b"OK session 1\nOK place 1\nOK list 1 e\n";
 
 // Whether a refusal shows: no share was made, memory ended the conversation, or a line was answered so.
-fn shows_refusal(talk: Option<Talk>, held: &[u8]) -> bool {
-    let Some(talk) = talk else {
-        return held.is_empty();
+fn shows_refusal(came: Option<Came>, heard: &[u8]) -> bool {
+    let Some(came) = came else {
+        return heard.is_empty();
     };
-    if talk.ended == Ended::NoMemory {
-        return TOLD.starts_with(held);
+    if came.ended == Some(Ended::NoMemory) {
+        return TOLD.starts_with(heard);
     }
-    held.windows(7).any(|text| text == b"ERR 81\n".as_slice())
+    heard.windows(7).any(|text| text == b"ERR 81\n".as_slice())
 }
 
-// Whether all was told.
-fn is_whole(talk: Option<Talk>, held: &[u8]) -> bool {
-    let totals = Totals { staged: 4, told: 3 };
-    talk.is_some_and(|talk| talk.totals == totals) && held == TOLD
-}
-
-// Tries a conversation over a new vault. A gate commits each entry in the worker's own thread, so the requests come in one order.
-fn talks<H: Wait + Clock>(rt: &H, global: Global, memory: &Refusing<Global>, number: u64) -> Tried {
-    let Some(vault) = new_vault(global, memory, 0) else {
-        return Tried::Wrong;
-    };
-    let mut held = Vec::new(global);
-    memory.refuse(number);
-    let talk = converse(rt, memory, vault, &mut [ASKED], &mut held);
+// Tries a conversation over a new vault, each entry of which is committed in the worker's own thread.
+fn talks<H: Threads + Wait + Clock + Sync + Abort>(
+    rt: &H,
+    global: Global,
+    memory: &Refusing<Global>,
+    request: u64,
+) -> Tried {
+    let (came, heard) = talked(rt, global, memory, &ASKED, request);
+    let shows = shows_refusal(came, &heard);
+    let is_whole = came == Some(ASKED.came) && heard.as_slice() == TOLD;
+    drop(heard);
     if memory.has_refused() {
-        Tried::refused(shows_refusal(talk, &held))
+        Tried::refused(shows)
     } else {
-        Tried::done(is_whole(talk, &held))
+        Tried::done(is_whole)
     }
 }
 
 #[test]
 fn each_request_of_a_conversation_is_refused(rt: HostRuntime) {
     let memory = Refusing::new(rt.alloc());
+    come_to_that(&rt, rt.alloc(), &memory, &LATER, 2);
+    assert!(rt; !memory.is_waiting());
     // The first is for the share.
     let made = requests(|number| talks(&rt, rt.alloc(), &memory, number));
     assert_eq!(rt; made, Some(17), "serve_one");

@@ -2,94 +2,139 @@
 
 use flusher_pace::{Pace, may_change};
 use group_commit::{Pumped, Started};
-use std::alloc::Global;
-use vault_model::{ClaimId, Command, CommandIn, NoMemory};
+use vault_lines::read_line_of;
+use vault_model::NoMemory;
 
-// A commit for which so many waited.
-fn commit(pace: &mut Pace, waiting: u64) {
-    for _step in 0..3 {
-        pace.pumped(waiting, Ok(Pumped::Moved));
+/// What a pace is told, and what it answers then.
+#[derive(Clone, Copy)]
+enum Step {
+    /// A commit, for which so many waited.
+    Commit(u64),
+    /// What only asks was settled, and so many waited.
+    Settled(u64),
+    /// A snapshot was begun.
+    Snapshot,
+    /// One wasn't, for want of memory or since it wasn't the time: nothing is another.
+    NoSnapshot,
+    /// Whether it waits for more, while so many wait.
+    Gathers(u64, bool),
+    /// So many wait now, and the last one may change the vault or not. Whether the flusher is woken.
+    Staged(u64, bool, bool),
+    /// It sleeps until so many wait.
+    Sleeps(u64),
+}
+
+// Whether a pace answers so.
+fn is_answered(pace: &mut Pace, step: Step) -> bool {
+    match step {
+        Step::Commit(waiting) => {
+            for _step in 0..3 {
+                pace.pumped(waiting, Ok(Pumped::Moved));
+            }
+            pace.pumped(waiting, Ok(Pumped::Settled));
+        }
+        Step::Settled(waiting) => pace.pumped(waiting, Ok(Pumped::Settled)),
+        Step::Snapshot => pace.started(Ok(Started::Yes)),
+        Step::NoSnapshot => {
+            let before = *pace;
+            pace.started(Err(NoMemory));
+            pace.started(Ok(Started::NotNow));
+            return *pace == before;
+        }
+        Step::Gathers(waiting, gathers) => return pace.gathers(waiting) == gathers,
+        Step::Staged(waiting, may_change, wakes) => {
+            return pace.staged(waiting, may_change) == wakes;
+        }
+        Step::Sleeps(least) => return pace.sleeps(true, least),
     }
-    pace.pumped(waiting, Ok(Pumped::Settled));
+    true
 }
 
-// Behind a commit of three it waits for three, then without one that stays away for two, and behind one alone for none.
-#[test]
-fn waits_for_as_many_as_waited(rt: HostRuntime) {
-    let mut pace = Pace::new();
-    assert!(rt; !pace.gathers(0));
-    commit(&mut pace, 3);
-    assert!(rt; pace.gathers(0));
-    assert!(rt; !pace.staged(1, true));
-    assert!(rt; !pace.staged(2, true));
-    assert!(rt; pace.gathers(2));
-    assert!(rt; pace.staged(3, true));
-    assert!(rt; !pace.gathers(3));
-    commit(&mut pace, 2);
-    assert!(rt; pace.gathers(0));
-    assert!(rt; !pace.gathers(2));
-    commit(&mut pace, 1);
-    assert!(rt; !pace.gathers(0));
-}
+static ROWS: [(&str, &[Step]); 5] = [
+    (
+        "behind a commit of three it waits for three, then without one that stays away for two, and behind one alone for none",
+        &[
+            Step::Gathers(0, false),
+            Step::Commit(3),
+            Step::Gathers(0, true),
+            Step::Staged(1, true, false),
+            Step::Staged(2, true, false),
+            Step::Gathers(2, true),
+            Step::Staged(3, true, true),
+            Step::Gathers(3, false),
+            Step::Commit(2),
+            Step::Gathers(0, true),
+            Step::Gathers(2, false),
+            Step::Commit(1),
+            Step::Gathers(0, false),
+        ],
+    ),
+    (
+        "what only asks is pumped at once, and is no commit; behind a change it waits with it",
+        &[
+            Step::Commit(3),
+            Step::Gathers(0, true),
+            Step::Staged(1, false, true),
+            Step::Gathers(1, false),
+            Step::Settled(1),
+            Step::Gathers(0, true),
+            Step::Staged(1, true, false),
+            Step::Staged(2, false, false),
+            Step::Staged(3, false, true),
+        ],
+    ),
+    (
+        "behind a snapshot it waits for as many as before, and for a change that was staged meanwhile no less",
+        &[
+            Step::Commit(3),
+            Step::Snapshot,
+            Step::Staged(1, true, false),
+            Step::Commit(9),
+            Step::Gathers(1, true),
+            Step::Gathers(2, true),
+            Step::Gathers(3, false),
+            Step::Commit(4),
+            Step::Gathers(0, true),
+            Step::Gathers(4, false),
+        ],
+    ),
+    (
+        "a snapshot that isn't begun changes nothing",
+        &[
+            Step::Commit(3),
+            Step::Staged(1, true, false),
+            Step::NoSnapshot,
+        ],
+    ),
+    (
+        "a flusher that sleeps since nothing is to be done is woken once, by whatever is staged",
+        &[
+            Step::Staged(1, true, false),
+            Step::Sleeps(1),
+            Step::Staged(2, true, true),
+            Step::Staged(3, true, false),
+        ],
+    ),
+];
 
-// What only asks is pumped at once, and is no commit; behind a change it waits with it.
-#[test]
-fn questions_are_not_held_back(rt: HostRuntime) {
-    let mut pace = Pace::new();
-    commit(&mut pace, 3);
-    assert!(rt; pace.gathers(0));
-    assert!(rt; pace.staged(1, false));
-    assert!(rt; !pace.gathers(1));
-    pace.pumped(1, Ok(Pumped::Settled));
-    assert!(rt; pace.gathers(0));
-    assert!(rt; !pace.staged(1, true));
-    assert!(rt; !pace.staged(2, false));
-    assert!(rt; pace.staged(3, false));
-}
+// What may change the vault.
+static CHANGES: [(&[u8], bool); 3] = [
+    (b"state c1", false),
+    (b"note c1", false),
+    (b"abandon c1", true),
+];
 
-// Behind a snapshot it waits for as many as before, and for a change that was staged meanwhile no less.
 #[test]
-fn snapshot_is_no_commit(rt: HostRuntime) {
-    let mut pace = Pace::new();
-    commit(&mut pace, 3);
-    pace.started(Ok(Started::Yes));
-    assert!(rt; !pace.staged(1, true));
-    commit(&mut pace, 9);
-    assert!(rt; pace.gathers(1));
-    assert!(rt; pace.gathers(2));
-    assert!(rt; !pace.gathers(3));
-    commit(&mut pace, 4);
-    assert!(rt; pace.gathers(0));
-    assert!(rt; !pace.gathers(4));
-}
-
-// One that isn't begun changes nothing.
-#[test]
-fn snapshot_that_is_not_begun(rt: HostRuntime) {
-    let mut pace = Pace::new();
-    commit(&mut pace, 3);
-    assert!(rt; !pace.staged(1, true));
-    let before = pace;
-    pace.started(Err(NoMemory));
-    pace.started(Ok(Started::NotNow));
-    assert!(rt; pace == before);
-}
-
-// A flusher that sleeps since nothing is to be done is woken once, by whatever is staged.
-#[test]
-fn sleeper_is_woken_once(rt: HostRuntime) {
-    let mut pace = Pace::new();
-    assert!(rt; !pace.staged(1, true));
-    assert!(rt; pace.sleeps(true, 1));
-    assert!(rt; pace.staged(2, true));
-    assert!(rt; !pace.staged(3, true));
-    let asks: CommandIn<Global> = Command::State(ClaimId::Long(1));
-    assert!(rt; !may_change(&asks));
-    let reads: CommandIn<Global> = Command::ReadNote(1);
-    assert!(rt; !may_change(&reads));
-    let gives_up: CommandIn<Global> = Command::Abandon(1);
-    assert!(rt; may_change(&gives_up));
-    drop(asks);
-    drop(reads);
-    drop(gives_up);
+fn the_flusher_waits_as_the_rows_say(rt: HostRuntime) {
+    for (name, steps) in &ROWS {
+        let mut pace = Pace::new();
+        for step in *steps {
+            assert!(rt; is_answered(&mut pace, *step), "{name}");
+        }
+    }
+    for (line, changes) in &CHANGES {
+        let command = read_line_of(rt.alloc(), line).expect(&rt, "a command");
+        assert!(rt; may_change(&command) == *changes);
+        drop(command);
+    }
 }

@@ -1,90 +1,74 @@
 //! A server, each request of which for memory is refused in turn. Which request has a number depends on the threads, so none is
 //! named: whichever is refused, the server ends as it may, and nothing that a client was told is lost.
 
-use crate::talk::new_vault;
-use crate::tcp::{client, listening};
-use group_commit::Vault;
-use std::alloc::{Allocator, Global};
-use std::io;
+use crate::filling::CREATION;
+use crate::server::{Client, ENDED, HEAD, Outcome, PLAIN, Serving, served};
+use std::alloc::Global;
 use std::net::{Net, TcpListener, TcpStream};
+use std::process::Abort;
 use std::sync::Wait;
 use std::thread::Threads;
 use std::time::Clock;
 use test_memory::{Refusing, Tried, requests};
-use vault_device::{Device, MemDevice, Pick};
-use vault_sessions::{OpenGate, ServerError, Totals, run_server};
+use vault_sessions::{ServerError, Totals};
 
-const ASKED: &[u8] = b"hello anna\nmake /e\nquit\n";
+static REFUSED: Serving = Serving {
+    name: "each request refused",
+    clients: &[Client {
+        says: &[(b"hello anna\nmake /e\nquit\n", 1)],
+        may_say_more: false,
+    }],
+    hears: &[&[(b"", 1)]],
+    came: Outcome {
+        totals: Totals { staged: 3, told: 3 },
+        calls: CREATION + 4,
+        length: HEAD + 12,
+        ..ENDED
+    },
+    ..PLAIN
+};
 
-const TOLD: &str = "OK session 1\nOK place 1\nOK left\n";
+const TOLD: &str = "OK session 1\nOK place 1\nOK left\nend\n";
 
-// What the client may be told, line by line: where the first was refused memory, the others speak for no session.
-const MAY_BE: [[&str; 3]; 3] = [
+// What the client may hear, line by line: where the first was refused memory, the others speak for no session.
+static MAY_BE: [[&str; 3]; 4] = [
     ["OK session 1", "ERR 81", "ERR 81"],
     ["OK place 1", "ERR 81", "ERR 11"],
     ["OK left", "ERR 81", "ERR 11"],
+    ["end", "end", "end"],
 ];
 
-// Whether a client may be told this.
-fn may_be_told(told: &str) -> bool {
-    told.lines().count() <= 3
-        && told
-            .lines()
-            .zip(MAY_BE)
-            .all(|(line, texts)| texts.iter().any(|text| *text == line))
-}
-
-// Whether the place is in what a stop would leave, where the client was told of it: the first file of a new vault has 35 bytes, and
-// 47 with the place.
-fn keeps_told<A: Allocator + Copy>(vault: Vault<MemDevice, A>, told: &str) -> bool {
-    let (mut file, _) = vault.into_devices();
-    file.crash(Pick::Old);
-    let length = file.len();
-    drop(file);
-    length == Ok(47) || length == Ok(35) && !told.lines().any(|line| line == "OK place 1")
-}
-
-// Serves one connection, with this request refused.
-fn serves<R: Net<Listener = TcpListener, Stream = TcpStream> + Threads + Wait + Clock + Sync>(
-    rt: &R,
-    global: Global,
-    memory: &Refusing<Global>,
-    number: u64,
-) -> Tried {
-    let Some(listener) = listening(rt) else {
-        return Tried::Wrong;
-    };
-    let Some(mut client) = client(rt, &listener, ASKED) else {
-        return Tried::Wrong;
-    };
-    let Some(vault) = new_vault(global, memory, 0) else {
-        return Tried::Wrong;
-    };
-    memory.refuse(number);
-    let ended = run_server(rt, memory, listener, vault, 1, Some(1), &OpenGate);
-    let has_refused = memory.has_refused();
-    // A worker that ends early leaves lines unread, and then the client may be told nothing.
-    let told = io::read_to_string(global, &mut client).unwrap_or(String::new(global));
-    let is_so = may_be_told(told.as_str());
-    match ended {
-        Ok((vault, totals)) => {
-            let is_whole = told.as_str() == TOLD && totals == Totals { staged: 3, told: 3 };
-            let is_kept = keeps_told(vault, told.as_str());
-            if has_refused {
-                Tried::refused(is_so && is_kept)
-            } else {
-                Tried::done(is_whole && is_kept)
-            }
+// Whether a client may hear this. Behind a worker that ends early, which leaves lines unread, it may hear nothing, and no end.
+fn may_be_heard(heard: &str) -> bool {
+    for (line, texts) in heard.lines().zip(&MAY_BE) {
+        if line != "end" && !texts.contains(&line) {
+            return false;
         }
-        Err(error) => Tried::refused(
-            has_refused && is_so && matches!(error, ServerError::NoMemory),
-        ),
+    }
+    heard.lines().count() <= 4
+}
+
+// Serves one connection, with this request refused. The place is in what a stop would leave, where the client was told of it.
+fn serves<
+    R: Net<Listener = TcpListener, Stream = TcpStream> + Threads + Wait + Clock + Sync + Abort,
+>(rt: &R, global: Global, memory: &Refusing<Global>, request: u64) -> Tried {
+    let (came, heard, _) = served(rt, global, memory, &REFUSED, request);
+    let has_refused = memory.has_refused();
+    let is_told = heard.as_str().contains("OK place 1\n");
+    let is_kept = came.length == HEAD + 12 || came.length == HEAD && !is_told;
+    let is_so = may_be_heard(heard.as_str());
+    let is_whole = came == REFUSED.came && heard.as_str() == TOLD;
+    drop(heard);
+    match came.error {
+        None if has_refused => Tried::refused(is_so && is_kept),
+        None => Tried::done(is_whole),
+        Some(error) => Tried::refused(has_refused && is_so && error == ServerError::NoMemory),
     }
 }
 
 #[test]
 fn each_request_of_a_server_is_refused(rt: HostRuntime) {
     let memory = Refusing::new(rt.alloc());
-    let made = requests(|number| serves(&rt, rt.alloc(), &memory, number));
+    let made = requests(|request| serves(&rt, rt.alloc(), &memory, request));
     assert!(rt; made.is_some_and(|made| made > 9), "run_server");
 }

@@ -4,109 +4,141 @@ ghost use Rattle.std.specs.Prelude.{◌≡◌};
 ghost use Rattle.group_commit.specs.View.{length_of};
 ghost use denote.Param.Send.{Frees};
 
+use crate::devices::{Devices, Hearer, Piece, Sender, is_text};
+use crate::filling::{Begun, CREATION, CREATION_BESIDE, Start, begun};
+use crate::holding::{TURNS, is_reached_within};
 use group_commit::Vault;
 use std::alloc::{Allocator, Global};
-use std::io::{Read, Write};
 use std::marker::Brand;
+use std::process::Abort;
 use std::sync::Wait;
+use std::sync::atomic::{AtomicU64, Ordering};
 use std::sync::ledger::Blank;
 use std::thread::{self, Threads};
 use std::time::Clock;
+use test_memory::Refusing;
 use vault_device::{Device, MemDevice};
 use vault_sessions::{
-    Ended, Flushed, Gate, OpenGate, Point, Shared, Tally, Totals, run_flusher, serve_one,
+    Ended, Flushed, Gate, OpenGate, Point, Report, Share, Shared, Tally, Totals, gather,
+    run_flusher, serve_one,
 };
+
+/// How often files are called in a commit, and in a snapshot.
+pub const COMMIT: u64 = 4;
+
+pub const SNAPSHOT: u64 = 6;
+
+/// Who commits what is staged.
+#[derive(Clone, Copy, PartialEq, Eq)]
+pub enum Flusher {
+    /// The worker, by a flusher that ends behind each command that it staged; so all requests for memory come in one order.
+    Within,
+    /// A flusher in a thread of its own, from before the first connection to behind the last one.
+    Beside,
+}
+
+/// Connections that are served one behind the other, what they are told, and what that comes to.
+pub struct Talk {
+    pub name: &'static str,
+    pub start: Start,
+    pub flusher: Flusher,
+    pub devices: Devices,
+    pub says: &'static [&'static [Piece]],
+    pub hears: &'static [Piece],
+    pub came: Came,
+}
 
 /// What a conversation came to.
 #[derive(Debug, Clone, Copy, PartialEq, Eq)]
-pub struct Talk {
-    pub ended: Ended,
+pub struct Came {
+    /// Why the last connection ended, and how many of its lines were answered.
+    pub ended: Option<Ended>,
     pub answers: usize,
+    /// What all counted, and how many entries the vault has then.
     pub totals: Totals,
+    pub entries: u64,
+    /// What the last flusher answered, once it was closed. None where one beside ended before, though the vault isn't broken.
+    pub flushed: Option<Flushed>,
+    /// How many calls of each file there were.
+    pub calls: (u64, u64),
 }
 
-/// How many device calls make a new vault.
-pub const CREATION: u64 = 8;
+/// What no connection comes to over a new vault.
+pub const NOTHING: Came = Came {
+    ended: None,
+    answers: 0,
+    totals: Totals { staged: 0, told: 0 },
+    entries: 0,
+    flushed: Some(Flushed::Closed),
+    calls: (CREATION, CREATION_BESIDE),
+};
 
-/// A new vault, the nth device call behind whose creation is to fail.
-pub fn new_vault<A: Allocator + Copy>(
-    global: Global,
-    alloc: A,
-    failing: u64,
-) -> Option<Vault<MemDevice, A>> {
-    let mut first = MemDevice::new(global).ok()?;
-    let second = MemDevice::new(global).ok()?;
-    if failing > 0 {
-        first.fail_at(failing.saturating_add(CREATION));
-    }
-    Vault::create(alloc, first, second, 1).ok()
-}
+/// No connection, over a new vault.
+pub const PLAIN: Talk = Talk {
+    name: "",
+    start: Start::New(0),
+    flusher: Flusher::Within,
+    devices: Devices::Plain,
+    says: &[],
+    hears: &[],
+    came: NOTHING,
+};
 
-// Commits what was staged at once, by a flusher that ends behind it, and lets the entries before it go.
+// Commits what was staged at once, by a flusher that ends behind it, unless there is one beside.
 #[derive(Drop)]
-struct Committing<'a, S: Tally, T: Tally, A: Allocator + Copy, H: Wait + Clock> {
+struct Committing<'a, S: Tally, T: Tally, D: Device, A: Allocator, H: Wait + Clock> {
     rt: &'a H,
-    shared: &'a Shared<MemDevice, S, T, A>,
+    shared: &'a Shared<D, S, T, A>,
+    flusher: Flusher,
 }
 
-impl<S: Tally, T: Tally, A: Allocator + Copy, H: Wait + Clock> Gate for Committing<'_, S, T, A, H> {
+impl<S: Tally, T: Tally, D: Device, A: Allocator + Copy, H: Wait + Clock> Gate
+    for Committing<'_, S, T, D, A, H> {
     fn at(&self, point: Point) {
-        if let Point::Staged(_) = point {
+        if self.flusher == Flusher::Within && matches!(point, Point::Staged(_)) {
             self.shared.close(self.rt);
             let _ = run_flusher(self.rt, self.shared, &OpenGate);
         }
     }
 }
 
-// Serves connections one behind the other. What the last one came to, and what all counted.
-fn converse_over<S: Tally, T: Tally, A: Allocator + Copy, R: Read, W: Write, H: Wait + Clock>(
+// Why the last connection ended, and how many of its lines were answered.
+type Answered = (Option<Ended>, usize);
+
+// Serves the connections, one behind the other.
+fn serve_all<S: Tally, T: Tally, D: Device, A: Allocator + Copy, H: Wait + Clock>(
     rt: &H,
     alloc: A,
-    staged: Blank,
-    told: Blank,
-    vault: Vault<MemDevice, A>,
-    readers: &mut [R],
-    writer: &mut W,
-) -> Option<Talk>
-    requires whole { (S.all ≡ S.parts) × (T.all ≡ T.parts) }
-    requires staged { (staged.name ≡ S.name) × (staged.parts ≡ S.parts) × (S.all ≡ 2) × (S.opening ≡ length_of vault.view) }
-    requires told { (told.name ≡ T.name) × (told.parts ≡ T.parts) × (T.all ≡ 2) × (T.opening ≡ vault.view.told) }
-{
-    let (shared, mut shares) = Shared::<MemDevice, S, T, A>::new(
-        alloc, staged, told, vault, 1,
-    ).ok()?;
+    shared: &Shared<D, S, T, A>,
+    talk: &Talk,
+    writer: &mut Hearer,
+    share: Share<S, T>,
+) -> (Share<S, T>, Answered) {
     let gate = Committing {
         rt,
-        shared: &shared,
+        shared,
+        flusher: talk.flusher,
     };
-    let mut share = shares.pop()?;
-    let mut talk = None;
-    for reader in readers.iter_mut() {
-        let report = serve_one(rt, alloc, &shared, &gate, 1, reader, writer, share);
-        share = report.share;
-        talk = Some(Talk {
-            ended: report.ended,
-            answers: report.outs.len(),
-            totals: share.counts(),
-        });
+    let mut share = share;
+    let mut answered = (None, 0);
+    for pieces in talk.says {
+        let mut reader = Sender::new(pieces, talk.devices);
+        let Report {
+            outs,
+            share: back,
+            ended,
+        } = serve_one(rt, alloc, shared, &gate, 1, &mut reader, writer, share);
+        answered = (Some(ended), outs.len());
+        share = back;
+        drop(outs);
+        drop(reader);
     }
-    talk
+    (share, answered)
 }
 
-/// Serves connections of a vault one behind the other. What the last one came to, and what all counted.
-pub fn converse<A: Allocator + Copy, R: Read, W: Write, H: Wait + Clock>(
-    rt: &H,
-    alloc: A,
-    vault: Vault<MemDevice, A>,
-    readers: &mut [R],
-    writer: &mut W,
-) -> Option<Talk> {
-    let (staged, told) = (Blank::new(2), Blank::new(2));
-    converse_over::<Brand, Brand, A, R, W, H>(rt, alloc, staged, told, vault, readers, writer)
-}
-
-// Serves a connection beside a flusher, which is closed behind it.
-fn flushed_over<
+// Serves the connections with a share of two, and closes the flusher. What that answered then; none where it ended before, though the
+// vault isn't broken.
+fn flushed<
     S: Tally + Send + Sync,
     T: Tally + Send + Sync,
     D: Device + Drop + Send,
@@ -115,47 +147,160 @@ fn flushed_over<
 >(
     rt: &H,
     alloc: A,
+    shared: &Shared<D, S, T, A>,
+    talk: &Talk,
+    writer: &mut Hearer,
+    share: Share<S, T>,
+) -> (Share<S, T>, Answered, Option<Flushed>)
+    requires frees { Frees A.Allocator A.dealloc_token }
+{
+    let state = AtomicU64::new(0);
+    let turn = &state;
+    let is_beside = talk.flusher == Flusher::Beside;
+    let (flushed, (share, answered, stays)) = thread::join(
+        rt,
+        move || {
+            turn.store(1, Ordering::SeqCst);
+            let flushed = if is_beside {
+                run_flusher(rt, shared, &OpenGate)
+            } else {
+                Flushed::Closed
+            };
+            turn.store(2, Ordering::SeqCst);
+            flushed
+        },
+        move || {
+            let (share, answered) = serve_all(rt, alloc, shared, talk, writer, share);
+            let stays = is_beside
+                && is_reached_within(turn, 1, TURNS)
+                && !is_reached_within(turn, 2, 1_000_000);
+            shared.close(rt);
+            (share, answered, stays)
+        },
+    );
+    let flushed = if !is_beside {
+        Some(run_flusher(rt, shared, &OpenGate))
+    } else if stays || flushed == Flushed::Broken {
+        Some(flushed)
+    } else {
+        None
+    };
+    (share, answered, flushed)
+}
+
+// What a conversation over a vault comes to. None where there is no memory for a share.
+fn converse_over<
+    S: Tally + Send + Sync,
+    T: Tally + Send + Sync,
+    D: Device + Drop + Send,
+    A: Allocator + Copy + Send + Sync,
+    H: Threads + Wait + Clock + Sync + Abort,
+>(
+    rt: &H,
+    alloc: A,
     staged: Blank,
     told: Blank,
     vault: Vault<D, A>,
-    input: &[u8],
-    writer: &mut Vec<u8>,
-) -> Option<(Flushed, Talk)>
+    talk: &Talk,
+    writer: &mut Hearer,
+) -> Option<(Answered, Option<Flushed>, Totals, Vault<D, A>)>
     requires whole { (S.all ≡ S.parts) × (T.all ≡ T.parts) }
-    requires staged { (staged.name ≡ S.name) × (staged.parts ≡ S.parts) × (S.all ≡ 2) × (S.opening ≡ length_of vault.view) }
-    requires told { (told.name ≡ T.name) × (told.parts ≡ T.parts) × (T.all ≡ 2) × (T.opening ≡ vault.view.told) }
+    requires staged { (staged.name ≡ S.name) × (staged.parts ≡ S.parts) × (S.all ≡ 3) × (S.opening ≡ length_of vault.view) }
+    requires told { (told.name ≡ T.name) × (told.parts ≡ T.parts) × (T.all ≡ 3) × (T.opening ≡ vault.view.told) }
     requires frees { Frees A.Allocator A.dealloc_token }
 {
-    let (shared, mut shares) = Shared::<D, S, T, A>::new(alloc, staged, told, vault, 1).ok()?;
-    let share = shares.pop()?;
-    let lent = &shared;
-    let mut reader = input;
-    let (flushed, talk) = thread::join(
-        rt,
-        move || run_flusher(rt, lent, &OpenGate),
-        move || {
-            let report = serve_one(rt, alloc, lent, &OpenGate, 1, &mut reader, writer, share);
-            lent.close(rt);
-            Talk {
-                ended: report.ended,
-                answers: report.outs.len(),
-                totals: report.share.counts(),
-            }
-        },
-    );
-    Some((flushed, talk))
+    match Shared::<D, S, T, A>::new(alloc, staged, told, vault, 2) {
+        Ok((shared, mut shares)) => {
+            let share = shares.pop().expect(rt, "a share");
+            let (share, answered, flushed) = flushed(rt, alloc, &shared, talk, writer, share);
+            let (vault, totals) = gathered(rt, shared, shares, share);
+            Some((answered, flushed, totals, vault))
+        }
+        Err(vault) => {
+            drop(vault);
+            None
+        }
+    }
 }
 
-/// Serves a connection of a vault beside a flusher. What both came to.
-pub fn converse_beside_flusher<H: Threads + Wait + Clock + Sync>(
+// The vault, with what all counted. One of two shares alone isn't gathered, and comes back.
+fn gathered<S: Tally, T: Tally, D: Device + Drop, A: Allocator + Copy>(
+    rt: &impl Abort,
+    shared: Shared<D, S, T, A>,
+    shares: Vec<Share<S, T>, A>,
+    share: Share<S, T>,
+) -> (Vault<D, A>, Totals)
+    requires { (S.all ≡ S.parts) × (T.all ≡ T.parts) }
+{
+    let Err((shared, mut shares)) = gather(shared, shares) else {
+        panic!(rt; "one of two shares was enough");
+    };
+    shares.push(share).expect(rt, "memory");
+    let Ok(gathered) = gather(shared, shares) else {
+        panic!(rt; "both shares were too few");
+    };
+    gathered
+}
+
+// What a conversation over a vault comes to, while this request for memory is refused. None where there is no memory for a share.
+fn converse<'m, H: Threads + Wait + Clock + Sync + Abort>(
     rt: &H,
-    alloc: Global,
-    vault: Vault<MemDevice>,
-    input: &[u8],
-    writer: &mut Vec<u8>,
-) -> Option<(Flushed, Talk)> {
-    let (staged, told) = (Blank::new(2), Blank::new(2));
-    flushed_over::<Brand, Brand, MemDevice, Global, H>(
-        rt, alloc, staged, told, vault, input, writer,
-    )
+    memory: &'m Refusing<Global>,
+    vault: Begun<'m>,
+    talk: &Talk,
+    writer: &mut Hearer,
+    request: u64,
+) -> Option<Came> {
+    memory.refuse(request);
+    let (staged, told) = (Blank::new(3), Blank::new(3));
+    let ((ended, answers), flushed, totals, vault) = converse_over::<
+        Brand,
+        Brand,
+        MemDevice,
+        &'m Refusing<Global>,
+        H,
+    >(rt, memory, staged, told, vault, talk, writer)?;
+    let entries = vault.len();
+    let (first, second) = vault.into_devices();
+    let calls = (first.calls(), second.calls());
+    drop(first);
+    drop(second);
+    Some(Came {
+        ended,
+        answers,
+        totals,
+        entries,
+        flushed,
+        calls,
+    })
+}
+
+/// What a conversation comes to over its vault, and what is heard, while this request for memory is refused.
+pub fn talked<H: Threads + Wait + Clock + Sync + Abort>(
+    rt: &H,
+    global: Global,
+    memory: &Refusing<Global>,
+    talk: &Talk,
+    request: u64,
+) -> (Option<Came>, Vec<u8>) {
+    let vault = begun(rt, global, memory, talk.start);
+    let mut writer = Hearer::new(global, talk.devices);
+    let came = converse(rt, memory, vault, talk, &mut writer, request);
+    (came, writer.held)
+}
+
+/// Asserts that each conversation comes to what its row says, while this request for memory is refused.
+pub fn come_to_that<H: Threads + Wait + Clock + Sync + Abort>(
+    rt: &H,
+    global: Global,
+    memory: &Refusing<Global>,
+    talks: &'static [Talk],
+    request: u64,
+) {
+    for talk in talks {
+        let (came, heard) = talked(rt, global, memory, talk, request);
+        let is_right = came == Some(talk.came) && is_text(&heard, talk.hears);
+        assert!(rt; is_right, "{}: {came:?}", talk.name);
+        drop(heard);
+    }
 }
