@@ -1,12 +1,13 @@
-//! Tests of the store of two files, through its public calls.
+//! Tests of the store of two files that need a call from inside. What is done to files in memory, and what the store then answers,
+//! stands as rows in vault_scripts/data.
 //!
 //! Promises: nothing; it has no public function.
-//! Only tested: commits, snapshots, openings and migrations, each stopped or failing at each call, real files, refused memory.
+//! Only tested: each request for memory refused, and a vault in two real files.
 //! Stands on: vault_store, and what it stands on.
-//! Start at: store.rt; stops/stopped.rt for a stop at each device call.
+//! Start at: memory.rt.
 #![tactic(auto)]
 
 #[cfg(test)]
-mod stops;
+mod memory;
 #[cfg(test)]
-mod store;
+mod real_files;

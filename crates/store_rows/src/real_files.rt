@@ -1,5 +1,4 @@
 //! A vault in two real files.
-use crate::stops::{note_within, settled_after};
 use std::alloc::Global;
 use std::fs;
 use std::fs::{File, OpenOptions};
@@ -7,7 +6,7 @@ use std::rt::Files;
 use std::test::Fail;
 use vault_device::FileDevice;
 use vault_model::{Effect, EffectIn, Name, Path, PlaceId};
-use vault_store::Store;
+use vault_store::{Advanced, Store};
 
 // What the first one holds then, 47 bytes.
 const WITH_E: &[u8; 47] =
@@ -17,17 +16,32 @@ const FIRST: &str = "first_of_a_test";
 
 const SECOND: &str = "second_of_a_test";
 
+// Whether a project is noted in a new vault, and settled by the last of four steps.
+fn commits_e(store: &mut Store<FileDevice>, name: Name) -> bool {
+    if !store.room() {
+        return false;
+    }
+    let made: EffectIn<Global> = Effect::Made(PlaceId(0), name);
+    store.note(&made);
+    drop(made);
+    for _ in 1..4 {
+        if store.advance() != Ok(Advanced::Moved) {
+            return false;
+        }
+    }
+    store.advance() == Ok(Advanced::Settled)
+}
+
 // A vault in two new files, with one project committed.
 fn write(rt: &HostRuntime) -> Result<bool, Fail> {
-    let made: EffectIn<Global> = Effect::Made(PlaceId(0), Name::read(b"e").ok_or("a name")?);
+    let e = Name::read(b"e").ok_or("a name")?;
     let first = FileDevice::over(File::create_new(rt, FIRST)?);
     let second = FileDevice::over(File::create_new(rt, SECOND)?);
     let Ok(mut store) = Store::create(rt.alloc(), first, second) else {
         return Ok(false);
     };
-    let is_settled = note_within(&mut store, &made) && settled_after(&mut store, 4);
+    let is_settled = commits_e(&mut store, e);
     drop(store);
-    drop(made);
     Ok(is_settled)
 }
 

@@ -1,0 +1,151 @@
+//! Each request of a store for memory refused in turn.
+ghost use Rattle.std.specs.Prelude.{◌<◌, length};
+
+use std::alloc::{Allocator, Global};
+use std::process::Abort;
+use test_memory::{Refusing, Tried, requests};
+use vault_checkout::Book;
+use vault_device::{Device, MemDevice};
+use vault_model::{ClaimId, NoMemory, Note, PlaceId, Standing};
+use vault_store::{
+    Body, BodyError, CreateError, OpenError, Phase, Started, Store, laws, read_body,
+};
+
+// A new vault and a commit of `make /e`, 47 bytes.
+const WITH_E: &[u8; 47] =
+    b"\x01LLVAULT\0\0\0\x02\0\0\0\0\0\0\0\x01\0\0\0\x0a\0\0\0\0\0\0\0\x01\0\0\x01\0\0\0\x07\x01\0\0\0\0\x01e\0";
+
+// A part with a version; anna's c3, which is held with a draft of it and has a note; and behind it ben's c2. Of generation 2.
+const LINE: &[u8; 106] =
+    b"\x01LLVAULT\0\0\0\x02\0\0\0\0\0\0\0\x02\0\0\0\x51\0\0\0\x03\0\0\0\x04\0\0\0\0\x01e\0\0\0\0\x01\x01b\0\0\0\0\x02\x01p\x01\0\x01\0\x04text\0\x02\0\0\0\x03\x04anna\x02ab\x01\x01\0\0\0\x03\x01\0\0\0\x03\0\x01x\0\0\0\x02\x03ben\0\x01\0\0\0\0\x02\0\0";
+
+// A device with these bytes.
+fn holding(rt: &impl Abort, alloc: Global, bytes: &[u8]) -> MemDevice
+    requires { length bytes.now < 2000 }
+{
+    let mut device = MemDevice::new(alloc).expect(rt, "a device");
+    assert!(rt; device.write_at(0, bytes).is_ok() && device.sync().is_ok());
+    device
+}
+
+// Tries to create a vault. Refused, the devices come back, and are still empty.
+fn creates_without(
+    rt: &impl Abort,
+    memory: &Refusing<Global>,
+    alloc: Global,
+    number: u64,
+) -> Tried {
+    let first = MemDevice::new(alloc).expect(rt, "a device");
+    let second = MemDevice::new(alloc).expect(rt, "a device");
+    memory.refuse(number);
+    match Store::create(memory, first, second) {
+        Ok(store) => {
+            let is_done = !memory.has_refused() && store.journal_len() == 0;
+            drop(store);
+            Tried::done(is_done)
+        }
+        Err(refused) => {
+            let is_told = memory.has_refused() && refused.why == CreateError::NoMemory;
+            Tried::refused(Store::create(memory, refused.first, refused.second).is_ok() && is_told)
+        }
+    }
+}
+
+// Whether two devices open as two places with a frame of 12 bytes.
+fn is_with_e<A: Allocator + Copy>(memory: A, first: MemDevice, second: MemDevice) -> bool {
+    match Store::open(memory, first, second) {
+        Ok((store, book)) => {
+            let is_so = (book.tree().len(), store.journal_len()) == (2, 12);
+            drop(store);
+            drop(book);
+            is_so
+        }
+        Err(refused) => {
+            drop(refused);
+            false
+        }
+    }
+}
+
+// Tries to open a vault. Refused, the same devices then open.
+fn opens_without(rt: &impl Abort, memory: &Refusing<Global>, alloc: Global, number: u64) -> Tried {
+    let first = holding(rt, alloc, WITH_E);
+    let second = MemDevice::new(alloc).expect(rt, "a device");
+    memory.refuse(number);
+    match Store::open(memory, first, second) {
+        Ok((store, book)) => {
+            let is_done = !memory.has_refused()
+                && (book.tree().len(), store.journal_len()) == (2, 12);
+            drop(store);
+            drop(book);
+            Tried::done(is_done)
+        }
+        Err(refused) => {
+            let is_told = memory.has_refused() && refused.why == OpenError::NoMemory;
+            Tried::refused(is_with_e(memory, refused.first, refused.second) && is_told)
+        }
+    }
+}
+
+// Tries to start a snapshot. Without memory nothing is begun.
+fn starts_without(rt: &impl Abort, memory: &Refusing<Global>, alloc: Global, number: u64) -> Tried {
+    laws::what_is_noted_is_spelled::<MemDevice>();
+    laws::a_crash_leaves_what_is_kept::<MemDevice>();
+    let first = holding(rt, alloc, WITH_E);
+    let second = MemDevice::new(alloc).expect(rt, "a device");
+    let Ok((mut store, book)) = Store::open(memory, first, second) else {
+        panic!(rt; "a vault");
+    };
+    memory.refuse(number);
+    let started = store.start_snapshot(memory, &book);
+    let phase = store.phase();
+    drop(store);
+    drop(book);
+    let has_refused = memory.has_refused();
+    if (started, phase) == (Ok(Started::Yes), Phase::Start) {
+        Tried::done(!has_refused)
+    } else {
+        Tried::refused(has_refused && (started, phase) == (Err(NoMemory), Phase::Idle))
+    }
+}
+
+fn is_line<A: Allocator + Copy>(book: &Book<A>) -> bool {
+    let line = book.line();
+    line.last_long() == 3
+        && matches!(line.at(0), Some(claim) if claim.id == ClaimId::Long(3) && claim.note.as_bytes() == b"ab".as_slice())
+        && matches!(line.at(1), Some(claim) if claim.id == ClaimId::Long(2) && claim.note == Note::new())
+        && line.standing(ClaimId::Long(2)) == Some(Standing::Queued(ClaimId::Long(3)))
+        && matches!(book.shelf().fetch(PlaceId(3), 1), Some(b"text"))
+        && matches!(book.drafts(3), [draft] if draft.content.as_slice() == b"x".as_slice())
+}
+
+// Tries to read what stands behind the head of a file.
+fn reads_without(rt: &impl Abort, memory: &Refusing<Global>, alloc: Global, number: u64) -> Tried {
+    let mut device = holding(rt, alloc, LINE);
+    memory.refuse(number);
+    let body = read_body(memory, &mut device);
+    let has_refused = memory.has_refused();
+    drop(device);
+    match body {
+        Ok(Body::Whole(book, frames, end)) => {
+            let is_so = (frames, end) == (0, 105) && is_line(&book);
+            drop(book);
+            Tried::done(!has_refused && is_so)
+        }
+        Ok(Body::Damaged(_)) => Tried::Wrong,
+        Err(error) => Tried::refused(has_refused && error == BodyError::NoMemory),
+    }
+}
+
+#[test]
+fn each_request_of_a_store_is_refused(rt: HostRuntime) {
+    let memory = Refusing::new(rt.alloc());
+    let made = requests(|number| creates_without(&rt, &memory, rt.alloc(), number));
+    assert_eq!(rt; made, Some(1), "Store::create");
+    let made = requests(|number| opens_without(&rt, &memory, rt.alloc(), number));
+    assert_eq!(rt; made, Some(7), "Store::open");
+    let made = requests(|number| starts_without(&rt, &memory, rt.alloc(), number));
+    assert_eq!(rt; made, Some(1), "Store::start_snapshot");
+    let made = requests(|number| reads_without(&rt, &memory, rt.alloc(), number));
+    assert_eq!(rt; made, Some(31), "read_body");
+}

@@ -1,0 +1,235 @@
+//! The steps of a row. A file `NAME.rows` has lines of these kinds:
+//!
+//! | A line | What it is |
+//! |---|---|
+//! | `# ..` | a comment |
+//! | `NAME: BYTES` | a name for these bytes, in the lines below |
+//! | `start: STEP; STEP; ..` | what each row below begins with |
+//! | `STEP; STEP; ..` | a row, over two empty files |
+//!
+//! A step may end in ` = ANSWER`, and then has to answer just that; without it, it may answer anything. Steps over two files:
+//!
+//! | Step | What it does | What it answers |
+//! |---|---|---|
+//! | `first BYTES`, `second BYTES` | a file holds these bytes, settled | |
+//! | `first = BYTES`, `second = BYTES` | | the bytes of a file |
+//! | `fail N M` | the Nth call of the first file from now fails, and the Mth of the second; 0 for none | |
+//! | `calls` | | how many device calls each file has seen |
+//! | `head`, `body` | the first file's head is read, or what stands behind it | what it is, or `damaged at N` |
+//! | `inspect` | both are inspected | the report, its lines parted by ` / `, or `Device` |
+//! | `create` | a new vault is made in them | `Made`, or `Exists`, `Device` |
+//! | `open` | the vault in them is opened | what it is, or `NoVault`, `Device`, `First damaged at N` |
+//! | `snapshot` | it is opened, and a snapshot of it begun | `Yes`, or as `open` |
+//! | `crash PICK PICK` | the machine stops; of a file's unsettled bytes are left the `old`, the `new`, or this byte everywhere | |
+//!
+//! And where a vault was made or opened:
+//!
+//! | Step | What it does | What it answers |
+//! |---|---|---|
+//! | `note RECORD`, `note N times RECORD` | the effect of this record is noted, once or N times | nothing, or `no room` |
+//! | `advance N` | N steps of a commit or a snapshot are made | of each `Moved`, `Settled`, `Idle`, `Broken` or `Fault` |
+//! | `phase`, `frames`, `version`, `room`, `wanted` | | the phase; how many bytes of frames there are; the version; whether there is room for an effect, and whether a snapshot is wanted |
+//! | `close` | the store gives its files back | |
+//! | `crash PICK PICK` | the same, and the machine stops | |
+//!
+//! BYTES are words: hexadecimal digits, `'text'`, a NAME, or a part of one as `NAME[3..34]` and `NAME[20..]`. `WORD*N` is N times WORD,
+//! `+NAME` its length in four bytes and then it, and `-` nothing. A row with `{old/new}` or `{1-12}` in it is run once with each of these,
+//! and with each choice at every other such place.
+
+ghost use Rattle.std.specs.Prelude.{IfSome, All};
+ghost use Rattle.vault_journal.specs.Spelling.{HasRecord};
+
+use crate::bytes::Names;
+use crate::telling::{tell_body, tell_bytes, tell_head, tell_inspection};
+use crate::text::Text;
+use std::alloc::Global;
+use vault_device::{Device, MemDevice, Pick};
+use vault_journal::read_effects;
+use vault_model::EffectIn;
+use vault_store::{Store, read_head};
+
+/// A step: its first word, the rest of its words, and what it has to answer.
+#[derive(Clone, Copy)]
+pub(crate) struct Step<'a> {
+    pub(crate) verb: &'a str,
+    pub(crate) rest: &'a str,
+    answer: Option<&'a str>,
+}
+
+impl<'a> Step<'a> {
+    /// The step that a text spells.
+    pub(crate) fn read(text: &'a str) -> Step<'a> {
+        let (words, answer) = match text.split_once(" = ") {
+            Some((words, answer)) => (words, Some(answer)),
+            None => (text, None),
+        };
+        let (verb, rest) = words.split_once(' ').unwrap_or((words, ""));
+        Step { verb, rest, answer }
+    }
+
+    /// Whether this is what it has to answer.
+    pub(crate) fn is_answered(&self, told: &Text) -> bool {
+        match self.answer {
+            Some(answer) => told.as_str() == answer,
+            None => true,
+        }
+    }
+}
+
+/// Longer than any file of a row.
+const LONG: usize = 1 << 30;
+
+/// Makes a step over two files, and says whether there is such a step, and it could be made.
+pub(crate) fn at_files(
+    alloc: Global,
+    names: &Names,
+    (first, second): (&mut MemDevice, &mut MemDevice),
+    step: Step,
+    told: &mut Text,
+) -> bool {
+    match step.verb {
+        "first" => hold_or_tell(alloc, names, first, step, told),
+        "second" => hold_or_tell(alloc, names, second, step, told),
+        "fail" => fail(first, second, step.rest).is_some(),
+        "crash" => both_crash(first, second, step.rest),
+        "calls" => {
+            told.put_value(&first.calls(), " ");
+            told.put_value(&second.calls(), "");
+            true
+        }
+        "head" => tell_head(told, read_head(first)),
+        "body" => tell_body(told, alloc, first),
+        "inspect" => tell_inspection(told, alloc, first, second),
+        _ => false,
+    }
+}
+
+// Has a file hold these bytes, or tells what it holds.
+fn hold_or_tell(
+    alloc: Global,
+    names: &Names,
+    device: &mut MemDevice,
+    step: Step,
+    told: &mut Text,
+) -> bool {
+    let words = step.answer.unwrap_or(step.rest);
+    let Some(bytes) = names.bytes(alloc, words) else {
+        return false;
+    };
+    match step.answer {
+        Some(answer) => tell_bytes(told, alloc, device, &bytes, answer),
+        None => hold(device, &bytes),
+    }
+}
+
+fn hold(device: &mut MemDevice, bytes: &[u8]) -> bool {
+    bytes.len() < LONG && device.write_at(0, bytes).is_ok() && device.sync().is_ok()
+}
+
+fn fail(first: &mut MemDevice, second: &mut MemDevice, words: &str) -> Option<()> {
+    let (one, other) = words.split_once(' ')?;
+    first.fail_at(one.parse::<u64>().ok()?);
+    second.fail_at(other.parse::<u64>().ok()?);
+    Some(())
+}
+
+fn pick(word: &str) -> Option<Pick> {
+    match word {
+        "old" => Some(Pick::Old),
+        "new" => Some(Pick::New),
+        _ => Some(Pick::Bytes(u8::from_str_radix(word, 16).ok()?)),
+    }
+}
+
+fn picks(words: &str) -> Option<(Pick, Pick)> {
+    let (one, other) = words.split_once(' ')?;
+    Some((pick(one)?, pick(other)?))
+}
+
+/// Has the machine of two files stop, and start again with no call that is to fail; says whether two picks stand there.
+pub(crate) fn both_crash(first: &mut MemDevice, second: &mut MemDevice, words: &str) -> bool {
+    let Some((one, other)) = picks(words) else {
+        return false;
+    };
+    first.fail_at(0);
+    second.fail_at(0);
+    first.crash(one);
+    second.crash(other);
+    true
+}
+
+/// Makes a step over an open store, and says whether there is such a step, and it could be made.
+pub(crate) fn at_store(
+    alloc: Global,
+    names: &Names,
+    store: &mut Store<MemDevice>,
+    step: Step,
+    told: &mut Text,
+) -> bool {
+    match step.verb {
+        "note" => return note(alloc, names, store, step.rest, told),
+        "advance" => advance(store, step.rest, told),
+        "phase" => told.put_value(&store.phase(), ""),
+        "frames" => told.put_value(&store.journal_len(), ""),
+        "version" => told.put_value(&store.version(), ""),
+        "room" => told.put_value(&store.room(), ""),
+        "wanted" => told.put_value(&store.wants_snapshot(), ""),
+        _ => return false,
+    }
+    true
+}
+
+fn advance(store: &mut Store<MemDevice>, words: &str, told: &mut Text) {
+    for step in 0..words.parse::<u8>().unwrap_or(0) {
+        if step > 0 {
+            told.put(" ");
+        }
+        match store.advance() {
+            Ok(advanced) => told.put_value(&advanced, ""),
+            Err(fault) => told.put_value(&fault, ""),
+        }
+    }
+}
+
+// The effects that these words spell the records of.
+fn effects(alloc: Global, names: &Names, words: &str) -> Option<Vec<EffectIn<Global>>>
+    ensures { IfSome result (λ effects. All HasRecord effects.items) }
+{
+    let records = names.bytes(alloc, words)?;
+    read_effects(alloc, &records).ok()
+}
+
+// Notes the effect of a record, once or so many times, and says whether there is one.
+fn note(
+    alloc: Global,
+    names: &Names,
+    store: &mut Store<MemDevice>,
+    words: &str,
+    told: &mut Text,
+) -> bool {
+    let (times, record) = words.split_once(" times ").unwrap_or(("1", words));
+    let Some(effects) = effects(alloc, names, record) else {
+        return false;
+    };
+    let is_one = match effects.as_slice() {
+        [effect] => {
+            note_times(store, effect, times.parse::<u32>().unwrap_or(0), told);
+            true
+        }
+        _ => false,
+    };
+    drop(effects);
+    is_one
+}
+
+fn note_times(store: &mut Store<MemDevice>, effect: &EffectIn<Global>, times: u32, told: &mut Text)
+    requires { HasRecord effect.now }
+{
+    for _ in 0..times {
+        if !store.room() {
+            told.put("no room");
+            return;
+        }
+        store.note(effect);
+    }
+}
