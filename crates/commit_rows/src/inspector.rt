@@ -59,18 +59,13 @@ fn inspects(rt: &impl Abort, memory: &Refusing<Global>, alloc: Global, number: u
     let mut b = holding(rt, alloc, NEW);
     memory.refuse(number);
     let report = inspect(memory, &mut a, &mut b);
-    let has_refused = memory.has_refused();
     drop(a);
     drop(b);
-    match report {
-        Ok(report) => {
-            let mut printed = Vec::new(alloc);
-            let is_printed = print(&report, &mut printed).is_ok();
-            drop(report);
-            Tried::done(!has_refused && is_printed && printed.as_slice() == QUEUED_TEXT.as_slice())
-        }
-        Err(error) => Tried::refused(has_refused && error == InspectError::NoMemory),
-    }
+    memory.judge(report, InspectError::NoMemory, |report| {
+        let mut printed = Vec::new(alloc);
+        let is_printed = print(report, &mut printed).is_ok();
+        is_printed && printed.as_slice() == QUEUED_TEXT.as_slice()
+    })
 }
 
 #[test]

@@ -122,16 +122,9 @@ fn failing_calls(rt: HostRuntime) -> Result<(), Fail> {
 // Tries to make a device.
 fn makes_device(memory: &Refusing<Global>, number: u64) -> Tried {
     memory.refuse(number);
-    let made = MemDevice::new(memory);
-    let has_refused = memory.has_refused();
-    match made {
-        Ok(device) => {
-            let is_new = (device.calls(), device.refused()) == (0, 0);
-            drop(device);
-            Tried::done(!has_refused && is_new)
-        }
-        Err(AllocError) => Tried::refused(has_refused),
-    }
+    memory.judge(MemDevice::new(memory), AllocError, |device| {
+        (device.calls(), device.refused()) == (0, 0)
+    })
 }
 
 // Whether the device shows so many bytes: `oooo`, and behind it each is `n`.
@@ -164,7 +157,7 @@ fn grows(rt: &impl Abort, memory: &Refusing<Global>, number: u64) -> Tried {
     };
     let is_put = shows_first(&mut device, 104);
     drop(device);
-    if is_put { tried } else { Tried::Wrong }
+    tried.and(is_put)
 }
 
 #[test]

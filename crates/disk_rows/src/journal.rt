@@ -174,31 +174,14 @@ fn full_frame(rt: HostRuntime) -> Result<(), Fail> {
 // Tries to make a frame.
 fn makes_frame(memory: &Refusing<Global>, number: u64) -> Tried {
     memory.refuse(number);
-    let made = Frame::new(memory);
-    let has_refused = memory.has_refused();
-    match made {
-        Ok(frame) => {
-            let is_empty = frame.len() == 0;
-            drop(frame);
-            Tried::done(!has_refused && is_empty)
-        }
-        Err(NoMemory) => Tried::refused(has_refused),
-    }
+    memory.judge(Frame::new(memory), NoMemory, |frame| frame.len() == 0)
 }
 
 // Tries to read these records, of which there are so many.
 fn reads(memory: &Refusing<Global>, records: &[u8], count: usize, number: u64) -> Tried {
     memory.refuse(number);
     let read = read_effects(memory, records);
-    let has_refused = memory.has_refused();
-    match read {
-        Ok(effects) => {
-            let is_all = effects.len() == count;
-            drop(effects);
-            Tried::done(!has_refused && is_all)
-        }
-        Err(damage) => Tried::refused(has_refused && damage == Damage::NoMemory),
-    }
+    memory.judge(read, Damage::NoMemory, |effects| effects.len() == count)
 }
 
 // Tries to push an effect into a frame.

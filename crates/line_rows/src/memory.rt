@@ -19,16 +19,15 @@ fn length_of<A: Allocator>(command: &CommandIn<A>) -> usize {
 /// Tries to read a line, of two items or bytes or none.
 fn reads(memory: &Refusing<Global>, line: &[u8], length: usize, number: u64) -> Tried {
     memory.refuse(number);
-    let read = read_line_of(memory, line);
-    let has_refused = memory.has_refused();
-    match read {
+    let read = match read_line_of(memory, line) {
         Ok(command) => {
-            let is_whole = length_of(&command) == length;
+            let count = length_of(&command);
             drop(command);
-            Tried::done(!has_refused && is_whole)
+            Ok(count)
         }
-        Err(error) => Tried::refused(has_refused && error == LineError::NoMemory),
-    }
+        Err(error) => Err(error),
+    };
+    memory.judge(read, LineError::NoMemory, |count| *count == length)
 }
 
 #[test]
@@ -47,33 +46,18 @@ fn each_request_of_a_line_is_refused(rt: HostRuntime) {
     }
 }
 
-/// Whether this was told as it should, or refused.
-fn told(
-    memory: &Refusing<Global>,
-    text: Result<Vec<u8, &Refusing<Global>>, NoMemory>,
-    want: &[u8],
-) -> Tried {
-    let has_refused = memory.has_refused();
-    match text {
-        Ok(text) => {
-            let is_text = text.as_slice() == want;
-            drop(text);
-            Tried::done(!has_refused && is_text)
-        }
-        Err(NoMemory) => Tried::refused(has_refused),
-    }
-}
-
 /// Tries to make a reply's text.
 fn tells(memory: &Refusing<Global>, reply: &Reply, want: &[u8], number: u64) -> Tried {
     memory.refuse(number);
-    told(memory, text_of(memory, reply), want)
+    let text = text_of(memory, reply);
+    memory.judge(text, NoMemory, |text| text.as_slice() == want)
 }
 
 /// Tries to make an outside refusal's text.
 fn refuses(memory: &Refusing<Global>, outside: Outside, want: &[u8], number: u64) -> Tried {
     memory.refuse(number);
-    told(memory, outside_text(memory, outside), want)
+    let text = outside_text(memory, outside);
+    memory.judge(text, NoMemory, |text| text.as_slice() == want)
 }
 
 #[test]

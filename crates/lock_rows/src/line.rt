@@ -8,7 +8,7 @@ mod random_lines;
 mod refused;
 mod same_lines;
 
-use crate::places::{Wish, are_there, items_of};
+use crate::places::{Wish, Worked, are_there, first_wrong, items_of};
 use Intent::{Change, Look};
 use Standing::{Held, Queued};
 use design_tree::Tree;
@@ -264,21 +264,7 @@ fn count_right(rt: &impl Abort, alloc: Global, rows: &[Row]) -> usize {
     count
 }
 
-/// A line's name, and the calls of it.
-type Worked = (&'static str, &'static [Row]);
-
-// The first of these lines that answers a row otherwise, and how many it answered before.
-fn first_wrong(rt: &impl Abort, alloc: Global, lines: &[Worked]) -> Option<(&'static str, usize)> {
-    for (name, rows) in lines {
-        let count = count_right(rt, alloc, rows);
-        if count != rows.len() {
-            return Some((*name, count));
-        }
-    }
-    None
-}
-
-static LINES: [Worked; 6] = [
+static LINES: [Worked<Row>; 6] = [
     (
         "long and short claims",
         &[
@@ -352,5 +338,6 @@ static LINES: [Worked; 6] = [
 
 #[test]
 fn worked_lines(rt: HostRuntime) {
-    assert_eq!(rt; first_wrong(&rt, rt.alloc(), &LINES), None);
+    let wrong = first_wrong(&LINES, |rows| count_right(&rt, rt.alloc(), rows));
+    assert_eq!(rt; wrong, None);
 }

@@ -31,3 +31,22 @@ pub(crate) fn are_there<A: Allocator>(tree: &Tree<A>, items: &[Item]) -> bool
         .iter()
         .all(|item| (item.place.number() as usize) < count)
 }
+
+/// A name, and the calls of what has it.
+pub(crate) type Worked<R> = (&'static str, &'static [R]);
+
+/// The first of these that answers a row otherwise, and how many it answered before. `count` tells how many rows are answered so.
+pub(crate) fn first_wrong<R, F: FnMut(&[R]) -> usize>(
+    all: &[Worked<R>],
+    mut count: F,
+) -> Option<(&'static str, usize)>
+    requires { F.IsAlwaysCallable count }
+{
+    for (name, rows) in all {
+        let right = count(rows);
+        if right != rows.len() {
+            return Some((*name, right));
+        }
+    }
+    None
+}

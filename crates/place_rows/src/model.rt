@@ -139,16 +139,15 @@ fn copies_command(
     number: u64,
 ) -> Tried {
     memory.refuse(number);
-    let copy = command.copy(memory);
-    let has_refused = memory.has_refused();
-    match copy {
+    let told = match command.copy(memory) {
         Ok(copy) => {
             let is_same = is_command(alloc, &copy, command);
             drop(copy);
-            Tried::done(!has_refused && is_same)
+            Ok(is_same)
         }
-        Err(NoMemory) => Tried::refused(has_refused),
-    }
+        Err(NoMemory) => Err(NoMemory),
+    };
+    memory.judge(told, NoMemory, |is_same| *is_same)
 }
 
 fn three_items(rt: &impl Abort, alloc: Global) -> Listing<PathItem> {
@@ -213,16 +212,15 @@ fn is_reply<A: Allocator>(alloc: Global, copy: &ReplyIn<A>, reply: &Reply) -> bo
 // Tries to copy a reply.
 fn copies_reply(memory: &Refusing<Global>, alloc: Global, reply: &Reply, number: u64) -> Tried {
     memory.refuse(number);
-    let copy = reply.copy(memory);
-    let has_refused = memory.has_refused();
-    match copy {
+    let told = match reply.copy(memory) {
         Ok(copy) => {
             let is_same = is_reply(alloc, &copy, reply);
             drop(copy);
-            Tried::done(!has_refused && is_same)
+            Ok(is_same)
         }
-        Err(NoMemory) => Tried::refused(has_refused),
-    }
+        Err(NoMemory) => Err(NoMemory),
+    };
+    memory.judge(told, NoMemory, |is_same| *is_same)
 }
 
 #[test]
@@ -262,16 +260,15 @@ fn is_effect<A: Allocator>(alloc: Global, copy: &EffectIn<A>, effect: &Effect) -
 // Tries to copy an effect.
 fn copies_effect(memory: &Refusing<Global>, alloc: Global, effect: &Effect, number: u64) -> Tried {
     memory.refuse(number);
-    let copy = effect.copy(memory);
-    let has_refused = memory.has_refused();
-    match copy {
+    let told = match effect.copy(memory) {
         Ok(copy) => {
             let is_same = is_effect(alloc, &copy, effect);
             drop(copy);
-            Tried::done(!has_refused && is_same)
+            Ok(is_same)
         }
-        Err(NoMemory) => Tried::refused(has_refused),
-    }
+        Err(NoMemory) => Err(NoMemory),
+    };
+    memory.judge(told, NoMemory, |is_same| *is_same)
 }
 
 #[test]

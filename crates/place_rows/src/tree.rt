@@ -257,32 +257,16 @@ fn a_place_has_at_most_64_children(rt: HostRuntime) {
 // Tries to make a tree.
 fn makes_tree(memory: &Refusing<Global>, number: u64) -> Tried {
     memory.refuse(number);
-    let made = Tree::new(memory);
-    let has_refused = memory.has_refused();
-    match made {
-        Ok(tree) => {
-            let is_new = tree.len() == 1;
-            drop(tree);
-            Tried::done(!has_refused && is_new)
-        }
-        Err(NoMemory) => Tried::refused(has_refused),
-    }
+    memory.judge(Tree::new(memory), NoMemory, |tree| tree.len() == 1)
 }
 
 // Tries to list the children of the assembly.
 fn lists_children(rt: &impl Abort, memory: &Refusing<Global>, number: u64) -> Tried {
     let tree = small_tree(rt, memory);
     memory.refuse(number);
-    let listed = tree.children(PlaceId(2));
-    let has_refused = memory.has_refused();
-    let tried = match listed {
-        Ok(children) => {
-            let are_all = children.as_slice() == [PlaceId(3), PlaceId(4)].as_slice();
-            drop(children);
-            Tried::done(!has_refused && are_all)
-        }
-        Err(NoMemory) => Tried::refused(has_refused),
-    };
+    let tried = memory.judge(tree.children(PlaceId(2)), NoMemory, |children| {
+        children.as_slice() == [PlaceId(3), PlaceId(4)].as_slice()
+    });
     drop(tree);
     tried
 }
@@ -300,15 +284,7 @@ fn lists_names(
     let tree = small_tree(rt, memory);
     memory.refuse(number);
     let listed = tree.names_under(PlaceId(place));
-    let has_refused = memory.has_refused();
-    let tried = match listed {
-        Ok(names) => {
-            let are_all = names.as_slice() == want;
-            drop(names);
-            Tried::done(!has_refused && are_all)
-        }
-        Err(NoMemory) => Tried::refused(has_refused),
-    };
+    let tried = memory.judge(listed, NoMemory, |names| names.as_slice() == want);
     drop(tree);
     tried
 }
@@ -318,20 +294,11 @@ fn copies(rt: &impl Abort, memory: &Refusing<Global>, alloc: Global, number: u64
     let tree = small_tree(rt, memory);
     let ample = small_tree(rt, alloc);
     memory.refuse(number);
-    let copy = tree.copy();
-    let has_refused = memory.has_refused();
+    let tried = memory.judge(tree.copy(), NoMemory, |copy| is_same(rt, copy, &ample));
     let is_kept = is_same(rt, &tree, &ample);
-    let tried = match copy {
-        Ok(copy) => {
-            let is_like = is_same(rt, &copy, &ample);
-            drop(copy);
-            Tried::done(!has_refused && is_kept && is_like)
-        }
-        Err(NoMemory) => Tried::refused(has_refused && is_kept),
-    };
     drop(tree);
     drop(ample);
-    tried
+    tried.and(is_kept)
 }
 
 // A new tree with so many projects.
@@ -386,7 +353,7 @@ fn adds(
     let is_like = is_same(rt, &tree, &ample);
     drop(tree);
     drop(ample);
-    if is_like { tried } else { Tried::Wrong }
+    tried.and(is_like)
 }
 
 #[test]

@@ -222,7 +222,7 @@ fn appends(rt: &impl Abort, memory: &Refusing<Global>, alloc: Global, number: u6
     let is_like = is_same(&shelf, &ample);
     drop(shelf);
     drop(ample);
-    if is_like { tried } else { Tried::Wrong }
+    tried.and(is_like)
 }
 
 // Tries to copy a shelf.
@@ -233,20 +233,11 @@ fn copies(rt: &impl Abort, memory: &Refusing<Global>, alloc: Global, number: u64
     assert!(rt; is_appended(&mut shelf, drafts_of(rt, alloc, &rows)));
     assert!(rt; is_appended(&mut ample, drafts_of(rt, alloc, &rows)));
     memory.refuse(number);
-    let copy = shelf.copy();
-    let has_refused = memory.has_refused();
+    let tried = memory.judge(shelf.copy(), NoMemory, |copy| is_same(copy, &ample));
     let is_kept = is_same(&shelf, &ample);
-    let tried = match copy {
-        Ok(copy) => {
-            let is_like = is_same(&copy, &ample);
-            drop(copy);
-            Tried::done(!has_refused && is_kept && is_like)
-        }
-        Err(NoMemory) => Tried::refused(has_refused && is_kept),
-    };
     drop(shelf);
     drop(ample);
-    tried
+    tried.and(is_kept)
 }
 
 // Tries to make a shelf.

@@ -15,14 +15,9 @@ fn runs(
     let mut held = Vec::new(alloc);
     memory.refuse(number);
     let end = run_script(memory, &mut reader, &mut held);
-    let has_refused = memory.has_refused();
-    match end {
-        Ok(()) => Tried::done(!has_refused && held.as_slice() == output),
-        Err(error) => {
-            let is_told = error == ScriptError::NoMemory && output.starts_with(&held);
-            Tried::refused(has_refused && is_told)
-        }
-    }
+    let is_part = output.starts_with(&held);
+    let tried = memory.judge(end, ScriptError::NoMemory, |_| held.as_slice() == output);
+    tried.and(is_part)
 }
 
 #[test]

@@ -6,9 +6,9 @@ use vault_protocol::{LONGEST_SCRIPT, ScriptError, run_script};
 
 /// A reader that gives one byte at a time, and fails at the end where it is broken.
 #[derive(Drop)]
-struct OneByte<'a> {
-    rest: &'a [u8],
-    broken: bool,
+pub(super) struct OneByte<'a> {
+    pub rest: &'a [u8],
+    pub broken: bool,
 }
 
 impl Read for OneByte<'_> {
@@ -75,28 +75,21 @@ const SCRIPT: &[u8] = b"@1 hello anna\n@1 make /e\n@2 hello ben\n@2 checkout r:/
 const OUTPUT: &[u8] = b"@1 OK session 1\n@1 OK place 1\n@2 OK session 2\n@2 OK held c1\n! ERR 10\n";
 
 #[test]
-fn byte_by_byte(rt: HostRuntime) -> Result<(), Fail> {
-    let mut reader = OneByte {
-        rest: SCRIPT,
-        broken: false,
-    };
-    let mut held = Vec::new(rt.alloc());
-    run_script(rt.alloc(), &mut reader, &mut held)?;
-    assert_eq!(rt; held.as_slice(), OUTPUT);
-    Ok(())
-}
-
-#[test]
-fn reader_fails_behind_a_line(rt: HostRuntime) -> Result<(), Fail> {
-    let mut reader = OneByte {
-        rest: SCRIPT,
-        broken: true,
-    };
-    let mut held = Vec::new(rt.alloc());
-    let end = run_script(rt.alloc(), &mut reader, &mut held);
-    assert_eq!(rt; end, Err(ScriptError::Read));
-    assert!(rt; held.is_empty());
-    Ok(())
+fn byte_by_byte_and_a_reader_that_fails_behind_a_line(rt: HostRuntime) {
+    for (broken, wanted, output) in [
+        (false, Ok(()), OUTPUT),
+        (true, Err(ScriptError::Read), b"".as_slice()),
+    ] {
+        let mut reader = OneByte {
+            rest: SCRIPT,
+            broken,
+        };
+        let mut held = Vec::new(rt.alloc());
+        let end = run_script(rt.alloc(), &mut reader, &mut held);
+        assert_eq!(rt; end, wanted);
+        assert_eq!(rt; held.as_slice(), output);
+        drop(held);
+    }
 }
 
 #[test]

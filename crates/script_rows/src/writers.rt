@@ -1,5 +1,6 @@
 //! Scripts and reports to odd writers, and when a script's output begins.
 
+use super::streams::OneByte;
 use std::alloc::Global;
 use std::io::{self, Read, Write};
 use std::sync::atomic::{AtomicBool, Ordering};
@@ -70,7 +71,7 @@ fn report_to_a_writer_of_single_bytes(rt: HostRuntime) {
 // Gives a byte a call, and fails once something was written.
 #[derive(Drop)]
 struct Watching<'a> {
-    rest: &'a [u8],
+    inner: OneByte<'a>,
     wrote: &'a AtomicBool,
 }
 
@@ -79,15 +80,7 @@ impl Read for Watching<'_> {
         if self.wrote.load(Ordering::SeqCst) {
             return Err(io::Error::from(io::ErrorKind::Other));
         }
-        let Some((first, rest)) = self.rest.split_first() else {
-            return Ok(0);
-        };
-        if buf.is_empty() {
-            return Ok(0);
-        }
-        buf[0] = *first;
-        self.rest = rest;
-        Ok(1)
+        self.inner.read(buf)
     }
 }
 
@@ -113,8 +106,12 @@ impl Write for Marking<'_> {
 // What a script prints whose reader fails once something was written, if it ends well.
 fn watched(alloc: Global, script: &[u8]) -> Option<Vec<u8>> {
     let wrote = AtomicBool::new(false);
-    let mut reader = Watching {
+    let inner = OneByte {
         rest: script,
+        broken: false,
+    };
+    let mut reader = Watching {
+        inner,
         wrote: &wrote,
     };
     let mut writer = Marking {

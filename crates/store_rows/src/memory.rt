@@ -124,17 +124,17 @@ fn reads_without(rt: &impl Abort, memory: &Refusing<Global>, alloc: Global, numb
     let mut device = holding(rt, alloc, LINE);
     memory.refuse(number);
     let body = read_body(memory, &mut device);
-    let has_refused = memory.has_refused();
     drop(device);
-    match body {
+    let told = match body {
         Ok(Body::Whole(book, frames, end)) => {
             let is_so = (frames, end) == (0, 105) && is_line(&book);
             drop(book);
-            Tried::done(!has_refused && is_so)
+            Ok(is_so)
         }
-        Ok(Body::Damaged(_)) => Tried::Wrong,
-        Err(error) => Tried::refused(has_refused && error == BodyError::NoMemory),
-    }
+        Ok(Body::Damaged(_)) => Ok(false),
+        Err(error) => Err(error),
+    };
+    memory.judge(told, BodyError::NoMemory, |is_so| *is_so)
 }
 
 #[test]

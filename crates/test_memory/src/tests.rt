@@ -36,3 +36,19 @@ fn requests_are_counted(rt: HostRuntime) {
         assert_eq!(rt; requests(|number| nothing(&memory, number, told)), count);
     }
 }
+
+// Tries to make a list of one byte, beside which another is made.
+fn one_byte(memory: &Refusing<Global>, number: u64, byte: u8) -> Tried {
+    memory.refuse(number);
+    let told = Vec::from_slice(memory, &[byte]);
+    memory.judge(told, AllocError, |bytes| bytes.as_slice() == [1].as_slice())
+}
+
+#[test]
+fn what_a_call_told_is_judged(rt: HostRuntime) {
+    let memory = Refusing::new(rt.alloc());
+    assert_eq!(rt; requests(|number| one_byte(&memory, number, 1)), Some(1));
+    assert_eq!(rt; requests(|number| one_byte(&memory, number, 2)), None);
+    assert_eq!(rt; Tried::Done.and(true), Tried::Done);
+    assert_eq!(rt; Tried::Refused.and(false), Tried::Wrong);
+}

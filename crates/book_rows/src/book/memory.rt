@@ -113,40 +113,31 @@ fn acts<'a>(
     let is_like = are_same(rt, alloc, &talk, &twin);
     drop(talk);
     drop(twin);
-    if is_like { tried } else { Tried::Wrong }
+    tried.and(is_like)
 }
 
 /// Tries to make a book.
 fn makes_book(memory: &Refusing<Global>, number: u64) -> Tried {
     memory.refuse(number);
-    let made = Book::new(memory);
-    let has_refused = memory.has_refused();
-    match made {
-        Ok(book) => {
-            let is_new = book.tree().len() == 1 && book.line().len() == 0;
-            drop(book);
-            Tried::done(!has_refused && is_new)
-        }
-        Err(NoMemory) => Tried::refused(has_refused),
-    }
+    memory.judge(Book::new(memory), NoMemory, |book| {
+        book.tree().len() == 1 && book.line().len() == 0
+    })
 }
 
 /// Tries to copy a book that heard what anna says.
 fn copies(rt: &impl Abort, memory: &Refusing<Global>, alloc: Global, number: u64) -> Tried {
     let talk = Talk::behind(rt, memory, alloc, &BEFORE);
     memory.refuse(number);
-    let copy = talk.book.copy();
-    let has_refused = memory.has_refused();
-    let tried = match copy {
+    let told = match talk.book.copy() {
         Ok(copy) => {
             let is_like = are_alike(rt, &talk.book, &copy);
             drop(copy);
-            Tried::done(!has_refused && is_like)
+            Ok(is_like)
         }
-        Err(NoMemory) => Tried::refused(has_refused),
+        Err(NoMemory) => Err(NoMemory),
     };
     drop(talk);
-    tried
+    memory.judge(told, NoMemory, |is_like| *is_like)
 }
 
 /// Tries an effect. Refused, the book is as another, and the next try succeeds.
@@ -183,7 +174,7 @@ fn applies<'a>(
     let is_like = are_alike(rt, &book, &like);
     drop(book);
     drop(like);
-    if is_like { tried } else { Tried::Wrong }
+    tried.and(is_like)
 }
 
 /// What anna says before each command: she has a part with a version and a draft.

@@ -415,16 +415,14 @@ pub(super) fn makes_of_parts(
     let talk = told(rt, alloc, memory);
     let parts = parts_of(rt, memory, &talk.book);
     memory.refuse(number);
-    let made = made(parts);
-    let has_refused = memory.has_refused();
-    let tried = match made {
+    let told = match made(parts) {
         Ok(made) => {
             let is_like = are_alike(rt, &made, &talk.book);
             drop(made);
-            Tried::done(!has_refused && is_like)
+            Ok(is_like)
         }
-        Err(error) => Tried::refused(has_refused && error == FromPartsError::NoMemory),
+        Err(error) => Err(error),
     };
     drop(talk);
-    tried
+    memory.judge(told, FromPartsError::NoMemory, |is_like| *is_like)
 }

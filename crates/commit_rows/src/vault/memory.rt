@@ -36,7 +36,12 @@ fn is_staged<'a>(
 }
 
 /// Tries to create a vault. Refused, the devices come back, still empty.
-pub fn creates(rt: &impl Abort, memory: &Refusing<Global>, alloc: Global, number: u64) -> Tried {
+pub(crate) fn creates(
+    rt: &impl Abort,
+    memory: &Refusing<Global>,
+    alloc: Global,
+    number: u64,
+) -> Tried {
     let (first, second) = (device(rt, alloc), device(rt, alloc));
     memory.refuse(number);
     match Vault::create(memory, first, second, 1) {
@@ -56,7 +61,12 @@ pub fn creates(rt: &impl Abort, memory: &Refusing<Global>, alloc: Global, number
 }
 
 /// Tries to open a vault with a session's place in a frame. Refused, the devices come back, and open then.
-pub fn opens(rt: &impl Abort, memory: &Refusing<Global>, alloc: Global, number: u64) -> Tried {
+pub(crate) fn opens(
+    rt: &impl Abort,
+    memory: &Refusing<Global>,
+    alloc: Global,
+    number: u64,
+) -> Tried {
     let mut vault = new_vault(rt, memory, alloc);
     assert!(rt; is_staged(&mut vault, 0, hello(b"anna")) && is_staged(&mut vault, 1, make(b"/e")));
     assert!(rt; settled_after(&mut vault, 4));
@@ -83,7 +93,12 @@ fn is_anna<'a>(command: &CommandIn<&'a Refusing<Global>>) -> bool {
 }
 
 /// Tries to stage a command. Refused, it comes back, and no entry is kept of it.
-pub fn stages(rt: &impl Abort, memory: &Refusing<Global>, alloc: Global, number: u64) -> Tried {
+pub(crate) fn stages(
+    rt: &impl Abort,
+    memory: &Refusing<Global>,
+    alloc: Global,
+    number: u64,
+) -> Tried {
     let mut vault = new_vault(rt, memory, alloc);
     let anna = hello(b"anna").expect(rt, "a name");
     memory.refuse(number);
@@ -104,12 +119,17 @@ pub fn stages(rt: &impl Abort, memory: &Refusing<Global>, alloc: Global, number:
     };
     let is_one = vault.len() == 1;
     drop(vault);
-    if is_one { tried } else { Tried::Wrong }
+    tried.and(is_one)
 }
 
 /// Tries to redeem the ticket of a list. Refused, the ticket comes back, and nothing is told; it is told then. Committing the list before
 /// asks for no memory, and nor does retiring it.
-pub fn redeems(rt: &impl Abort, memory: &Refusing<Global>, alloc: Global, number: u64) -> Tried {
+pub(crate) fn redeems(
+    rt: &impl Abort,
+    memory: &Refusing<Global>,
+    alloc: Global,
+    number: u64,
+) -> Tried {
     let mut vault = new_vault(rt, memory, alloc);
     assert!(rt; is_staged(&mut vault, 0, hello(b"anna")) && is_staged(&mut vault, 1, make(b"/e")));
     let Some(ticket) = staged(&mut vault, 1, Command::List(Path::root())) else {
@@ -142,11 +162,16 @@ pub fn redeems(rt: &impl Abort, memory: &Refusing<Global>, alloc: Global, number
     memory.refuse(1);
     let is_over = vault.told() == 1 && vault.retire() == Retired::One && !memory.has_refused();
     drop(vault);
-    if is_over { tried } else { Tried::Wrong }
+    tried.and(is_over)
 }
 
 /// Tries to start a snapshot. Refused, nothing is under way, and the next try starts it.
-pub fn starts(rt: &impl Abort, memory: &Refusing<Global>, alloc: Global, number: u64) -> Tried {
+pub(crate) fn starts(
+    rt: &impl Abort,
+    memory: &Refusing<Global>,
+    alloc: Global,
+    number: u64,
+) -> Tried {
     let mut vault = new_vault(rt, memory, alloc);
     assert!(rt; is_staged(&mut vault, 0, hello(b"anna")) && is_staged(&mut vault, 1, make(b"/e")));
     memory.refuse(number);

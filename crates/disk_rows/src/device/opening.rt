@@ -6,7 +6,7 @@ ghost use Rattle.vault_device.specs.SettledByte.{stands_for, IsShut, IsOldOrNew}
 use vault_device::{Device, Fault};
 
 /// Writes behind a byte that is shut, settles that, opens the byte and settles that.
-pub fn append_behind<D: Device>(device: &mut D, gate: u64, bytes: &[u8]) -> Result<(), Fault>
+pub(crate) fn append_behind<D: Device>(device: &mut D, gate: u64, bytes: &[u8]) -> Result<(), Fault>
     requires end { gate + 1 + length bytes.now < 2 ^ 63 }
     requires shut { IsTrue (D.disk device.old).honest → IsShut gate (D.disk device.old) }
     ensures any_moment { IsTrue (D.disk device.old).honest

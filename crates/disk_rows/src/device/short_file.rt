@@ -11,7 +11,7 @@ pub struct ShortFile<D> {
 
 impl<D: Device> ShortFile<D> {
     /// A file over a device, in short parts.
-    pub fn over(device: D) -> ShortFile<D>
+    pub(crate) fn over(device: D) -> ShortFile<D>
         ensures { result.device ≡ device }
     {
         ShortFile {

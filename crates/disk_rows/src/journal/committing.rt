@@ -13,7 +13,7 @@ fn shows(alloc: Global, device: &mut MemDevice, expected: &[u8]) -> Result<bool,
 }
 
 /// Whether the first of a commit's four steps and a crash, if any, leave these bytes. Before them stands a settled 0.
-pub fn leaves(
+pub(crate) fn leaves(
     alloc: Global,
     steps: u8,
     crash: Option<Pick>,

@@ -7,7 +7,11 @@ use vault_journal::{Damage, Frame, read_effects, record_len};
 use vault_model::{Effect, EffectIn, Listing, PlaceId};
 
 /// Whether the effect's record is these bytes, and they are read as the effect and nothing else.
-pub fn is_recorded(alloc: Global, effect: &EffectIn<Global>, bytes: &[u8]) -> Result<bool, Fail>
+pub(crate) fn is_recorded(
+    alloc: Global,
+    effect: &EffectIn<Global>,
+    bytes: &[u8],
+) -> Result<bool, Fail>
     requires { HasRecord effect.now }
 {
     let mut frame = Frame::new(alloc)?;
@@ -19,14 +23,14 @@ pub fn is_recorded(alloc: Global, effect: &EffectIn<Global>, bytes: &[u8]) -> Re
 }
 
 /// Whether a check-in is read from the front of the bytes, and behind it nothing is.
-pub fn is_spoiled(alloc: Global, bytes: &[u8]) -> Result<bool, Fail> {
+pub(crate) fn is_spoiled(alloc: Global, bytes: &[u8]) -> Result<bool, Fail> {
     let mut all = Vec::from_slice(alloc, b"\x05\0\0\0\x01")?;
     all.extend_from_slice(bytes)?;
     Ok(matches!(read_effects(alloc, &all), Err(Damage::At(5))))
 }
 
 /// An effect with a content of so many bytes.
-pub fn saved(alloc: Global, len: usize) -> Result<EffectIn<Global>, Fail>
+pub(crate) fn saved(alloc: Global, len: usize) -> Result<EffectIn<Global>, Fail>
     requires { len ≤ longest_content }
     ensures { IfOk result (λ effect. HasRecord effect) }
 {
@@ -35,7 +39,7 @@ pub fn saved(alloc: Global, len: usize) -> Result<EffectIn<Global>, Fail>
 }
 
 /// Pushes where there is room, and says whether there was.
-pub fn push_within<A: Allocator>(frame: &mut Frame<A>, effect: &EffectIn<Global>) -> bool
+pub(crate) fn push_within<A: Allocator>(frame: &mut Frame<A>, effect: &EffectIn<Global>) -> bool
     requires { HasRecord effect.now }
 {
     let fits = frame.fits(effect);
@@ -58,7 +62,7 @@ fn push_times(frame: &mut Frame, effect: &EffectIn<Global>, times: u8) -> bool
 }
 
 /// A frame filled to its last byte.
-pub fn full(alloc: Global) -> Result<Frame, Fail> {
+pub(crate) fn full(alloc: Global) -> Result<Frame, Fail> {
     let mut frame = Frame::new(alloc)?;
     let long = saved(alloc, 1024)?;
     let too_long = saved(alloc, 274)?;

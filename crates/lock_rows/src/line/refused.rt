@@ -16,16 +16,9 @@ use vault_model::{Intent, NoMemory, Standing};
 // Tries to make a line.
 fn makes_line(memory: &Refusing<Global>, number: u64) -> Tried {
     memory.refuse(number);
-    let made = Line::new(memory);
-    let has_refused = memory.has_refused();
-    match made {
-        Ok(line) => {
-            let is_new = counts(&line) == (0, 0, 0);
-            drop(line);
-            Tried::done(!has_refused && is_new)
-        }
-        Err(NoMemory) => Tried::refused(has_refused),
-    }
+    memory.judge(Line::new(memory), NoMemory, |line| {
+        counts(line) == (0, 0, 0)
+    })
 }
 
 // Tries a row. Refused, the line is as another, and the next try succeeds.
@@ -73,7 +66,7 @@ fn takes_behind<'a>(
     drop(line);
     drop(like);
     drop(tree);
-    if is_like { tried } else { Tried::Wrong }
+    tried.and(is_like)
 }
 
 /// What is tried.

@@ -50,16 +50,7 @@ fn small_line<A: Allocator + Copy>(rt: &impl Abort, alloc: A) -> Line<A> {
 // Tries to copy a line, which stays as it is.
 fn is_copied(line: &Line<&Refusing<Global>>, memory: &Refusing<Global>, number: u64) -> Tried {
     memory.refuse(number);
-    let copy = line.copy();
-    let has_refused = memory.has_refused();
-    match copy {
-        Ok(copy) => {
-            let is_like = is_same(&copy, line);
-            drop(copy);
-            Tried::done(!has_refused && is_like)
-        }
-        Err(NoMemory) => Tried::refused(has_refused),
-    }
+    memory.judge(line.copy(), NoMemory, |copy| is_same(copy, line))
 }
 
 /// Tries to copy a small line.
@@ -75,7 +66,7 @@ pub(crate) fn copies(
     let is_kept = is_same(&line, &like);
     drop(line);
     drop(like);
-    if is_kept { tried } else { Tried::Wrong }
+    tried.and(is_kept)
 }
 
 // The check-out of this number, of Anna.
@@ -199,13 +190,8 @@ pub(crate) fn makes_of_claims(rt: &impl Abort, memory: &Refusing<Global>, number
     let list = three_claims(rt, memory);
     memory.refuse(number);
     let made = made_of(&tree, memory, 7, list);
-    let has_refused = memory.has_refused();
     drop(tree);
-    if made == Err(FromClaimsError::NoMemory) {
-        Tried::refused(has_refused)
-    } else {
-        Tried::done(!has_refused && made == Ok(3))
-    }
+    memory.judge(made, FromClaimsError::NoMemory, |count| *count == 3)
 }
 
 // Whether what no line has is told, though no memory is there.

@@ -1,7 +1,7 @@
 //! Tables of claims, by rows of calls with their answers.
 use super::locks_of;
 use crate::line::small_tree;
-use crate::places::Wish;
+use crate::places::{Wish, Worked, first_wrong};
 use Extension::{Done, InTheWay};
 use Intent::{Change, Look};
 use Mode::{IS, IX, S, SIX, X};
@@ -175,21 +175,7 @@ fn count_right(rt: &impl Abort, alloc: Global, rows: &[Row]) -> usize {
     count
 }
 
-/// A table's name, and the calls of it.
-type Worked = (&'static str, &'static [Row]);
-
-// The first of these tables that answers a row otherwise, and how many it answered before.
-fn first_wrong(rt: &impl Abort, alloc: Global, tables: &[Worked]) -> Option<(&'static str, usize)> {
-    for (name, rows) in tables {
-        let count = count_right(rt, alloc, rows);
-        if count != rows.len() {
-            return Some((*name, count));
-        }
-    }
-    None
-}
-
-static TABLES: [Worked; 12] = [
+static TABLES: [Worked<Row>; 12] = [
     (
         "a newcomer waits for a change above",
         &[
@@ -331,5 +317,6 @@ static TABLES: [Worked; 12] = [
 
 #[test]
 fn worked_tables(rt: HostRuntime) {
-    assert_eq!(rt; first_wrong(&rt, rt.alloc(), &TABLES), None);
+    let wrong = first_wrong(&TABLES, |rows| count_right(&rt, rt.alloc(), rows));
+    assert_eq!(rt; wrong, None);
 }

@@ -42,16 +42,9 @@ fn is_same<A: Allocator>(rt: &impl Abort, tree: &Tree, one: &Table<A>, other: &T
 // Tries to make a table.
 fn makes_table(memory: &Refusing<Global>, number: u64) -> Tried {
     memory.refuse(number);
-    let made = Table::new(memory);
-    let has_refused = memory.has_refused();
-    match made {
-        Ok(table) => {
-            let is_new = stands(&table, C1, None);
-            drop(table);
-            Tried::done(!has_refused && is_new)
-        }
-        Err(NoMemory) => Tried::refused(has_refused),
-    }
+    memory.judge(Table::new(memory), NoMemory, |table| {
+        stands(table, C1, None)
+    })
 }
 
 // A table that took so many claims for one place, with numbers from 100 down, and then these rows.
@@ -107,7 +100,7 @@ fn takes_behind<'a>(
     let is_like = is_same(rt, tree, &table, &like);
     drop(table);
     drop(like);
-    if is_like { tried } else { Tried::Wrong }
+    tried.and(is_like)
 }
 
 // Tries to copy a table. The copy goes its own way then.
@@ -153,7 +146,7 @@ fn copies<'a>(
     let is_kept = is_same(rt, tree, &table, &like);
     drop(table);
     drop(like);
-    if is_kept { tried } else { Tried::Wrong }
+    tried.and(is_kept)
 }
 
 /// What is tried.
