@@ -12,7 +12,7 @@ use given::{
 };
 use group_commit::{File, OpenError, Pumped, Receipt, Vault};
 use memory::{creates, opens, redeems, stages, starts};
-use past::{inside_a_pump, inside_an_opening, over_other_files, three_lives, two_lives};
+use past::{Beginning, Stop, inside_a_pump, three_lives, two_lives};
 use renewing::{is_renewed, is_renewed_around, saves_a_frame};
 use retiring::{makes_room, retires};
 use std::alloc::Global;
@@ -187,7 +187,8 @@ fn a_past_of_two_lives(rt: HostRuntime) {
         let anna = hello(b"anna").expect(&rt, "a name");
         let first = device(&rt, rt.alloc());
         let second = device(&rt, rt.alloc());
-        let (vault, receipt) = two_lives(rt.alloc(), first, second, anna, pick).expect(
+        let lives = (Beginning::Made, Stop::BetweenCalls);
+        let (vault, receipt) = two_lives(rt.alloc(), lives, first, second, anna, pick).expect(
             &rt,
             "two lives",
         );
@@ -204,7 +205,8 @@ fn a_past_over_files_of_version_1(rt: HostRuntime) {
         let anna = hello(b"anna").expect(&rt, "a name");
         let first = holding(&rt, rt.alloc(), OLD_WITH_E);
         let second = device(&rt, rt.alloc());
-        let (mut vault, receipt) = over_other_files(rt.alloc(), first, second, anna, pick).expect(
+        let lives = (Beginning::TakenOver, Stop::BetweenCalls);
+        let (mut vault, receipt) = two_lives(rt.alloc(), lives, first, second, anna, pick).expect(
             &rt,
             "two lives",
         );
@@ -247,14 +249,12 @@ fn stops_inside_an_opening(rt: HostRuntime) {
         let anna = hello(b"anna").expect(&rt, "a name");
         let first = device(&rt, rt.alloc());
         let second = device(&rt, rt.alloc());
-        let (vault, receipt) = inside_an_opening(
-            rt.alloc(),
-            first,
-            second,
-            anna,
-            Pick::Bytes(1),
-            call,
-        ).expect(&rt, "another life");
+        let lives = (Beginning::Made, Stop::InAnOpening(call));
+        let pick = Pick::Bytes(1);
+        let (vault, receipt) = two_lives(rt.alloc(), lives, first, second, anna, pick).expect(
+            &rt,
+            "another life",
+        );
         assert!(rt; is_of(&vault, &receipt, 1));
         drop(vault);
         drop(receipt);

@@ -1,7 +1,7 @@
 -- Where the first entry that passes stands, by entries and by queues.
 use Rattle.std.specs.Prelude.{◌≡◌, ℕ, zero, suc, ◌+◌, ◌<◌, ◌≤◌, Bool, true, false, not, ◌||◌, nat_lt, List, [], ◌∷◌, ◌++◌, length, take, find, position, slice_get, Option, None, Some, is_none, refl}
 use Rattle.std.proofs.Common.{sym, ap, subst, ◌∙◌, cond, arith, drop, get_or}
-use Rattle.std.proofs.lemmas.List.{drop_more}
+use Rattle.std.proofs.lemmas.List.{drop_more, drop_all}
 use Rattle.std.specs.List.{list_any, IsDistinct, AllByRecursion, position_or_len}
 use Rattle.std.specs.Option.{option_map, option_and_then, option_or}
 use Rattle.std.proofs.lemmas.Bool.Decides.{nat_tests}
@@ -14,7 +14,7 @@ use Rattle.lock_table.specs.declared.locks.Lock.{Lock}
 use Rattle.lock_table.specs.declared.entry.Entry.{Entry}
 use Rattle.lock_table.specs.declared.cell.Seat.{Seat}
 use Rattle.lock_table.specs.Locks.{mode_at}
-use Rattle.lock_table.specs.Queues.{seat_of, seats_by, earlier, first_of, place_of, earliest}
+use Rattle.lock_table.specs.Queues.{CellSeen, seat_of, seats_at, seats_by, earlier, first_of, place_of, earliest, is_in_way, is_held_in_way}
 use Rattle.lock_table.proofs.Removals.{ids}
 
 -- where the first entry that passes stands, counted from a number on
@@ -270,3 +270,20 @@ earlier_none (Some k) = refl
 -- the rest of a list begins with what is read there
 pub drop_is : {T : Type 0} (xs : List T) (i : ℕ) (x : T) → i < length xs → x ≡ get_or xs i x → drop i xs ≡ x ∷ drop (i + 1) xs
 drop_is xs i x inside is = drop_more xs i x inside ∙ ap (λ y. y ∷ drop (i + 1) xs) (sym is)
+
+-- a loop over locks, in which the earliest so far and that of the locks that are left give the earliest of all
+module _ (f : Lock → Option ℕ) (locks : List Lock) (i : ℕ) (first all : Option ℕ) (so : earlier first (earliest f (drop i locks)) ≡ all) where
+  pub earliest_next : (l : Lock) (next : Option ℕ) → i < length locks → l ≡ get_or locks i l → next ≡ earlier first (f l) → earlier next (earliest f (drop (i + 1) locks)) ≡ all
+  earliest_next l next inside is given =
+      ap (λ o. earlier o (earliest f (drop (i + 1) locks))) given ∙ (earlier_associative first (f l) (earliest f (drop (i + 1) locks))
+      ∙ (ap (λ ls. earlier first (earliest f ls)) (sym (drop_is locks i l inside is)) ∙ so))
+
+  pub earliest_last : length locks ≤ i → first ≡ all
+  earliest_last past = sym (earlier_none first) ∙ (ap (λ ls. earlier first (earliest f ls)) (sym (drop_all i locks past)) ∙ so)
+
+-- what stands first in the way at a lock's place, and what is held there by another claim
+abbrev pub place_in_way : List Entry → List CellSeen → Lock → Option ℕ
+place_in_way table cells l = place_of table (first_of (is_in_way l.mode) (seats_at cells l.place))
+
+abbrev pub held_place_in_way : List Entry → List CellSeen → ClaimId → Lock → Option ℕ
+held_place_in_way table cells id l = place_of table (first_of (is_held_in_way id l.mode) (seats_at cells l.place))

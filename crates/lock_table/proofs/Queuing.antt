@@ -22,6 +22,8 @@ use Rattle.lock_table.proofs.Putting.{mode_listed}
 use Rattle.lock_table.proofs.Positions.{first_from, queue_first, any_first, earliest_same, first_same, id_found, first_taken, if_lower}
 use Rattle.lock_table.proofs.Weighing.{FindFirst, all_push, length_from, seats_from-push, queue_law, way_law}
 use Rattle.lock_table.proofs.Counts.{length_modes}
+use Rattle.lock_table.proofs.Leaving.{is_id}
+use Rattle.lock_table.proofs.TablesKept.{table_extended}
 use Rattle.lock_table.proofs.Removals.{ids, is_its, own_index, others_stay, turned}
 
 -- the queues of a table, weighed one after another
@@ -332,6 +334,18 @@ room_left cells new (l ∷ ls) less more room =
     All-cons (λ (x : Lock). length (seats_at new x.place) < room_at new x.place) l ls (omega (arith, here, seats, rooms))
     (room_left cells new ls less more (All-tail (λ (x : Lock). length (seats_at cells x.place) < room_at cells x.place) l ls room))
 
+-- so it does where a claim leaves
+pub room_without : (table : List Entry) (cells new : List CellSeen) (id : ClaimId) (locks : List Lock) → ((p : ℕ) → seats_at cells p ≡ seats_by (is_held_in table) table p) → ((p : ℕ) → seats_at new p ≡ seats_by (is_held_in table) (entries_without table id) p)
+    → ((p : ℕ) → room_at cells p ≤ room_at new p) → HaveRoom cells locks → HaveRoom new locks
+room_without table cells new id locks before after more room = room_left cells new locks less more room
+  where
+    less : (p : ℕ) → length (seats_at new p) ≤ length (seats_at cells p)
+    less p =
+        let one = ap length (after p) in
+        let all = ap length (before p) in
+        let fewer = seats_fewer (is_held_in table) (is_held_in table) (is_id id) table p in
+        omega (arith, one, all, fewer)
+
 -- a claim put first keeps to the room
 pub first_room : (cells new : List CellSeen) (locks : List Lock) (id : ClaimId) → HaveRoom cells locks → ((p : ℕ) → length (seats_at cells p) ≤ room_at cells p)
     → ((p : ℕ) → seats_at new p ≡ seat_of true id (mode_at locks p) ++ seats_at cells p) → ((p : ℕ) → room_at cells p ≤ room_at new p) → (p : ℕ) → length (seats_at new p) ≤ room_at new p
@@ -367,7 +381,7 @@ put_count cells table id locks p put = ap length put ∙ by_mode (mode_at locks 
     by_mode None = seats_count (is_held_in table) (entries_without table id) p
     by_mode (Some m) = ap suc (seats_count (is_held_in table) (entries_without table id) p)
 
-pub same_length : (table : List Entry) (id : ClaimId) (locks : List Lock) → IsDistinct same_id (ids table) → is_some (entry_of table id) ≡ true → length (put_first table id locks) ≡ length table
+same_length : (table : List Entry) (id : ClaimId) (locks : List Lock) → IsDistinct same_id (ids table) → is_some (entry_of table id) ≡ true → length (put_first table id locks) ≡ length table
 unfolding IsDistinct
 same_length [] id locks distinct h = cc
 same_length (e ∷ es) id locks distinct h = by_test (same_id e.id id) refl h (same_length es id locks distinct.1)
@@ -376,3 +390,6 @@ same_length (e ∷ es) id locks distinct h = by_test (same_id e.id id) refl h (s
         → suc (length (cond (not b) (e ∷ entries_without es id) (entries_without es id))) ≡ suc (length es)
     by_test true g k ih = ap (λ (xs : List Entry). suc (length xs)) (others_stay id es (turned id (ids es) (subst (λ y. AllByRecursion (λ z. same_id y z ≡ false) (ids es)) (same_id_is e.id id g) distinct.0)))
     by_test false g k ih = ap suc (ih k)
+
+pub first_kept : (table : List Entry) (id : ClaimId) (locks : List Lock) → IsTable table → is_some (entry_of table id) ≡ true → IsTable (put_first table id locks)
+first_kept table id locks kept there = table_extended table id locks kept (same_length table id locks kept.distinct there)

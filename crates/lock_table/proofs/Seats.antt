@@ -7,10 +7,11 @@ use Rattle.std.proofs.lemmas.Option.{same_Some}
 use Rattle.std.proofs.lemmas.List.Elements.{All-head, All-tail}
 use Rattle.vault_model.specs.declared.ids.ClaimId.{ClaimId}
 use Rattle.vault_model.specs.Claims.{same_id}
+use Rattle.vault_model.specs.Limits.{most_claims}
 use Rattle.vault_model.proofs.Stays.{same_id_itself}
 use Rattle.std.specs.Bool.{then_some}
 use Rattle.lock_modes.specs.declared.mode.Mode.{Mode}
-use Rattle.lock_modes.specs.Groups.{Counts, with_one, group_of, count_of}
+use Rattle.lock_modes.specs.Groups.{Counts, size, with_one, group_of, count_of}
 use Rattle.lock_table.specs.declared.cell.Seat.{Seat}
 use Rattle.lock_table.specs.declared.entry.Entry.{Entry}
 use Rattle.lock_table.specs.Locks.{mode_at}
@@ -18,7 +19,7 @@ use Rattle.lock_table.specs.Tables.{entry_of, entries_without}
 use Rattle.lock_table.specs.Queues.{CellSeen, AreCounted, seat_modes, held_seats, seat_of, seats_by, seats_without, restood, by_lock, held_by, with_own, HasOwn, HasSeat}
 use Rattle.lock_table.proofs.Leaving.{is_id, kept_by}
 use Rattle.lock_table.proofs.Removals.{ids}
-use Rattle.lock_table.proofs.Counts.{with_one_swap, length_held}
+use Rattle.lock_table.proofs.Counts.{with_one_swap, length_held, size_all, size_held}
 use Rattle.lock_table.proofs.Others.{with_one_same, count_own, restood_none, without_none, no_mode, rest_apart}
 
 -- a seat put first
@@ -203,6 +204,21 @@ seen seats room = record { seats = seats; room = room }
 
 pub cell_same : (a b : List Seat) (m n : ℕ) → a ≡ b → m ≡ n → seen a m ≡ seen b n
 cell_same a b m n e f = ap (λ xs. seen xs m) e ∙ ap (λ k. seen b k) f
+
+-- what a cell shows of its queue: a claim's seat, and room in both groups for one member more
+module _ (seats : List Seat) (room : ℕ) (cell : CellSeen) (shown : seen seats room ≡ cell) where
+  pub has_shown : (id : ClaimId) (m : Mode) (b : Bool) → HasSeat id m b cell.seats → HasSeat id m b seats
+  has_shown id m b has = subst (λ (v : CellSeen). HasSeat id m b v.seats) (sym shown) has
+
+  module _ (all held : Counts) (counted : AreCounted seats all held) (few : length cell.seats < most_claims) where
+    few_stand : length seats < most_claims
+    few_stand = subst (λ (v : CellSeen). length v.seats < most_claims) (sym shown) few
+
+    pub room_in_all : size all < most_claims
+    room_in_all = omega (arith, few_stand, size_all seats all held counted)
+
+    pub room_in_held : size held < most_claims
+    room_in_held = omega (arith, few_stand, size_held seats all held counted)
 
 pub own_some : (b : Bool) (m : Mode) → then_some b m ≡ cond b (Some m) None
 own_some true m = refl

@@ -1,8 +1,9 @@
 -- The one seat of a claim, found and taken out of a queue.
-use Rattle.std.specs.Prelude.{◌≡◌, suc, ◌+◌, ◌<◌, ◌≤◌, Bool, true, false, not, nat_lt, List, [], ◌∷◌, length, position, Some, refl}
-use Rattle.std.proofs.Common.{sym, ap, ◌∙◌, cond, arith}
+use Rattle.std.specs.Prelude.{◌≡◌, ℕ, suc, ◌+◌, ◌<◌, ◌≤◌, Bool, true, false, not, nat_lt, List, [], ◌∷◌, length, position, Some, refl}
+use Rattle.std.proofs.Common.{sym, ap, subst, ◌∙◌, cond, arith}
 use Rattle.std.specs.List.{remove, position_or_len}
 use Rattle.std.proofs.lemmas.Bool.Decides.{nat_tests}
+use Rattle.std.proofs.lemmas.Option.{same_Some}
 use Rattle.vault_model.specs.declared.ids.ClaimId.{ClaimId}
 use Rattle.vault_model.specs.Claims.{same_id}
 use Rattle.lock_modes.specs.declared.mode.Mode.{Mode}
@@ -56,6 +57,14 @@ module _ (id : ClaimId) where
       let inside = one_inside seats h in
       let test : nat_lt (position_or_len is_its_seat seats) (length seats) ≡ true = grind (arith, nat_tests) in
       rw test refl
+
+  -- the index that is found in a copy of the queue, and what is taken out there
+  module _ (seats copy : List Seat) (i : ℕ) (one : length seats ≡ suc (length (seats_without id seats))) (same : copy ≡ seats) (at : position is_its_seat copy ≡ Some i) where
+    pub one_index : position_or_len is_its_seat seats ≡ i
+    one_index = same_Some _ _ (sym (one_found seats one) ∙ (ap (position is_its_seat) (sym same) ∙ at))
+
+    pub one_taken : remove seats i ≡ seats_without id seats
+    one_taken = subst (λ k. remove seats k ≡ seats_without id seats) one_index (one_out seats one)
 
 -- a claim with a seat has one alone
 pub one_seat : (id : ClaimId) (m : Mode) (b : Bool) (seats : List Seat) → HasSeat id m b seats → length seats ≡ suc (length (seats_without id seats))

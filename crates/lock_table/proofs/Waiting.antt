@@ -18,7 +18,7 @@ use Rattle.lock_table.specs.declared.again.Again.TheVariants.{Behind, Everyone}
 use Rattle.lock_table.specs.Locks.{mode_at, AreApart, conflict}
 use Rattle.lock_table.specs.Tables.{first_in_way, entry_of, entries_without, is_held_in, held_in_way, put_first}
 use Rattle.lock_table.specs.Queues.{CellSeen, AreStale, seats_at, seats_by, seat_of, first_of, is_in_way, blocker_at, is_taken, is_queued_at, is_queued_in, is_queued_against, waits_where, waits_behind}
-use Rattle.lock_table.proofs.Removals.{ids, is_its, own_index, none_its}
+use Rattle.lock_table.proofs.Removals.{ids, is_its, own_index, index_read, none_its}
 use Rattle.lock_table.proofs.Others.{NoSeat, none_seated, rest_apart}
 use Rattle.lock_table.proofs.Queuing.{located, not_located}
 use Rattle.lock_table.proofs.Seats.{seats_same}
@@ -154,10 +154,11 @@ queued_law cells held table distinct seats (l ∷ ls) =
     by_test true a b = refl
     by_test false a b = refl
 
--- a claim's entry taken out, and put first with other locks
-pub moved : (table : List Entry) (id : ClaimId) (locks : List Lock) (i : ℕ) → IsDistinct same_id (ids table) → position (is_its id) table ≡ Some i
+-- a claim's entry, whose index is read of a copy of the line, taken out and put first with other locks
+pub moved : (table copy : List Entry) (id : ClaimId) (locks : List Lock) (i : ℕ) → IsDistinct same_id (ids table) → copy ≡ table → position (is_its id) copy ≡ Some i
     → (new : List Entry) (e : Entry) → e ≡ record { id = id; locks = locks } → new ≡ e ∷ remove table i → new ≡ put_first table id locks
-moved table id locks i distinct at new e made is = is ∙ (ap (λ (k : Entry). k ∷ remove table i) made ∙ ap (λ (xs : List Entry). record { id = id; locks = locks } ∷ xs) (taken_out table id i distinct at))
+moved table copy id locks i distinct same at new e made is =
+    is ∙ (ap (λ (k : Entry). k ∷ remove table i) made ∙ ap (λ (xs : List Entry). record { id = id; locks = locks } ∷ xs) (taken_out table id i distinct (index_read id table copy (Some i) same at)))
 
 -- the blockers beside the entries when a claim has moved to the front, held
 module _ (table : List Entry) (id : ClaimId) (locks : List Lock) where

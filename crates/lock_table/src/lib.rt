@@ -14,7 +14,7 @@
 //! 5. `Table`: beside each entry stands what it waits for.
 //!
 //! Only measured: how long a call takes (docs/MAP.md, "Speed").
-//! Start at: specs/ClaimModes.antt and locks.rt, `lock_set`; then table.rt.
+//! Start at: specs/ClaimModes.antt and locks.rt, `lock_set`; then table.rt, and waits.rt for who waits for whom.
 #![tactic(auto)]
 
 mod again;
@@ -24,6 +24,7 @@ mod entry;
 pub mod laws;
 mod locks;
 mod table;
+mod waits;
 
 pub use entry::{Entry, Extension};
 pub use locks::{Lock, LockSet, MOST_LOCKS, lock_set};

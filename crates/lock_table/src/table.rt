@@ -1,24 +1,25 @@
 //! The lock table: the standing of claims by their modes.
-ghost use Rattle.std.specs.Prelude.{◌≡◌, ◌≢◌, IsTrue, ℕ, ◌+◌, ◌<◌, ◌≤◌, ◌==◌, Bool, nat_le, not, ◌&&◌, true, false, List, [], ◌∷◌, ◌++◌, length, map, is_some, is_none, find, position, slice_get, take, set, vec_len, if◌then◌else◌, Option, None, Some, All, IfOk, OnOk, OnErr};
-ghost use Rattle.std.specs.List.{IsDistinct, list_any, remove};
-ghost use Rattle.std.specs.Option.{option_map, option_copied, option_and_then};
+ghost use Rattle.std.specs.Prelude.{◌≡◌, ℕ, ◌+◌, ◌<◌, ◌≤◌, nat_le, true, false, List, [], ◌∷◌, ◌++◌, length, map, is_some, position, slice_get, take, set, vec_len, if◌then◌else◌, Option, None, Some, All, IfOk, OnOk, OnErr};
+ghost use Rattle.std.specs.List.{remove};
+ghost use Rattle.std.specs.Option.{option_map};
 ghost use Rattle.vault_model.specs.Claims.{same_id, is_short, standing_by};
 ghost use Rattle.vault_model.specs.Limits.{most_claims};
 ghost use Rattle.lock_table.specs.declared.cell.Seat.{Seat};
 ghost use Rattle.lock_table.specs.declared.entry.Entry.{Entry};
-ghost use Rattle.lock_table.specs.Queues.{AreQueues, AreSeated, IsWeighing, IsHeldAs, held_by, is_taken, blocker_at, blockers_of, seats_at, room_at, seats_by, queue_of, group_in, held_group_in, is_queued_at, is_queued_in, is_queued_against, waits_where, waits_behind};
-ghost use Rattle.lock_table.specs.Tables.{IsTable, first_in_way, entry_of, entries_before, entries_without, long_entries, blocker_in, standing_in, is_held_in, held_in_way, extension_by, put_first, extended_by, locks_cover, held_over_in};
+ghost use Rattle.lock_table.specs.Queues.{AreQueues, is_taken, blocker_at, blockers_of, seats_at, room_at, seats_by, queue_of, group_in, held_group_in, waits_behind};
+ghost use Rattle.lock_table.specs.Tables.{IsTable, first_in_way, entry_of, entries_before, entries_without, long_entries, blocker_in, standing_in, is_held_in, held_in_way, extension_by, put_first, extended_by, held_over_in};
 
 use crate::again::Again;
-use crate::cell::{Cell, Seat, is_short};
+use crate::cell::{Cell, is_short};
 use crate::cells::{
-    admit, cover_at, earlier_of, group_at, held_at, held_in_way, in_way, in_way_at, index_of,
-    place_of, put_last, queue_at, reserve, stand, take_out, take_short_out,
+    admit, cover_at, earlier_of, group_at, held_at, held_in_way, index_of, place_of, put_last,
+    reserve, take_out, take_short_out,
 };
 use crate::entry::Kept;
-use crate::{Extension, Lock, LockSet, cells};
+use crate::waits::{first_behind, id_at, wait_behind, weigh_again};
+use crate::{Extension, LockSet, cells};
 use design_tree::Tree;
-use lock_modes::{Group, Mode};
+use lock_modes::Group;
 use std::alloc::{Allocator, Global};
 use std::marker::Model;
 use vault_model::{ClaimId, MOST_CLAIMS, NoMemory, PlaceId, Standing};
@@ -57,115 +58,6 @@ fn standing_by(blocker: Option<ClaimId>) -> Standing
     match blocker {
         None => Standing::Held,
         Some(id) => Standing::Queued(id),
-    }
-}
-
-// The id of the claim at a position, where there is one.
-fn id_at<A: Allocator>(entries: &[Kept<A>], index: Option<usize>) -> Option<ClaimId>
-    ensures { result ≡ option_and_then (λ i. option_map (λ (e : Entry). e.id) (slice_get entries.now i)) index }
-{
-    let entry = entries.get(index?)?;
-    Some(entry.id())
-}
-
-// The claim for which a newcomer waits. The groups are asked first.
-fn first_behind<A: Allocator>(
-    entries: &[Kept<A>],
-    cells: &[Cell<A>],
-    locks: &LockSet,
-) -> Option<ClaimId>
-    requires distinct { IsDistinct same_id (map (λ (e : Entry). e.id) entries.now) }
-    requires seated { AreSeated entries.now cells.now }
-    ensures { result ≡ first_in_way entries.now locks.now }
-{
-    if admit(cells, locks) {
-        return None;
-    }
-    id_at(entries, in_way(entries, cells, locks))
-}
-
-// The claim before which a claim at this position waits.
-fn blocker_of<A: Allocator>(entries: &[Kept<A>], cells: &[Cell<A>], index: usize) -> Option<ClaimId>
-    requires there { index < length entries.now }
-    requires distinct { IsDistinct same_id (map (λ (e : Entry). e.id) entries.now) }
-    requires seated { AreSeated entries.now cells.now }
-    ensures { (e : Entry) → slice_get entries.now index ≡ Some e → result ≡ first_in_way (take index entries.now) e.locks }
-{
-    let first = in_way(entries, cells, entries[index].locks())?;
-    if first < index {
-        return id_at(entries, Some(first));
-    }
-    None
-}
-
-// Weighs the claim at a position again.
-fn weigh_at<A: Allocator>(
-    entries: &[Kept<A>],
-    blockers: &mut Vec<Option<ClaimId>, A>,
-    cells: &mut Vec<Cell<A>, A>,
-    index: usize,
-)
-    requires there { index < length entries.now }
-    requires table { IsTable entries.now }
-    requires many { length blockers.old.items ≡ length entries.now }
-    requires seated { AreSeated entries.now cells.old.items }
-    ensures blockers { (e : Entry) → slice_get entries.now index ≡ Some e
-        → blockers.new.items ≡ set blockers.old.items index (first_in_way (take index entries.now) e.locks) }
-    ensures seats { (held : Entry → Bool) (e : Entry) → slice_get entries.now index ≡ Some e → IsHeldAs held e blockers.old.items index
-        → ((p : ℕ) → seats_at cells.old.items p ≡ seats_by held entries.now p) →
-        (p : ℕ) → seats_at cells.new.items p
-        ≡ seats_by (held_by held e.id (is_none (first_in_way (take index entries.now) e.locks))) entries.now p }
-    ensures room { (p : ℕ) → room_at cells.old.items p ≤ room_at cells.new.items p }
-{
-    let blocker = blocker_of(entries, cells, index);
-    let was_held = blockers[index].is_none();
-    blockers[index] = blocker;
-    if blocker.is_none() == was_held {
-        return;
-    }
-    let entry = &entries[index];
-    stand(cells, entry.id(), entry.locks(), blocker.is_none());
-}
-
-// Weighs the claim at a position again where it has to be.
-fn weigh_next<A: Allocator>(
-    entries: &[Kept<A>],
-    blockers: &mut Vec<Option<ClaimId>, A>,
-    cells: &mut Vec<Cell<A>, A>,
-    again: Again,
-    index: usize,
-)
-    requires there { index < length entries.now }
-    requires table { IsTable entries.now }
-    requires many { length blockers.old.items ≡ length entries.now }
-    requires weighing { IsWeighing again entries.now blockers.old.items cells.old.items index }
-    ensures weighing { IsWeighing again entries.now blockers.new.items cells.new.items (index + 1) }
-    ensures many { length blockers.new.items ≡ length entries.now }
-    ensures room { (p : ℕ) → room_at cells.old.items p ≤ room_at cells.new.items p }
-{
-    let is_taken = again.takes(blockers[index]);
-    if !is_taken {
-        return;
-    }
-    weigh_at(entries, blockers, cells, index);
-}
-
-// Weighs those again that have to be, one after another, from a position on.
-fn weigh_again<A: Allocator>(
-    entries: &[Kept<A>],
-    blockers: &mut Vec<Option<ClaimId>, A>,
-    cells: &mut Vec<Cell<A>, A>,
-    again: Again,
-    from: usize,
-)
-    requires table { IsTable entries.now }
-    requires weighing { IsWeighing again entries.now blockers.old.items cells.old.items from }
-    ensures blockers { blockers.new.items ≡ blockers_of entries.now }
-    ensures queues { (p : ℕ) → seats_at cells.new.items p ≡ queue_of entries.now p }
-    ensures room { (p : ℕ) → room_at cells.old.items p ≤ room_at cells.new.items p }
-{
-    for index in from..entries.len() {
-        weigh_next(entries, blockers, cells, again, index);
     }
 }
 
@@ -273,87 +165,6 @@ fn take_short_away<A: Allocator>(
     weigh_again(entries, blockers, cells, Again::BehindShort, 0);
 }
 
-// Has the claim of a seat wait for another, if it is queued there and in the way of a mode.
-fn wait_at_seat<A: Allocator>(
-    entries: &[Kept<A>],
-    blockers: &mut Vec<Option<ClaimId>, A>,
-    seat: Seat,
-    id: ClaimId,
-    mode: Mode,
-)
-    requires distinct { IsDistinct same_id (map (λ (e : Entry). e.id) entries.now) }
-    requires many { length blockers.old.items ≡ length entries.now }
-    ensures waits { (old : Entry → Option ClaimId) → blockers.old.items ≡ map old entries.now
-        → blockers.new.items ≡ map (waits_where (is_queued_at mode seat) id old) entries.now }
-    ensures many { length blockers.new.items ≡ length entries.now }
-{
-    if seat.is_held || mode.compatible(seat.mode) {
-        return;
-    }
-    if let Some(index) = index_of(entries, seat.id) {
-        blockers[index] = Some(id);
-    }
-}
-
-// The same for the claims of some seats.
-fn wait_in_queue<A: Allocator>(
-    entries: &[Kept<A>],
-    blockers: &mut Vec<Option<ClaimId>, A>,
-    seats: &[Seat],
-    id: ClaimId,
-    mode: Mode,
-)
-    requires distinct { IsDistinct same_id (map (λ (e : Entry). e.id) entries.now) }
-    requires many { length blockers.old.items ≡ length entries.now }
-    ensures wait { (old : Entry → Option ClaimId) → blockers.old.items ≡ map old entries.now
-        → blockers.new.items ≡ map (waits_where (is_queued_in mode seats.now) id old) entries.now }
-    ensures many { length blockers.new.items ≡ length entries.now }
-{
-    for seat in seats {
-        wait_at_seat(entries, blockers, *seat, id, mode);
-    }
-}
-
-// The same at the place of a lock. The group is asked first.
-fn wait_at<A: Allocator>(
-    entries: &[Kept<A>],
-    blockers: &mut Vec<Option<ClaimId>, A>,
-    cells: &[Cell<A>],
-    id: ClaimId,
-    lock: Lock,
-)
-    requires distinct { IsDistinct same_id (map (λ (e : Entry). e.id) entries.now) }
-    requires many { length blockers.old.items ≡ length entries.now }
-    ensures wait { (old : Entry → Option ClaimId) → blockers.old.items ≡ map old entries.now
-        → blockers.new.items ≡ map (waits_where (is_queued_in lock.mode (seats_at cells.now lock.place)) id old) entries.now }
-    ensures many { length blockers.new.items ≡ length entries.now }
-{
-    let Lock { place, mode } = lock;
-    if in_way_at(cells, lock).is_none() {
-        return;
-    }
-    wait_in_queue(entries, blockers, queue_at(cells, place), id, mode);
-}
-
-// Has those claims wait for one that are queued and have a mode in the way of its locks.
-fn wait_behind<A: Allocator>(
-    entries: &[Kept<A>],
-    blockers: &mut Vec<Option<ClaimId>, A>,
-    cells: &[Cell<A>],
-    id: ClaimId,
-    locks: &LockSet,
-)
-    requires distinct { IsDistinct same_id (map (λ (e : Entry). e.id) entries.now) }
-    requires many { length blockers.old.items ≡ length entries.now }
-    ensures wait { (old : Entry → Option ClaimId) → blockers.old.items ≡ map old entries.now
-        → blockers.new.items ≡ map (waits_where (is_queued_against cells.now locks.now) id old) entries.now }
-    ensures many { length blockers.new.items ≡ length entries.now }
-{
-    for lock in locks.as_slice() {
-        wait_at(entries, blockers, cells, id, *lock);
-    }
-}
-
 fn put_first<A: Allocator + Copy>(
     entries: &mut Vec<Kept<A>, A>,
     blockers: &mut Vec<Option<ClaimId>, A>,
@@ -367,7 +178,8 @@ fn put_first<A: Allocator + Copy>(
     requires blockers { blockers.old.items ≡ blockers_of entries.old.items }
     requires there { is_some (entry_of entries.old.items id) ≡ true }
     requires enough { All (λ (e : Entry). is_taken again (waits_behind entries.old.items id locks e) ≡ false
-        → waits_behind entries.old.items id locks e ≡ blocker_at (put_first entries.old.items id locks) e) (entries_without entries.old.items id) }
+        → waits_behind entries.old.items id locks e ≡ blocker_at (put_first entries.old.items id locks) e)
+        (entries_without entries.old.items id) }
     ensures done { OnOk result (entries.new.items ≡ put_first entries.old.items id locks) }
     ensures table { IsTable entries.new.items }
     ensures queues { AreQueues entries.new.items cells.new.items }

@@ -1,5 +1,5 @@
 -- A claim put first, in a line and in its table.
-use Rattle.std.specs.Prelude.{◌≡◌, Bool, true, false, not, List, [], ◌∷◌, Option, None, Some, is_some, All, refl}
+use Rattle.std.specs.Prelude.{◌≡◌, ℕ, Bool, true, false, not, List, [], ◌∷◌, Option, None, Some, is_some, All, refl}
 use Rattle.std.proofs.Common.{sym, ap, cond}
 use Rattle.std.specs.Option.{option_map_or}
 use Rattle.std.proofs.lemmas.List.Elements.{All-cons, All-filter}
@@ -14,11 +14,24 @@ use Rattle.vault_model.proofs.Stays.{own_id, claim_there}
 use Rattle.lock_table.specs.declared.locks.Lock.{Lock}
 use Rattle.lock_table.specs.declared.entry.Entry.{Entry}
 use Rattle.lock_table.specs.declared.entry.Extension.TheVariants.{Done, InTheWay}
+use Rattle.lock_table.specs.ClaimModes.{claim_mode}
+use Rattle.lock_table.specs.Locks.{mode_at, AreApart}
 use Rattle.lock_table.specs.Tables.{extension_by, held_in_way, entry_of, AreLocksOf, IsTableOf}
 use Rattle.lock_table.specs.Tables as tables
-use Rattle.long_locks.specs.Lines.{LineSeen, IsGrownFrom, IsNumbered, IsLine, put_first, extended_by}
+use Rattle.lock_table.proofs.Lines.{in_way_law}
+use Rattle.long_locks.specs.Lines.{LineSeen, IsGrownFrom, IsNumbered, IsLine, put_first, extended_by, in_way_of}
 use Rattle.long_locks.proofs.Zips.{zip_without}
 use Rattle.long_locks.proofs.LinesKept.{there_grown}
+
+-- the locks of items, read of a copy of them
+pub locks_read : (tree : List Place) (items copy : List Item) (locks : List Lock) → copy ≡ items → AreApart locks → ((p : ℕ) → mode_at locks p ≡ claim_mode tree copy p) → AreLocksOf tree items locks
+locks_read tree items copy locks same apart modes = record { apart = apart; modes = rw same at modes }
+
+-- what is in their way in the table is so in the line
+pub in_way_read : (tree : List Place) → IsTree tree → (line : List Claim) (table : List Entry) → IsTableOf tree line table → All (λ (c : Claim). AreThere tree c.items) line → (id : ClaimId) (items copy : List Item) (locks : List Lock) → AreThere tree items
+    → copy ≡ items → AreApart locks → ((p : ℕ) → mode_at locks p ≡ claim_mode tree copy p) → held_in_way table id locks ≡ in_way_of tree line id items
+in_way_read tree whole line table zip there id items copy locks items_there same apart modes =
+    in_way_law tree whole line table zip there id items locks items_there (locks_read tree items copy locks same apart modes)
 
 pub is_done : (o : Option ClaimId) → Done ≡ extension_by o → o ≡ None
 is_done None e = refl

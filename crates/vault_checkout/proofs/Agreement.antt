@@ -16,6 +16,7 @@ use Rattle.vault_model.proofs.Stays.{take_while-cons, same_id_itself}
 use Rattle.vault_checkout.specs.declared.check_outs.AnyCheckOut.{AnyCheckOut}
 use Rattle.vault_checkout.specs.declared.check_outs.AnyCheckOut.TheVariants.{Waiting, Held}
 use Rattle.vault_checkout.specs.Typed.{number_of, is_granted, check_out_of, is_held_standing, is_holding, granted_if, granted, recalled_unless, IsAscending, Agrees}
+use Rattle.vault_checkout.proofs.OwnDrafts.{all_kept}
 
 -- a claim that is held, as a test and as a standing
 pub held_is : (o : Option Standing) → is_held_standing o ≡ true → o ≡ Some standings.Held
@@ -93,21 +94,13 @@ module _ {A : Type 0} where
   mapped_ascending f same (x ∷ xs) ascending =
       (subst (λ k. AllByRecursion (λ d. nat_lt k (number_of d) ≡ true) (map f xs)) (sym (same x)) (mapped_all (λ k. nat_lt (number_of x) k ≡ true) f same xs ascending.0), mapped_ascending f same xs ascending.1)
 
-  kept_all : (P : AnyCheckOut A → Type 0) (keep : AnyCheckOut A → Bool) (xs : List (AnyCheckOut A)) → AllByRecursion P xs → AllByRecursion P (filter keep xs)
-  kept_all P keep [] all = tt
-  kept_all P keep (x ∷ xs) all = by_test (keep x) (kept_all P keep xs all.1)
-    where
-      by_test : (b : Bool) → AllByRecursion P (filter keep xs) → AllByRecursion P (cond b (x ∷ filter keep xs) (filter keep xs))
-      by_test true rest = (all.0, rest)
-      by_test false rest = rest
-
   pub kept_ascending : (keep : AnyCheckOut A → Bool) (xs : List (AnyCheckOut A)) → IsAscending xs → IsAscending (filter keep xs)
   unfolding IsAscending
   kept_ascending keep [] ascending = tt
   kept_ascending keep (x ∷ xs) ascending = by_test (keep x) (kept_ascending keep xs ascending.1)
     where
       by_test : (b : Bool) → IsAscending (filter keep xs) → IsAscending (cond b (x ∷ filter keep xs) (filter keep xs))
-      by_test true rest = (kept_all (λ d. nat_lt (number_of x) (number_of d) ≡ true) keep xs ascending.0, rest)
+      by_test true rest = (all_kept (λ (d : AnyCheckOut A). nat_lt (number_of x) (number_of d) ≡ true) keep xs ascending.0, rest)
       by_test false rest = rest
 
   -- each check-out is found by its number

@@ -3,10 +3,11 @@ use Rattle.std.specs.Prelude.{◌≡◌, ℕ, ◌+◌, ◌<◌, ◌≤◌, ◌==
 use Rattle.std.proofs.Common.{arith, cond, subst, ap, ◌∙◌}
 use Rattle.std.specs.Option.{option_and_then}
 use Rattle.std.proofs.lemmas.Bool.Decides.{nat_tests}
+use Rattle.std.proofs.lemmas.List.Elements.{All-append}
 use Rattle.vault_model.specs.declared.claims.Item.{Item}
 use Rattle.vault_model.specs.Tree.{child, is_part, is_full}
 use Rattle.vault_model.specs.Limits.{most_items, most_claims, last_number}
-use Rattle.vault_model.specs.Vault.{Vault, AreThere}
+use Rattle.vault_model.specs.Vault.{Vault, IsVault, IsClaim, AreThere}
 use Rattle.vault_model.specs.After.{only_if, are_there, may_ask, may_make, may_extend, drafts_held, after_extended, after_saved, after_checked_in}
 use Rattle.vault_model.specs.declared.claims.Claim.{Claim}
 use Rattle.vault_model.specs.declared.ids.ClaimId.TheVariants.{Long}
@@ -18,6 +19,7 @@ use Rattle.vault_model.specs.Changes.{with_items, with_content, with_versions}
 use Rattle.vault_checkout.specs.Applied.{held_at}
 use Rattle.vault_model.proofs.Overlaps.{eq_from, and_both}
 use Rattle.vault_model.proofs.Durable.{there_all}
+use Rattle.vault_model.proofs.Stays.{claim_there}
 use Rattle.vault_model.proofs.Lists.{not_false}
 
 pub record MayAsk (w : Vault) (number : ℕ) (items : List Item) : Type 0 where
@@ -110,3 +112,10 @@ held_is_held w n claim e = by_claim (claim_of w.line (Long n)) refl e
         by_test : (b : Bool) → is_held w.tree w.line c ≡ b → cond b (Some c) None ≡ Some claim → (Some c ≡ Some claim) × (is_held w.tree w.line claim ≡ true)
         by_test true h e = let same : c ≡ claim = cc in (e, subst (λ d. is_held w.tree w.line d ≡ true) same h)
         by_test false h e = cc
+
+-- its items, and those that it may get, are in the tree
+pub extended_there : (w : Vault) (n : ℕ) (claim : Claim) (items : List Item) → IsVault w → held_at w n ≡ Some claim → (nat_le (length claim.items + length items) most_items && are_there w.tree items) ≡ true → AreThere w.tree (claim.items ++ items)
+extended_there w n claim items kept held may =
+    let own = claim_there (IsClaim w.tree w.sessions w.last_long w.last_short) w.line (Long n) kept.claims claim (held_is_held w n claim held).0 in
+    let tests = and_both (nat_le (length claim.items + length items) most_items) (are_there w.tree items) may in
+    All-append (λ (item : Item). item.place ≤ length w.tree) claim.items items own.there (there_all w.tree items tests.1)

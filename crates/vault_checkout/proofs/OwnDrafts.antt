@@ -6,6 +6,7 @@ use Rattle.std.specs.Ordering.{nat_cmp, ordering_index}
 use Rattle.std.proofs.Common.{arith, ap, sym, subst, cond, ◌∙◌, ◌-◌, ◌+◌, add-one, sub-one, get_or, Less, Equal, Greater}
 use Rattle.std.proofs.lemmas.Cmp.{ranked}
 use Rattle.std.proofs.lemmas.List.{get_or_default}
+use Rattle.std.proofs.lemmas.List.Elements.{All-filter, All-from_recursion, recursion_from_All}
 use Rattle.std.proofs.lemmas.List.Sorted.{IsNonDecreasingBy-from_default}
 use Rattle.std.proofs.lemmas.Bool.Decides.{nat_tests}
 use Rattle.vault_model.specs.Shelf.{Draft}
@@ -116,14 +117,9 @@ pub insert_ok : {E : Type 0} (xs ys zs ws : List Draft) (result : Result (Unit {
 insert_ok xs ys zs ws (Ok done) e f = e ∙ f
 insert_ok xs ys zs ws (Err failed) e f = tt
 
--- what holds of each draft holds of those that pass a test
-all_kept : (P : Draft → Type 0) (keep : Draft → Bool) (xs : List Draft) → AllByRecursion P xs → AllByRecursion P (filter keep xs)
-all_kept P keep [] all = tt
-all_kept P keep (x ∷ xs) all = by_test (keep x) (all_kept P keep xs all.1)
-  where
-    by_test : (b : Bool) → AllByRecursion P (filter keep xs) → AllByRecursion P (cond b (x ∷ filter keep xs) (filter keep xs))
-    by_test true rest = (all.0, rest)
-    by_test false rest = rest
+-- what holds of each holds of those that pass a test
+pub all_kept : {X : Type 0} (P : X → Type 0) (keep : X → Bool) (xs : List X) → AllByRecursion P xs → AllByRecursion P (filter keep xs)
+all_kept P keep xs all = recursion_from_All P (filter keep xs) (All-filter keep P xs (All-from_recursion P xs all))
 
 rising_kept : (keep : Draft → Bool) (xs : List Draft) → IsRising xs → IsRising (filter keep xs)
 rising_kept keep [] rising = tt

@@ -34,34 +34,26 @@ module _ (place : ℕ) where
   abbrev other : Draft → Bool
   other x = not (x.place == place)
 
-  -- a draft of another place is at a lower or at a higher one
-  counts_split : (xs : List Draft) → length (filter low xs) + length (filter high xs) ≡ length (filter other xs)
-  counts_split [] = refl
-  counts_split (x ∷ xs) = by_tests (nat_lt x.place place) refl (nat_lt place x.place) refl (x.place == place) refl (counts_split xs)
+  -- a draft of another place is at a lower or at a higher one, so what these amount to is what those do together
+  split : (total : List Draft → ℕ) (of_one : Draft → ℕ) → total [] ≡ 0 → ((x : Draft) (xs : List Draft) → total (x ∷ xs) ≡ of_one x + total xs) → (xs : List Draft) → total (filter low xs) + total (filter high xs) ≡ total (filter other xs)
+  split total of_one none adds [] = omega arith
+  split total of_one none adds (x ∷ xs) = by_tests (nat_lt x.place place) refl (nat_lt place x.place) refl (x.place == place) refl (split total of_one none adds xs)
     where
-      by_tests : (u : Bool) → nat_lt x.place place ≡ u → (w : Bool) → nat_lt place x.place ≡ w → (t : Bool) → (x.place == place) ≡ t → length (filter low xs) + length (filter high xs) ≡ length (filter other xs)
-          → length (cond u (x ∷ filter low xs) (filter low xs)) + length (cond w (x ∷ filter high xs) (filter high xs)) ≡ length (cond (not t) (x ∷ filter other xs) (filter other xs))
+      by_tests : (u : Bool) → nat_lt x.place place ≡ u → (w : Bool) → nat_lt place x.place ≡ w → (t : Bool) → (x.place == place) ≡ t → total (filter low xs) + total (filter high xs) ≡ total (filter other xs)
+          → total (cond u (x ∷ filter low xs) (filter low xs)) + total (cond w (x ∷ filter high xs) (filter high xs)) ≡ total (cond (not t) (x ∷ filter other xs) (filter other xs))
       by_tests true e true f t g h = let no : ⊥ = grind (arith, nat_tests, e, f) in absurd no
       by_tests true e false f true g h = let no : ⊥ = grind (arith, nat_tests, e, g) in absurd no
-      by_tests true e false f false g h = omega arith
+      by_tests true e false f false g h = let a = adds x (filter low xs) in let b = adds x (filter other xs) in omega arith
       by_tests false e true f true g h = let no : ⊥ = grind (arith, nat_tests, f, g) in absurd no
-      by_tests false e true f false g h = omega arith
+      by_tests false e true f false g h = let a = adds x (filter high xs) in let b = adds x (filter other xs) in omega arith
       by_tests false e false f true g h = h
       by_tests false e false f false g h = let no : ⊥ = grind (arith, nat_tests, e, f, g) in absurd no
 
+  counts_split : (xs : List Draft) → length (filter low xs) + length (filter high xs) ≡ length (filter other xs)
+  counts_split xs = split length (λ x. 1) refl (λ x xs. omega arith) xs
+
   weights_split : (xs : List Draft) → drafts_weight (filter low xs) + drafts_weight (filter high xs) ≡ drafts_weight (filter other xs)
-  weights_split [] = refl
-  weights_split (x ∷ xs) = by_tests (nat_lt x.place place) refl (nat_lt place x.place) refl (x.place == place) refl (weights_split xs)
-    where
-      by_tests : (u : Bool) → nat_lt x.place place ≡ u → (w : Bool) → nat_lt place x.place ≡ w → (t : Bool) → (x.place == place) ≡ t → drafts_weight (filter low xs) + drafts_weight (filter high xs) ≡ drafts_weight (filter other xs)
-          → drafts_weight (cond u (x ∷ filter low xs) (filter low xs)) + drafts_weight (cond w (x ∷ filter high xs) (filter high xs)) ≡ drafts_weight (cond (not t) (x ∷ filter other xs) (filter other xs))
-      by_tests true e true f t g h = let no : ⊥ = grind (arith, nat_tests, e, f) in absurd no
-      by_tests true e false f true g h = let no : ⊥ = grind (arith, nat_tests, e, g) in absurd no
-      by_tests true e false f false g h = let a = weight-cons x (filter low xs) in let b = weight-cons x (filter other xs) in omega arith
-      by_tests false e true f true g h = let no : ⊥ = grind (arith, nat_tests, f, g) in absurd no
-      by_tests false e true f false g h = let a = weight-cons x (filter high xs) in let b = weight-cons x (filter other xs) in omega arith
-      by_tests false e false f true g h = h
-      by_tests false e false f false g h = let no : ⊥ = grind (arith, nat_tests, e, f, g) in absurd no
+  weights_split xs = split drafts_weight (λ x. content_weight x.content) refl weight-cons xs
 
   pub weight_less : (xs : List Draft) → drafts_weight (beside xs place) ≤ drafts_weight xs
   weight_less [] = omega arith

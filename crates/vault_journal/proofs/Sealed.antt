@@ -1,5 +1,5 @@
 -- A record written behind the others, and the frame sealed again.
-use Rattle.std.proofs.Common.{◌≡◌, ℕ, ◌+◌, ◌≤◌, List, [], ◌∷◌, ◌++◌, length, take, drop, sym, ◌∙◌, ap, arith, append_assoc, length-append, length-drop}
+use Rattle.std.proofs.Common.{◌≡◌, ℕ, ◌+◌, ◌≤◌, List, [], ◌∷◌, ◌++◌, length, take, drop, sym, ◌∙◌, ap, subst, arith, append_assoc, length-append, length-drop}
 use Rattle.std.proofs.lemmas.List.{take_at, drop-take, length-take-le, drop-append-le}
 use Rattle.vault_device.specs.Disk.{overwritten}
 use Rattle.vault_journal.specs.Spelling.{in_four}
@@ -30,7 +30,7 @@ module _ (old new : List ℕ) (used : ℕ) (text : List ℕ) (mid : List ℕ)
   size_all : length (before ++ text) ≡ used + length text
   size_all = omega (arith, length-append before text, size)
 
-  pub records_are : take (used + length text) (drop 4 new) ≡ before ++ text
+  records_are : take (used + length text) (drop 4 new) ≡ before ++ text
   records_are = ap (λ (l : List ℕ). take (used + length text) l) behind ∙ take_at (before ++ text) (0 ∷ rest) (used + length text) size_all
 
   whole : new ≡ body_of (before ++ text) ++ rest
@@ -42,8 +42,17 @@ module _ (old new : List ℕ) (used : ℕ) (text : List ℕ) (mid : List ℕ)
       ∙ sym (append_assoc (in_four (length (before ++ text))) ((before ++ text) ++ 0 ∷ []) rest)
       ∙ ap (λ (l : List ℕ). l ++ rest) (sym (append_assoc (in_four (length (before ++ text))) (before ++ text) (0 ∷ [])))
 
-  pub sealed_is : take (used + length text + 5) new ≡ body_of (take (used + length text) (drop 4 new))
+  sealed_is : take (used + length text + 5) new ≡ body_of (take (used + length text) (drop 4 new))
   sealed_is =
       ap (λ (l : List ℕ). take (used + length text + 5) l) whole
       ∙ take_at (body_of (before ++ text)) rest (used + length text + 5) (omega (arith, size_all, length-append (in_four (length (before ++ text)) ++ (before ++ text)) (0 ∷ []), length-append (in_four (length (before ++ text))) (before ++ text)))
       ∙ ap (λ (l : List ℕ). body_of l) (sym records_are)
+
+-- both, where the length is written as it was counted
+pub sealed_with : (old new : List ℕ) (used : ℕ) (text mid : List ℕ) (all : ℕ) → all ≡ used + length text → mid ≡ overwritten old (4 + used) (text ++ 0 ∷ []) → new ≡ overwritten mid 0 (in_four all) → used + length text + 5 ≤ length old
+    → (take all (drop 4 new) ≡ take used (drop 4 old) ++ text) × (take (all + 5) new ≡ body_of (take all (drop 4 new)))
+sealed_with old new used text mid all is-all is-mid is-new room =
+    let written = subst (λ n. new ≡ overwritten mid 0 (in_four n)) is-all is-new in (
+      ap (λ n. take n (drop 4 new)) is-all ∙ records_are old new used text mid is-mid written room,
+      subst (λ n. take (n + 5) new ≡ body_of (take n (drop 4 new))) (sym is-all) (sealed_is old new used text mid is-mid written room),
+    )

@@ -11,7 +11,7 @@ use vault_model::{
 pub const CREATION: (u64, u64) = (8, 2);
 
 /// A new vault, the nth device call behind whose creation is to fail.
-pub fn new_vault(alloc: Global, failing: u64, life: u64) -> Option<Vault<MemDevice>> {
+pub(crate) fn new_vault(alloc: Global, failing: u64, life: u64) -> Option<Vault<MemDevice>> {
     let mut first = MemDevice::new(alloc).ok()?;
     let Ok(second) = MemDevice::new(alloc) else {
         drop(first);
@@ -30,7 +30,7 @@ pub fn new_vault(alloc: Global, failing: u64, life: u64) -> Option<Vault<MemDevi
 }
 
 /// How many device calls were made.
-pub fn calls(vault: Vault<MemDevice>) -> (u64, u64) {
+pub(crate) fn calls(vault: Vault<MemDevice>) -> (u64, u64) {
     let (first, second) = vault.into_devices();
     let calls = (first.calls(), second.calls());
     drop(first);
@@ -39,7 +39,7 @@ pub fn calls(vault: Vault<MemDevice>) -> (u64, u64) {
 }
 
 /// The vault of another life in these files, after their machine stopped with nothing unsettled kept.
-pub fn stopped(
+pub(crate) fn stopped(
     alloc: Global,
     mut first: MemDevice,
     mut second: MemDevice,
@@ -56,17 +56,17 @@ pub fn stopped(
 }
 
 /// A command that opens a session in this name.
-pub fn hello<A: Allocator>(name: &[u8]) -> Option<CommandIn<A>> {
+pub(crate) fn hello<A: Allocator>(name: &[u8]) -> Option<CommandIn<A>> {
     Some(Command::Join(Name::read(name)?))
 }
 
 /// A command that makes the place at this path.
-pub fn make<A: Allocator>(path: &[u8]) -> Option<CommandIn<A>> {
+pub(crate) fn make<A: Allocator>(path: &[u8]) -> Option<CommandIn<A>> {
     Some(Command::Make(Path::read(path)?, None))
 }
 
 /// A command that asks how a claim stands, of which there is none.
-pub fn question() -> Command {
+pub(crate) fn question() -> Command {
     Command::State(ClaimId::Long(1))
 }
 
@@ -79,20 +79,20 @@ fn check_out(alloc: Global, path: &[u8]) -> Option<Command> {
 }
 
 /// A command that saves so many bytes as a draft of the part /e/b/p, for the first check-out.
-pub fn save(alloc: Global, len: usize) -> Option<Command> {
+pub(crate) fn save(alloc: Global, len: usize) -> Option<Command> {
     let path = Path::read(b"/e/b/p")?;
     let content = vec![in alloc; b'x'; len].ok()?;
     Some(Command::Save(1, path, Listing::from_vec(content)))
 }
 
 /// What is told of the places under the library, where there is this one.
-pub fn listed<A: Allocator + Copy>(alloc: A, name: &[u8]) -> Option<ReplyIn<A>> {
+pub(crate) fn listed<A: Allocator + Copy>(alloc: A, name: &[u8]) -> Option<ReplyIn<A>> {
     let name = Name::read(name)?;
     Some(Reply::Children(Listing::from_vec(vec![in alloc; name].ok()?)))
 }
 
 /// The ticket of a command, where it is staged.
-pub fn staged<A: Allocator + Copy>(
+pub(crate) fn staged<A: Allocator + Copy>(
     vault: &mut Vault<MemDevice, A>,
     session: u32,
     command: CommandIn<A>,
@@ -127,7 +127,7 @@ fn is_refused(
 }
 
 /// Spends the ticket that came back, if one did.
-pub fn spend<A: Allocator + Copy>(vault: &mut Vault<MemDevice, A>, answer: Redeemed<A>) {
+pub(crate) fn spend<A: Allocator + Copy>(vault: &mut Vault<MemDevice, A>, answer: Redeemed<A>) {
     match answer {
         Redeemed::Told(receipt) => drop(receipt),
         Redeemed::NotYet(ticket)
@@ -140,7 +140,7 @@ pub fn spend<A: Allocator + Copy>(vault: &mut Vault<MemDevice, A>, answer: Redee
 }
 
 /// Whether the ticket gives this reply. It is spent.
-pub fn told<A: Allocator + Copy>(
+pub(crate) fn told<A: Allocator + Copy>(
     vault: &mut Vault<MemDevice, A>,
     ticket: Ticket<A>,
     reply: &ReplyIn<A>,
@@ -159,7 +159,7 @@ pub fn told<A: Allocator + Copy>(
 }
 
 /// The ticket, where its entry isn't settled yet.
-pub fn not_yet<A: Allocator + Copy>(
+pub(crate) fn not_yet<A: Allocator + Copy>(
     vault: &mut Vault<MemDevice, A>,
     ticket: Ticket<A>,
 ) -> Option<Ticket<A>> {
@@ -187,7 +187,7 @@ fn unknown<A: Allocator + Copy>(
 }
 
 /// Whether the ticket is of another life, both where it is to be redeemed and where it is forgotten.
-pub fn is_stranger<A: Allocator + Copy>(
+pub(crate) fn is_stranger<A: Allocator + Copy>(
     vault: &mut Vault<MemDevice, A>,
     ticket: Ticket<A>,
 ) -> bool {
@@ -201,7 +201,10 @@ pub fn is_stranger<A: Allocator + Copy>(
 }
 
 /// Whether the last of so many pumps settles, and none before it.
-pub fn settled_after<A: Allocator + Copy>(vault: &mut Vault<MemDevice, A>, pumps: u8) -> bool {
+pub(crate) fn settled_after<A: Allocator + Copy>(
+    vault: &mut Vault<MemDevice, A>,
+    pumps: u8,
+) -> bool {
     for _ in 1..pumps {
         if vault.pump() != Ok(Pumped::Moved) {
             return false;
@@ -211,7 +214,7 @@ pub fn settled_after<A: Allocator + Copy>(vault: &mut Vault<MemDevice, A>, pumps
 }
 
 /// Whether the ticket gives the number of a place. It is spent.
-pub fn tells_place<A: Allocator + Copy>(
+pub(crate) fn tells_place<A: Allocator + Copy>(
     vault: &mut Vault<MemDevice, A>,
     ticket: Ticket<A>,
     number: u32,
@@ -223,7 +226,7 @@ pub fn tells_place<A: Allocator + Copy>(
 }
 
 /// Whether the ticket gives a refusal. It is spent.
-pub fn tells_refusal<A: Allocator + Copy>(
+pub(crate) fn tells_refusal<A: Allocator + Copy>(
     vault: &mut Vault<MemDevice, A>,
     ticket: Ticket<A>,
     why: Refusal,
@@ -235,7 +238,7 @@ pub fn tells_refusal<A: Allocator + Copy>(
 }
 
 /// Whether a command without an effect is settled by one pump, and told.
-pub fn done<A: Allocator + Copy>(
+pub(crate) fn done<A: Allocator + Copy>(
     vault: &mut Vault<MemDevice, A>,
     session: u32,
     command: CommandIn<A>,
@@ -251,7 +254,7 @@ pub fn done<A: Allocator + Copy>(
 }
 
 /// Whether a question from no session is told once it is settled, which takes no commit.
-pub fn asked(vault: &mut Vault<MemDevice>) -> bool {
+pub(crate) fn asked(vault: &mut Vault<MemDevice>) -> bool {
     let Some(ticket) = staged(vault, 1, question()) else {
         return false;
     };
@@ -264,7 +267,7 @@ pub fn asked(vault: &mut Vault<MemDevice>) -> bool {
 }
 
 /// The ticket of a session's command that makes the place at this path.
-pub fn staged_make(
+pub(crate) fn staged_make(
     vault: &mut Vault<MemDevice>,
     session: u32,
     path: &[u8],
@@ -274,7 +277,7 @@ pub fn staged_make(
 }
 
 /// Whether a session of this number is opened in this name.
-pub fn joins(vault: &mut Vault<MemDevice>, name: &[u8], number: u32) -> bool {
+pub(crate) fn joins(vault: &mut Vault<MemDevice>, name: &[u8], number: u32) -> bool {
     match hello(name) {
         Some(command) => {
             let reply = Reply::Session(number);
@@ -287,7 +290,7 @@ pub fn joins(vault: &mut Vault<MemDevice>, name: &[u8], number: u32) -> bool {
 }
 
 /// Whether the first session is refused the place at this path, which is there.
-pub fn is_there(vault: &mut Vault<MemDevice>, path: &[u8]) -> bool {
+pub(crate) fn is_there(vault: &mut Vault<MemDevice>, path: &[u8]) -> bool {
     match make(path) {
         Some(command) => {
             let reply = Reply::Refused(Refusal::Exists);
@@ -300,7 +303,7 @@ pub fn is_there(vault: &mut Vault<MemDevice>, path: &[u8]) -> bool {
 }
 
 /// Whether the place of this name is told to be the only one under the library.
-pub fn is_listed(vault: &mut Vault<MemDevice>, alloc: Global, name: &[u8]) -> bool {
+pub(crate) fn is_listed(vault: &mut Vault<MemDevice>, alloc: Global, name: &[u8]) -> bool {
     match listed(alloc, name) {
         Some(list) => {
             let is_done = done(vault, 1, Command::List(Path::root()), &list);
@@ -312,7 +315,7 @@ pub fn is_listed(vault: &mut Vault<MemDevice>, alloc: Global, name: &[u8]) -> bo
 }
 
 /// Whether the first session saves so many bytes, so many times.
-pub fn saved(vault: &mut Vault<MemDevice>, alloc: Global, len: usize, times: u16) -> bool {
+pub(crate) fn saved(vault: &mut Vault<MemDevice>, alloc: Global, len: usize, times: u16) -> bool {
     match save(alloc, len) {
         Some(save) => {
             let is_saved = repeated(vault, alloc, &save, times);
@@ -324,7 +327,7 @@ pub fn saved(vault: &mut Vault<MemDevice>, alloc: Global, len: usize, times: u16
 }
 
 /// Whether a save of so many bytes isn't staged since the vault is busy.
-pub fn is_full(vault: &mut Vault<MemDevice>, alloc: Global, len: usize) -> bool {
+pub(crate) fn is_full(vault: &mut Vault<MemDevice>, alloc: Global, len: usize) -> bool {
     match save(alloc, len) {
         Some(save) => {
             let is_full = is_busy(vault, alloc, &save);
@@ -336,7 +339,7 @@ pub fn is_full(vault: &mut Vault<MemDevice>, alloc: Global, len: usize) -> bool 
 }
 
 /// Whether questions are staged so many times.
-pub fn questioned(vault: &mut Vault<MemDevice>, alloc: Global, times: u16) -> bool {
+pub(crate) fn questioned(vault: &mut Vault<MemDevice>, alloc: Global, times: u16) -> bool {
     let question = question();
     let is_asked = repeated(vault, alloc, &question, times);
     drop(question);
@@ -344,7 +347,7 @@ pub fn questioned(vault: &mut Vault<MemDevice>, alloc: Global, times: u16) -> bo
 }
 
 /// Whether a question isn't staged since the vault is busy.
-pub fn takes_none(vault: &mut Vault<MemDevice>, alloc: Global) -> bool {
+pub(crate) fn takes_none(vault: &mut Vault<MemDevice>, alloc: Global) -> bool {
     let question = question();
     let is_none = is_busy(vault, alloc, &question);
     drop(question);
@@ -352,7 +355,7 @@ pub fn takes_none(vault: &mut Vault<MemDevice>, alloc: Global) -> bool {
 }
 
 /// Whether two sessions make a place each, in one commit.
-pub fn made_by_two(vault: &mut Vault<MemDevice>, e: &[u8], f: &[u8]) -> bool {
+pub(crate) fn made_by_two(vault: &mut Vault<MemDevice>, e: &[u8], f: &[u8]) -> bool {
     let Some(one) = staged_make(vault, 1, e) else {
         return false;
     };
@@ -367,7 +370,11 @@ pub fn made_by_two(vault: &mut Vault<MemDevice>, e: &[u8], f: &[u8]) -> bool {
 }
 
 /// The ticket of the second command, where its commit fails while the first is settled and not told yet.
-pub fn failed_second(vault: &mut Vault<MemDevice>, e: &[u8], f: &[u8]) -> Option<Ticket<Global>> {
+pub(crate) fn failed_second(
+    vault: &mut Vault<MemDevice>,
+    e: &[u8],
+    f: &[u8],
+) -> Option<Ticket<Global>> {
     let settled = staged_make(vault, 1, e)?;
     let moved = settled_after(vault, 4);
     let Some(lost) = staged_make(vault, 1, f) else {
@@ -385,7 +392,7 @@ pub fn failed_second(vault: &mut Vault<MemDevice>, e: &[u8], f: &[u8]) -> Option
 }
 
 /// Whether the vault takes no command and makes no device call.
-pub fn stays_broken(vault: &mut Vault<MemDevice>) -> bool {
+pub(crate) fn stays_broken(vault: &mut Vault<MemDevice>) -> bool {
     let copy = question();
     let refused = is_refused(vault, question(), Outside::Broken, &copy);
     drop(copy);
@@ -413,7 +420,7 @@ fn made(vault: &mut Vault<MemDevice>, path: &[u8]) -> bool {
 }
 
 /// Whether the first session makes the part /e/b/p and checks it out, all in one commit.
-pub fn checked_out(vault: &mut Vault<MemDevice>, alloc: Global) -> bool {
+pub(crate) fn checked_out(vault: &mut Vault<MemDevice>, alloc: Global) -> bool {
     let places = made(vault, b"/e") && made(vault, b"/e/b") && made(vault, b"/e/b/p");
     match check_out(alloc, b"/e/b/p") {
         Some(check_out) => given(vault, 1, check_out) && places && settled_after(vault, 4),
@@ -422,7 +429,7 @@ pub fn checked_out(vault: &mut Vault<MemDevice>, alloc: Global) -> bool {
 }
 
 /// Whether the first session's command is staged so many times, and the tickets given up.
-pub fn repeated(
+pub(crate) fn repeated(
     vault: &mut Vault<MemDevice>,
     alloc: Global,
     command: &Command,
@@ -440,7 +447,7 @@ pub fn repeated(
 }
 
 /// Whether the first session's command isn't staged since the vault is busy, and is handed back.
-pub fn is_busy(vault: &mut Vault<MemDevice>, alloc: Global, command: &Command) -> bool {
+pub(crate) fn is_busy(vault: &mut Vault<MemDevice>, alloc: Global, command: &Command) -> bool {
     match command.copy(alloc) {
         Ok(again) => is_refused(vault, again, Outside::Busy, command),
         Err(_) => false,
@@ -448,12 +455,12 @@ pub fn is_busy(vault: &mut Vault<MemDevice>, alloc: Global, command: &Command) -
 }
 
 /// A new file in memory.
-pub fn device(rt: &impl Abort, alloc: Global) -> MemDevice {
+pub(crate) fn device(rt: &impl Abort, alloc: Global) -> MemDevice {
     MemDevice::new(alloc).expect(rt, "memory")
 }
 
 /// Why no vault is opened in a file with these bytes, beside an empty one.
-pub fn refusal(alloc: Global, bytes: &[u8]) -> Option<OpenError> {
+pub(crate) fn refusal(alloc: Global, bytes: &[u8]) -> Option<OpenError> {
     let mut first = MemDevice::new(alloc).ok()?;
     if first.write_at(0, bytes).is_err() {
         drop(first);

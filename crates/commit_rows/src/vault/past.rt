@@ -170,29 +170,58 @@ fn taken_over(
     begun(vault, command)
 }
 
-/// A vault that was made, told somebody a reply, stopped, and was opened again; and the receipt.
-pub fn two_lives(
-    alloc: Global,
-    first: MemDevice,
-    second: MemDevice,
-    command: CommandIn<Global>,
-    pick: Pick,
-) -> Option<(Vault<MemDevice>, Receipt)>
-    ensures { IfSome result (λ found. (past : List (VaultSeen MemDisk)) × (is : IsPast disk_of found.0 past) × (length past ≡ 4)
-        × IsFoundAgain disk_of found.0 past is found.1) }
-{
-    let (vault, receipt) = made(alloc, first, second, command)?;
-    let Some(next) = stopped(alloc, vault, pick) else {
-        drop(receipt);
-        return None;
-    };
-    receipts_are_found_again(&next);
-    Some((next, receipt))
+/// How the first life begins.
+#[derive(Clone, Copy)]
+pub enum Beginning {
+    Made,
+    /// In files that another program wrote.
+    TakenOver,
 }
 
-/// The same, where the first life was opened over files that another program wrote.
-pub fn over_other_files(
+/// Where the machine stops.
+#[derive(Clone, Copy)]
+pub enum Stop {
+    BetweenCalls,
+    /// Once more, inside the opening behind the first stop: at that call of the first device.
+    InAnOpening(u64),
+}
+
+// A vault that told somebody a reply in its first life.
+fn first_life(
     alloc: Global,
+    begun: Beginning,
+    first: MemDevice,
+    second: MemDevice,
+    command: CommandIn<Global>,
+) -> Option<(Vault<MemDevice>, Receipt)>
+    ensures { IfSome result (λ begun. (past : List (VaultSeen MemDisk)) × IsPast disk_of begun.0 past × (length past ≡ 3)
+        × HasTold begun.0.view begun.1) }
+{
+    match begun {
+        Beginning::Made => made(alloc, first, second, command),
+        Beginning::TakenOver => taken_over(alloc, first, second, command),
+    }
+}
+
+// The vault of the next life, after its machine stopped there.
+fn next_life(
+    alloc: Global,
+    stop: Stop,
+    vault: Vault<MemDevice>,
+    pick: Pick,
+) -> Option<Vault<MemDevice>>
+    ensures { (past : List (VaultSeen MemDisk)) → IsPast disk_of vault past → IfSome result (λ next. IsPast disk_of next (vault ∷ past)) }
+{
+    match stop {
+        Stop::BetweenCalls => stopped(alloc, vault, pick),
+        Stop::InAnOpening(call) => stopped_in_an_opening(alloc, vault, pick, call),
+    }
+}
+
+/// A vault that told somebody a reply, stopped, and was opened again; and the receipt.
+pub(crate) fn two_lives(
+    alloc: Global,
+    lives: (Beginning, Stop),
     first: MemDevice,
     second: MemDevice,
     command: CommandIn<Global>,
@@ -201,8 +230,9 @@ pub fn over_other_files(
     ensures { IfSome result (λ found. (past : List (VaultSeen MemDisk)) × (is : IsPast disk_of found.0 past) × (length past ≡ 4)
         × IsFoundAgain disk_of found.0 past is found.1) }
 {
-    let (vault, receipt) = taken_over(alloc, first, second, command)?;
-    let Some(next) = stopped(alloc, vault, pick) else {
+    let (begun, stop) = lives;
+    let (vault, receipt) = first_life(alloc, begun, first, second, command)?;
+    let Some(next) = next_life(alloc, stop, vault, pick) else {
         drop(receipt);
         return None;
     };
@@ -229,7 +259,7 @@ fn under_way(vault: &mut Vault<MemDevice>, command: CommandIn<Global>) -> bool
 }
 
 /// The same, where the machine stopped inside the pump that opens the gate of a frame.
-pub fn inside_a_pump(
+pub(crate) fn inside_a_pump(
     alloc: Global,
     first: MemDevice,
     second: MemDevice,
@@ -254,29 +284,8 @@ pub fn inside_a_pump(
     Some((next, receipt))
 }
 
-/// The same, where the machine stopped once more, inside the opening behind the first stop.
-pub fn inside_an_opening(
-    alloc: Global,
-    first: MemDevice,
-    second: MemDevice,
-    command: CommandIn<Global>,
-    pick: Pick,
-    call: u64,
-) -> Option<(Vault<MemDevice>, Receipt)>
-    ensures { IfSome result (λ found. (past : List (VaultSeen MemDisk)) × (is : IsPast disk_of found.0 past) × (length past ≡ 4)
-        × IsFoundAgain disk_of found.0 past is found.1) }
-{
-    let (vault, receipt) = made(alloc, first, second, command)?;
-    let Some(next) = stopped_in_an_opening(alloc, vault, pick, call) else {
-        drop(receipt);
-        return None;
-    };
-    receipts_are_found_again(&next);
-    Some((next, receipt))
-}
-
 /// A vault of three lives, with the receipts that it gave in the first and in the second.
-pub fn three_lives(
+pub(crate) fn three_lives(
     alloc: Global,
     first: MemDevice,
     second: MemDevice,

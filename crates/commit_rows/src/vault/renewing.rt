@@ -4,19 +4,23 @@ use std::alloc::Global;
 use vault_device::MemDevice;
 
 /// Whether so many saves of 1,024 bytes are settled in one frame.
-pub fn saves_a_frame(vault: &mut Vault<MemDevice>, alloc: Global, times: u16) -> bool {
+pub(crate) fn saves_a_frame(vault: &mut Vault<MemDevice>, alloc: Global, times: u16) -> bool {
     saved(vault, alloc, 1024, times) && settled_after(vault, 4)
 }
 
 /// Whether a snapshot is begun, once, and settled by the last of six steps.
-pub fn is_renewed(vault: &mut Vault<MemDevice>) -> bool {
+pub(crate) fn is_renewed(vault: &mut Vault<MemDevice>) -> bool {
     vault.start_snapshot() == Ok(Started::Yes)
         && vault.start_snapshot() == Ok(Started::NotNow)
         && settled_after(vault, 6)
 }
 
 /// Whether a place that is made before a snapshot is told behind it, and one that is made while it is under way isn't settled then.
-pub fn is_renewed_around(vault: &mut Vault<MemDevice>, before: &[u8], behind: &[u8]) -> bool {
+pub(crate) fn is_renewed_around(
+    vault: &mut Vault<MemDevice>,
+    before: &[u8],
+    behind: &[u8],
+) -> bool {
     let Some(first) = staged_make(vault, 1, before) else {
         return false;
     };

@@ -5,7 +5,7 @@ use vault_device::MemDevice;
 use vault_model::Refusal;
 
 /// Whether so many entries are retired, and then none.
-pub fn retires(vault: &mut Vault<MemDevice>, times: u16) -> bool {
+pub(crate) fn retires(vault: &mut Vault<MemDevice>, times: u16) -> bool {
     for _ in 0..times {
         if vault.retire() != Retired::One {
             return false;
@@ -31,7 +31,7 @@ fn filled(vault: &mut Vault<MemDevice>, alloc: Global) -> Option<(Ticket<Global>
 
 /// Whether a full history takes a command again once its first entry is told, and another one once its second is forgotten. None is
 /// retired before that.
-pub fn makes_room(vault: &mut Vault<MemDevice>, alloc: Global) -> bool {
+pub(crate) fn makes_room(vault: &mut Vault<MemDevice>, alloc: Global) -> bool {
     let Some((first, second)) = filled(vault, alloc) else {
         return false;
     };

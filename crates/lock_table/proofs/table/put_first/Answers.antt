@@ -1,4 +1,4 @@
-use Rattle.std.specs.Prelude.{◌≡◌, ◌≤◌, ℕ, List, ◌∷◌, ◌++◌, Some, None, position, map, length, true}
+use Rattle.std.specs.Prelude.{◌≡◌, ◌≤◌, ℕ, List, ◌∷◌, ◌++◌, None, map, length, true}
 use Rattle.std.proofs.Common.{refl, ap, sym, subst, ◌∙◌, arith, rules}
 use Rattle.std.proofs.lemmas.List.{length-map}
 use Rattle.std.specs.List.{IsDistinct}
@@ -8,12 +8,11 @@ use Rattle.lock_table.specs.Locks.{mode_at}
 use Rattle.lock_table.specs.Tables.{IsTable, put_first, entries_without, is_held_in}
 use Rattle.lock_table.specs.Queues.{CellSeen, AreQueues, IsWeighing, is_queued_against, waits_where, seats_at, room_at, seat_of, queue_of, blockers_of, blocker_at}
 use Rattle.lock_table.proofs.Leaving.{is_id}
-use Rattle.lock_table.proofs.Removals.{is_its, own_index}
-use Rattle.lock_table.proofs.TablesKept.{table_extended}
+use Rattle.lock_table.proofs.Removals.{own_index, index_read}
 use Rattle.lock_table.proofs.Blockers.{leave_law, taken_beside}
 use Rattle.lock_table.proofs.Waiting.{moved, was_first, were_first, stale_first}
 use Rattle.lock_table.proofs.Stale.{weigh_start}
-use Rattle.lock_table.proofs.Queuing.{located, seats_count, seats_bound, seats_fewer, one_less, room_left, first_room, put_count, same_length, apart_first}
+use Rattle.lock_table.proofs.Queuing.{located, seats_count, seats_bound, seats_fewer, one_less, room_without, first_room, put_count, first_kept, apart_first}
 use Rattle.lock_table.proofs.table.put_first.Goals as goal
 
 pub unwrap-index-requires : goal.unwrap-index-requires
@@ -22,7 +21,7 @@ unwrap-index-requires g c = rw (c.index_of.ensures, c.deref.ensures.value, own_i
 pub leave-requires-clause-there : goal.leave-requires-clause-there
 leave-requires-clause-there g c =
     let table = c.args.entries.now.items in
-    let at : position (is_its c.args.id) table ≡ Some c.unwrap-index.result = ap (position (is_its c.args.id)) (sym c.deref.ensures.value) ∙ (sym c.index_of.ensures ∙ c.unwrap-index.ensures) in
+    let at = index_read c.args.id table c.deref.result.now _ c.deref.ensures.value (sym c.index_of.ensures ∙ c.unwrap-index.ensures) in
     let inside = (located table c.args.id c.unwrap-index.result at).inside in
     let same = ap length c.deref-2.ensures.value in
     omega (arith, inside, same)
@@ -39,16 +38,14 @@ leave-requires-clause-blockers g c = c.deref-3.ensures.value ∙ (c.requires.blo
 pub put_first-requires-clause-room : goal.put_first-requires-clause-room
 put_first-requires-clause-room g c =
     let table = c.args.entries.now.items in
-    let at : position (is_its c.args.id) table ≡ Some c.unwrap-index.result = ap (position (is_its c.args.id)) (sym c.deref.ensures.value) ∙ (sym c.index_of.ensures ∙ c.unwrap-index.ensures) in
+    let at = index_read c.args.id table c.deref.result.now _ c.deref.ensures.value (sym c.index_of.ensures ∙ c.unwrap-index.ensures) in
     let left = leave_law table c.deref-2.result.now c.leave.new.cells.items c.args.id c.unwrap-index.result c.deref-2.ensures.value at c.leave.ensures.seats in
-    room_left c.reserve.new.cells.items c.leave.new.cells.items c.args.locks
-    (λ p. let one = ap length (left p) in let all = ap length (c.reserve.ensures.seats p ∙ c.requires.queues.queues p) in let fewer = seats_fewer (is_held_in table) (is_held_in table) (is_id c.args.id) table p in omega (arith, one, all, fewer))
-    c.leave.ensures.room c.in_ok-reserve.ensures.there
+    room_without table c.reserve.new.cells.items c.leave.new.cells.items c.args.id c.args.locks (λ p. c.reserve.ensures.seats p ∙ c.requires.queues.queues p) left c.leave.ensures.room c.in_ok-reserve.ensures.there
 
 pub put_first-requires-clause-few : goal.put_first-requires-clause-few
 put_first-requires-clause-few g c = λ p.
     let table = c.args.entries.now.items in
-    let at : position (is_its c.args.id) table ≡ Some c.unwrap-index.result = ap (position (is_its c.args.id)) (sym c.deref.ensures.value) ∙ (sym c.index_of.ensures ∙ c.unwrap-index.ensures) in
+    let at = index_read c.args.id table c.deref.result.now _ c.deref.ensures.value (sym c.index_of.ensures ∙ c.unwrap-index.ensures) in
     let left = leave_law table c.deref-2.result.now c.leave.new.cells.items c.args.id c.unwrap-index.result c.deref-2.ensures.value at c.leave.ensures.seats in
     let one = ap length (left p) in
     let bound = seats_bound (is_held_in table) (entries_without table c.args.id) p in
@@ -59,14 +56,14 @@ put_first-requires-clause-few g c = λ p.
 pub move_first-requires : goal.move_first-requires
 move_first-requires g c =
     let table = c.args.entries.now.items in
-    let at : position (is_its c.args.id) table ≡ Some c.unwrap-index.result = ap (position (is_its c.args.id)) (sym c.deref.ensures.value) ∙ (sym c.index_of.ensures ∙ c.unwrap-index.ensures) in
+    let at = index_read c.args.id table c.deref.result.now _ c.deref.ensures.value (sym c.index_of.ensures ∙ c.unwrap-index.ensures) in
     let inside = (located table c.args.id c.unwrap-index.result at).inside in
     omega (arith, inside, c.args.entries.now.ok.0)
 
 pub move_first-requires-2 : goal.move_first-requires-2
 move_first-requires-2 g c =
     let table = c.args.entries.now.items in
-    let at : position (is_its c.args.id) table ≡ Some c.unwrap-index.result = ap (position (is_its c.args.id)) (sym c.deref.ensures.value) ∙ (sym c.index_of.ensures ∙ c.unwrap-index.ensures) in
+    let at = index_read c.args.id table c.deref.result.now _ c.deref.ensures.value (sym c.index_of.ensures ∙ c.unwrap-index.ensures) in
     let inside = (located table c.args.id c.unwrap-index.result at).inside in
     let many = ap length c.requires.blockers ∙ length-map table (blocker_at table) in
     omega (arith, inside, many, c.args.blockers.now.ok.0)
@@ -74,37 +71,30 @@ move_first-requires-2 g c =
 pub weigh_again-requires-clause-table : goal.weigh_again-requires-clause-table
 weigh_again-requires-clause-table g c =
     let table = c.args.entries.now.items in
-    let at : position (is_its c.args.id) table ≡ Some c.unwrap-index.result = ap (position (is_its c.args.id)) (sym c.deref.ensures.value) ∙ (sym c.index_of.ensures ∙ c.unwrap-index.ensures) in
-    let made : c.in_ok-kept.kept ≡ record { id = c.args.id; locks = c.args.locks } = search rules in
-    let done : c.move_first.new.items.items ≡ put_first table c.args.id c.args.locks = moved table c.args.id c.args.locks c.unwrap-index.result c.requires.table.distinct at c.move_first.new.items.items c.in_ok-kept.kept made c.move_first.ensures in
-    let kept : IsTable (put_first table c.args.id c.args.locks) = table_extended table c.args.id c.args.locks c.requires.table (same_length table c.args.id c.args.locks c.requires.table.distinct c.requires.there) in
-    subst (λ (t : List Entry). IsTable t) (sym (c.deref-6.ensures.value ∙ done)) kept
+    let done = moved table c.deref.result.now c.args.id c.args.locks c.unwrap-index.result c.requires.table.distinct c.deref.ensures.value (sym c.index_of.ensures ∙ c.unwrap-index.ensures) c.move_first.new.items.items c.in_ok-kept.kept (search rules) c.move_first.ensures in
+    subst (λ (t : List Entry). IsTable t) (sym (c.deref-6.ensures.value ∙ done)) (first_kept table c.args.id c.args.locks c.requires.table c.requires.there)
 
 pub wait_behind-requires-clause-distinct : goal.wait_behind-requires-clause-distinct
 wait_behind-requires-clause-distinct g c =
     let table = c.args.entries.now.items in
-    let at : position (is_its c.args.id) table ≡ Some c.unwrap-index.result = ap (position (is_its c.args.id)) (sym c.deref.ensures.value) ∙ (sym c.index_of.ensures ∙ c.unwrap-index.ensures) in
-    let made : c.in_ok-kept.kept ≡ record { id = c.args.id; locks = c.args.locks } = search rules in
-    let done : c.move_first.new.items.items ≡ put_first table c.args.id c.args.locks = moved table c.args.id c.args.locks c.unwrap-index.result c.requires.table.distinct at c.move_first.new.items.items c.in_ok-kept.kept made c.move_first.ensures in
-    let kept : IsTable (put_first table c.args.id c.args.locks) = table_extended table c.args.id c.args.locks c.requires.table (same_length table c.args.id c.args.locks c.requires.table.distinct c.requires.there) in
+    let done = moved table c.deref.result.now c.args.id c.args.locks c.unwrap-index.result c.requires.table.distinct c.deref.ensures.value (sym c.index_of.ensures ∙ c.unwrap-index.ensures) c.move_first.new.items.items c.in_ok-kept.kept (search rules) c.move_first.ensures in
+    let kept = first_kept table c.args.id c.args.locks c.requires.table c.requires.there in
     subst (λ (t : List Entry). IsDistinct same_id (map (λ (e : Entry). e.id) t)) (sym (c.deref-4.ensures.value ∙ done)) kept.distinct
 
 pub wait_behind-requires-clause-many : goal.wait_behind-requires-clause-many
 wait_behind-requires-clause-many g c =
     let table = c.args.entries.now.items in
-    let at : position (is_its c.args.id) table ≡ Some c.unwrap-index.result = ap (position (is_its c.args.id)) (sym c.deref.ensures.value) ∙ (sym c.index_of.ensures ∙ c.unwrap-index.ensures) in
-    let made : c.in_ok-kept.kept ≡ record { id = c.args.id; locks = c.args.locks } = search rules in
-    let done : c.move_first.new.items.items ≡ put_first table c.args.id c.args.locks = moved table c.args.id c.args.locks c.unwrap-index.result c.requires.table.distinct at c.move_first.new.items.items c.in_ok-kept.kept made c.move_first.ensures in
+    let at = index_read c.args.id table c.deref.result.now _ c.deref.ensures.value (sym c.index_of.ensures ∙ c.unwrap-index.ensures) in
+    let done = moved table c.deref.result.now c.args.id c.args.locks c.unwrap-index.result c.requires.table.distinct c.deref.ensures.value (sym c.index_of.ensures ∙ c.unwrap-index.ensures) c.move_first.new.items.items c.in_ok-kept.kept (search rules) c.move_first.ensures in
     let beside = c.move_first-2.ensures ∙ ap (λ xs. None ∷ xs) (taken_beside table c.args.blockers.now.items c.args.id c.unwrap-index.result c.requires.table.distinct at c.requires.blockers) in
     ap length (were_first table c.args.id c.args.locks c.move_first-2.new.items.items beside) ∙ (length-map (put_first table c.args.id c.args.locks) (was_first table c.args.id c.args.locks) ∙ ap length (sym (c.deref-4.ensures.value ∙ done)))
 
 pub weigh_again-requires-clause-weighing : goal.weigh_again-requires-clause-weighing
 weigh_again-requires-clause-weighing g c =
     let table = c.args.entries.now.items in
-    let at : position (is_its c.args.id) table ≡ Some c.unwrap-index.result = ap (position (is_its c.args.id)) (sym c.deref.ensures.value) ∙ (sym c.index_of.ensures ∙ c.unwrap-index.ensures) in
-    let made : c.in_ok-kept.kept ≡ record { id = c.args.id; locks = c.args.locks } = search rules in
-    let done : c.move_first.new.items.items ≡ put_first table c.args.id c.args.locks = moved table c.args.id c.args.locks c.unwrap-index.result c.requires.table.distinct at c.move_first.new.items.items c.in_ok-kept.kept made c.move_first.ensures in
-    let kept : IsTable (put_first table c.args.id c.args.locks) = table_extended table c.args.id c.args.locks c.requires.table (same_length table c.args.id c.args.locks c.requires.table.distinct c.requires.there) in
+    let at = index_read c.args.id table c.deref.result.now _ c.deref.ensures.value (sym c.index_of.ensures ∙ c.unwrap-index.ensures) in
+    let done = moved table c.deref.result.now c.args.id c.args.locks c.unwrap-index.result c.requires.table.distinct c.deref.ensures.value (sym c.index_of.ensures ∙ c.unwrap-index.ensures) c.move_first.new.items.items c.in_ok-kept.kept (search rules) c.move_first.ensures in
+    let kept = first_kept table c.args.id c.args.locks c.requires.table c.requires.there in
     let now = put_first table c.args.id c.args.locks in
     let cells = c.put_first.new.cells.items in
     let old = was_first table c.args.id c.args.locks in
@@ -121,34 +111,20 @@ weigh_again-requires-clause-weighing g c =
 pub returns-clause-done : goal.returns-clause-done
 returns-clause-done g c =
     let table = c.args.entries.now.items in
-    let at : position (is_its c.args.id) table ≡ Some c.unwrap-index.result = ap (position (is_its c.args.id)) (sym c.deref.ensures.value) ∙ (sym c.index_of.ensures ∙ c.unwrap-index.ensures) in
-    let made : c.in_ok-kept.kept ≡ record { id = c.args.id; locks = c.args.locks } = search rules in
-    let done : c.move_first.new.items.items ≡ put_first table c.args.id c.args.locks = moved table c.args.id c.args.locks c.unwrap-index.result c.requires.table.distinct at c.move_first.new.items.items c.in_ok-kept.kept made c.move_first.ensures in
-    let kept : IsTable (put_first table c.args.id c.args.locks) = table_extended table c.args.id c.args.locks c.requires.table (same_length table c.args.id c.args.locks c.requires.table.distinct c.requires.there) in
-    done
+    moved table c.deref.result.now c.args.id c.args.locks c.unwrap-index.result c.requires.table.distinct c.deref.ensures.value (sym c.index_of.ensures ∙ c.unwrap-index.ensures) c.move_first.new.items.items c.in_ok-kept.kept (search rules) c.move_first.ensures
 
 pub returns-clause-table : goal.returns-clause-table
-returns-clause-table g c =
-    let table = c.args.entries.now.items in
-    let at : position (is_its c.args.id) table ≡ Some c.unwrap-index.result = ap (position (is_its c.args.id)) (sym c.deref.ensures.value) ∙ (sym c.index_of.ensures ∙ c.unwrap-index.ensures) in
-    let made : c.in_ok-kept.kept ≡ record { id = c.args.id; locks = c.args.locks } = search rules in
-    let done : c.move_first.new.items.items ≡ put_first table c.args.id c.args.locks = moved table c.args.id c.args.locks c.unwrap-index.result c.requires.table.distinct at c.move_first.new.items.items c.in_ok-kept.kept made c.move_first.ensures in
-    let kept : IsTable (put_first table c.args.id c.args.locks) = table_extended table c.args.id c.args.locks c.requires.table (same_length table c.args.id c.args.locks c.requires.table.distinct c.requires.there) in
-    subst (λ (t : List Entry). IsTable t) (sym done) kept
+returns-clause-table g c = subst (λ (t : List Entry). IsTable t) (sym (returns-clause-done g c)) (first_kept c.args.entries.now.items c.args.id c.args.locks c.requires.table c.requires.there)
 
 pub returns-clause-queues : goal.returns-clause-queues
 returns-clause-queues g c =
     let table = c.args.entries.now.items in
-    let at : position (is_its c.args.id) table ≡ Some c.unwrap-index.result = ap (position (is_its c.args.id)) (sym c.deref.ensures.value) ∙ (sym c.index_of.ensures ∙ c.unwrap-index.ensures) in
-    let made : c.in_ok-kept.kept ≡ record { id = c.args.id; locks = c.args.locks } = search rules in
-    let done : c.move_first.new.items.items ≡ put_first table c.args.id c.args.locks = moved table c.args.id c.args.locks c.unwrap-index.result c.requires.table.distinct at c.move_first.new.items.items c.in_ok-kept.kept made c.move_first.ensures in
-    let kept : IsTable (put_first table c.args.id c.args.locks) = table_extended table c.args.id c.args.locks c.requires.table (same_length table c.args.id c.args.locks c.requires.table.distinct c.requires.there) in
+    let at = index_read c.args.id table c.deref.result.now _ c.deref.ensures.value (sym c.index_of.ensures ∙ c.unwrap-index.ensures) in
+    let done : c.move_first.new.items.items ≡ put_first table c.args.id c.args.locks = returns-clause-done g c in
     let left = leave_law table c.deref-2.result.now c.leave.new.cells.items c.args.id c.unwrap-index.result c.deref-2.ensures.value at c.leave.ensures.seats in
     let now = put_first table c.args.id c.args.locks in
     let same : c.deref-6.result.now ≡ now = c.deref-6.ensures.value ∙ done in
-    let there = room_left c.reserve.new.cells.items c.leave.new.cells.items c.args.locks
-    (λ p. let one = ap length (left p) in let all = ap length (c.reserve.ensures.seats p ∙ c.requires.queues.queues p) in let fewer = seats_fewer (is_held_in table) (is_held_in table) (is_id c.args.id) table p in omega (arith, one, all, fewer))
-    c.leave.ensures.room c.in_ok-reserve.ensures.there in
+    let there = room_without table c.reserve.new.cells.items c.leave.new.cells.items c.args.id c.args.locks (λ p. c.reserve.ensures.seats p ∙ c.requires.queues.queues p) left c.leave.ensures.room c.in_ok-reserve.ensures.there in
     let rest : (p : ℕ) → length (seats_at c.leave.new.cells.items p) ≤ room_at c.leave.new.cells.items p = λ p.
     let one = ap length (left p) in
     let all = ap length (c.requires.queues.queues p) in

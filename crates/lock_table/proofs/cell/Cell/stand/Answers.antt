@@ -6,7 +6,7 @@ use Rattle.lock_modes.specs.Groups.{Counts, count_of, group_of}
 use Rattle.lock_table.specs.Queues.{CellSeen, seat_modes, held_seats, restood}
 use Rattle.lock_table.proofs.Counts.{size_held_is}
 use Rattle.lock_table.proofs.Others.{count_own}
-use Rattle.lock_table.proofs.Seats.{is_its, seat_read, seat_absent, counted_restood, seen, cell_same, other_flag, other_flag_up}
+use Rattle.lock_table.proofs.Seats.{is_its, IsAt, seat_read, seat_absent, counted_restood, seen, cell_same, other_flag, other_flag_up}
 use Rattle.lock_table.proofs.cell.Cell.stand.Goals as goal
 
 pub returns-in_default : goal.returns-in_default
@@ -25,25 +25,26 @@ returns-then-seat-is_held g c =
     let kept : restood c.args.id c.args.is_held items ≡ items = ap (λ b. restood c.args.id b items) (sym same) ∙ at.same in
     subst (λ (v : CellSeen). v ≡ seen (restood c.args.id c.args.is_held v.seats) v.room) c.self.view_is (ap (λ xs. seen xs (vec_capacity c.self.inside.queue)) (sym kept))
 
+-- the claim's seat, and that it is to stand otherwise
+its : (g : _) (c : goal.After-changed-arg-1 g) → IsAt c.args.id c.self.inside.queue.items c.in-Some.index c.index-seat.result.now
+its g c = seat_read c.args.id c.self.inside.queue.items c.deref.result.now c.in-Some.index c.index-seat.result.now c.deref.ensures.value (sym c.index_of.ensures ∙ c.in-Some.is) c.index-seat.ensures
+
+otherwise : (g : _) (c : goal.After-changed-arg-1 g) → c.index-seat.result.now.is_held ≡ c.args.is_held → ⊥
+otherwise g c = search rules
+
 pub changed-self-inside-requires-clause-more : goal.changed-self-inside-requires-clause-more
 changed-self-inside-requires-clause-more g c = λ h.
     let items = c.self.inside.queue.items in
-    let s = c.index-seat.result.now in
-    let at = seat_read c.args.id items c.deref.result.now c.in-Some.index s c.deref.ensures.value (sym c.index_of.ensures ∙ c.in-Some.is) c.index-seat.ensures in
-    let differs : s.is_held ≡ c.args.is_held → ⊥ = search rules in
     let few : length items ≤ most_claims = subst (λ (v : CellSeen). length v.seats ≤ most_claims) (sym c.self.view_is) c.requires in
-    let less = at.fewer (other_flag s.is_held c.args.is_held differs h) in
+    let less = (its g c).fewer (other_flag c.index-seat.result.now.is_held c.args.is_held (otherwise g c) h) in
     let size = size_held_is items c.self.inside.all c.self.inside.held c.self.invariant in
     omega (arith, few, less, size)
 
 pub changed-self-inside-requires-clause-less : goal.changed-self-inside-requires-clause-less
 changed-self-inside-requires-clause-less g c = λ h.
-    let items = c.self.inside.queue.items in
     let s = c.index-seat.result.now in
-    let at = seat_read c.args.id items c.deref.result.now c.in-Some.index s c.deref.ensures.value (sym c.index_of.ensures ∙ c.in-Some.is) c.index-seat.ensures in
-    let differs : s.is_held ≡ c.args.is_held → ⊥ = search rules in
-    let down = at.down (other_flag_up s.is_held c.args.is_held differs h) in
-    subst (λ (k : Counts). 0 < count_of k s.mode) (sym (c.self.invariant.1 ∙ down)) (count_own (group_of (seat_modes (held_seats (restood c.args.id false items)))) s.mode)
+    let down = (its g c).down (other_flag_up s.is_held c.args.is_held (otherwise g c) h) in
+    subst (λ (k : Counts). 0 < count_of k s.mode) (sym (c.self.invariant.1 ∙ down)) (count_own (group_of (seat_modes (held_seats (restood c.args.id false c.self.inside.queue.items)))) s.mode)
 
 pub invariant_of-self : goal.invariant_of-self
 invariant_of-self g c =

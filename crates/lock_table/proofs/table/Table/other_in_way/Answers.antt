@@ -1,4 +1,4 @@
-use Rattle.std.specs.Prelude.{◌≡◌, List, Some, slice_get, position}
+use Rattle.std.specs.Prelude.{◌≡◌, List, Some, slice_get}
 use Rattle.std.proofs.Common.{refl, subst, ap, sym, ◌∙◌}
 use Rattle.std.specs.Option.{option_map, option_and_then}
 use Rattle.lock_table.specs.declared.locks.Lock.{Lock}
@@ -7,7 +7,7 @@ use Rattle.lock_table.specs.Tables.{standing_in, held_in_way}
 use Rattle.lock_table.specs.Queues.{CellSeen, seats_at, IsOwn}
 use Rattle.lock_table.specs.Locks.{mode_at}
 use Rattle.vault_model.specs.declared.claims.Standing.TheVariants.{Held}
-use Rattle.lock_table.proofs.Removals.{is_its, own_index}
+use Rattle.lock_table.proofs.Removals.{own_index, index_read}
 use Rattle.lock_table.proofs.TablesKept.{has_entry}
 use Rattle.lock_table.proofs.Putting.{read_at}
 use Rattle.lock_table.proofs.Others.{own_law}
@@ -25,7 +25,7 @@ held_in_way-first-requires g c = λ p.
     let i = c.unwrap-index.result in
     let e = c.index.result.now in
     let held : standing_in table c.args.id ≡ Some Held = rw c.self.view_is c.requires in
-    let at : position (is_its c.args.id) table ≡ Some i = ap (position (is_its c.args.id)) (sym c.deref.ensures.value) ∙ (sym c.index_of.ensures ∙ c.unwrap-index.ensures) in
+    let at = index_read c.args.id table c.deref.result.now _ c.deref.ensures.value (sym c.index_of.ensures ∙ c.unwrap-index.ensures) in
     let there : slice_get table i ≡ Some e = read_at table i e (located table c.args.id i at).inside c.index.ensures in
     subst (λ (locks : List Lock). IsOwn c.args.id (mode_at locks p) (seats_at c.deref-3.result.now p)) (sym c.locks-own.ensures)
     (subst (λ (cells : List CellSeen). IsOwn c.args.id (mode_at e.locks p) (seats_at cells p)) (sym c.deref-3.ensures.value)

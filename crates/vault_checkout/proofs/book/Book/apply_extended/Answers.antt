@@ -1,16 +1,10 @@
-use Rattle.std.proofs.Common.{◌∙◌, ◌≤◌, ◌++◌, ◌+◌, true, false, length, sym, subst, refl}
-use Rattle.std.specs.Prelude.{nat_le, IsSome}
-use Rattle.std.proofs.lemmas.List.Elements.{All-append}
-use Rattle.vault_model.specs.declared.claims.Item.{Item}
+use Rattle.std.proofs.Common.{◌∙◌, ◌++◌, true, false, sym, subst, refl}
+use Rattle.std.specs.Prelude.{IsSome}
 use Rattle.vault_model.specs.declared.ids.ClaimId.TheVariants.{Long}
-use Rattle.vault_model.specs.Limits.{most_items}
 use Rattle.vault_model.specs.Claims.{put_first}
-use Rattle.vault_model.specs.Vault.{IsClaim}
-use Rattle.vault_model.specs.After.{are_there, drafts_held}
-use Rattle.vault_model.proofs.Overlaps.{and_both}
-use Rattle.vault_model.proofs.Durable.{there_all}
-use Rattle.vault_model.proofs.Stays.{claim_there}
-use Rattle.vault_checkout.proofs.Applying.{extended_none, extended_as, held_is_held}
+use Rattle.vault_model.specs.Vault.{IsVault}
+use Rattle.vault_model.specs.After.{drafts_held}
+use Rattle.vault_checkout.proofs.Applying.{extended_none, extended_as, held_is_held, extended_there}
 use Rattle.vault_checkout.proofs.book.Book.apply_extended.Goals as goal
 
 pub returns-in_default : goal.returns-in_default
@@ -27,10 +21,8 @@ returns-then-not-may_grow g c =
 
 pub stay_held-requires-clause-there : goal.stay_held-requires-clause-there
 stay_held-requires-clause-there g c =
-    let claim = rw (← c.self.view_is) at (held_is_held c.args.self.now c.args.number c.in-Some.claim (sym c.held.ensures.is ∙ c.in-Some.is)) in
-    let own = claim_there (IsClaim c.self.inside.tree c.self.inside.sessions.items c.self.inside.line.last_long c.self.inside.line.last_short) c.self.inside.line.claims (Long c.args.number) c.self.invariant.0.claims c.in-Some.claim claim.0 in
-    let tests = and_both (nat_le (length c.in-Some.claim.items + length c.args.items.now) most_items) (are_there c.self.inside.tree c.args.items.now) (sym c.may_grow.ensures ∙ c.if-not-may_grow.false) in
-    rw (← c.self.view_is, c.joined-all.ensures) (All-append (λ (item : Item). item.place ≤ length c.self.inside.tree) c.in-Some.claim.items c.args.items.now own.there (there_all c.self.inside.tree c.args.items.now tests.1))
+    rw c.joined-all.ensures
+    (extended_there c.args.self.now c.args.number c.in-Some.claim c.args.items.now (subst IsVault c.self.view_is c.self.invariant.0) (sym c.held.ensures.is ∙ c.in-Some.is) (rw (← c.self.view_is) (sym c.may_grow.ensures ∙ c.if-not-may_grow.false)))
 
 pub returns-then-not-stay_held : goal.returns-then-not-stay_held
 returns-then-not-stay_held g c =
@@ -42,10 +34,8 @@ returns-then-not-stay_held g c =
 
 pub put_first-requires-clause-there : goal.put_first-requires-clause-there
 put_first-requires-clause-there g c =
-    let claim = rw (← c.self.view_is) at (held_is_held c.args.self.now c.args.number c.in-Some.claim (sym c.held.ensures.is ∙ c.in-Some.is)) in
-    let own = claim_there (IsClaim c.self.inside.tree c.self.inside.sessions.items c.self.inside.line.last_long c.self.inside.line.last_short) c.self.inside.line.claims (Long c.args.number) c.self.invariant.0.claims c.in-Some.claim claim.0 in
-    let tests = and_both (nat_le (length c.in-Some.claim.items + length c.args.items.now) most_items) (are_there c.self.inside.tree c.args.items.now) (sym c.may_grow.ensures ∙ c.if-not-may_grow.false) in
-    rw (← c.self.view_is, c.joined-all.ensures) (All-append (λ (item : Item). item.place ≤ length c.self.inside.tree) c.in-Some.claim.items c.args.items.now own.there (there_all c.self.inside.tree c.args.items.now tests.1))
+    rw c.joined-all.ensures
+    (extended_there c.args.self.now c.args.number c.in-Some.claim c.args.items.now (subst IsVault c.self.view_is c.self.invariant.0) (sym c.held.ensures.is ∙ c.in-Some.is) (rw (← c.self.view_is) (sym c.may_grow.ensures ∙ c.if-not-may_grow.false)))
 
 pub returns-in-Ok : goal.returns-in-Ok
 returns-in-Ok g c =

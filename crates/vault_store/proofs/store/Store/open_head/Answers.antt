@@ -1,4 +1,4 @@
-use Rattle.std.proofs.Common.{◌∙◌, ap, subst, Ok, Err, true}
+use Rattle.std.proofs.Common.{◌∙◌, ap, subst, Ok, true}
 use Rattle.vault_store.specs.declared.phase.Phase.TheVariants as phases
 use Rattle.vault_store.specs.declared.phase.Advanced.TheVariants as answers
 use Rattle.vault_store.specs.Seen.{StoreSeen}
@@ -16,7 +16,6 @@ returns-in-Ok g c =
 
 pub returns-in-Err : goal.returns-in-Err
 returns-in-Err g c =
-    failed_by g.D.Device.disk c.args.self.now (record (seen_of c.self.inside) { spare = c.open_gate-opened.new.device; phase = phases.SnapOpening; broken = true }) c.in-Err.fault c.broken_by.ensures.broken c.broken_by.ensures.told
-    (subst (λ (o : StoreSeen g.row.D.Denot). IsAdvance g.D.Device.disk o (record (seen_of c.self.inside) { spare = c.open_gate-opened.new.device; phase = phases.SnapOpening; broken = true }) (Err c.in-Err.fault)) c.self.view_is
+    failed_by g.D.Device.disk (seen_of c.self.inside) (record (seen_of c.self.inside) { spare = c.open_gate-opened.new.device; phase = phases.SnapOpening; broken = true }) c.in-Err.fault c.self.view_is c.broken_by.ensures.broken c.broken_by.ensures.told
     (head_unopened g.D.Device.disk (seen_of c.self.inside) c.open_gate-opened.new.device (ap (λ (o : StoreSeen g.row.D.Denot). o.broken) c.self.view_is ∙ c.requires.whole) (g.met.D.Device.lawful c.self.inside.active) (g.met.D.Device.lawful c.self.inside.spare)
-    c.in-Err.fault (ap (λ (o : StoreSeen g.row.D.Denot). o.phase) c.self.view_is ∙ c.requires.phase) c.in-Err.ensures.one_call c.in-Err.ensures.images c.in-Err.ensures.moments))
+    c.in-Err.fault (ap (λ (o : StoreSeen g.row.D.Denot). o.phase) c.self.view_is ∙ c.requires.phase) c.in-Err.ensures.one_call c.in-Err.ensures.images c.in-Err.ensures.moments)

@@ -1,4 +1,4 @@
-use Rattle.std.proofs.Common.{◌∙◌, length, List, ℕ, [], sym, ap, subst, arith, Ok, Err, Bool, true, false}
+use Rattle.std.proofs.Common.{◌∙◌, length, List, ℕ, [], sym, ap, subst, arith, Ok, Bool, true, false}
 use Rattle.vault_store.specs.declared.phase.Phase.TheVariants as phases
 use Rattle.vault_store.specs.declared.phase.Advanced.TheVariants as answers
 use Rattle.vault_store.specs.Seen.{StoreSeen}
@@ -43,7 +43,6 @@ pub returns-in-Err : goal.returns-in-Err
 returns-in-Err g c =
     subst (λ (n : ℕ). IsAdvance g.D.Device.disk c.args.self.now (record (seen_of c.self.inside) { active = c.write_body-written.new.device; buffer = c.clear.new.self; sealed = n; phase = phases.Written; broken = c.broken_by.new.broken }) c.broken_by.result) (sym c.len-2.ensures.len)
     (subst (λ (bytes : List ℕ). IsAdvance g.D.Device.disk c.args.self.now (record (seen_of c.self.inside) { active = c.write_body-written.new.device; buffer = bytes; sealed = length c.self.inside.frame; phase = phases.Written; broken = c.broken_by.new.broken }) c.broken_by.result) (sym c.clear.ensures)
-    (failed_by g.D.Device.disk c.args.self.now (record (seen_of c.self.inside) { active = c.write_body-written.new.device; buffer = []; sealed = length c.self.inside.frame; phase = phases.Written; broken = true }) c.in-Err.fault c.broken_by.ensures.broken c.broken_by.ensures.told
-    (subst (λ (o : StoreSeen g.row.D.Denot). IsAdvance g.D.Device.disk o (record (seen_of c.self.inside) { active = c.write_body-written.new.device; buffer = []; sealed = length c.self.inside.frame; phase = phases.Written; broken = true }) (Err c.in-Err.fault)) c.self.view_is
+    (failed_by g.D.Device.disk (seen_of c.self.inside) (record (seen_of c.self.inside) { active = c.write_body-written.new.device; buffer = []; sealed = length c.self.inside.frame; phase = phases.Written; broken = true }) c.in-Err.fault c.self.view_is c.broken_by.ensures.broken c.broken_by.ensures.told
     (body_failed g.D.Device.disk (seen_of c.self.inside) c.write_body-written.new.device (ap (λ (o : StoreSeen g.row.D.Denot). o.broken) c.self.view_is ∙ c.requires.whole) (g.met.D.Device.lawful c.self.inside.active) (g.met.D.Device.lawful c.self.inside.spare) c.in-Err.fault (ap (λ (o : StoreSeen g.row.D.Denot). o.phase) c.self.view_is ∙ c.requires.phase) (omega (arith, c.len.ensures.len, c.if-len-eq0.false)) (omega (arith, c.len.ensures.len, c.len.ensures.room))
-    c.in-Err.ensures.one_call c.in-Err.ensures.images c.in-Err.ensures.moments))))
+    c.in-Err.ensures.one_call c.in-Err.ensures.images c.in-Err.ensures.moments)))

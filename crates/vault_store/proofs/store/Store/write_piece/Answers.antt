@@ -32,7 +32,6 @@ returns-in-Ok g c =
 pub returns-in-Err : goal.returns-in-Err
 returns-in-Err g c =
     subst (λ (p : Phase). IsAdvance g.D.Device.disk c.args.self.now (record (seen_of c.self.inside) { spare = c.write_next-written.new.device; phase = p; broken = c.broken_by.new.broken }) c.broken_by.result) (sym c.behind_piece-self-inside.ensures)
-    (failed_by g.D.Device.disk c.args.self.now (record (seen_of c.self.inside) { spare = c.write_next-written.new.device; phase = behind_piece c.args.left; broken = true }) c.in-Err.fault c.broken_by.ensures.broken c.broken_by.ensures.told
-    (subst (λ (o : StoreSeen g.row.D.Denot). IsAdvance g.D.Device.disk o (record (seen_of c.self.inside) { spare = c.write_next-written.new.device; phase = behind_piece c.args.left; broken = true }) (Err c.in-Err.fault)) c.self.view_is
+    (failed_by g.D.Device.disk (seen_of c.self.inside) (record (seen_of c.self.inside) { spare = c.write_next-written.new.device; phase = behind_piece c.args.left; broken = true }) c.in-Err.fault c.self.view_is c.broken_by.ensures.broken c.broken_by.ensures.told
     (piece_failed g.D.Device.disk (seen_of c.self.inside) c.write_next-written.new.device (ap (λ (o : StoreSeen g.row.D.Denot). o.broken) c.self.view_is ∙ c.requires.whole) (g.met.D.Device.lawful c.self.inside.active) (g.met.D.Device.lawful c.self.inside.spare) c.args.left
-    (subst (λ (p : Phase). IsReached p c.self.inside.generation (seen_of c.self.inside).rest) (ap (λ (o : StoreSeen g.row.D.Denot). o.phase) c.self.view_is ∙ c.requires.phase) c.self.invariant.reached).1 c.in-Err.fault (ap (λ (o : StoreSeen g.row.D.Denot). o.phase) c.self.view_is ∙ c.requires.phase) c.in-Err.ensures.one_call (λ honest. (subst (λ (l : List ℕ). IsWrite (length l - c.args.left + 1) (take (piece_size c.args.left) (drop (length l - c.args.left) l)) (Err c.in-Err.fault) (g.D.Device.disk c.self.inside.spare) (g.D.Device.disk c.write_next-written.new.device)) c.bytes_of.ensures (c.in-Err.ensures.write honest))))))
+    (subst (λ (p : Phase). IsReached p c.self.inside.generation (seen_of c.self.inside).rest) (ap (λ (o : StoreSeen g.row.D.Denot). o.phase) c.self.view_is ∙ c.requires.phase) c.self.invariant.reached).1 c.in-Err.fault (ap (λ (o : StoreSeen g.row.D.Denot). o.phase) c.self.view_is ∙ c.requires.phase) c.in-Err.ensures.one_call (λ honest. (subst (λ (l : List ℕ). IsWrite (length l - c.args.left + 1) (take (piece_size c.args.left) (drop (length l - c.args.left) l)) (Err c.in-Err.fault) (g.D.Device.disk c.self.inside.spare) (g.D.Device.disk c.write_next-written.new.device)) c.bytes_of.ensures (c.in-Err.ensures.write honest)))))

@@ -2,7 +2,7 @@ use Rattle.std.specs.Prelude.{◌≡◌, true, not, ◌&&◌, None, refl}
 use Rattle.std.proofs.Common.{sym, ◌∙◌, rules}
 use Rattle.lock_modes.specs.Modes.{compatible}
 use Rattle.lock_table.proofs.Waiting.{waits_found, waits_absent}
-use Rattle.lock_table.proofs.table.wait_at_seat.Goals as goal
+use Rattle.lock_table.proofs.waits.wait_at_seat.Goals as goal
 
 pub returns-in-Some-clause-waits : goal.returns-in-Some-clause-waits
 returns-in-Some-clause-waits g c = λ old were.

@@ -4,7 +4,7 @@ use Rattle.std.specs.Option.{option_map}
 use Rattle.lock_table.specs.declared.entry.Entry.{Entry}
 use Rattle.lock_table.proofs.Putting.{read_at}
 use Rattle.lock_table.proofs.Stale.{entry_at, keep_step, take_step, entry_there, beside}
-use Rattle.lock_table.proofs.table.weigh_next.Goals as goal
+use Rattle.lock_table.proofs.waits.weigh_next.Goals as goal
 
 pub returns-then-not-is_taken-clause-weighing : goal.returns-then-not-is_taken-clause-weighing
 returns-then-not-is_taken-clause-weighing g c =

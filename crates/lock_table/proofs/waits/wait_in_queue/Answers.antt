@@ -6,7 +6,7 @@ use Rattle.lock_modes.specs.declared.mode.Mode.TheVariants.{IS}
 use Rattle.lock_table.specs.declared.cell.Seat.{Seat}
 use Rattle.lock_table.specs.Queues.{is_queued_at, is_queued_in, waits_where}
 use Rattle.lock_table.proofs.Waiting.{IsWaiting, wait_start, wait_step, wait_done}
-use Rattle.lock_table.proofs.table.wait_in_queue.Goals as goal
+use Rattle.lock_table.proofs.waits.wait_in_queue.Goals as goal
 
 pub loop-seat-init : goal.loop-seat-init
 loop-seat-init g c = record {

@@ -3,7 +3,7 @@ use Rattle.vault_model.specs.declared.ids.ClaimId.{ClaimId}
 use Rattle.lock_table.specs.declared.entry.Entry.{Entry}
 use Rattle.lock_table.specs.Queues.{is_queued_in, waits_where}
 use Rattle.lock_table.proofs.Waiting.{IsWaiting}
-use Rattle.lock_table.proofs.table.wait_in_queue.Given as goal
+use Rattle.lock_table.proofs.waits.wait_in_queue.Given as goal
 
 -- those of the seats so far wait, and those of the seats that are left will
 abbrev pub invariant-loop-seat : goal.invariant-loop-seat

@@ -5,7 +5,7 @@ use Rattle.lock_table.specs.declared.locks.Lock.{Lock}
 use Rattle.lock_table.specs.Queues.{seats_at, is_queued_in, is_queued_against, waits_where}
 use Rattle.lock_table.proofs.Positions.{drop_is}
 use Rattle.lock_table.proofs.Waiting.{IsWaiting, wait_step, wait_done}
-use Rattle.lock_table.proofs.table.wait_behind.Goals as goal
+use Rattle.lock_table.proofs.waits.wait_behind.Goals as goal
 
 pub loop-lock-preserved : goal.loop-lock-preserved
 loop-lock-preserved g c =

@@ -3,7 +3,7 @@ use Rattle.vault_model.specs.declared.ids.ClaimId.{ClaimId}
 use Rattle.lock_table.specs.declared.entry.Entry.{Entry}
 use Rattle.lock_table.specs.Queues.{is_queued_against, waits_where}
 use Rattle.lock_table.proofs.Waiting.{IsWaiting}
-use Rattle.lock_table.proofs.table.wait_behind.Given as goal
+use Rattle.lock_table.proofs.waits.wait_behind.Given as goal
 
 -- those at the places of the locks so far wait, and those at the places of the locks that are left will
 abbrev pub invariant-loop-lock : goal.invariant-loop-lock

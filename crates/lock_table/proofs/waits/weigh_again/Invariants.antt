@@ -1,6 +1,6 @@
 use Rattle.std.specs.Prelude.{◌≡◌, ◌≤◌, ℕ, length}
 use Rattle.lock_table.specs.Queues.{IsWeighing, room_at}
-use Rattle.lock_table.proofs.table.weigh_again.Given as goal
+use Rattle.lock_table.proofs.waits.weigh_again.Given as goal
 
 abbrev pub invariant-loop-index : goal.invariant-loop-index
 invariant-loop-index g l = record {

@@ -7,7 +7,7 @@ use Rattle.lock_table.specs.Queues.{seat_in_way}
 use Rattle.lock_table.proofs.Putting.{read_at}
 use Rattle.lock_table.proofs.Weighing.{found_by}
 use Rattle.lock_table.proofs.Queuing.{way_none, way_lower, way_higher}
-use Rattle.lock_table.proofs.table.blocker_of.Goals as goal
+use Rattle.lock_table.proofs.waits.blocker_of.Goals as goal
 
 pub returns-in_err-first : goal.returns-in_err-first
 returns-in_err-first g c = λ e there.

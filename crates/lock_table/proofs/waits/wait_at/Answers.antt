@@ -4,7 +4,7 @@ use Rattle.lock_table.specs.Queues.{seats_at, is_queued_in}
 use Rattle.lock_table.proofs.Queuing.{none_is}
 use Rattle.lock_table.proofs.Seats.{none_flag}
 use Rattle.lock_table.proofs.Waiting.{none_against, waits_nobody}
-use Rattle.lock_table.proofs.table.wait_at.Goals as goal
+use Rattle.lock_table.proofs.waits.wait_at.Goals as goal
 
 pub returns-then-is_none-clause-wait : goal.returns-then-is_none-clause-wait
 returns-then-is_none-clause-wait g c = λ old were.

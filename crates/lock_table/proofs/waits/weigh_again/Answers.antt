@@ -2,7 +2,7 @@ use Rattle.std.specs.Prelude.{length}
 use Rattle.std.proofs.Common.{ap, ◌∙◌, arith}
 use Rattle.std.proofs.lemmas.List.{length-map}
 use Rattle.lock_table.proofs.Stale.{done_blockers, done_queues}
-use Rattle.lock_table.proofs.table.weigh_again.Goals as goal
+use Rattle.lock_table.proofs.waits.weigh_again.Goals as goal
 
 pub loop-index-init : goal.loop-index-init
 loop-index-init g c = record {

@@ -5,7 +5,7 @@ use Rattle.lock_table.specs.declared.entry.Entry.{Entry}
 use Rattle.lock_table.specs.Tables.{first_in_way}
 use Rattle.lock_table.proofs.Weighing.{admit_law, found_by}
 use Rattle.lock_table.proofs.Queuing.{way_id, none_is}
-use Rattle.lock_table.proofs.table.first_behind.Goals as goal
+use Rattle.lock_table.proofs.waits.first_behind.Goals as goal
 
 pub returns-then-admit : goal.returns-then-admit
 returns-then-admit g c =

@@ -11,7 +11,7 @@ use Rattle.lock_table.specs.Queues.{seats_at, seats_by, held_by, by_lock, restoo
 use Rattle.lock_table.proofs.Putting.{read_at}
 use Rattle.lock_table.proofs.Seats.{none_flag, found_own, held_kept, stood_by}
 use Rattle.lock_table.proofs.Queuing.{seats_bound}
-use Rattle.lock_table.proofs.table.weigh_at.Goals as goal
+use Rattle.lock_table.proofs.waits.weigh_at.Goals as goal
 
 pub returns-then-is_none-was_held-clause-seats : goal.returns-then-is_none-was_held-clause-seats
 returns-then-is_none-was_held-clause-seats g c = λ held e there standing seats p.
