@@ -99,10 +99,8 @@ impl<A: Allocator + Copy> Book<A> {
             return Err(ApplyError::NotApplicable);
         }
         let kind = self.tree.kind_under(parent);
-        match self.add_place(parent, name, kind) {
-            Ok(_) => Ok(()),
-            Err(NoMemory) => Err(ApplyError::NoMemory),
-        }
+        self.add_place(parent, name, kind)?;
+        Ok(())
     }
 
     #[tactic(auto, unfolding(vault_model::specs::After::after_nested))]
@@ -115,10 +113,8 @@ impl<A: Allocator + Copy> Book<A> {
         if !self.tree.may_nest_under(parent) {
             return Err(ApplyError::NotApplicable);
         }
-        match self.add_place(parent, name, Kind::Assembly) {
-            Ok(_) => Ok(()),
-            Err(NoMemory) => Err(ApplyError::NoMemory),
-        }
+        self.add_place(parent, name, Kind::Assembly)?;
+        Ok(())
     }
 
     #[tactic(auto, unfolding(vault_model::specs::After::after_asked))]
@@ -188,8 +184,7 @@ impl<A: Allocator + Copy> Book<A> {
     fn apply_abandoned(&mut self, number: u32) -> Result<(), ApplyError>
         ensures { Applies self.old result self.new (after_abandoned self.old number) }
     {
-        let id = ClaimId::Long(number);
-        if self.line.get(id).is_none() {
+        if self.line.get(ClaimId::Long(number)).is_none() {
             return Err(ApplyError::NotApplicable);
         }
         self.withdraw(number);

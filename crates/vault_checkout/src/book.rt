@@ -236,8 +236,7 @@ impl<A: Allocator + Copy> Book<A> {
         ensures told { Follows self.old result self.new (abandon self.old designer number) }
         ensures counts { (bound : ℕ) → CountsBelow bound self.old → CountsBelow bound self.new }
     {
-        let id = ClaimId::Long(number);
-        let Some(claim) = self.line.get(id) else {
+        let Some(claim) = self.line.get(ClaimId::Long(number)) else {
             return Err(Stop::Refused(Refusal::NoClaim));
         };
         if !is_designer(&claim.owner, &designer) {

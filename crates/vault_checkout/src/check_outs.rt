@@ -168,10 +168,7 @@ fn holds<A: Allocator>(line: &Line<A>, number: u32) -> bool
     ensures { (tree : List Place) → IsTree tree → IsGrownFrom line.now.tree tree →
         result ≡ is_holding tree line.now.claims number }
 {
-    match line.standing(ClaimId::Long(number)) {
-        Some(Standing::Held) => true,
-        Some(Standing::Queued(_)) | None => false,
-    }
+    line.standing(ClaimId::Long(number)) == Some(Standing::Held)
 }
 
 fn grant_held_one<A: Allocator>(check_out: &mut AnyCheckOut<A>, alloc: A, line: &Line<A>)

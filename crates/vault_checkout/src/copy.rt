@@ -1,20 +1,11 @@
 //! A book copied.
-ghost use Rattle.std.specs.Prelude.{◌≡◌, [], ◌∷◌, ◌++◌, IfOk, OnOk};
+ghost use Rattle.std.specs.Prelude.{◌≡◌, IfOk};
 
 use crate::book::Book;
 use crate::check_out::CheckOut;
 use crate::check_outs::AnyCheckOut;
 use std::alloc::Allocator;
 use vault_model::{Draft, DraftIn, Listing, NoMemory};
-
-fn push<T: Drop, A: Allocator>(items: &mut Vec<T, A>, item: T) -> Result<(), NoMemory>
-    ensures { OnOk result (items.new.items ≡ items.old.items ++ item ∷ []) }
-{
-    match items.push(item) {
-        Ok(()) => Ok(()),
-        Err(_) => Err(NoMemory),
-    }
-}
 
 fn copy_drafts<A: Allocator + Copy>(
     alloc: A,
@@ -24,14 +15,9 @@ fn copy_drafts<A: Allocator + Copy>(
 {
     let mut copies = Vec::with_capacity(alloc, drafts.len())?;
     for draft in drafts {
+        let place = draft.place;
         let content = draft.content.copy(alloc)?;
-        push(
-            &mut copies,
-            Draft {
-                place: draft.place,
-                content,
-            },
-        )?;
+        copies.push(Draft { place, content }).or(Err(NoMemory))?;
     }
     Ok(copies)
 }
@@ -61,7 +47,7 @@ fn copy_check_outs<A: Allocator + Copy>(
 {
     let mut copies = Vec::with_capacity(alloc, check_outs.len())?;
     for check_out in check_outs {
-        push(&mut copies, check_out.copy(alloc)?)?;
+        copies.push(check_out.copy(alloc)?).or(Err(NoMemory))?;
     }
     Ok(copies)
 }

@@ -42,8 +42,7 @@ impl<A: Allocator + Copy> Book<A> {
         ensures told { Follows self.old result self.new (release self.old session.now number) }
         ensures counts { (bound : ℕ) → CountsBelow bound self.old → CountsBelow bound self.new }
     {
-        let id = ClaimId::Short(number);
-        let Some(claim) = self.line.get(id) else {
+        let Some(claim) = self.line.get(ClaimId::Short(number)) else {
             return Err(Stop::Refused(Refusal::NoClaim));
         };
         if !is_owned_by(&claim.owner, session) {
