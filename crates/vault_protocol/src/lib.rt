@@ -13,6 +13,7 @@
 #![tactic(auto)]
 
 mod error;
+mod help;
 mod input;
 pub mod laws;
 mod letting_go;
@@ -26,6 +27,7 @@ mod script;
 mod waiting;
 
 pub use error::ScriptError;
+pub use help::SCRIPT_HELP;
 pub use limits::{LAST_CONNECTION, LONGEST_SCRIPT};
 pub use script::run_script;
 pub use vault_lines::{LONGEST_LINE, LineError, MOST_READS, outside_text, read_line_of, text_of};

@@ -5,39 +5,10 @@ use clap::error::ErrorKind;
 use clap::{Arg, ArgMatches, Command, Error, value_parser};
 use std::alloc::{AllocError, Global};
 use std::convert::AsStr;
+use vault_protocol::SCRIPT_HELP;
 
 /// What `--version` says behind the program's name.
 const VERSION: &str = "0.8.0";
-
-/// What a script may say, below the help of `script`.
-const LINES: &str = "\
-A line is '@K LINE' for a connection K of 1 to 64, and LINE is one of:
-  hello NAME            opens a session in a designer's name
-  make PATH [CLAIM]     makes a place, as /engine or /engine/block/piston, in a check-out's name if one is given
-  nest PATH [CLAIM]     makes an assembly inside an assembly, as /engine/block/pump; paths have up to seven names
-  list PATH             lists the places right under one
-  checkout ITEM ..      asks for a claim on 1 to 8 items, as r:/engine to look or w:/engine to change
-  extend CLAIM ITEM ..  asks for more items for a held claim, as c1
-  save CLAIM PART HEX   saves a draft of a part for a held check-out: its bytes in hexadecimal, or - for none
-  checkin CLAIM         makes versions of a check-out's drafts, and gives it up
-  abandon CLAIM         gives up a check-out, as c1
-  give CLAIM NAME       gives a check-out to another designer, with its drafts
-  note CLAIM [HEX]      shows the note of a check-out, or sets it: up to 64 bytes
-  hold ITEM ..          asks for a claim that ends with the session
-  release CLAIM         gives up such a claim, as h1
-  state CLAIM           says whether a claim is held, or behind which one it is queued
-  fetch PART VERSION    shows a version of a part, from 1 on
-  count PART            says how many versions a part has
-  quit                  closes the session
-Empty lines and lines that begin with '#' are skipped. '!commit' commits, '!snapshot' begins a snapshot, '!pump' makes one
-step of a commit or of a snapshot, and '!crash old', '!crash new' or '!crash HH' stops the machine: what isn't settled is as
-it was, as it was written, or this byte.
-Example:
-  printf '@1 hello anna\\n@1 make /engine\\n@1 checkout w:/engine\\n' | vaultd script
-prints
-  @1 OK session 1
-  @1 OK place 1
-  @1 OK held c1";
 
 /// What `create` does, below its help.
 const CREATED: &str = "\
@@ -82,7 +53,6 @@ Example:
 /// What the program is asked to do.
 #[derive(Clone, Copy)]
 pub(crate) enum Task<'a> {
-    /// Runs a script.
     Script,
     /// Makes a vault in the files of these paths.
     Create(&'a str, &'a str),
@@ -118,7 +88,7 @@ fn over_files<'a>(alloc: Global, name: &'a str) -> Result<Command<'a>, AllocErro
 fn script<'a>(alloc: Global) -> Command<'a> {
     Command::new(alloc, "script")
         .about("Runs a script from standard input over a new vault, replies to standard output")
-        .after_help(LINES)
+        .after_help(SCRIPT_HELP)
 }
 
 /// The subcommand that makes a vault.

@@ -20,10 +20,10 @@ fn open_or_make(rt: &HostRuntime, path: &str) -> Result<Opened, Failure> {
     options.read(true).write(true);
     match options.open(rt, path) {
         Ok(file) => Ok(Opened { file, made: false }),
-        Err(error) if error.kind() == ErrorKind::NotFound => match File::create_new(rt, path) {
-            Ok(file) => Ok(Opened { file, made: true }),
-            Err(_) => Err(Failure::Device),
-        },
+        Err(error) if error.kind() == ErrorKind::NotFound => {
+            let file = File::create_new(rt, path).or(Err(Failure::Device))?;
+            Ok(Opened { file, made: true })
+        }
         Err(_) => Err(Failure::Device),
     }
 }
@@ -38,10 +38,8 @@ fn take_back(rt: &HostRuntime, path: &str, made: bool) {
 /// Opens a file and locks it. One that another program has by now isn't taken away, whoever made it.
 fn locked(rt: &HostRuntime, path: &str) -> Result<Opened, Failure> {
     let opened = open_or_make(rt, path)?;
-    match lock(&opened.file) {
-        Ok(()) => Ok(opened),
-        Err(failure) => Err(failure),
-    }
+    lock(&opened.file)?;
+    Ok(opened)
 }
 
 /// Makes a vault in the files of these two paths, which are made where they are missing. Where that is refused, no file is

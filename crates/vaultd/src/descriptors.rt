@@ -18,11 +18,7 @@ fn limit() -> Option<u64> {
         rlim_cur: 0,
         rlim_max: 0,
     };
-    if libc::getrlimit(libc::RLIMIT_NOFILE, &mut limit) == 0 {
-        Some(limit.rlim_cur)
-    } else {
-        None
-    }
+    (libc::getrlimit(libc::RLIMIT_NOFILE, &mut limit) == 0).then_some(limit.rlim_cur)
 }
 
 /// Refuses so many workers where so few descriptors may be had.
@@ -37,8 +33,5 @@ pub(crate) fn check(workers: u32, limit: u64) -> Result<(), Failure> {
 
 /// Refuses so many workers where the system's limit is lower than what they need.
 pub(crate) fn check_limit(workers: u32) -> Result<(), Failure> {
-    match limit() {
-        Some(limit) => check(workers, limit),
-        None => Ok(()),
-    }
+    limit().map_or(Ok(()), |limit| check(workers, limit))
 }

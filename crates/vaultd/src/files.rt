@@ -17,11 +17,7 @@ pub(crate) fn lock(file: &File) -> Result<(), Failure> {
 pub(crate) fn open_locked<R: Files<File = File>>(rt: &R, path: &str) -> Result<File, Failure> {
     let mut options = OpenOptions::new();
     options.read(true).write(true);
-    let Ok(file) = options.open(rt, path) else {
-        return Err(Failure::Device);
-    };
-    match lock(&file) {
-        Ok(()) => Ok(file),
-        Err(failure) => Err(failure),
-    }
+    let file = options.open(rt, path).or(Err(Failure::Device))?;
+    lock(&file)?;
+    Ok(file)
 }

@@ -44,9 +44,7 @@ pub(crate) fn inspect(rt: &HostRuntime, first: &str, second: &str) -> Result<(),
     if in_use {
         let _ = eprintln!(rt; "vault in use: a server may have written while the files were read");
     }
-    let Ok(mut writer) = BufWriter::new(rt.alloc(), io::writer(rt)) else {
-        return Err(Failure::NoMemory);
-    };
+    let mut writer = BufWriter::new(rt.alloc(), io::writer(rt)).or(Err(Failure::NoMemory))?;
     print(&report, &mut writer)?;
     writer.flush().or(Err(Failure::Write))
 }

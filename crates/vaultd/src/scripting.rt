@@ -6,9 +6,7 @@ use vault_protocol::run_script;
 
 /// Runs a script from standard input, and writes its output.
 pub(crate) fn script(rt: &HostRuntime) -> Result<(), Failure> {
-    let Ok(mut writer) = BufWriter::new(rt.alloc(), io::writer(rt)) else {
-        return Err(Failure::NoMemory);
-    };
+    let mut writer = BufWriter::new(rt.alloc(), io::writer(rt)).or(Err(Failure::NoMemory))?;
     let end = run_script(rt.alloc(), &mut rt.reader(), &mut writer);
     let flushed = writer.flush();
     end?;

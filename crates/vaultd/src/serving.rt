@@ -47,14 +47,11 @@ fn open<R: Files<File = File> + AllocGlobal>(
             return Err(failure);
         }
     };
-    match Vault::open(rt.alloc(), first, second, LIFE) {
-        Ok(vault) => Ok(vault),
-        Err(refused) => {
-            let why = refused.why;
-            drop(refused);
-            Err(Failure::from(why))
-        }
-    }
+    Vault::open(rt.alloc(), first, second, LIFE).map_err(|refused| {
+        let why = refused.why;
+        drop(refused);
+        Failure::from(why)
+    })
 }
 
 /// Binds the address, and says so on standard output.
@@ -62,11 +59,9 @@ fn listen<R: Print + Net<Listener = TcpListener, Stream = TcpStream>>(
     rt: &R,
     serving: &Serving<'_>,
 ) -> Result<TcpListener, Failure> {
-    let listener = TcpListener::bind(rt, serving.address).or(Err(Failure::Read))?;
-    match println!(rt; "listening") {
-        Ok(()) => Ok(listener),
-        Err(_) => Err(Failure::Write),
-    }
+    let listener = TcpListener::bind(rt, serving.address).or(Err(Failure::Bind))?;
+    println!(rt; "listening").or(Err(Failure::Write))?;
+    Ok(listener)
 }
 
 /// What the server is to keep to.
