@@ -27,7 +27,7 @@ pub enum Start {
 }
 
 /// The vault.
-pub fn begun<'a>(
+pub(crate) fn begun<'a>(
     rt: &impl Abort,
     global: Global,
     memory: &'a Refusing<Global>,

@@ -9,7 +9,7 @@ use vault_sessions::{Gate, Point};
 pub const TURNS: u64 = 1_000_000_000;
 
 /// Whether a count is reached within so many turns.
-pub fn is_reached_within(count: &AtomicU64, least: u64, turns: u64) -> bool {
+pub(crate) fn is_reached_within(count: &AtomicU64, least: u64, turns: u64) -> bool {
     for _ in 0..turns {
         if count.load(Ordering::SeqCst) >= least {
             return true;
@@ -78,7 +78,7 @@ pub struct Holding<'a, H: Clock> {
 
 impl<H: Clock> Holding<'_, H> {
     /// Holds by these rules.
-    pub fn new<'a>(rt: &'a H, rules: &'static [Rule]) -> Holding<'a, H> {
+    pub(crate) fn new<'a>(rt: &'a H, rules: &'static [Rule]) -> Holding<'a, H> {
         Holding {
             rt,
             rules,
@@ -93,7 +93,7 @@ impl<H: Clock> Holding<'_, H> {
     }
 
     /// How many pumps there were. None where a thread waited too long.
-    pub fn pumps(&self) -> Option<u64> {
+    pub(crate) fn pumps(&self) -> Option<u64> {
         if self.gave_up.load(Ordering::SeqCst) {
             None
         } else {

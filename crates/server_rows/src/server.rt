@@ -211,7 +211,7 @@ fn late<R: Net<Listener = TcpListener, Stream = TcpStream> + Clock + Abort>(
 
 /// What a server comes to, while this request for memory is refused, what its clients hear, and how many pumps there were: none where a
 /// thread waited too long.
-pub fn served<
+pub(crate) fn served<
     R: Net<Listener = TcpListener, Stream = TcpStream> + Threads + Wait + Clock + Sync + Abort,
 >(
     rt: &R,

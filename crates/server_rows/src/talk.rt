@@ -276,7 +276,7 @@ fn converse<'m, H: Threads + Wait + Clock + Sync + Abort>(
 }
 
 /// What a conversation comes to over its vault, and what is heard, while this request for memory is refused.
-pub fn talked<H: Threads + Wait + Clock + Sync + Abort>(
+pub(crate) fn talked<H: Threads + Wait + Clock + Sync + Abort>(
     rt: &H,
     global: Global,
     memory: &Refusing<Global>,
@@ -290,7 +290,7 @@ pub fn talked<H: Threads + Wait + Clock + Sync + Abort>(
 }
 
 /// Asserts that each conversation comes to what its row says, while this request for memory is refused.
-pub fn come_to_that<H: Threads + Wait + Clock + Sync + Abort>(
+pub(crate) fn come_to_that<H: Threads + Wait + Clock + Sync + Abort>(
     rt: &H,
     global: Global,
     memory: &Refusing<Global>,

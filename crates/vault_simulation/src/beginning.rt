@@ -5,8 +5,8 @@ use crate::mood::Beginning;
 use crate::run::Run;
 use crate::speech::PARTS;
 use group_commit::Vault;
+use test_judge::{Files, Judge, Left, new_vault};
 use vault_device::MemDevice;
-use vault_judge::{Files, Judge, Left, new_vault};
 
 // What most runs begin with.
 const PLACES: [&str; 18] = [

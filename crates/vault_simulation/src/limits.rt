@@ -4,8 +4,8 @@ use crate::line::Line;
 use design_tree::Tree;
 use part_versions::Shelf;
 use std::alloc::Global;
+use test_judge::{Talk, Verdict, are_alike};
 use vault_checkout::Book;
-use vault_judge::{Talk, Verdict, are_alike};
 use vault_lines::read_line_of;
 use vault_model::{ClaimId, Command, LAST_NUMBER, Refusal, Reply};
 

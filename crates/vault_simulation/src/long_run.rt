@@ -3,8 +3,8 @@
 use crate::beginning::{fill, make_places};
 use crate::line::Line;
 use group_commit::Vault;
+use test_judge::{Files, Judge, Left, new_vault};
 use vault_device::{MemDevice, Pick};
-use vault_judge::{Files, Judge, Left, new_vault};
 
 /// A step of the long run.
 #[derive(Clone, Copy)]

@@ -7,8 +7,8 @@ use crate::speakers::Speakers;
 use crate::speech::{claim, id, names_claim, spell};
 use group_commit::{Phase, Vault};
 use std::alloc::Global;
+use test_judge::{Files, Judge, Met, Verdict};
 use vault_device::MemDevice;
-use vault_judge::{Files, Judge, Met, Verdict};
 use vault_model::{Claim, Reply};
 
 /// What is known of a vault, and how it is treated. As it has tickets, it ends by `close`.

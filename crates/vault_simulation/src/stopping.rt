@@ -4,9 +4,9 @@ use crate::run::Run;
 use crate::spoiling::spoil;
 use crate::tearing::tear;
 use group_commit::{File, OpenError, Vault};
+use test_judge::{Files, Left, Met, are_alike};
 use vault_checkout::Book;
 use vault_device::MemDevice;
-use vault_judge::{Files, Left, Met, are_alike};
 
 fn is_book(read: &Result<Book, OpenError>, book: &Book) -> bool {
     match read {

@@ -3,9 +3,9 @@
 use crate::long_run::{LONG_RUN, Start, Step, play, play_all, prepared};
 use group_commit::{File, OpenError, Vault};
 use std::alloc::Global;
+use test_judge::{Bytes, Files, Judge, Left, Talk, Verdict, World, are_alike, are_states};
 use vault_checkout::Book;
 use vault_device::{MemDevice, Pick};
-use vault_judge::{Bytes, Files, Judge, Left, Talk, Verdict, World, are_alike, are_states};
 
 // What a crash leaves of each device.
 const PICKS: [Pick; 6] = [
