@@ -5,8 +5,11 @@ A cycle is a check-out, a save of 1,000 bytes and a check-in; each client has it
 its own; the server has 64 workers. --slow makes each sync so many milliseconds longer (slow_sync.c), as a plain disk would; with --folder on
 a file system in memory that is the whole sync. The limit is what the format leaves then: two syncs for each of a cycle's commits.
 
+With --floor the load meets a program that keeps nothing, and answers each line behind two sleeps (floor.c): what the load and the machine
+leave to a server of one thread, or of one for each connection.
+
 usage, at the top of the repository:  python3 bench/commits.py [--program PROGRAM] [--folder FOLDER] [--clients 1,4,16,64] [--slow MS]
-                                      [--rounds N] [--port P] [--tiny]
+                                      [--floor one|workers] [--rounds N] [--port P] [--tiny]
 Needs gcc.
 """
 import json
@@ -25,7 +28,7 @@ PARTS = 64
 
 
 def made(folder, name, *words):
-    subprocess.run(["gcc", "-O2", *words, "-o", f"{folder}/{name}", f"{HERE}/{name}.c"], check=True)
+    subprocess.run(["gcc", "-O2", "-pthread", *words, "-o", f"{folder}/{name}", f"{HERE}/{name}.c"], check=True)
     return f"{folder}/{name}"
 
 
@@ -52,8 +55,10 @@ def processor(pid):
     return (int(fields[11]) + int(fields[12])) / os.sysconf("SC_CLK_TCK")
 
 
-def measured(program, folder, options, load, clients, before=(), most=MOST_CYCLES):
-    """One run over a new vault, behind these lines: load.c's figures, and the server's processor time a cycle in microseconds."""
+def started(program, folder, options):
+    """The server over a new vault, or what stands for it."""
+    if getattr(options, "floor", None):
+        return subprocess.Popen([f"{folder}/floor", str(options.port), str(int(options.slow * 1000)), options.floor], stdout=subprocess.PIPE)
     files = [f"{folder}/commits.{which}" for which in "ab"]
     for path in files:
         if os.path.exists(path):
@@ -61,7 +66,12 @@ def measured(program, folder, options, load, clients, before=(), most=MOST_CYCLE
     subprocess.run([program, "create", *files], check=True, stdout=subprocess.DEVNULL)
     slow = {"LD_PRELOAD": f"{folder}/slow_sync", "SLOW_SYNC_MS": str(options.slow)} if options.slow else {}
     words = [program, "serve", *files, f"127.0.0.1:{options.port}", "--workers", str(PARTS)]
-    server = subprocess.Popen(words, stdout=subprocess.PIPE, env=os.environ | slow)
+    return subprocess.Popen(words, stdout=subprocess.PIPE, env=os.environ | slow)
+
+
+def measured(program, folder, options, load, clients, before=(), most=MOST_CYCLES):
+    """One run over a new vault, behind these lines: load.c's figures, and the server's processor time a cycle in microseconds."""
+    server = started(program, folder, options)
     try:
         if server.stdout.readline().strip() != b"listening":
             raise SystemExit("the server didn't start")
@@ -84,13 +94,16 @@ def main():
     parser = arguments("How commits gather.")
     parser.add_argument("--clients", default="1,4,16,64", help="numbers of clients, with commas between; 64 at most")
     parser.add_argument("--slow", type=float, default=0, help="how many milliseconds longer each sync takes")
+    parser.add_argument("--floor", choices=("one", "workers"), help="in place of the server a program that keeps nothing, of one thread or many")
     parser.add_argument("--rounds", type=int, default=3, help="how many runs a line has; it shows their medians")
     parser.add_argument("--port", type=int, default=7373)
     options = parser.parse_args()
     program, folder = prepared(options)
     load = made(folder, "load")
     made(folder, "slow_sync", "-shared", "-fPIC")
-    head(program, f"{PARTS} workers, syncs {options.slow:g} ms longer, medians of {options.rounds} runs")
+    made(folder, "floor")
+    who = f"what keeps nothing ({options.floor})" if options.floor else f"{PARTS} workers"
+    head(program, f"{who}, syncs {options.slow:g} ms longer, medians of {options.rounds} runs")
 
     def rows():
         for clients in map(int, options.clients.split(",")):
