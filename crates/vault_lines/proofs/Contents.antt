@@ -25,7 +25,7 @@ decoded x = Ok x
 same_ok : {A : Type 0} (x y : A) → decoded x ≡ Ok y → x ≡ y
 same_ok x y e = ap (λ r. result_unwrap_or r x) e
 
-pub ok_some : {A : Type 0} (r : Result A FromHexError) (x : A) → result_ok r ≡ Some x → r ≡ Ok x
+ok_some : {A : Type 0} (r : Result A FromHexError) (x : A) → result_ok r ≡ Some x → r ≡ Ok x
 ok_some (Ok x) y e = ap Ok (same_Some _ _ e)
 ok_some (Err e) y h = cc h
 

@@ -2,6 +2,5 @@ pub mod Numbers
 pub mod Each
 pub mod Steps
 pub mod Contents
-pub mod Decoding
 pub mod WordsFound
 pub mod WordsAgain

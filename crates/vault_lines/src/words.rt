@@ -1,13 +1,12 @@
 //! Single words of a line.
 
-ghost use Rattle.std.specs.Prelude.{◌≡◌, ℕ, List, map};
-ghost use Rattle.std.specs.Result.{result_ok};
-ghost use Rattle.hex.specs.Hex.{decode_of, hex_digit_value, pair_value};
+ghost use Rattle.std.specs.Prelude.{◌≡◌, List, map};
 ghost use Rattle.vault_lines.specs.Words.{claim_in, content_in, long_in, number_in, positive_in, short_in};
 ghost use Rattle.vault_lines.specs.Items.{item_in, items_in};
 ghost use Rattle.vault_lines.specs.Reading.{Gives};
 
 use crate::error::LineError;
+use hex::FromHexError;
 use itoa::Buffer;
 use std::alloc::Allocator;
 use vault_model::{ClaimId, Intent, Listing, Path, PathItem};
@@ -113,56 +112,9 @@ pub(crate) fn read_content<A: Allocator>(alloc: A, word: &[u8]) -> Result<Listin
     if word.is_empty() {
         return Err(LineError::BadLine);
     }
-    decode(alloc, word)
-}
-
-// The bytes that pairs of hexadecimal digits spell.
-fn decode<A: Allocator>(alloc: A, digits: &[u8]) -> Result<Listing<u8, A>, LineError>
-    ensures { Gives result (result_ok (decode_of digits.now)) }
-{
-    if digits.len() % 2 != 0 {
-        return Err(LineError::BadLine);
-    }
-    let mut bytes = Vec::new(alloc);
-    bytes.reserve(digits.len() / 2)?;
-    for i in 0..digits.len() / 2 {
-        let Some(byte) = byte_of(digits[2 * i], digits[2 * i + 1]) else {
-            return Err(LineError::BadLine);
-        };
-        bytes.push_reserved(byte);
-    }
-    Ok(Listing::from_vec(bytes))
-}
-
-// The byte that two hexadecimal digits of either case spell.
-fn byte_of(high: u8, low: u8) -> Option<u8>
-    ensures { (i : ℕ) → result ≡ result_ok (pair_value high low i) }
-{
-    Some(digit_of(high)? * 16 + digit_of(low)?)
-}
-
-// The value of a hexadecimal digit of either case. A case for each lets the compiler look it up: with ranges it branches, and a
-// processor can't foresee which way.
-fn digit_of(byte: u8) -> Option<u8>
-    ensures { result ≡ hex_digit_value byte }
-{
-    match byte {
-        b'0' => Some(0),
-        b'1' => Some(1),
-        b'2' => Some(2),
-        b'3' => Some(3),
-        b'4' => Some(4),
-        b'5' => Some(5),
-        b'6' => Some(6),
-        b'7' => Some(7),
-        b'8' => Some(8),
-        b'9' => Some(9),
-        b'a' | b'A' => Some(10),
-        b'b' | b'B' => Some(11),
-        b'c' | b'C' => Some(12),
-        b'd' | b'D' => Some(13),
-        b'e' | b'E' => Some(14),
-        b'f' | b'F' => Some(15),
-        _ => None,
+    match hex::decode(alloc, word) {
+        Ok(bytes) => Ok(Listing::from_vec(bytes)),
+        Err(FromHexError::OutOfMemory) => Err(LineError::NoMemory),
+        Err(_) => Err(LineError::BadLine),
     }
 }
