@@ -142,7 +142,7 @@ fn has_one_of(file: &mut MemDevice, frames: &[[u8; 20]]) -> bool {
 }
 
 // What a server over a new vault comes to, while this request for memory is refused.
-fn comes_to<H: Threads + Wait + Clock + Sync + Abort>(
+fn comes_to<H: Net + Threads + Wait + Clock + Sync + Abort>(
     rt: &H,
     global: Global,
     memory: &Refusing<Global>,

@@ -3,3 +3,4 @@ pub mod Sends
 pub mod Bytes
 pub mod Heard
 pub mod Told
+pub mod Talks

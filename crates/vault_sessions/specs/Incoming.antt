@@ -1,6 +1,6 @@
 -- Bytes and lines as they come from a reader. This project's own.
-use Rattle.std.specs.Prelude.{◌≡◌, ◌≢◌, ℕ, ◌+◌, ◌<◌, ◌≤◌, Bool, true, false, List, [], ◌∷◌, ◌++◌, length, take, Option, Some, None, All}
-use Rattle.std.specs.Io.KnownBytes.{Consumes, IsAtEnd}
+use Rattle.std.specs.Prelude.{◌≡◌, ◌≢◌, ℕ, ◌+◌, ◌<◌, ◌≤◌, Bool, true, false, List, [], ◌∷◌, ◌++◌, length, take, Option, All}
+use Rattle.std.specs.Io.KnownBytes.{Consumes, Keeps, IsAtEnd}
 use Rattle.vault_lines.specs.Limits.{longest_line}
 use Rattle.vault_sessions.specs.Inflow.{Inflow}
 use Rattle.vault_sessions.specs.declared.inlet.NextByte.{NextByte}
@@ -11,6 +11,8 @@ use Rattle.vault_sessions.specs.declared.inlet.Piece.{Piece}
 use Rattle.vault_sessions.specs.declared.inlet.Piece.TheVariants as pieces
 use Rattle.vault_sessions.specs.declared.inlet.Filled.{Filled}
 use Rattle.vault_sessions.specs.declared.inlet.Filled.TheVariants as filled
+use Rattle.vault_sessions.specs.declared.inlet.Given.{Given}
+use Rattle.vault_sessions.specs.declared.inlet.Given.TheVariants as reads
 use Rattle.vault_sessions.specs.declared.inlet.TheConstants.{MOST_BYTES, CHUNK}
 use Rattle.vault_lines.specs.declared.limits.TheConstants.{MOST_READS}
 
@@ -37,6 +39,7 @@ GivesByte old given (bytes.Byte b) new rest =
 GivesByte old given bytes.End new rest = (old.pending ++ given ≡ []) × IsAtEnd rest
 GivesByte old given bytes.Fault new rest = Unit {0}
 GivesByte old given bytes.Limit new rest = most_bytes < old.taken + length (old.pending ++ given)
+GivesByte old given bytes.NotYet new rest = (new.pending ≡ old.pending ++ given) × (new.taken ≡ old.taken)
 
 -- the line so far is kept, while it isn't too long
 abbrev pub KeepsLine : List ℕ → List ℕ → Bool → Type 0
@@ -50,25 +53,32 @@ pub record CutsLine (old : Inflow) (given line : List ℕ) (new : Inflow) : Type
   pub taken : new.taken ≡ old.taken + length line + 1
   pub within : new.taken ≤ most_bytes
 
--- the next line of those bytes
-abbrev pub GivesLine : Inflow → List ℕ → NextLine → List ℕ → Inflow → Option (List ℕ) → Type 0
-GivesLine old given lines.Whole line new rest = CutsLine old given line new × (length line ≤ longest_line)
-GivesLine old given lines.TooLong line new rest = (long : List ℕ) × CutsLine old given long new × (longest_line < length long)
-GivesLine old given lines.End line new rest = IsOneLine (old.pending ++ given) × IsAtEnd rest
-GivesLine old given lines.Fault line new rest = Unit {0}
-GivesLine old given lines.Limit line new rest = most_bytes < old.taken + length (old.pending ++ given)
+-- The next line of those bytes, whose first ones, the part, came before. Where it isn't whole, what came of it is kept.
+abbrev pub GivesLine : Inflow → List ℕ → List ℕ → NextLine → List ℕ → Bool → Inflow → Option (List ℕ) → Type 0
+GivesLine old given part lines.Whole line is_long new rest =
+    (piece : List ℕ) × CutsLine old given piece new × (line ≡ part ++ piece) × (length line ≤ longest_line)
+GivesLine old given part lines.TooLong line is_long new rest =
+    (piece : List ℕ) × CutsLine old given piece new × (longest_line < length (part ++ piece))
+GivesLine old given part lines.End line is_long new rest = IsOneLine (old.pending ++ given) × IsAtEnd rest
+GivesLine old given part lines.Fault line is_long new rest = Unit {0}
+GivesLine old given part lines.Limit line is_long new rest = most_bytes < old.taken + length (old.pending ++ given)
+GivesLine old given part lines.NotYet line is_long new rest =
+    (piece : List ℕ) × (old.pending ++ given ≡ piece ++ new.pending) × IsOneLine piece × KeepsLine (part ++ piece) line is_long
+    × (new.taken ≡ old.taken + length piece) × (new.taken ≤ most_bytes)
 
--- a read gave the first bytes of the chunk, none only at the end
-abbrev pub ReadsChunk : Option (List ℕ) → Option (List ℕ) → List ℕ → Option ℕ → Type 0
-ReadsChunk old new chunk (Some count) =
+-- a read gave the first bytes of the chunk, none only at the end; or it consumed nothing
+abbrev pub ReadsChunk : Option (List ℕ) → Option (List ℕ) → List ℕ → Given → Type 0
+ReadsChunk old new chunk (reads.Bytes count) =
     (count ≤ length chunk) × (count ≤ chunk_size) × Consumes old new (take count chunk) × (count ≡ 0 → IsAtEnd new)
-ReadsChunk old new chunk None = (given : List ℕ) × Consumes old new given
+ReadsChunk old new chunk reads.NotYet = Keeps old new
+ReadsChunk old new chunk reads.Fault = Keeps old new
 
--- bytes wait now, or none is left
+-- bytes wait now, or none is left, or none came and nothing changed
 abbrev pub Fills : Inflow → List ℕ → Filled → Inflow → Option (List ℕ) → Type 0
 Fills old given filled.Waiting new rest = (new.pending ≡ old.pending ++ given) × (0 < length new.pending) × (new.taken ≡ old.taken)
 Fills old given filled.End new rest = (old.pending ++ given ≡ []) × IsAtEnd rest
 Fills old given filled.Fault new rest = Unit {0}
+Fills old given filled.NotYet new rest = (old.pending ≡ []) × (given ≡ []) × (new ≡ old) × (new.taken ≤ most_bytes)
 
 -- the first byte that waits, or there is one too many
 abbrev pub TakesByte : Inflow → NextByte → Inflow → Type 0
@@ -76,6 +86,7 @@ TakesByte old (bytes.Byte b) new = (old.pending ≡ b ∷ new.pending) × (new.t
 TakesByte old bytes.End new = ⊥
 TakesByte old bytes.Fault new = ⊥
 TakesByte old bytes.Limit new = most_bytes < old.taken + length old.pending
+TakesByte old bytes.NotYet new = ⊥
 
 -- What the bytes that wait gave to the line so far: its end, with the line feed behind these bytes, or all of them, none of which is
 -- a line feed; or the most bytes would be passed.
@@ -88,16 +99,24 @@ TakesPiece old so_far (pieces.More is_long) kept new =
 TakesPiece old so_far pieces.End kept new = ⊥
 TakesPiece old so_far pieces.Fault kept new = ⊥
 TakesPiece old so_far pieces.Limit kept new = most_bytes < old.taken + length old.pending
+TakesPiece old so_far pieces.NotYet kept new = ⊥
 
--- the same of what was pending and what a read gave, of which there is something where no line feed is
-abbrev pub GivesPiece : Inflow → List ℕ → List ℕ → Piece → List ℕ → Inflow → Option (List ℕ) → Type 0
-GivesPiece old given so_far pieces.Whole kept new rest =
+-- where the line goes on, bytes were taken, and not too many
+abbrev pub TakesMore : Inflow → Piece → Inflow → Type 0
+TakesMore old (pieces.More is_long) new = (old.taken < new.taken) × (new.taken ≤ most_bytes)
+TakesMore old _ new = Unit {0}
+
+-- the same of what was pending and what a read gave; where nothing was, the line so far stays, and whether it is too long
+abbrev pub GivesPiece : Inflow → List ℕ → List ℕ → Bool → Piece → List ℕ → Inflow → Option (List ℕ) → Type 0
+GivesPiece old given so_far was_long pieces.Whole kept new rest =
     (piece : List ℕ) × CutsLine old given piece new × KeepsLine (so_far ++ piece) kept false
-GivesPiece old given so_far pieces.TooLong kept new rest =
+GivesPiece old given so_far was_long pieces.TooLong kept new rest =
     (piece : List ℕ) × CutsLine old given piece new × KeepsLine (so_far ++ piece) kept true
-GivesPiece old given so_far (pieces.More is_long) kept new rest =
+GivesPiece old given so_far was_long (pieces.More is_long) kept new rest =
     IsOneLine (old.pending ++ given) × (new.pending ≡ []) × KeepsLine (so_far ++ (old.pending ++ given)) kept is_long
-    × (new.taken ≡ old.taken + length (old.pending ++ given)) × (new.taken ≤ most_bytes) × (old.taken < new.taken)
-GivesPiece old given so_far pieces.End kept new rest = (old.pending ++ given ≡ []) × IsAtEnd rest
-GivesPiece old given so_far pieces.Fault kept new rest = Unit {0}
-GivesPiece old given so_far pieces.Limit kept new rest = most_bytes < old.taken + length (old.pending ++ given)
+    × (new.taken ≡ old.taken + length (old.pending ++ given)) × (new.taken ≤ most_bytes)
+GivesPiece old given so_far was_long pieces.End kept new rest = (old.pending ++ given ≡ []) × IsAtEnd rest
+GivesPiece old given so_far was_long pieces.Fault kept new rest = Unit {0}
+GivesPiece old given so_far was_long pieces.Limit kept new rest = most_bytes < old.taken + length (old.pending ++ given)
+GivesPiece old given so_far was_long pieces.NotYet kept new rest =
+    (old.pending ++ given ≡ []) × (new.pending ≡ []) × KeepsLine so_far kept was_long × (new.taken ≡ old.taken) × (new.taken ≤ most_bytes)

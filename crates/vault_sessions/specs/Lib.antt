@@ -4,4 +4,4 @@ pub mod Pumping
 pub mod Inflow
 pub mod Incoming
 pub mod Serving
-pub mod Waits
+pub mod Talking

@@ -15,7 +15,7 @@ use Rattle.vault_sessions.specs.declared.report.Out.TheVariants.{Told, Refused}
 use Rattle.vault_sessions.specs.declared.report.Ended.{Ended}
 use Rattle.vault_sessions.specs.declared.report.Ended.TheVariants as ends
 use Rattle.vault_sessions.specs.declared.tally.Totals.{Totals}
-use Rattle.vault_sessions.specs.declared.serve.TheConstants.{MOST_LINES}
+use Rattle.vault_sessions.specs.declared.worker.TheConstants.{MOST_LINES}
 
 -- the most lines of a connection that are answered
 abbrev pub most_lines : ℕ

@@ -1,5 +1,6 @@
 //! The flusher commits what the workers staged.
 
+use crate::bells::{AtTheDesk, Settled};
 use crate::gate::{Gate, Point};
 use crate::shared::Shared;
 use crate::tally::Tally;
@@ -30,7 +31,25 @@ pub fn run_flusher<D: Device, S: Tally, T: Tally, A: Allocator + Copy, G: Gate, 
     shared: &Shared<D, S, T, A>,
     gate: &G,
 ) -> Flushed {
-    let flusher = Flusher { rt, shared, gate };
+    run_flusher_on(rt, shared, gate, &AtTheDesk)
+}
+
+/// The same, and tells these bells, too, when entries are settled.
+pub(crate) fn run_flusher_on<
+    D: Device,
+    S: Tally,
+    T: Tally,
+    A: Allocator + Copy,
+    G: Gate,
+    H: Wait + Clock,
+    B: Settled,
+>(rt: &H, shared: &Shared<D, S, T, A>, gate: &G, bells: &B) -> Flushed {
+    let flusher = Flusher {
+        rt,
+        shared,
+        gate,
+        bells,
+    };
     let mut last = Commit::none();
     for _ in rt.forever() {
         if flusher.begin_snapshot() {
@@ -50,21 +69,22 @@ pub fn run_flusher<D: Device, S: Tally, T: Tally, A: Allocator + Copy, G: Gate, 
 
 // A flusher, with what it works on.
 #[derive(Drop)]
-struct Flusher<'a, D: Device, S: Tally, T: Tally, A: Allocator, G: Gate, H> {
+struct Flusher<'a, D: Device, S: Tally, T: Tally, A: Allocator, G: Gate, H, B> {
     rt: &'a H,
     shared: &'a Shared<D, S, T, A>,
     gate: &'a G,
+    bells: &'a B,
 }
 
-impl<D: Device, S: Tally, T: Tally, A: Allocator + Copy, G: Gate, H: Wait + Clock> Flusher<
-    '_,
-    D,
-    S,
-    T,
-    A,
-    G,
-    H,
-> {
+impl<
+    D: Device,
+    S: Tally,
+    T: Tally,
+    A: Allocator + Copy,
+    G: Gate,
+    H: Wait + Clock,
+    B: Settled,
+> Flusher<'_, D, S, T, A, G, H, B> {
     // Begins a snapshot where one is wanted. Whether it did.
     fn begin_snapshot(&self) -> bool {
         let shared = self.shared;
@@ -127,6 +147,7 @@ impl<D: Device, S: Tally, T: Tally, A: Allocator + Copy, G: Gate, H: Wait + Cloc
             was_moved = true;
         }
         shared.settled.notify_all();
+        self.bells.tell();
         if was_moved {
             Some(Commit::since(self.rt, began))
         } else {

@@ -4,7 +4,7 @@ ghost use Rattle.std.specs.Prelude.{◌≡◌, ◌+◌, ◌≤◌, ◌<◌, List
 ghost use Rattle.std.specs.Io.KnownBytes.{Consumes, IsAtEnd};
 ghost use Rattle.vault_lines.specs.Limits.{longest_line};
 ghost use Rattle.vault_sessions.specs.Inflow.{Inflow};
-ghost use Rattle.vault_sessions.specs.Incoming.{most_bytes, most_reads, GivesByte, GivesLine, GivesPiece, KeepsLine, ReadsChunk, Fills, TakesByte, TakesPiece};
+ghost use Rattle.vault_sessions.specs.Incoming.{most_bytes, most_reads, GivesByte, GivesLine, GivesPiece, KeepsLine, ReadsChunk, Fills, TakesByte, TakesMore, TakesPiece};
 
 use memchr::memchr;
 use std::alloc::Allocator;
@@ -28,6 +28,8 @@ pub(crate) enum NextByte {
     Fault,
     /// There is a byte, but too many were taken.
     Limit,
+    /// None waits, and more may come.
+    NotYet,
 }
 
 // What the bytes that wait gave to the line.
@@ -44,6 +46,8 @@ enum Piece {
     Fault,
     /// Too many bytes would be taken.
     Limit,
+    /// None waits, and more may come.
+    NotYet,
 }
 
 /// How the next line came.
@@ -59,6 +63,8 @@ pub(crate) enum NextLine {
     Fault,
     /// Too many bytes were taken.
     Limit,
+    /// It isn't whole, and more may come.
+    NotYet,
 }
 
 /// What lies between a reader and the lines of a connection. Contracts see the bytes that wait, and how many were taken.
@@ -112,6 +118,7 @@ impl Inlet {
             Filled::Waiting => self.take_byte(),
             Filled::End => NextByte::End,
             Filled::Fault => NextByte::Fault,
+            Filled::NotYet => NextByte::NotYet,
         }
     }
 
@@ -124,13 +131,14 @@ impl Inlet {
             return Filled::Waiting;
         }
         match read_chunk(reader, &mut self.chunk, &mut self.reads) {
-            Some(0) => Filled::End,
-            Some(count) => {
+            Given::Bytes(0) => Filled::End,
+            Given::Bytes(count) => {
                 self.at = 0;
                 self.end = count;
                 Filled::Waiting
             }
-            None => Filled::Fault,
+            Given::NotYet => Filled::NotYet,
+            Given::Fault => Filled::Fault,
         }
     }
 
@@ -154,6 +162,7 @@ impl Inlet {
         ensures room { vec_capacity line.old ≤ vec_capacity line.new }
         ensures taken { (so_far : List ℕ) → KeepsLine so_far line.old.items is_long
             → TakesPiece self.old so_far result line.new.items self.new }
+        ensures more { 0 < length self.old.pending → TakesMore self.old result self.new }
     {
         let waiting = &self.chunk[self.at..self.end];
         let left = MOST_BYTES - self.taken;
@@ -194,36 +203,40 @@ impl Inlet {
         ensures room { vec_capacity line.old ≤ vec_capacity line.new }
         ensures given { (so_far : List ℕ) → KeepsLine so_far line.old.items is_long
             → (given : List ℕ) × Consumes (R.remaining reader.old) (R.remaining reader.new) given
-            × GivesPiece self.old given so_far result line.new.items self.new (R.remaining reader.new) }
+            × GivesPiece self.old given so_far is_long result line.new.items self.new (R.remaining reader.new) }
+        ensures more { TakesMore self.old result self.new }
     {
         match self.fill(reader) {
             Filled::Waiting => self.take_piece(line, is_long),
             Filled::End => Piece::End,
             Filled::Fault => Piece::Fault,
+            Filled::NotYet => Piece::NotYet,
         }
     }
 
-    /// The next line, into a buffer that has room for the longest. Of a longer one all bytes are taken.
+    /// The next line, into a buffer that has room for the longest. Of a longer one all bytes are taken. Where it isn't whole, the
+    /// buffer keeps what came, and the next call goes on with it. The caller clears the buffer and the flag once it has used a line.
     pub fn next_line<R: Read, A: Allocator>(
         &mut self,
         reader: &mut R,
         line: &mut Vec<u8, A>,
+        is_long: &mut bool,
     ) -> NextLine
         requires { longest_line ≤ vec_capacity line.old }
-        ensures line { (given : List ℕ) × Consumes (R.remaining reader.old) (R.remaining reader.new) given
-            × GivesLine self.old given result line.new.items self.new (R.remaining reader.new) }
+        ensures line { (part : List ℕ) → KeepsLine part line.old.items is_long.old
+            → (given : List ℕ) × Consumes (R.remaining reader.old) (R.remaining reader.new) given
+            × GivesLine self.old given part result line.new.items is_long.new self.new (R.remaining reader.new) }
         ensures room { vec_capacity line.old ≤ vec_capacity line.new }
     {
-        line.clear();
-        let mut is_long = false;
         loop {
-            match self.next_piece(reader, line, is_long) {
+            match self.next_piece(reader, line, *is_long) {
                 Piece::Whole => return NextLine::Whole,
                 Piece::TooLong => return NextLine::TooLong,
-                Piece::More(is_longer) => is_long = is_longer,
+                Piece::More(is_longer) => *is_long = is_longer,
                 Piece::End => return NextLine::End,
                 Piece::Fault => return NextLine::Fault,
                 Piece::Limit => return NextLine::Limit,
+                Piece::NotYet => return NextLine::NotYet,
             }
         }
     }
@@ -246,24 +259,35 @@ enum Filled {
     Waiting,
     End,
     Fault,
+    NotYet,
 }
 
-// Reads once, and again where the read was interrupted. None where the reader failed, or was called too often.
-fn read_chunk<R: Read>(reader: &mut R, chunk: &mut [u8; CHUNK], reads: &mut u32) -> Option<usize>
+// What a read gave.
+enum Given {
+    Bytes(usize),
+    NotYet,
+    Fault,
+}
+
+// Reads once, and again where the read was interrupted. A fault where the reader failed, or was called too often.
+fn read_chunk<R: Read>(reader: &mut R, chunk: &mut [u8; CHUNK], reads: &mut u32) -> Given
     requires { reads.old ≤ most_reads }
     ensures reads { reads.new ≤ most_reads }
     ensures bytes { ReadsChunk (R.remaining reader.old) (R.remaining reader.new) chunk.new result }
 {
     for _ in 0..MOST_READS {
         if *reads >= MOST_READS {
-            return None;
+            return Given::Fault;
         }
         *reads += 1;
         match reader.read(chunk) {
-            Ok(count) => return Some(count),
-            Err(error) if error.kind() == ErrorKind::Interrupted => {}
-            Err(_) => return None,
+            Ok(count) => return Given::Bytes(count),
+            Err(error) => match error.kind() {
+                ErrorKind::Interrupted => {}
+                ErrorKind::WouldBlock => return Given::NotYet,
+                _ => return Given::Fault,
+            },
         }
     }
-    None
+    Given::Fault
 }

@@ -5,17 +5,20 @@ ghost use Rattle.group_commit.specs.View.{length_of};
 ghost use Rattle.vault_sessions.specs.Tallies.{HasGrown};
 ghost use denote.Param.Send.{Frees};
 
-use crate::flusher::{Flushed, run_flusher};
+use crate::bells::Bell;
+use crate::flusher::{Flushed, run_flusher_on};
 use crate::gate::Gate;
-use crate::serve::serve_one;
+use crate::rounds::Rounds;
 use crate::shared::{Shared, gather};
-use crate::stream::{give_up, prepare};
+use crate::stream::prepare;
 use crate::tally::{Share, Tally, Totals};
+use crate::worker::Worker;
 use crossbeam_channel::{Receiver, Sender, bounded};
 use group_commit::Vault;
+use mio::Poll;
 use std::alloc::Allocator;
 use std::marker::Brand;
-use std::net::{TcpListener, TcpStream};
+use std::net::{Net, TcpListener, TcpStream};
 use std::sync::Wait;
 use std::sync::ledger::Blank;
 use std::thread::{JoinHandle, Scope, Threads};
@@ -28,6 +31,9 @@ use vault_device::Device;
 const MOST_FAULTS: u32 = 20;
 
 const REST: u64 = 50;
+
+// How many threads serve connections at most. The first has them until its places are full.
+const MOST_THREADS: usize = 2;
 
 // The system's numbers of a want of memory, of descriptors of all programs, of descriptors of this one, and of buffers.
 const WANTS: [i32; 4] = [libc::ENOMEM, 23, libc::EMFILE, 105];
@@ -57,20 +63,20 @@ pub struct Terms {
 
 // An accepted connection, with its number.
 #[derive(Drop)]
-struct Connection {
-    number: u32,
-    stream: TcpStream,
+pub(crate) struct Connection {
+    pub number: u32,
+    pub stream: TcpStream,
 }
 
-/// Serves connections by so many workers and a flusher, all of which have ended when it returns. Where a number of connections is
-/// given, it ends once these were served, with the vault and what was counted. Connections count from 1, and wrap. At an error
-/// the connections that were handed to workers are served to their end first. With a broken vault it goes on, and every command is
-/// answered `Broken`.
+/// Serves so many connections at a time by two threads at most and a flusher, all of which have ended when it returns. Where a number
+/// of connections is given, it ends once these were served, with the vault and what was counted. Connections count from 1, and wrap. At
+/// an error the connections that were handed to threads are served to their end first. With a broken vault it goes on, and every command
+/// is answered `Broken`.
 pub fn run_server<
     D: Device + Drop + Send,
     A: Allocator + Copy + Send + Sync,
     G: Gate + Sync,
-    H: Threads + Wait + Clock + Sync,
+    H: Threads + Wait + Clock + Net + Sync,
 >(
     rt: &H,
     alloc: A,
@@ -97,7 +103,7 @@ pub fn run_server_on<
     D: Device + Drop + Send,
     A: Allocator + Copy + Send + Sync,
     G: Gate + Sync,
-    H: Threads + Wait + Clock + Sync,
+    H: Threads + Wait + Clock + Net + Sync,
 >(
     rt: &H,
     alloc: A,
@@ -120,7 +126,7 @@ fn run<
     D: Device + Drop + Send,
     A: Allocator + Copy + Send + Sync,
     G: Gate + Sync,
-    H: Threads + Wait + Clock + Sync,
+    H: Threads + Wait + Clock + Net + Sync,
     S: Tally + Send + Sync,
     T: Tally + Send + Sync,
 >(
@@ -145,17 +151,37 @@ fn run<
     let Ok((shared, shares)) = Shared::<D, S, T, A>::new(alloc, staged, told, vault, workers) else {
         return Err(ServerError::NoMemory);
     };
+    let (polls, bells) = polls_of(rt, alloc, workers.min(MOST_THREADS))?;
     let server = Server {
         rt,
         alloc,
         shared: &shared,
         gate,
+        bells: &bells,
     };
-    let returned = server.serve_all(shares, &listener, terms)?;
+    let returned = server.serve_all(shares, polls, &listener, terms)?;
     match gather(shared, returned) {
         Ok(served) => Ok(served),
         Err(_) => Err(ServerError::NoMemory),
     }
+}
+
+// So many polls, each with a bell.
+fn polls_of<A: Allocator + Copy, H: Net>(
+    rt: &H,
+    alloc: A,
+    count: usize,
+) -> Result<(Vec<Poll, A>, Vec<Bell, A>), ServerError> {
+    let mut polls = Vec::new(alloc);
+    let mut bells = Vec::new(alloc);
+    for _ in 0..count {
+        let poll = Poll::new(rt).or(Err(ServerError::NoMemory))?;
+        let bell = Bell::new(&poll).or(Err(ServerError::NoMemory))?;
+        if polls.push(poll).is_err() || bells.push(bell).is_err() {
+            return Err(ServerError::NoMemory);
+        }
+    }
+    Ok((polls, bells))
 }
 
 // What each thread of a server has.
@@ -165,6 +191,14 @@ struct Server<'a, D: Device, A: Allocator, G: Gate, H, S: Tally, T: Tally> {
     alloc: A,
     shared: &'a Shared<D, S, T, A>,
     gate: &'a G,
+    bells: &'a Vec<Bell, A>,
+}
+
+// The threads that serve connections: how each gets them, and what it gives back.
+#[derive(Drop)]
+struct Running<S: Tally, T: Tally, A: Allocator> {
+    senders: Vec<Sender<Connection, A>, A>,
+    handles: Vec<JoinHandle<Vec<Share<S, T>, A>>, A>,
 }
 
 impl<
@@ -179,6 +213,7 @@ impl<
     fn serve_all(
         &self,
         shares: Vec<Share<S, T>, A>,
+        polls: Vec<Poll, A>,
         listener: &TcpListener,
         terms: &Terms,
     ) -> Result<Vec<Share<S, T>, A>, ServerError>
@@ -190,7 +225,7 @@ impl<
             |scope| -> Result<Vec<Share<S, T>, A>, ServerError>
                 requires { IsSend D.row × IsSend A.row × IsSync A.row × Frees A.Allocator A.dealloc_token × IsSync G.row × IsSync H.row
                     × IsSend S.row × IsSync S.row × IsSend T.row × IsSync T.row }
-            { self.serve_within(scope, shares, listener, terms) },
+            { self.serve_within(scope, shares, polls, listener, terms) },
         )
     }
 
@@ -199,28 +234,39 @@ impl<
         &'s self,
         scope: &'s Scope<'s, E>,
         shares: Vec<Share<S, T>, A>,
+        polls: Vec<Poll, A>,
         listener: &TcpListener,
         terms: &Terms,
     ) -> Result<Vec<Share<S, T>, A>, ServerError>
         requires { Frees A.Allocator A.dealloc_token }
     {
         let count = shares.len();
-        let Ok((sender, receiver)) = bounded::<Connection, A>(self.alloc, count) else {
-            return Err(ServerError::NoMemory);
-        };
-        let mut running = Vec::new(self.alloc);
         let mut returned = Vec::new(self.alloc);
-        if running.reserve(count).is_err() || returned.reserve(count).is_err() {
+        if returned.reserve(count).is_err() {
             return Err(ServerError::NoMemory);
         }
+        let most_said = count.saturating_add(MOST_THREADS);
+        let Ok((freed, free)) = bounded::<Option<usize>, A>(self.alloc, most_said) else {
+            return Err(ServerError::NoMemory);
+        };
         let Some(flusher) = self.start_flusher(scope) else {
             return Err(ServerError::NoMemory);
         };
-        let started = self.start_all(scope, &receiver, shares, &mut running);
-        drop(receiver);
-        let accepted = started.and_then(|()| accept_all(self.rt, listener, &sender, terms));
-        drop(sender);
-        join_all(self.rt, running, &mut returned);
+        let mut running = Running {
+            senders: Vec::new(self.alloc),
+            handles: Vec::new(self.alloc),
+        };
+        let started = self.start_all(scope, polls, shares, &freed, terms.idle, &mut running);
+        drop(freed);
+        let Running { senders, handles } = running;
+        let accepted = started.and_then(|()| accept_all(
+            self.rt, listener, &senders, &free, self.bells, terms,
+        ));
+        drop(senders);
+        for bell in self.bells {
+            bell.ring();
+        }
+        join_all(self.rt, handles, &mut returned);
         self.shared.close(self.rt);
         flusher.join(self.rt);
         accepted?;
@@ -231,90 +277,114 @@ impl<
     fn start_flusher<'s, E>(&'s self, scope: &'s Scope<'s, E>) -> Option<JoinHandle<Flushed>>
         requires { Frees A.Allocator A.dealloc_token }
     {
-        let (rt, shared, gate) = (self.rt, self.shared, self.gate);
-        scope.spawn(move || run_flusher(rt, shared, gate)).ok()
+        let (rt, shared, gate, bells) = (self.rt, self.shared, self.gate, self.bells);
+        scope
+            .spawn(move || run_flusher_on(rt, shared, gate, bells))
+            .ok()
     }
 
-    // Starts a worker for each share, into the room that was taken for them, unless there is no memory for one.
+    // Starts a thread for each poll, with a like part of the shares, unless there is no memory for one.
     fn start_all<'s, E>(
         &'s self,
         scope: &'s Scope<'s, E>,
-        receiver: &Receiver<Connection, A>,
+        polls: Vec<Poll, A>,
         shares: Vec<Share<S, T>, A>,
-        running: &mut Vec<JoinHandle<Share<S, T>>, A>,
+        freed: &Sender<Option<usize>, A>,
+        idle: Option<Duration>,
+        running: &mut Running<S, T, A>,
     ) -> Result<(), ServerError>
         requires { Frees A.Allocator A.dealloc_token }
     {
-        for share in shares {
-            let Some(worker) = self.start(scope, receiver, share) else {
+        let mut shares = shares;
+        let mut threads = polls.len();
+        for (number, poll) in polls.into_iter().enumerate() {
+            let own = part_of(self.alloc, &mut shares, threads)?;
+            let rounds = self.rounds_of(number, own.len(), freed, idle, &mut running.senders)?;
+            let Some(handle) = self.start(scope, rounds, poll, own) else {
                 return Err(ServerError::NoMemory);
             };
-            let _ = running.push(worker);
+            if running.handles.push(handle).is_err() {
+                return Err(ServerError::NoMemory);
+            }
+            threads = threads.saturating_sub(1);
         }
         Ok(())
     }
 
-    // Starts a worker, unless there is no memory for it.
+    // Starts a thread, unless there is no memory for it.
     fn start<'s, E>(
         &'s self,
         scope: &'s Scope<'s, E>,
-        receiver: &Receiver<Connection, A>,
-        share: Share<S, T>,
-    ) -> Option<JoinHandle<Share<S, T>>>
+        rounds: Rounds<'s, D, S, T, A, G, H>,
+        poll: Poll,
+        shares: Vec<Share<S, T>, A>,
+    ) -> Option<JoinHandle<Vec<Share<S, T>, A>>>
         requires { Frees A.Allocator A.dealloc_token }
     {
-        let receiver = receiver.clone().ok()?;
-        let (rt, alloc, shared, gate) = (self.rt, self.alloc, self.shared, self.gate);
-        let work = move || {
-            let server = Server {
-                rt,
-                alloc,
-                shared,
-                gate,
-            };
-            server.work(receiver, share)
+        scope.spawn(move || rounds.run(poll, shares)).ok()
+    }
+
+    // What a thread serves by that has so many places.
+    fn rounds_of<'s>(
+        &'s self,
+        number: usize,
+        places: usize,
+        freed: &Sender<Option<usize>, A>,
+        idle: Option<Duration>,
+        senders: &mut Vec<Sender<Connection, A>, A>,
+    ) -> Result<Rounds<'s, D, S, T, A, G, H>, ServerError> {
+        let Some(bell) = self.bells.as_slice().get(number) else {
+            return Err(ServerError::NoMemory);
         };
-        scope.spawn(work).ok()
-    }
-
-    // Serves connections until there are no more.
-    fn work(&self, receiver: Receiver<Connection, A>, share: Share<S, T>) -> Share<S, T> {
-        let mut share = share;
-        for _ in self.rt.forever() {
-            let Ok(connection) = receiver.recv(self.rt) else {
-                break;
-            };
-            share = self.serve(&connection, share);
+        let Ok((sender, coming)) = bounded::<Connection, A>(self.alloc, places) else {
+            return Err(ServerError::NoMemory);
+        };
+        let freed = freed.clone().or(Err(ServerError::NoMemory))?;
+        if senders.push(sender).is_err() {
+            return Err(ServerError::NoMemory);
         }
-        share
-    }
-
-    // Serves a connection, and gives it up.
-    fn serve(&self, connection: &Connection, share: Share<S, T>) -> Share<S, T> {
-        let stream = &connection.stream;
-        let report = serve_one(
-            self.rt,
-            self.alloc,
-            self.shared,
-            self.gate,
-            connection.number,
-            &mut &*stream,
-            &mut &*stream,
-            share,
-        );
-        give_up(self.rt, stream, report.ended);
-        report.share
+        Ok(Rounds {
+            worker: Worker {
+                rt: self.rt,
+                alloc: self.alloc,
+                shared: self.shared,
+                gate: self.gate,
+            },
+            bell,
+            number,
+            coming,
+            freed,
+            idle,
+        })
     }
 }
 
-// Waits for the workers, and keeps their shares in the room that was taken for them.
+// A like part of the shares, where they go to so many threads.
+fn part_of<S: Tally, T: Tally, A: Allocator>(
+    alloc: A,
+    shares: &mut Vec<Share<S, T>, A>,
+    threads: usize,
+) -> Result<Vec<Share<S, T>, A>, ServerError> {
+    let count = shares.len() / threads.max(1);
+    let mut own = Vec::new(alloc);
+    for _ in 0..count {
+        if let Some(share) = shares.pop() {
+            own.push(share).or(Err(ServerError::NoMemory))?;
+        }
+    }
+    Ok(own)
+}
+
+// Waits for the threads, and keeps their shares in the room that was taken for them.
 fn join_all<A: Allocator, H: Threads, S: Tally, T: Tally>(
     rt: &H,
-    running: Vec<JoinHandle<Share<S, T>>, A>,
+    handles: Vec<JoinHandle<Vec<Share<S, T>, A>>, A>,
     returned: &mut Vec<Share<S, T>, A>,
 ) {
-    for worker in running {
-        let _ = returned.push(worker.join(rt));
+    for handle in handles {
+        for share in handle.join(rt) {
+            let _ = returned.push(share);
+        }
     }
 }
 
@@ -322,7 +392,9 @@ fn join_all<A: Allocator, H: Threads, S: Tally, T: Tally>(
 fn accept_all<A: Allocator, H: Wait + Clock>(
     rt: &H,
     listener: &TcpListener,
-    sender: &Sender<Connection, A>,
+    senders: &Vec<Sender<Connection, A>, A>,
+    free: &Receiver<Option<usize>, A>,
+    bells: &Vec<Bell, A>,
     terms: &Terms,
 ) -> Result<(), ServerError> {
     let mut number = 0u32;
@@ -338,14 +410,34 @@ fn accept_all<A: Allocator, H: Wait + Clock>(
         };
         faults = 0;
         number = number.wrapping_add(1);
-        prepare(&stream, terms.idle);
-        if sender.send(rt, Connection { number, stream }).is_err() {
-            return Err(ServerError::NoMemory);
+        if prepare(&stream).is_ok() {
+            hand_out(rt, Connection { number, stream }, senders, free, bells)?;
         }
         if terms.connections == Some(number) {
             return Ok(());
         }
     }
+    Ok(())
+}
+
+// Waits for a free place, and hands a connection to its thread.
+fn hand_out<A: Allocator, H: Wait>(
+    rt: &H,
+    connection: Connection,
+    senders: &Vec<Sender<Connection, A>, A>,
+    free: &Receiver<Option<usize>, A>,
+    bells: &Vec<Bell, A>,
+) -> Result<(), ServerError> {
+    let Ok(Some(number)) = free.recv(rt) else {
+        return Err(ServerError::NoMemory);
+    };
+    let (Some(sender), Some(bell)) = (senders.get(number), bells.get(number)) else {
+        return Err(ServerError::NoMemory);
+    };
+    if sender.send(rt, connection).is_err() {
+        return Err(ServerError::NoMemory);
+    }
+    bell.ring();
     Ok(())
 }
 

@@ -3,13 +3,13 @@
 use crate::failure::Failure;
 use libc::types::rlimit;
 
-/// What the program has open beside its connections: the standard streams, what stands in for them, two files and the listener,
-/// and one to spare.
-const BESIDE: u64 = 10;
+/// What the program has open beside the connections that it serves: the standard streams, what stands in for them, two files and the
+/// listener, what two threads wait by and are woken by, a connection that waits for a worker, and one to spare.
+const BESIDE: u64 = 15;
 
-/// How many descriptors a server needs: for each worker a connection that it serves and one that waits for it.
+/// How many descriptors a server needs: for each worker the connection that it serves, and what it has beside these.
 pub(crate) fn needed(workers: u32) -> u64 {
-    u64::from(workers) * 2 + BESIDE
+    u64::from(workers) + BESIDE
 }
 
 /// How many descriptors the system lets the program have, where it says so.

@@ -1,5 +1,5 @@
 use Rattle.std.proofs.Common.{◌≡◌}
-use Rattle.vault_sessions.proofs.serve.Worker.redeem.Given as goal
+use Rattle.vault_sessions.proofs.worker.Worker.wait.Given as goal
 
 -- the ticket is the one that was handed in, and nothing was counted
 abbrev pub invariant-loop : goal.invariant-loop

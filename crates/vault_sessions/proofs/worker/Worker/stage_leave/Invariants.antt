@@ -1,5 +1,5 @@
 use Rattle.std.proofs.Common.{◌≡◌}
-use Rattle.vault_sessions.proofs.serve.Worker.stage_leave.Given as goal
+use Rattle.vault_sessions.proofs.worker.Worker.stage_leave.Given as goal
 
 -- nothing was counted yet
 abbrev pub invariant-loop : goal.invariant-loop

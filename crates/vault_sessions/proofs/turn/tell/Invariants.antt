@@ -1,0 +1,13 @@
+use Rattle.std.proofs.Common.{◌≡◌, ℕ, ◌+◌, ◌-◌, length, take, drop}
+use Rattle.std.specs.Io.KnownBytes.{Appends}
+use Rattle.vault_sessions.proofs.turn.tell.Given as goal
+
+-- so many bytes more of the text were written
+abbrev pub invariant-loop-telling : goal.invariant-loop-telling
+invariant-loop-telling g l =
+    (count : ℕ) × (l.telling.text.items ≡ l.initial.telling.text.items) × (l.telling.is_left ≡ l.initial.telling.is_left)
+    × (l.telling.written ≡ l.initial.telling.written + count)
+    × Appends (g.W.Write.contents l.initial.writer) (g.W.Write.contents l.writer) (take count (drop l.initial.telling.written l.initial.telling.text.items))
+
+abbrev pub decreases-loop-telling : goal.decreases-loop-telling
+decreases-loop-telling g l = length l.telling.text.items - l.telling.written

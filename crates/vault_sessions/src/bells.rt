@@ -1,0 +1,67 @@
+//! What wakes the threads that serve connections.
+
+use mio::{Poll, Token, Waker};
+use std::alloc::Allocator;
+use std::io;
+use std::sync::atomic::{AtomicBool, Ordering};
+
+// The token of a thread's bell, which no connection has.
+const TOKEN: Token = Token(usize::MAX);
+
+/// Wakes one thread out of its poll.
+#[derive(Drop)]
+pub(crate) struct Bell {
+    waker: Waker,
+    // Whether its thread has connections.
+    has_connections: AtomicBool,
+}
+
+impl Bell {
+    /// The bell of a poll.
+    pub fn new(poll: &Poll) -> io::Result<Bell> {
+        Ok(Bell {
+            waker: Waker::new(poll.registry(), TOKEN)?,
+            has_connections: AtomicBool::new(false),
+        })
+    }
+
+    /// Whether a token is the bell's.
+    pub fn is_token(token: Token) -> bool {
+        token == TOKEN
+    }
+
+    /// Wakes the thread. A wake that fails is made up for by the next one.
+    pub fn ring(&self) {
+        let _ = self.waker.wake();
+    }
+
+    /// Keeps whether the thread has connections, before it takes a step of theirs.
+    pub fn attend(&self, has_connections: bool) {
+        self.has_connections
+            .store(has_connections, Ordering::SeqCst);
+    }
+}
+
+/// What a flusher does once entries are settled, beside what those hear that wait at the desk.
+pub(crate) trait Settled {
+    /// Entries are settled, or the vault is broken.
+    fn tell(&self);
+}
+
+/// Whoever waits does so at the desk.
+#[derive(Drop)]
+pub(crate) struct AtTheDesk;
+
+impl Settled for AtTheDesk {
+    fn tell(&self) {}
+}
+
+impl<A: Allocator> Settled for Vec<Bell, A> {
+    fn tell(&self) {
+        for bell in self {
+            if bell.has_connections.load(Ordering::SeqCst) {
+                bell.ring();
+            }
+        }
+    }
+}

@@ -1,0 +1,82 @@
+//! What a conversation over one connection keeps from one step to the next.
+ghost use Rattle.std.specs.Prelude.{◌≡◌, ◌≤◌, [], IfOk, IfErr, vec_capacity, false};
+ghost use Rattle.vault_lines.specs.Limits.{longest_line};
+
+use crate::inlet::Inlet;
+use crate::report::Out;
+use crate::tally::{Share, Tally};
+use std::alloc::Allocator;
+use vault_lines::LONGEST_LINE;
+
+/// A conversation, but for what it does next.
+#[derive(Drop)]
+pub(crate) struct Conversation<S: Tally, T: Tally, A: Allocator> {
+    /// The number of its connection.
+    pub connection: u32,
+    /// What lies between the reader and the line.
+    pub inlet: Inlet,
+    /// The bytes of the line that is being heard.
+    pub line: Vec<u8, A>,
+    /// Whether these were too many, and some of them are left out.
+    pub is_long: bool,
+    /// The answers, in order.
+    pub outs: Vec<Out<A>, A>,
+    /// The session that it speaks for, or 0.
+    pub session: u32,
+    /// What it counted.
+    pub share: Share<S, T>,
+    ghost room: { longest_line ≤ vec_capacity line },
+}
+
+impl<S: Tally, T: Tally, A: Allocator + Copy> Conversation<S, T, A> {
+    /// Nothing was heard. Where memory is refused, the share comes back.
+    pub fn new(
+        alloc: A,
+        connection: u32,
+        share: Share<S, T>,
+    ) -> Result<Conversation<S, T, A>, Share<S, T>>
+        ensures made { IfOk result (λ talk. (talk.inlet ≡ record { pending = []; taken = 0 }) × (talk.line.items ≡ []) × (talk.is_long ≡ false)
+            × (talk.outs.items ≡ []) × (talk.session ≡ 0) × (talk.share ≡ share)) }
+        ensures handed_back { IfErr result (λ back. back ≡ share) }
+    {
+        let mut line = Vec::new(alloc);
+        let Ok(()) = line.reserve(LONGEST_LINE) else {
+            return Err(share);
+        };
+        Ok(Conversation {
+            connection,
+            inlet: Inlet::new(),
+            line,
+            is_long: false,
+            outs: Vec::new(alloc),
+            session: 0,
+            share,
+        })
+    }
+
+    /// The line that was heard is used, and no byte of the next one was taken.
+    pub fn begin_line(&mut self)
+        ensures begun { (self.new.line.items ≡ []) × (self.new.is_long ≡ false) }
+        ensures same { (self.new.inlet ≡ self.old.inlet) × (self.new.outs ≡ self.old.outs) × (self.new.session ≡ self.old.session)
+            × (self.new.share ≡ self.old.share) }
+    {
+        self.line.clear();
+        self.is_long = false;
+    }
+
+    /// Its share.
+    pub fn into_share(self) -> Share<S, T>
+        ensures { result ≡ self.share }
+    {
+        let Conversation {
+            connection: _,
+            inlet: _,
+            line: _,
+            is_long: _,
+            outs: _,
+            session: _,
+            share,
+        } = self;
+        share
+    }
+}

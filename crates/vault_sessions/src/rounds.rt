@@ -1,0 +1,220 @@
+//! One thread that serves several connections.
+
+use crate::bells::Bell;
+use crate::gate::Gate;
+use crate::server::Connection;
+use crate::slot::{Goes, Slot};
+use crate::tally::{Share, Tally};
+use crate::worker::Worker;
+use crossbeam_channel::{Receiver, Sender};
+use mio::unix::SourceFd;
+use mio::{Events, Interest, Poll, Registry, Token};
+use std::alloc::Allocator;
+use std::os::fd::AsRawFd;
+use std::sync::Wait;
+use std::time::{Clock, Duration, Instant};
+use vault_device::Device;
+
+// How many events one look at the kernel gives at most.
+const MOST_EVENTS: usize = 65;
+
+/// A thread's part of a server.
+#[derive(Drop)]
+pub(crate) struct Rounds<'a, D: Device, S: Tally, T: Tally, A: Allocator, G: Gate, H: Wait> {
+    pub worker: Worker<'a, D, S, T, A, G, H>,
+    /// What wakes it.
+    pub bell: &'a Bell,
+    /// Its number among the threads.
+    pub number: usize,
+    /// The connections that come to it.
+    pub coming: Receiver<Connection, A>,
+    /// Where it says its number for each place that is free, or nothing where it can't serve for want of memory.
+    pub freed: Sender<Option<usize>, A>,
+    /// For how long a client may be silent.
+    pub idle: Option<Duration>,
+}
+
+impl<D: Device, S: Tally, T: Tally, A: Allocator + Copy, G: Gate, H: Wait + Clock> Rounds<
+    '_,
+    D,
+    S,
+    T,
+    A,
+    G,
+    H,
+> {
+    /// Serves connections, as many at a time as there are shares, until no more come. The shares come back.
+    pub fn run(&self, poll: Poll, shares: Vec<Share<S, T>, A>) -> Vec<Share<S, T>, A> {
+        let mut shares = shares;
+        let Ok(mut events) = Events::with_capacity(self.worker.alloc, MOST_EVENTS) else {
+            self.say(None);
+            return shares;
+        };
+        let Some(mut slots) = slots_of(self.worker.alloc, &mut shares) else {
+            self.say(None);
+            return shares;
+        };
+        for _ in 0..slots.len() {
+            self.say(Some(self.number));
+        }
+        let mut poll = poll;
+        self.serve(&mut poll, &mut events, &mut slots);
+        while let Some(slot) = slots.pop() {
+            if let Some(share) = slot.into_share(&self.worker) {
+                let _ = shares.push(share);
+            }
+        }
+        slots.destroy_empty();
+        shares
+    }
+
+    // Says that a place is free, or that it can't serve.
+    fn say(&self, number: Option<usize>) {
+        let _ = self.freed.send(self.worker.rt, number);
+    }
+
+    fn now(&self) -> Option<Instant> {
+        Instant::now(self.worker.rt).ok()
+    }
+
+    // Serves connections until no more come.
+    fn serve(&self, poll: &mut Poll, events: &mut Events<A>, slots: &mut Vec<Slot<S, T, A>, A>) {
+        let mut goes = Goes::Over;
+        for _ in self.worker.rt.forever() {
+            self.look(poll, events, slots, goes);
+            let now = self.now();
+            let may_come = self.take(poll.registry(), slots, now);
+            goes = self.turn(slots, now);
+            if goes == Goes::Over {
+                self.bell.attend(false);
+                if !may_come {
+                    return;
+                }
+            }
+        }
+    }
+
+    // Waits until something happens where there is nothing to do, and notes what did.
+    fn look(
+        &self,
+        poll: &mut Poll,
+        events: &mut Events<A>,
+        slots: &mut Vec<Slot<S, T, A>, A>,
+        goes: Goes,
+    ) {
+        let wait = if goes == Goes::On {
+            Some(Duration::ZERO)
+        } else {
+            self.wait_for(slots)
+        };
+        let mut is_rung = poll.poll(events, wait).is_err();
+        for event in events.iter() {
+            let token = event.token();
+            if Bell::is_token(token) {
+                is_rung = true;
+            } else if let Some(slot) = slots.as_mut_slice().get_mut(token.0) {
+                slot.wake(event.is_read_closed() || event.is_error());
+            }
+        }
+        if is_rung {
+            for slot in slots.as_mut_slice() {
+                slot.look_again();
+            }
+        }
+    }
+
+    // How long it may wait where nothing happens. None: for ever.
+    fn wait_for(&self, slots: &Vec<Slot<S, T, A>, A>) -> Option<Duration> {
+        let mut first: Option<Instant> = None;
+        for slot in slots {
+            if let Some(deadline) = slot.deadline(self.idle) {
+                first = Some(match first {
+                    Some(first) if first < deadline => first,
+                    _ => deadline,
+                });
+            }
+        }
+        let first = first?;
+        Some(first.saturating_duration_since(self.now()?))
+    }
+
+    // Puts connections that came into free places. Whether more may come.
+    fn take(
+        &self,
+        registry: &Registry,
+        slots: &mut Vec<Slot<S, T, A>, A>,
+        now: Option<Instant>,
+    ) -> bool {
+        for (number, slot) in slots.iter_mut().enumerate() {
+            if slot.is_free() {
+                match self.coming.try_recv(self.worker.rt) {
+                    Ok(connection) => self.begin(registry, number, slot, connection, now),
+                    Err(error) => return !error.is_disconnected(),
+                }
+            }
+        }
+        true
+    }
+
+    // Serves a connection in a place, unless the kernel can't tell of it.
+    fn begin(
+        &self,
+        registry: &Registry,
+        number: usize,
+        slot: &mut Slot<S, T, A>,
+        connection: Connection,
+        now: Option<Instant>,
+    ) {
+        let fd = connection.stream.as_raw_fd();
+        let both = Interest::READABLE | Interest::WRITABLE;
+        if registry
+            .register(&mut SourceFd(&fd), Token(number), both)
+            .is_err()
+        {
+            drop(connection);
+            self.say(Some(self.number));
+            return;
+        }
+        self.bell.attend(true);
+        slot.serve(&self.worker, connection, now);
+        if slot.is_free() {
+            self.say(Some(self.number));
+        }
+    }
+
+    // Lets each connection do what it has to do. Whether there is more to do, also where a place is free now, or any connection.
+    fn turn(&self, slots: &mut Vec<Slot<S, T, A>, A>, now: Option<Instant>) -> Goes {
+        let mut all = Goes::Over;
+        for slot in slots.as_mut_slice() {
+            if slot.is_free() {
+                continue;
+            }
+            match slot.turn(&self.worker, self.idle, now) {
+                Goes::On => all = Goes::On,
+                Goes::Rests if all == Goes::Over => all = Goes::Rests,
+                Goes::Rests => {}
+                Goes::Over => {
+                    self.say(Some(self.number));
+                    all = Goes::On;
+                }
+            }
+        }
+        all
+    }
+}
+
+// A free place for each share, unless there is no memory for them.
+fn slots_of<S: Tally, T: Tally, A: Allocator + Copy>(
+    alloc: A,
+    shares: &mut Vec<Share<S, T>, A>,
+) -> Option<Vec<Slot<S, T, A>, A>> {
+    let mut slots = Vec::new(alloc);
+    let Ok(()) = slots.reserve(shares.len()) else {
+        slots.destroy_empty();
+        return None;
+    };
+    while let Some(share) = shares.pop() {
+        slots.push_reserved(Slot::Free(share));
+    }
+    Some(slots)
+}

@@ -1,0 +1,100 @@
+//! What a conversation does next, and the telling of an answer.
+ghost use Rattle.std.specs.Prelude.{◌≡◌, IfOk, MatchBool};
+ghost use Rattle.vault_sessions.specs.Serving.{session_after as session_after_out, text_of as text_of_answer, IsLeft};
+ghost use Rattle.vault_sessions.specs.Talking.{TellsOn};
+
+use crate::report::{Ended, Out};
+use group_commit::Ticket;
+use std::alloc::Allocator;
+use std::io::{ErrorKind, Write};
+use vault_lines::{outside_text, text_of};
+use vault_model::{NoMemory, Reply};
+
+/// The line that an answer is told as.
+#[derive(Drop)]
+pub(crate) struct Telling<A: Allocator> {
+    /// The bytes of the line that aren't written yet.
+    pub text: Vec<u8, A>,
+    /// How many of them are written.
+    pub written: usize,
+    /// Whether it tells that the session has left.
+    pub is_left: bool,
+}
+
+/// What a conversation does next.
+pub(crate) enum Turn<A: Allocator> {
+    /// It hears a line.
+    Hear,
+    /// It waits for the reply to its command.
+    Wait(Ticket<A>),
+    /// It tells an answer.
+    Tell(Telling<A>),
+    /// It ended, and does nothing more.
+    Over(Ended),
+}
+
+/// Tells more of an answer. It is still to be told where the writer takes no more for now.
+pub(crate) fn tell<A: Allocator, W: Write>(writer: &mut W, telling: Telling<A>) -> Turn<A>
+    ensures { TellsOn telling result (W.contents writer.old) (W.contents writer.new) }
+{
+    let mut telling = telling;
+    while telling.written < telling.text.len() {
+        match writer.write(&telling.text.as_slice()[telling.written..]) {
+            Ok(0) => return Turn::Over(Ended::Write),
+            Ok(count) => telling.written += count,
+            Err(error) if error.kind() == ErrorKind::WouldBlock => return Turn::Tell(telling),
+            Err(_) => return Turn::Over(Ended::Write),
+        }
+    }
+    if telling.is_left {
+        Turn::Over(Ended::Quit)
+    } else {
+        Turn::Hear
+    }
+}
+
+/// What a conversation comes to whose reader or writer failed.
+pub(crate) fn given_up<A: Allocator>(turn: Turn<A>) -> Turn<A> {
+    match turn {
+        Turn::Hear => Turn::Over(Ended::Read),
+        Turn::Tell(_) => Turn::Over(Ended::Write),
+        other => other,
+    }
+}
+
+/// The line that an answer is told as.
+pub(crate) fn text_of_out<A: Allocator + Copy>(
+    alloc: A,
+    out: &Out<A>,
+) -> Result<Vec<u8, A>, NoMemory>
+    ensures { IfOk result (λ text. text.items ≡ text_of_answer out.now) }
+{
+    match out {
+        Out::Told(receipt) => text_of(alloc, receipt.reply()),
+        Out::Refused(outside) => outside_text(alloc, *outside),
+    }
+}
+
+/// Whether an answer is a receipt of a leave.
+pub(crate) fn is_left<A: Allocator>(out: &Out<A>) -> bool
+    ensures { MatchBool result (IsLeft out.now) (IsLeft out.now → ⊥) }
+{
+    match out {
+        Out::Told(receipt) => matches!(receipt.reply(), Reply::Left),
+        Out::Refused(_) => false,
+    }
+}
+
+/// The session that the connection speaks for behind an answer.
+pub(crate) fn session_after<A: Allocator>(session: u32, out: &Out<A>) -> u32
+    ensures { result ≡ session_after_out session out.now }
+{
+    match out {
+        Out::Told(receipt) => match receipt.reply() {
+            Reply::Session(number) => *number,
+            Reply::Left => 0,
+            _ => session,
+        },
+        Out::Refused(_) => session,
+    }
+}

@@ -1,0 +1,344 @@
+//! The steps of a conversation: it hears a line, waits for the reply, and tells it.
+ghost use Rattle.std.specs.Prelude.{◌≡◌, ◌≢◌, ◌+◌, ◌≤◌, ◌<◌, ℕ, List, Option, [], ◌∷◌, ◌++◌, MatchOption, IfOk, IfErr, IfSome, length, vec_capacity, vec_len};
+ghost use Rattle.vault_lines.specs.Limits.{longest_line};
+ghost use Rattle.vault_sessions.specs.Serving.{Counts, session_of, session_after as session_after_out};
+ghost use Rattle.vault_sessions.specs.Tallies.{IsOfTicket, CountsRedeem};
+ghost use Rattle.vault_sessions.specs.Talking.{HeardPart, IsHeard, StagesBy, FitsLine, IsAnswered, StandsAt};
+ghost use Rattle.vault_sessions.specs.declared.report.Out.{Out};
+ghost use Rattle.vault_sessions.specs.declared.tally.Totals.{Totals};
+ghost use Rattle.vault_sessions.specs.declared.turn.Turn.TheVariants as turns;
+ghost use Rattle.vault_model.specs.declared.replies.Outside.TheVariants.{BadLine};
+ghost use Rattle.vault_model.specs.declared.commands.Command.TheVariants.{Leave};
+
+use crate::conversation::Conversation;
+use crate::gate::{Gate, Point};
+use crate::inlet::{NextByte, NextLine};
+use crate::report::{Ended, Out};
+use crate::shared::Shared;
+use crate::tally::{Share, Tally};
+use crate::turn::{Telling, Turn, is_left, session_after, text_of_out};
+use flusher_pace::may_change;
+use group_commit::{Redeemed, Ticket};
+use std::alloc::Allocator;
+use std::io::Read;
+use std::sync::Wait;
+use vault_device::Device;
+use vault_lines::{LineError, read_line_of};
+use vault_model::{Command, CommandIn, NoMemory, Outside};
+
+// The most lines of a connection that are answered. It ends at the first byte behind them.
+const MOST_LINES: usize = 4096;
+
+/// Takes the steps of conversations over one vault.
+#[derive(Drop)]
+pub(crate) struct Worker<'a, D: Device, S: Tally, T: Tally, A: Allocator, G: Gate, H: Wait> {
+    pub rt: &'a H,
+    pub alloc: A,
+    pub shared: &'a Shared<D, S, T, A>,
+    pub gate: &'a G,
+}
+
+// How a line came.
+enum Heard<A: Allocator> {
+    // Its command is staged.
+    Asked(Ticket<A>),
+    Refused(Outside),
+    // It isn't whole, and more may come.
+    NotYet,
+    // None comes.
+    Ended(Ended),
+}
+
+impl<D: Device, S: Tally, T: Tally, A: Allocator + Copy, G: Gate, H: Wait> Worker<
+    '_,
+    D,
+    S,
+    T,
+    A,
+    G,
+    H,
+> {
+    /// Hears a line, and stages its command or answers it. A line is still to be heard where the reader has no whole one for now.
+    pub fn hear<R: Read>(&self, talk: &mut Conversation<S, T, A>, reader: &mut R) -> Turn<A>
+        ensures { (reader_old writer_old writer_new : Option (List ℕ)) (counts : Totals)
+            → StandsAt turns.Hear reader_old (R.remaining reader.old) writer_old writer_new counts talk.old
+            → StandsAt result reader_old (R.remaining reader.new) writer_old writer_new counts talk.new }
+    {
+        if talk.outs.len() >= MOST_LINES {
+            return match talk.inlet.next_byte(reader) {
+                NextByte::Byte(_) | NextByte::Limit => Turn::Over(Ended::Limit),
+                NextByte::End => Turn::Over(Ended::EndOfInput),
+                NextByte::Fault => Turn::Over(Ended::Read),
+                NextByte::NotYet => Turn::Hear,
+            };
+        }
+        if talk.outs.reserve(1).is_err() {
+            return Turn::Over(Ended::NoMemory);
+        }
+        self.gate.at(Point::Read(talk.connection));
+        match self.next(talk, reader) {
+            Heard::Asked(ticket) => {
+                self.gate.at(Point::Staged(talk.connection));
+                Turn::Wait(ticket)
+            }
+            Heard::Refused(outside) => self.answer(talk, Out::Refused(outside)),
+            Heard::NotYet => Turn::Hear,
+            Heard::Ended(ended) => Turn::Over(ended),
+        }
+    }
+
+    // Keeps an answer, which is to be told next.
+    fn answer(&self, talk: &mut Conversation<S, T, A>, out: Out<A>) -> Turn<A>
+        requires { vec_len talk.old.outs < vec_capacity talk.old.outs }
+        ensures kept { (talk.new.outs.items ≡ talk.old.outs.items ++ out ∷ []) × (talk.new.session ≡ session_after_out talk.old.session out) }
+        ensures same { (talk.new.inlet ≡ talk.old.inlet) × (talk.new.line.items ≡ talk.old.line.items) × (talk.new.is_long ≡ talk.old.is_long)
+            × (talk.new.share ≡ talk.old.share) }
+        ensures told { IsAnswered out result }
+    {
+        let text = text_of_out(self.alloc, &out);
+        let is_left = is_left(&out);
+        talk.session = session_after(talk.session, &out);
+        talk.outs.push_reserved(out);
+        match text {
+            Ok(text) => Turn::Tell(Telling {
+                text,
+                written: 0,
+                is_left,
+            }),
+            Err(NoMemory) => Turn::Over(Ended::NoMemory),
+        }
+    }
+
+    // Reads a line, and stages its command.
+    fn next<R: Read>(&self, talk: &mut Conversation<S, T, A>, reader: &mut R) -> Heard<A>
+        ensures heard { (start : Option (List ℕ)) (outs : List (Out A))
+            → HeardPart start (R.remaining reader.old) talk.old.inlet talk.old.line.items talk.old.is_long outs
+            → IsHeard result start (R.remaining reader.new) talk.new.inlet talk.new.line.items talk.new.is_long outs }
+        ensures same { (talk.new.outs ≡ talk.old.outs) × (talk.new.session ≡ talk.old.session) }
+        ensures staged { StagesBy result talk.old.session talk.old.share talk.new.share }
+    {
+        match talk
+            .inlet
+            .next_line(reader, &mut talk.line, &mut talk.is_long)
+        {
+            NextLine::Whole => {
+                let heard = self.ask(talk.session, talk.line.as_slice(), &mut talk.share);
+                talk.begin_line();
+                heard
+            }
+            NextLine::TooLong => {
+                talk.begin_line();
+                Heard::Refused(Outside::BadLine)
+            }
+            NextLine::End => {
+                talk.begin_line();
+                Heard::Ended(Ended::EndOfInput)
+            }
+            NextLine::Fault => {
+                talk.begin_line();
+                Heard::Ended(Ended::Read)
+            }
+            NextLine::Limit => {
+                talk.begin_line();
+                Heard::Ended(Ended::Limit)
+            }
+            NextLine::NotYet => Heard::NotYet,
+        }
+    }
+
+    // Stages the command that a line spells.
+    fn ask(&self, session: u32, line: &[u8], share: &mut Share<S, T>) -> Heard<A>
+        ensures fits { length line.now ≤ longest_line → FitsLine line.now result }
+        ensures staged { StagesBy result session share.old share.new }
+    {
+        let command = match read_line_of(self.alloc, line) {
+            Ok(command) => command,
+            Err(LineError::BadLine) => return Heard::Refused(Outside::BadLine),
+            Err(LineError::NoMemory) => return Heard::Refused(Outside::NoMemory),
+        };
+        match self.stage(session, command, share) {
+            Ok(ticket) => Heard::Asked(ticket),
+            Err(outside) => Heard::Refused(outside),
+        }
+    }
+
+    // Stages a command, and wakes the flusher where it sleeps, also where there is no room.
+    fn stage(
+        &self,
+        session: u32,
+        command: CommandIn<A>,
+        share: &mut Share<S, T>,
+    ) -> Result<Ticket<A>, Outside>
+        ensures ok { IfOk result
+            (λ ticket. (ticket.session ≡ session) × (ticket.command ≡ command)
+            × (share.new ≡ record share.old { staged = share.old.staged + 1 })) }
+        ensures err { IfErr result (λ outside. (outside ≢ BadLine) × (share.new ≡ share.old)) }
+    {
+        let shared = self.shared;
+        let may_change = may_change(&command);
+        let mut desk = shared.desk.lock(self.rt);
+        match desk.stage_on(session, command, share) {
+            Ok(ticket) => {
+                let wakes = desk.wakes_flusher(may_change);
+                drop(desk);
+                self.wake(wakes);
+                Ok(ticket)
+            }
+            Err(outside) => {
+                if outside == Outside::Busy {
+                    desk.asks_for_room();
+                    shared.work.notify_one();
+                }
+                drop(desk);
+                Err(outside)
+            }
+        }
+    }
+
+    /// Answers the command that a ticket is for, once its fate is known. Waits for that, or looks once: the reply is still waited for
+    /// where it isn't known yet.
+    pub fn settle(
+        &self,
+        talk: &mut Conversation<S, T, A>,
+        ticket: Ticket<A>,
+        waits: bool,
+    ) -> Turn<A>
+        ensures { (reader_old reader_new writer_old writer_new : Option (List ℕ)) (counts : Totals)
+            → StandsAt (turns.Wait ticket) reader_old reader_new writer_old writer_new counts talk.old
+            → StandsAt result reader_old reader_new writer_old writer_new counts talk.new }
+    {
+        if talk.outs.reserve(1).is_err() {
+            self.forget(ticket);
+            return Turn::Over(Ended::NoMemory);
+        }
+        match self.redeem(ticket, &mut talk.share, waits) {
+            Redeemed::Told(receipt) => {
+                self.gate.at(Point::Told(talk.connection));
+                self.answer(talk, Out::Told(receipt))
+            }
+            Redeemed::NotYet(ticket) => Turn::Wait(ticket),
+            Redeemed::Stranger(ticket) | Redeemed::Unknown(ticket) => {
+                self.forget(ticket);
+                self.answer(talk, Out::Refused(Outside::Broken))
+            }
+            Redeemed::NoMemory(ticket) => {
+                self.forget(ticket);
+                Turn::Over(Ended::NoMemory)
+            }
+        }
+    }
+
+    // Redeems a ticket, once or until its fate is known.
+    fn redeem(&self, ticket: Ticket<A>, share: &mut Share<S, T>, waits: bool) -> Redeemed<A>
+        ensures of_ticket { IsOfTicket ticket result }
+        ensures counted { CountsRedeem share.old result share.new }
+    {
+        if waits {
+            self.wait(ticket, share)
+        } else {
+            self.look(ticket, share)
+        }
+    }
+
+    // Redeems a ticket.
+    fn look(&self, ticket: Ticket<A>, share: &mut Share<S, T>) -> Redeemed<A>
+        ensures of_ticket { IsOfTicket ticket result }
+        ensures counted { CountsRedeem share.old result share.new }
+    {
+        let shared = self.shared;
+        shared.desk.lock(self.rt).redeem(ticket, share)
+    }
+
+    // Redeems a ticket, again after each commit, until its fate is known.
+    fn wait(&self, ticket: Ticket<A>, share: &mut Share<S, T>) -> Redeemed<A>
+        ensures of_ticket { IsOfTicket ticket result }
+        ensures counted { CountsRedeem share.old result share.new }
+    {
+        let shared = self.shared;
+        let mut ticket = ticket;
+        let mut desk = shared.desk.lock(self.rt);
+        for _ in self.rt.forever() {
+            match desk.redeem(ticket, share) {
+                Redeemed::NotYet(again) => {
+                    ticket = again;
+                    desk = shared.settled.wait(self.rt, desk);
+                }
+                other => return other,
+            }
+        }
+        Redeemed::NotYet(ticket)
+    }
+
+    // Wakes the flusher, if it is to be woken.
+    fn wake(&self, wakes: bool) {
+        let shared = self.shared;
+        if wakes {
+            shared.work.notify_one();
+        }
+    }
+
+    /// Spends a ticket without its reply.
+    pub fn forget(&self, ticket: Ticket<A>) {
+        let shared = self.shared;
+        let _ = shared.desk.lock(self.rt).forget(ticket);
+    }
+
+    /// Stages a last leave of a session, and forgets its ticket. False where there is no room for it yet. Where it is refused for
+    /// another reason, the session stands.
+    pub fn try_leave(&self, session: u32, share: &mut Share<S, T>) -> bool {
+        match self.stage(session, Command::Leave, share) {
+            Ok(ticket) => {
+                self.forget(ticket);
+                true
+            }
+            Err(outside) => outside != Outside::Busy,
+        }
+    }
+
+    // Stages a leave of the session that the answers leave standing, and waits for room where there is none. None where it is refused
+    // for another reason.
+    fn stage_leave(
+        &self,
+        outs: &Vec<Out<A>, A>,
+        session: u32,
+        share: &mut Share<S, T>,
+    ) -> Option<Ticket<A>>
+        requires { session ≡ session_of 0 outs.now.items }
+        ensures ticket { IfSome result (λ ticket. (ticket.session ≡ session_of 0 outs.now.items) × (ticket.command ≡ Leave)) }
+        ensures counted { MatchOption result (share.new ≡ share.old)
+            (λ ticket. share.new ≡ record share.old { staged = share.old.staged + 1 }) }
+    {
+        let shared = self.shared;
+        let mut desk = shared.desk.lock(self.rt);
+        for _ in self.rt.forever() {
+            match desk.stage_on(session, Command::Leave, share) {
+                Ok(ticket) => {
+                    let wakes = desk.wakes_flusher(false);
+                    drop(desk);
+                    self.wake(wakes);
+                    return Some(ticket);
+                }
+                Err(Outside::Busy) => {
+                    desk.asks_for_room();
+                    shared.work.notify_one();
+                    desk = shared.settled.wait(self.rt, desk);
+                }
+                Err(_) => {
+                    drop(desk);
+                    return None;
+                }
+            }
+        }
+        None
+    }
+
+    /// Stages a last leave, and forgets its ticket. Waits for room. Where it is refused for another reason, the session stands.
+    pub fn leave(&self, outs: &Vec<Out<A>, A>, session: u32, share: &mut Share<S, T>)
+        requires { session ≡ session_of 0 outs.now.items }
+        ensures { Counts share.old 0 1 share.new }
+    {
+        if let Some(ticket) = self.stage_leave(outs, session, share) {
+            self.forget(ticket);
+        }
+    }
+}
