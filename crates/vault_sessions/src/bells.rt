@@ -30,7 +30,7 @@ impl Bell {
         token == TOKEN
     }
 
-    /// Wakes the thread. A wake that fails is made up for by the next one.
+    /// Wakes the thread. Where a wake can't be added to those that are pending, one of them does.
     pub fn ring(&self) {
         let _ = self.waker.wake();
     }

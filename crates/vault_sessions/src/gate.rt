@@ -13,7 +13,7 @@ pub enum Point {
     Pump,
 }
 
-/// What is called at each point. No lock is held there.
+/// What is called at each point. No lock is held there. A server's thread that is held serves none of its other connections meanwhile.
 pub trait Gate {
     /// Returns once the thread may go on.
     fn at(&self, point: Point);

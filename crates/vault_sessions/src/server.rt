@@ -44,7 +44,7 @@ pub enum ServerError {
     /// Connections can't be accepted for good.
     #[error("read fault")]
     Accept,
-    /// Memory was wanted and refused, or a thread can't be started.
+    /// Memory was wanted and refused, a thread can't be started, or the system gives it nothing to wait by.
     #[error("want of memory")]
     NoMemory,
 }

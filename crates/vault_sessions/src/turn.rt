@@ -13,7 +13,7 @@ use vault_model::{NoMemory, Reply};
 /// The line that an answer is told as.
 #[derive(Drop)]
 pub(crate) struct Telling<A: Allocator> {
-    /// The bytes of the line that aren't written yet.
+    /// All bytes of the line.
     pub text: Vec<u8, A>,
     /// How many of them are written.
     pub written: usize,
