@@ -44,6 +44,40 @@ impl Commit {
     }
 }
 
+/// How far a thread is in its waiting for others, from one look to the next.
+#[derive(Debug, Clone, Copy, PartialEq, Eq)]
+pub struct Gathering {
+    // The look that it waits for. 0: it has just begun.
+    look: u32,
+    // How many entries waited when it began to wait for that.
+    seen: u64,
+}
+
+impl Gathering {
+    /// It has just begun.
+    pub fn new() -> Gathering {
+        Gathering { look: 0, seen: 0 }
+    }
+
+    /// How long it is until its next look, where so many entries wait. None: all looks are over, or no entry came from one to the next.
+    pub fn left(&mut self, clock: &impl Clock, last: &Commit, waiting: u64) -> Option<Duration> {
+        for look in self.look.max(1)..LOOKS + 1 {
+            let Some(left) = last.left(clock, look) else {
+                continue;
+            };
+            if look > self.look {
+                if self.look > 0 && waiting <= self.seen {
+                    return None;
+                }
+                self.look = look;
+                self.seen = waiting;
+            }
+            return Some(left);
+        }
+        None
+    }
+}
+
 // How long is waited from one look to the next behind a commit that took so long.
 fn part_of(took: Duration) -> Duration {
     let least = Duration::from_micros(LEAST);

@@ -119,14 +119,27 @@ impl Pace {
         is_early
     }
 
-    /// Whether the flusher waits for more entries: those who waited for the last commit aren't all back, and nobody asks who needs
-    /// no device.
+    /// Whether more entries are waited for: those who waited for the last commit aren't all back, and nobody asks who needs no device.
+    pub fn lacks(&self, waiting: u64) -> bool
+        ensures { result ≡ (nat_lt 1 self.now.group && nat_lt waiting self.now.group && ((waiting == 0) || self.now.has_change)) }
+    {
+        self.group > 1 && waiting < self.group && (waiting == 0 || self.has_change)
+    }
+
+    /// Whether the flusher waits for more entries, and sleeps until they are there.
     pub fn gathers(&mut self, waiting: u64) -> bool
         ensures waits { result ≡ (nat_lt 1 self.old.group && nat_lt waiting self.old.group && ((waiting == 0) || self.old.has_change)) }
         ensures left { self.new ≡ record self.old { wake_from = if result then Some self.old.group else None } }
     {
-        let is_early = self.group > 1 && waiting < self.group && (waiting == 0 || self.has_change);
+        let is_early = self.lacks(waiting);
         self.sleeps(is_early, self.group)
+    }
+
+    /// So many were told by the last commit, or came since it was begun: for so many the next one waits.
+    pub fn expects(&mut self, group: u64)
+        ensures { self.new ≡ record self.old { group = group } }
+    {
+        self.group = group;
     }
 
     /// A snapshot was begun, which seals what waits, or it wasn't. It is no commit: it takes longer, and nobody is waited for behind

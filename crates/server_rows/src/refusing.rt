@@ -10,7 +10,8 @@ use std::sync::Wait;
 use std::thread::Threads;
 use std::time::Clock;
 use test_memory::{Refusing, Tried, requests};
-use vault_sessions::{ServerError, Totals};
+use vault_server::ServerError;
+use vault_sessions::Totals;
 
 static REFUSED: Serving = Serving {
     name: "each request refused",

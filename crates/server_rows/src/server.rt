@@ -12,7 +12,8 @@ use std::thread::{self, Threads};
 use std::time::{Clock, Duration};
 use test_memory::Refusing;
 use vault_device::{Device, MemDevice, Pick};
-use vault_sessions::{ServerError, Terms, Totals, run_server_on};
+use vault_server::{ServerError, Terms, run_server_on};
+use vault_sessions::Totals;
 
 /// How long a server waits for a client that says nothing more, or a client before it comes, in milliseconds.
 const WAIT: u64 = 300;

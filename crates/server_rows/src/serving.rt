@@ -5,7 +5,8 @@ use crate::filling::CREATION;
 use crate::holding::Rule;
 use crate::server::{Client, ENDED, HEAD, Outcome, PLAIN, Serving, served};
 use test_memory::Refusing;
-use vault_sessions::{Point, ServerError, Totals};
+use vault_server::ServerError;
+use vault_sessions::{Point, Totals};
 
 // The clients of one server.
 const ANNA_AND_BEN: &[Client] = &[

@@ -1,7 +1,6 @@
 -- Lines are heard one by one.
 use Rattle.std.proofs.Common.{◌≡◌, ℕ, ◌+◌, ◌<◌, List, [], ◌∷◌, ◌++◌, length, ap, sym, ◌∙◌, refl, subst, arith, append_assoc, length-append, append-nil, Option, None, false}
-use Rattle.std.specs.Prelude.{nat_le, Some, IfSome, MatchResult}
-use Rattle.std.specs.Option.{ok_or}
+use Rattle.std.specs.Prelude.{nat_le}
 use Rattle.std.proofs.lemmas.Bool.Decides.{nat_tests}
 use Rattle.std.specs.List.{flat_map}
 use Rattle.std.specs.Io.KnownBytes.{Consumes}
@@ -11,10 +10,9 @@ use Rattle.vault_lines.specs.Limits.{longest_line}
 use Rattle.vault_lines.specs.Grammar.{command_of}
 use Rattle.vault_sessions.specs.Inflow.{Inflow}
 use Rattle.vault_sessions.specs.Incoming.{CutsLine}
-use Rattle.vault_sessions.specs.Serving.{Fits, IsAnswer, with_feed, HeardSoFar, HeardAll, EndsBy, CutsBy}
+use Rattle.vault_sessions.specs.Serving.{Fits, IsAnswer, with_feed, HeardSoFar, HeardAll, EndsBy}
 use Rattle.vault_sessions.specs.declared.report.Out.{Out}
 use Rattle.vault_sessions.specs.declared.report.Ended.{Ended}
-use Rattle.vault_sessions.specs.declared.report.Ended.TheVariants as ends
 use Rattle.long_locks.proofs.Zips.{zip_push}
 
 -- a line that is too long spells no command
@@ -54,42 +52,28 @@ hears_line start mid new old next outs more line out heard consumes cut fits =
       cut.within,
     )
 
+-- more was given, and is pending
+pub hears_more : {A : Type 0} (start mid new : Option (List ℕ)) (old : Inflow) (outs : List (Out A)) (more : List ℕ)
+    → HeardSoFar start mid old outs → Consumes mid new more → HeardSoFar start new (record { pending = old.pending ++ more; taken = old.taken }) outs
+hears_more start mid new old outs more heard consumes =
+    let (given, lines, hears, count, few) = heard in
+    let text = flat_map with_feed lines in
+    let whole : given ++ more ≡ text ++ (old.pending ++ more) = ap (λ l. l ++ more) hears.lines_are ∙ append_assoc text old.pending more in
+    (given ++ more, lines, record { given_is = Consumes-trans _ _ _ _ _ hears.given_is consumes; lines_are = whole; answered = hears.answered }, count, few)
+
 -- what was given last is left
 pub hears_rest : {A : Type 0} (start mid new : Option (List ℕ)) (old : Inflow) (outs : List (Out A)) (more : List ℕ) (ended : Ended)
     → HeardSoFar start mid old outs → Consumes mid new more
     → ((given : List ℕ) → length given ≡ old.taken + length (old.pending ++ more) → EndsBy ended new given outs (old.pending ++ more))
     → HeardAll start new outs ended
 hears_rest start mid new old outs more ended heard consumes may_end =
-    let (given, lines, hears, count, few) = heard in
+    let (given, lines, hears, count, few) = hears_more start mid new old outs more heard consumes in
     let text = flat_map with_feed lines in
-    let whole : given ++ more ≡ text ++ (old.pending ++ more) = ap (λ l. l ++ more) hears.lines_are ∙ append_assoc text old.pending more in
-    let size : length (given ++ more) ≡ length text + length (old.pending ++ more) = ap length whole ∙ length-append text (old.pending ++ more) in (
-      given ++ more,
-      lines,
-      old.pending ++ more,
-      record { given_is = Consumes-trans _ _ _ _ _ hears.given_is consumes; lines_are = whole; answered = hears.answered },
-      omega (arith, count, few),
-      may_end (given ++ more) (omega (arith, size, count)),
-    )
-
--- a line more was given, and answered unless memory was refused
-pub hears_found : {A : Type 0} (start mid new : Option (List ℕ)) (old next : Inflow) (outs : List (Out A)) (more line : List ℕ) (found : Option (Out A))
-    → HeardSoFar start mid old outs → Consumes mid new more → CutsLine old more line next → IfSome found (Fits line)
-    → MatchResult (ok_or found ends.NoMemory) (λ out. HeardSoFar start new next (outs ++ out ∷ [])) (λ ended. HeardAll start new outs ended)
-hears_found start mid new old next outs more line (Some out) heard consumes cut fits = hears_line start mid new old next outs more line out heard consumes cut fits
-hears_found start mid new old next outs more line None heard consumes cut fits = hears_rest start mid new old outs more ends.NoMemory heard consumes (λ given size. tt)
+    let rest = old.pending ++ more in
+    let size : length given ≡ length text + length rest = ap length hears.lines_are ∙ length-append text rest in
+    (given, lines, rest, hears, omega (arith, count, few), may_end given (omega (arith, size, count)))
 
 -- a conversation that may end anywhere so ends at once
 pub hears_end : {A : Type 0} (start new : Option (List ℕ)) (old : Inflow) (outs : List (Out A)) (ended : Ended) → HeardSoFar start new old outs
     → ((given left : List ℕ) → EndsBy ended new given outs left) → HeardAll start new outs ended
 hears_end start new old outs ended heard may_end = hears_rest start new new old outs [] ended heard (Consumes-nil new) (λ given size. may_end given (old.pending ++ []))
-
--- it ends behind an answer
-pub hears_said : {A : Type 0} (start new a b : Option (List ℕ)) (old : Inflow) (outs : List (Out A)) (ended : Ended) (out : Out A)
-    → HeardSoFar start new old outs → CutsBy ended a b out → HeardAll start new outs ended
-hears_said start new a b old outs ends.Quit out heard cut = hears_end start new old outs ends.Quit heard (λ given left. tt)
-hears_said start new a b old outs ends.Write out heard cut = hears_end start new old outs ends.Write heard (λ given left. tt)
-hears_said start new a b old outs ends.NoMemory out heard cut = hears_end start new old outs ends.NoMemory heard (λ given left. tt)
-hears_said start new a b old outs ends.EndOfInput out heard cut = absurd cut
-hears_said start new a b old outs ends.Read out heard cut = absurd cut
-hears_said start new a b old outs ends.Limit out heard cut = absurd cut

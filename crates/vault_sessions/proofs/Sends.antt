@@ -1,25 +1,17 @@
 -- The types of this crate may be sent between threads, or shared by them, as what they are made of may.
-use denote.Builtin.{usize}
 use denote.RattleType.{RattleType}
 use denote.Param.Send.{IsSend, IsSync, Frees, sendable, struct_send, recorded_send, view_send, view_sync, struct_sync, recorded_sync}
 use denote.Ref.{NamedLft}
 use denote.Struct.Declared.{shape}
-use Rattle.std.specs.contracts.option.Option as Option
 use Rattle.std.specs.declared.alloc.Allocator.{Ghosts}
 use Rattle.std.proofs.Crossing.{crosses as locks}
 use Rattle.std.specs.declared.sync.ledger.Ledger.{Ghosts as LedgerGhosts}
 use Rattle.std.proofs.sync.ledger.Book.TheSendSync as Tallied
 use Rattle.std.proofs.sync.ledger.Share.TheSendSync as LedgerPart
-use Rattle.crossbeam_channel.specs.contracts.channel.Receiver as Receiver
-use Rattle.crossbeam_channel.specs.contracts.channel.Sender as Sender
-use Rattle.mio.specs.contracts.poll.Poll as Poll
 use Rattle.vault_model.proofs.Sends.{fields}
 use Rattle.vault_device.specs.declared.device.Device.{Ghosts as DeviceGhosts}
 use Rattle.group_commit.proofs.Sends.{vault_send}
 use Rattle.vault_sessions.specs.declared.tally.Tally.{Ghosts as TallyGhosts}
-use Rattle.vault_sessions.specs.contracts.bells.Bell as Bell
-use Rattle.vault_sessions.specs.contracts.rounds.Rounds as Rounds
-use Rattle.vault_sessions.specs.contracts.server.Connection as Connection
 use Rattle.vault_sessions.specs.contracts.worker.Worker as Worker
 use Rattle.vault_sessions.specs.contracts.tally.Share as Share
 use Rattle.vault_sessions.specs.contracts.tally.Share.TheInside as ShareInside
@@ -27,21 +19,6 @@ use Rattle.vault_sessions.specs.contracts.desk.Desk as Desk
 use Rattle.vault_sessions.specs.contracts.desk.Desk.TheInside as DeskInside
 use Rattle.vault_sessions.specs.contracts.shared.Shared as Shared
 use Rattle.vault_sessions.specs.contracts.shared.Shared.TheInside as SharedInside
-
-pub poll_send : IsSend Poll.the_row
-poll_send = search fields depth 40 fits 20000
-
-pub bell_sync : IsSync Bell.the_row
-bell_sync = search (fields, locks) depth 40 fits 20000
-
-connection_send : IsSend Connection.the_row
-connection_send = search fields depth 40 fits 20000
-
-pub receiver_send : (A : RattleType) (g : Ghosts A.Denot) → IsSend A → IsSync A → Frees g g.dealloc_token → IsSend (Receiver.the_field Connection.the_row A g).row
-receiver_send A g s y f = let c = connection_send in search (fields, locks) depth 60 fits 20000
-
-pub sender_send : (A : RattleType) (g : Ghosts A.Denot) → IsSend A → IsSync A → Frees g g.dealloc_token → IsSend (Sender.the_field (Option.the_row usize) A g).row
-sender_send A g s y f = search (fields, locks) depth 60 fits 20000
 
 module _ (D S T A : RattleType) (d : DeviceGhosts D.Denot) (sc : TallyGhosts S.Denot) (sl : LedgerGhosts S.Denot) (tc : TallyGhosts T.Denot) (tl : LedgerGhosts T.Denot) (g : Ghosts A.Denot) where
   pub share_send : IsSend S → IsSync S → IsSend T → IsSync T → IsSend (Share.the_field S T sc sl tc tl).row
@@ -66,15 +43,7 @@ module _ (D S T A : RattleType) (d : DeviceGhosts D.Denot) (sc : TallyGhosts S.D
       let k = desk_send ds s sy t ty a f in
       view_sync _ _ _ _ _ (recorded_sync _ _ _ U.to_one (struct_sync (shape U) (search (sendable, locks) depth 40)))
 
-  worker_send : (ℓ : NamedLft) (G H : RattleType) → IsSend D → IsSend S → IsSync S → IsSend T → IsSync T → IsSend A → Frees g g.dealloc_token → IsSync G → IsSync H → IsSend (Worker.the_field ℓ D S T A G H d sc sl tc tl g).row
+  pub worker_send : (ℓ : NamedLft) (G H : RattleType) → IsSend D → IsSend S → IsSync S → IsSend T → IsSync T → IsSend A → Frees g g.dealloc_token → IsSync G → IsSync H → IsSend (Worker.the_field ℓ D S T A G H d sc sl tc tl g).row
   worker_send ℓ G H ds s sy t ty a f gy hy =
       let k = shared_sync ds s sy t ty a f in
       search (sendable, locks) depth 40
-
-  pub rounds_send : (ℓ : NamedLft) (G H : RattleType) → IsSend D → IsSend S → IsSync S → IsSend T → IsSync T → IsSend A → IsSync A → Frees g g.dealloc_token → IsSync G → IsSync H → IsSend (Rounds.the_field ℓ D S T A G H d sc sl tc tl g).row
-  rounds_send ℓ G H ds s sy t ty a ay f gy hy =
-      let w = λ (ℓ : NamedLft). worker_send ℓ G H ds s sy t ty a f gy hy in
-      let b = bell_sync in
-      let r = receiver_send A g a ay f in
-      let c = sender_send A g a ay f in
-      search (sendable, locks, w) depth 40

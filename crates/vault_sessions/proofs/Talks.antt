@@ -1,20 +1,18 @@
 -- A conversation goes from step to step.
 use Rattle.std.proofs.Common.{◌≡◌, ◌≢◌, ℕ, ◌+◌, ◌<◌, ◌≤◌, Bool, false, List, [], ◌∷◌, ◌++◌, length, take, drop, ap, sym, ◌∙◌, refl, subst, arith, append-nil, append_assoc, length-append, Option, inl, inr}
 use Rattle.std.specs.Prelude.{MatchBool, Some, IsSome}
-use Rattle.std.specs.List.{flat_map}
 use Rattle.std.proofs.Math.Seq.{take-add}
 use Rattle.std.proofs.lemmas.List.{take-append-drop}
 use Rattle.std.proofs.lemmas.List.Elements.{All-append, All-nil}
 use Rattle.std.specs.Io.KnownBytes.{Appends, Consumes}
-use Rattle.std.proofs.KnownBytes.{Appends-trans, Appends-nil, Consumes-trans, Consumes-nil}
-use Rattle.std.proofs.lemmas.Grind.{flat_map-append}
+use Rattle.std.proofs.KnownBytes.{Appends-trans, Appends-nil, Consumes-nil}
 use Rattle.vault_lines.specs.Limits.{longest_line}
 use Rattle.vault_lines.specs.Grammar.{command_of}
 use Rattle.vault_model.specs.Said.{Command}
 use Rattle.group_commit.specs.Ticket.{TicketSeen, Told as ToldSeen}
 use Rattle.vault_sessions.specs.Inflow.{Inflow}
 use Rattle.vault_sessions.specs.Incoming.{most_bytes, IsOneLine, KeepsLine, CutsLine}
-use Rattle.vault_sessions.specs.Serving.{Fits, FitsCommand, with_feed, HeardSoFar, HeardAll, EndsBy, IsOf, SpeaksFor, session_of, session_after, text_of, texts_of, IsLeft, NoneLeft, CountsOne, CountsWith, lost_by, most_lines}
+use Rattle.vault_sessions.specs.Serving.{Fits, FitsCommand, HeardSoFar, HeardAll, EndsBy, IsOf, SpeaksFor, session_of, session_after, text_of, texts_of, IsLeft, NoneLeft, CountsOne, CountsWith, lost_by, most_lines}
 use Rattle.vault_sessions.specs.Talking.{HeardPart, IsBetween, TellsLast, Stands, TellsOn, IsAnswered, IsReaders, IsHeard, FitsLine}
 use Rattle.vault_model.specs.declared.replies.Outside.{Outside}
 use Rattle.vault_model.specs.declared.replies.Outside.TheVariants as outsides
@@ -28,8 +26,8 @@ use Rattle.vault_sessions.specs.declared.turn.Turn.{Turn}
 use Rattle.vault_sessions.specs.declared.turn.Turn.TheVariants.{Hear, Wait, Tell, Over}
 use Rattle.vault_sessions.specs.declared.worker.Heard.{Heard}
 use Rattle.vault_sessions.specs.declared.worker.Heard.TheVariants as lines
-use Rattle.vault_sessions.proofs.Heard.{hears_nothing, hears_line, hears_rest, hears_end}
-use Rattle.vault_sessions.proofs.Told.{speaks_more, session_more, none_left_more, not_ended_left, counts_more, writes_whole, quits_without}
+use Rattle.vault_sessions.proofs.Heard.{hears_nothing, hears_line, hears_more, hears_rest, hears_end}
+use Rattle.vault_sessions.proofs.Told.{speaks_more, session_more, none_left_more, not_ended_left, counts_more, texts_more, writes_whole, quits_without}
 
 -- between two lines no part of the next one was taken
 pub hears_between : {A : Type 0} (old new : Option (List ℕ)) (inflow : Inflow) (kept : List ℕ) (is_long : Bool) (outs : List (Out A))
@@ -48,15 +46,6 @@ cuts_part before old next part more piece pending taken one cut = record {
   taken = omega (arith, length-append part piece, taken, cut.taken);
   within = cut.within;
 }
-
--- more was given, and is pending
-hears_more : {A : Type 0} (start mid new : Option (List ℕ)) (old : Inflow) (outs : List (Out A)) (more : List ℕ)
-    → HeardSoFar start mid old outs → Consumes mid new more → HeardSoFar start new (record { pending = old.pending ++ more; taken = old.taken }) outs
-hears_more start mid new old outs more heard consumes =
-    let (given, lines, hears, count, few) = heard in
-    let text = flat_map with_feed lines in
-    let whole : given ++ more ≡ text ++ (old.pending ++ more) = ap (λ l. l ++ more) hears.lines_are ∙ append_assoc text old.pending more in
-    (given ++ more, lines, record { given_is = Consumes-trans _ _ _ _ _ hears.given_is consumes; lines_are = whole; answered = hears.answered }, count, few)
 
 -- a piece more of the line was taken
 pub part_more : {A : Type 0} (start mid new : Option (List ℕ)) (before old next : Inflow) (part piece more kept : List ℕ) (is_long : Bool) (outs : List (Out A))
@@ -153,10 +142,6 @@ counts_refused A outsides.BadLine share = record { told = omega arith; least = o
 counts_refused A outsides.Busy share = record { told = omega arith; least = omega arith; most = omega arith }
 counts_refused A outsides.NoMemory share = record { told = omega arith; least = omega arith; most = omega arith }
 counts_refused A outsides.Broken share = record { told = omega arith; least = omega arith; most = omega arith }
-
--- the texts of the answers with the last one
-texts_more : {A : Type 0} (before : List (Out A)) (last : Out A) → texts_of (before ++ last ∷ []) ≡ texts_of before ++ text_of last
-texts_more before last = flat_map-append text_of before (last ∷ []) ∙ ap (λ l. texts_of before ++ l) (append-nil (text_of last))
 
 -- where the rest of the last text is written, all are written
 told_whole : {A : Type 0} (a b c : Option (List ℕ)) (outs : List (Out A)) (telling : Telling A)

@@ -1,10 +1,9 @@
 -- Answers are told, written and counted one by one.
-use Rattle.std.proofs.Common.{◌≡◌, ◌≢◌, ℕ, ◌+◌, List, [], ◌∷◌, ◌++◌, ap, sym, ◌∙◌, refl, subst, arith, append-nil, Option, sum_by, inl, inr}
+use Rattle.std.proofs.Common.{◌≡◌, ◌≢◌, ℕ, ◌+◌, List, [], ◌∷◌, ◌++◌, ap, ◌∙◌, refl, subst, arith, append-nil, Option, sum_by, inl}
 use Rattle.std.specs.Io.KnownBytes.{Appends}
-use Rattle.std.proofs.KnownBytes.{Appends-trans, Appends-kept}
 use Rattle.std.proofs.lemmas.Grind.{flat_map-append}
 use Rattle.std.proofs.lemmas.List.Sums.{sum_by-append}
-use Rattle.vault_sessions.specs.Serving.{IsOf, SpeaksFor, session_of, session_after, text_of, texts_of, IsLeft, EndsWithLeft, NoneLeft, WritesAll, QuitsBy, CutsBy, CountsOne, CountsWith, is_told, is_broken}
+use Rattle.vault_sessions.specs.Serving.{IsOf, SpeaksFor, session_of, session_after, text_of, texts_of, IsLeft, EndsWithLeft, NoneLeft, WritesAll, QuitsBy, CountsOne, CountsWith, is_told, is_broken}
 use Rattle.vault_sessions.specs.declared.report.Out.{Out}
 use Rattle.vault_sessions.specs.declared.report.Ended.{Ended}
 use Rattle.vault_sessions.specs.declared.report.Ended.TheVariants as ends
@@ -20,11 +19,9 @@ pub session_more : {A : Type 0} (session : ℕ) (outs : List (Out A)) (out : Out
 session_more session [] out = refl
 session_more session (o ∷ outs) out = session_more (session_after session o) outs out
 
--- its text is written behind the others
-pub writes_more : {A : Type 0} (a b c : Option (List ℕ)) (outs : List (Out A)) (out : Out A) → Appends a b (texts_of outs) → Appends b c (text_of out) → Appends a c (texts_of (outs ++ out ∷ []))
-writes_more a b c outs out old new =
-    let all : texts_of (outs ++ out ∷ []) ≡ texts_of outs ++ text_of out = flat_map-append text_of outs (out ∷ []) ∙ ap (λ l. texts_of outs ++ l) (append-nil (text_of out)) in
-    subst (Appends a c) (sym all) (Appends-trans a b c _ _ old new)
+-- the texts of the answers with the last one
+pub texts_more : {A : Type 0} (before : List (Out A)) (last : Out A) → texts_of (before ++ last ∷ []) ≡ texts_of before ++ text_of last
+texts_more before last = flat_map-append text_of before (last ∷ []) ∙ ap (λ l. texts_of before ++ l) (append-nil (text_of last))
 
 -- it is counted
 pub counts_more : {A : Type 0} (a b c : Totals) (outs : List (Out A)) (out : Out A) → CountsWith a outs 0 b → CountsOne b out c → CountsWith a (outs ++ out ∷ []) 0 c
@@ -69,21 +66,3 @@ quits_without ends.NoMemory outs none other = tt
 quits_without ends.EndOfInput outs none other = not_ended_left outs none
 quits_without ends.Read outs none other = not_ended_left outs none
 quits_without ends.Limit outs none other = not_ended_left outs none
-
--- one that ends behind an answer has written what is known of its text
-pub writes_said : {A : Type 0} (ended : Ended) (a b c : Option (List ℕ)) (outs : List (Out A)) (out : Out A) → Appends a b (texts_of outs) → CutsBy ended b c out → WritesAll ended a c (outs ++ out ∷ [])
-writes_said ends.Quit a b c outs out old cut = writes_more a b c outs out old cut.0
-writes_said ends.Write a b c outs out old cut = let (count, less, part) = cut in (outs, out, count, refl, less, Appends-trans a b c _ _ old part)
-writes_said ends.NoMemory a b c outs out old cut = inr (outs, out, refl, Appends-kept a b c _ old cut)
-writes_said ends.EndOfInput a b c outs out old cut = absurd cut
-writes_said ends.Read a b c outs out old cut = absurd cut
-writes_said ends.Limit a b c outs out old cut = absurd cut
-
--- and quits where that is a leave's
-pub quits_said : {A : Type 0} (ended : Ended) (a b : Option (List ℕ)) (outs : List (Out A)) (out : Out A) → CutsBy ended a b out → QuitsBy ended (outs ++ out ∷ [])
-quits_said ends.Quit a b outs out cut = (outs, out, refl, cut.1)
-quits_said ends.Write a b outs out cut = tt
-quits_said ends.NoMemory a b outs out cut = tt
-quits_said ends.EndOfInput a b outs out cut = absurd cut
-quits_said ends.Read a b outs out cut = absurd cut
-quits_said ends.Limit a b outs out cut = absurd cut

@@ -1,7 +1,7 @@
 -- What the lines of a connection are answered, what is written for them, and what a worker counts. This project's own.
 use Rattle.std.specs.Prelude.{◌≡◌, ◌≢◌, ℕ, ◌+◌, ◌<◌, ◌≤◌, ◌==◌, if◌then◌else◌, List, [], ◌∷◌, ◌++◌, length, take, Option, Some, None, IsSome, ◌⊎◌, sum_by}
 use Rattle.std.specs.List.{flat_map, AllZip}
-use Rattle.std.specs.Io.KnownBytes.{Consumes, Appends, Keeps, IsAtEnd}
+use Rattle.std.specs.Io.KnownBytes.{Consumes, Appends, IsAtEnd}
 use Rattle.vault_model.specs.Said.{Command, Reply}
 use Rattle.vault_model.specs.declared.replies.Reply.TheVariants as replies
 use Rattle.vault_model.specs.declared.replies.Outside.TheVariants as outsides
@@ -145,15 +145,6 @@ QuitsBy ends.NoMemory outs = Unit {0}
 QuitsBy ends.EndOfInput outs = EndsWithLeft outs → ⊥
 QuitsBy ends.Read outs = EndsWithLeft outs → ⊥
 QuitsBy ends.Limit outs = EndsWithLeft outs → ⊥
-
--- what is known of the writer where a conversation ends behind an answer with this text
-abbrev pub CutsBy : {A : Type 0} → Ended → Option (List ℕ) → Option (List ℕ) → Out A → Type 0
-CutsBy ends.Quit old new out = Appends old new (text_of out) × IsLeft out
-CutsBy ends.Write old new out = (count : ℕ) × (count < length (text_of out)) × Appends old new (take count (text_of out))
-CutsBy ends.NoMemory old new out = Keeps old new
-CutsBy ends.EndOfInput old new out = ⊥
-CutsBy ends.Read old new out = ⊥
-CutsBy ends.Limit old new out = ⊥
 
 -- one for a receipt
 abbrev pub is_told : {A : Type 0} → Out A → ℕ

@@ -10,7 +10,7 @@ use vault_lines::LONGEST_LINE;
 
 /// A conversation, but for what it does next.
 #[derive(Drop)]
-pub(crate) struct Conversation<S: Tally, T: Tally, A: Allocator> {
+pub struct Conversation<S: Tally, T: Tally, A: Allocator> {
     /// The number of its connection.
     pub connection: u32,
     /// What lies between the reader and the line.
@@ -54,8 +54,8 @@ impl<S: Tally, T: Tally, A: Allocator + Copy> Conversation<S, T, A> {
         })
     }
 
-    /// The line that was heard is used, and no byte of the next one was taken.
-    pub fn begin_line(&mut self)
+    // The line that was heard is used, and no byte of the next one was taken.
+    pub(crate) fn begin_line(&mut self)
         ensures begun { (self.new.line.items ≡ []) × (self.new.is_long ≡ false) }
         ensures same { (self.new.inlet ≡ self.old.inlet) × (self.new.outs ≡ self.old.outs) × (self.new.session ≡ self.old.session)
             × (self.new.share ≡ self.old.share) }

@@ -240,6 +240,41 @@ impl<D: Device, S: Tally, T: Tally, A: Allocator + Copy> Desk<D, S, T, A> {
         self.pace.gathers(waiting)
     }
 
+    // Whether there is something to pump, or a worker waits for room.
+    pub(crate) fn has_work(&mut self) -> bool
+        ensures { self.new ≡ self.old }
+    {
+        let wants_room = self.pace.wants_room();
+        !self.vault.is_broken() && (wants_room || !self.is_settled())
+    }
+
+    // How many entries wait, where more are waited for.
+    pub(crate) fn lacks(&self) -> Option<u64> {
+        let waiting = self.waiting();
+        if self.pace.lacks(waiting) {
+            Some(waiting)
+        } else {
+            None
+        }
+    }
+
+    // How many entries are settled. None where the vault is broken.
+    pub(crate) fn settled(&self) -> Option<u64> {
+        if self.vault.is_broken() {
+            None
+        } else {
+            Some(self.vault.durable())
+        }
+    }
+
+    // The next commit waits for as many entries as there are behind so many.
+    pub(crate) fn expects(&mut self, settled: u64)
+        ensures { self.new ≡ self.old }
+    {
+        let group = self.vault.len().saturating_sub(settled);
+        self.pace.expects(group);
+    }
+
     // Does the next step of a commit or of a snapshot, and keeps how many entries waited.
     pub(crate) fn pump_on(&mut self) -> Result<Pumped, Fault>
         ensures pumped { IsPumped self.old.vault result self.new.vault }

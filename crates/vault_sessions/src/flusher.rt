@@ -1,14 +1,13 @@
 //! The flusher commits what the workers staged.
 
-use crate::bells::{AtTheDesk, Settled};
 use crate::gate::{Gate, Point};
 use crate::shared::Shared;
 use crate::tally::Tally;
-use flusher_pace::{Commit, LOOKS};
+use flusher_pace::{Commit, Gathering, LOOKS};
 use group_commit::{Pumped, Retired, Started};
 use std::alloc::Allocator;
 use std::sync::Wait;
-use std::time::{Clock, Instant};
+use std::time::{Clock, Duration, Instant};
 use vault_device::Device;
 
 /// Why a flusher ended.
@@ -31,25 +30,7 @@ pub fn run_flusher<D: Device, S: Tally, T: Tally, A: Allocator + Copy, G: Gate, 
     shared: &Shared<D, S, T, A>,
     gate: &G,
 ) -> Flushed {
-    run_flusher_on(rt, shared, gate, &AtTheDesk)
-}
-
-/// The same, and tells these bells, too, when entries are settled.
-pub(crate) fn run_flusher_on<
-    D: Device,
-    S: Tally,
-    T: Tally,
-    A: Allocator + Copy,
-    G: Gate,
-    H: Wait + Clock,
-    B: Settled,
->(rt: &H, shared: &Shared<D, S, T, A>, gate: &G, bells: &B) -> Flushed {
-    let flusher = Flusher {
-        rt,
-        shared,
-        gate,
-        bells,
-    };
+    let flusher = Flusher::new(rt, shared, gate);
     let mut last = Commit::none();
     for _ in rt.forever() {
         if flusher.begin_snapshot() {
@@ -67,26 +48,34 @@ pub(crate) fn run_flusher_on<
     unreachable!()
 }
 
-// A flusher, with what it works on.
+/// The steps of a flusher: for `run_flusher`, and for threads that serve connections and commit in between.
 #[derive(Drop)]
-struct Flusher<'a, D: Device, S: Tally, T: Tally, A: Allocator, G: Gate, H, B> {
+pub struct Flusher<'a, D: Device, S: Tally, T: Tally, A: Allocator, G: Gate, H> {
     rt: &'a H,
     shared: &'a Shared<D, S, T, A>,
     gate: &'a G,
-    bells: &'a B,
 }
 
-impl<
-    D: Device,
-    S: Tally,
-    T: Tally,
-    A: Allocator + Copy,
-    G: Gate,
-    H: Wait + Clock,
-    B: Settled,
-> Flusher<'_, D, S, T, A, G, H, B> {
-    // Begins a snapshot where one is wanted. Whether it did.
-    fn begin_snapshot(&self) -> bool {
+impl<'a, D: Device, S: Tally, T: Tally, A: Allocator + Copy, G: Gate, H: Wait + Clock> Flusher<
+    'a,
+    D,
+    S,
+    T,
+    A,
+    G,
+    H,
+> {
+    /// A flusher of what lies under this lock.
+    pub fn new(
+        rt: &'a H,
+        shared: &'a Shared<D, S, T, A>,
+        gate: &'a G,
+    ) -> Flusher<'a, D, S, T, A, G, H> {
+        Flusher { rt, shared, gate }
+    }
+
+    /// Begins a snapshot where one is wanted and its memory isn't refused. Whether it did.
+    pub fn begin_snapshot(&self) -> bool {
         let shared = self.shared;
         let mut desk = shared.desk.lock(self.rt);
         desk.wants_snapshot() && desk.start_on() == Ok(Started::Yes)
@@ -121,20 +110,24 @@ impl<
         desk.flushed()
     }
 
-    // Lets the entries go that are settled and whose tickets aren't out, the oldest first. Whoever was told by the last commit waits for
-    // the next one by now, and not for the lock.
-    fn retire(&self) {
+    /// Lets the entries go that are settled and whose tickets aren't out, the oldest first. Whether there were any. Whoever was told by
+    /// the last commit waits for the next one by now, and not for the lock.
+    pub fn retire(&self) -> bool {
         let shared = self.shared;
+        let mut had_one = false;
         for _ in self.rt.forever() {
             let retired = shared.desk.lock(self.rt).retire();
             if retired == Retired::Nothing {
-                return;
+                return had_one;
             }
+            had_one = true;
         }
+        had_one
     }
 
-    // Pumps until entries are settled, or a device call failed, and wakes the workers. What it made, where it called the device.
-    fn settle(&self) -> Option<Commit> {
+    /// Pumps until entries are settled, or a device call failed, and wakes the workers that wait at the desk. What it made, where it
+    /// called the device.
+    pub fn settle(&self) -> Option<Commit> {
         let shared = self.shared;
         let began = Instant::now(self.rt).ok();
         let mut was_moved = false;
@@ -147,11 +140,35 @@ impl<
             was_moved = true;
         }
         shared.settled.notify_all();
-        self.bells.tell();
         if was_moved {
             Some(Commit::since(self.rt, began))
         } else {
             None
         }
+    }
+
+    /// Whether there is something to pump, or to retire for somebody who wants room.
+    pub fn has_work(&self) -> bool {
+        let shared = self.shared;
+        shared.desk.lock(self.rt).has_work()
+    }
+
+    /// How long it is better to wait for more entries before those that wait are committed. None: not any longer.
+    pub fn waits_for(&self, gathering: &mut Gathering, last: &Commit) -> Option<Duration> {
+        let shared = self.shared;
+        let waiting = shared.desk.lock(self.rt).lacks()?;
+        gathering.left(self.rt, last, waiting)
+    }
+
+    /// How many entries are settled. None where the vault is broken.
+    pub fn settled(&self) -> Option<u64> {
+        let shared = self.shared;
+        shared.desk.lock(self.rt).settled()
+    }
+
+    /// Before the next commit it is waited for as many entries as there are now behind so many that were settled.
+    pub fn expects(&self, settled: u64) {
+        let shared = self.shared;
+        shared.desk.lock(self.rt).expects(settled);
     }
 }

@@ -20,7 +20,7 @@ const CHUNK: usize = 4096;
 
 /// What comes next.
 #[derive(Debug, Clone, Copy, PartialEq, Eq)]
-pub(crate) enum NextByte {
+pub enum NextByte {
     Byte(u8),
     /// The reader has no more.
     End,
@@ -52,7 +52,7 @@ enum Piece {
 
 /// How the next line came.
 #[derive(Debug, Clone, Copy, PartialEq, Eq)]
-pub(crate) enum NextLine {
+pub enum NextLine {
     /// It lies in the buffer, without its line feed.
     Whole,
     /// It was read up to its line feed, but has too many bytes.
@@ -69,7 +69,7 @@ pub(crate) enum NextLine {
 
 /// What lies between a reader and the lines of a connection. Contracts see the bytes that wait, and how many were taken.
 #[derive(Drop)]
-pub(crate) struct Inlet {
+pub struct Inlet {
     /// What the last read gave.
     chunk: [u8; CHUNK],
     /// Where in the chunk the bytes begin that wait.

@@ -12,7 +12,7 @@ use vault_model::{NoMemory, Reply};
 
 /// The line that an answer is told as.
 #[derive(Drop)]
-pub(crate) struct Telling<A: Allocator> {
+pub struct Telling<A: Allocator> {
     /// All bytes of the line.
     pub text: Vec<u8, A>,
     /// How many of them are written.
@@ -22,7 +22,7 @@ pub(crate) struct Telling<A: Allocator> {
 }
 
 /// What a conversation does next.
-pub(crate) enum Turn<A: Allocator> {
+pub enum Turn<A: Allocator> {
     /// It hears a line.
     Hear,
     /// It waits for the reply to its command.
@@ -34,7 +34,7 @@ pub(crate) enum Turn<A: Allocator> {
 }
 
 /// Tells more of an answer. It is still to be told where the writer takes no more for now.
-pub(crate) fn tell<A: Allocator, W: Write>(writer: &mut W, telling: Telling<A>) -> Turn<A>
+pub fn tell<A: Allocator, W: Write>(writer: &mut W, telling: Telling<A>) -> Turn<A>
     ensures { TellsOn telling result (W.contents writer.old) (W.contents writer.new) }
 {
     let mut telling = telling;
@@ -50,15 +50,6 @@ pub(crate) fn tell<A: Allocator, W: Write>(writer: &mut W, telling: Telling<A>) 
         Turn::Over(Ended::Quit)
     } else {
         Turn::Hear
-    }
-}
-
-/// What a conversation comes to whose reader or writer failed.
-pub(crate) fn given_up<A: Allocator>(turn: Turn<A>) -> Turn<A> {
-    match turn {
-        Turn::Hear => Turn::Over(Ended::Read),
-        Turn::Tell(_) => Turn::Over(Ended::Write),
-        other => other,
     }
 }
 

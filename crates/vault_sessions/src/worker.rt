@@ -31,10 +31,14 @@ const MOST_LINES: usize = 4096;
 
 /// Takes the steps of conversations over one vault.
 #[derive(Drop)]
-pub(crate) struct Worker<'a, D: Device, S: Tally, T: Tally, A: Allocator, G: Gate, H: Wait> {
+pub struct Worker<'a, D: Device, S: Tally, T: Tally, A: Allocator, G: Gate, H: Wait> {
+    /// What it waits by.
     pub rt: &'a H,
+    /// Where its memory is from.
     pub alloc: A,
+    /// The vault that it works on.
     pub shared: &'a Shared<D, S, T, A>,
+    /// What is called at each of its points.
     pub gate: &'a G,
 }
 
@@ -332,8 +336,8 @@ impl<D: Device, S: Tally, T: Tally, A: Allocator + Copy, G: Gate, H: Wait> Worke
         None
     }
 
-    /// Stages a last leave, and forgets its ticket. Waits for room. Where it is refused for another reason, the session stands.
-    pub fn leave(&self, outs: &Vec<Out<A>, A>, session: u32, share: &mut Share<S, T>)
+    // Stages a last leave, and forgets its ticket. Waits for room. Where it is refused for another reason, the session stands.
+    pub(crate) fn leave(&self, outs: &Vec<Out<A>, A>, session: u32, share: &mut Share<S, T>)
         requires { session ≡ session_of 0 outs.now.items }
         ensures { Counts share.old 0 1 share.new }
     {

@@ -4,7 +4,7 @@ use std::alloc::AllocError;
 use thiserror::Error;
 use vault_inspector::{InspectError, PrintError};
 use vault_protocol::ScriptError;
-use vault_sessions::ServerError;
+use vault_server::ServerError;
 use vault_store::{CreateError, File, OpenError};
 
 /// What went wrong, as it is said in one line.

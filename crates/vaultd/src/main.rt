@@ -1,11 +1,10 @@
 //! The program of the design vault: `create`, `serve`, `inspect` and `script`.
 //!
 //! Promises: it is safe and, but for `serve`, total. Each subcommand is one call of a crate beneath.
-//! Stands on: vault_device, vault_store, group_commit, vault_protocol, vault_inspector, vault_sessions. Must not know:
+//! Stands on: vault_device, vault_store, group_commit, vault_protocol, vault_inspector, vault_sessions, vault_server. Must not know:
 //! anything that a contract should say; it is kept thin.
-//! Only tested: the stored run of a script; by `tools/try-program`, behind the proofs, what the words ask for, statuses, the
-//! text of each failure, the order of failures, `create`, `inspect` and `serve` on real files and beside their locks, signals,
-//! closed streams and odd clients.
+//! Only tested: the stored run of a script; by `tools/try-program`, behind the proofs, what the words ask for, statuses, texts and order
+//! of failures, `create`, `inspect` and `serve` on real files and beside their locks, signals, closed streams, odd clients.
 //! Neither: texts of help and usage; what standard input and output are.
 //! Start at: command_line.rt, then the file of a subcommand.
 #![tactic(auto)]

@@ -13,7 +13,8 @@ use std::sync::Wait;
 use std::thread::Threads;
 use std::time::{Clock, Duration};
 use vault_device::FileDevice;
-use vault_sessions::{OpenGate, Terms, run_server_on};
+use vault_server::{Terms, run_server_on};
+use vault_sessions::OpenGate;
 
 /// The number of the program's one life of a vault.
 const LIFE: u64 = 1;

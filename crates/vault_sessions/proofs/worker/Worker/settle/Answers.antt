@@ -1,5 +1,6 @@
-use Rattle.std.proofs.Common.{◌≡◌, [], ◌∷◌, ◌++◌, ap, ◌∙◌, rules}
+use Rattle.std.proofs.Common.{◌≡◌, List, [], ◌∷◌, ◌++◌, ap, ◌∙◌, rules}
 use Rattle.vault_model.specs.declared.replies.Outside.TheVariants.{Broken}
+use Rattle.vault_sessions.specs.declared.report.Out.{Out}
 use Rattle.vault_sessions.specs.declared.report.Out.TheVariants.{Told, Refused}
 use Rattle.vault_sessions.proofs.Talks.{loses, replies, counts_told, counts_broken, broken_fits}
 use Rattle.vault_sessions.proofs.worker.Worker.settle.Goals as goal
@@ -14,7 +15,7 @@ pub returns-in-Told : goal.returns-in-Told
 returns-in-Told g c = λ r0 r w0 w s0 h.
     let all = c.args.talk.now.outs.items in
     let out = Told c.in-Told.receipt in
-    let more : c.answer.new.talk.outs.items ≡ all ++ out ∷ [] = c.answer.ensures.kept.0 ∙ ap (λ l. l ++ out ∷ []) c.reserve.ensures.items in
+    let more : c.answer.new.talk.outs.items ≡ all ++ out ∷ [] = ◌∙◌ {A = List (Out g.row.A.Denot)} c.answer.ensures.kept.0 (ap (λ l. l ++ out ∷ []) c.reserve.ensures.items) in
     let is = c.in-Told.ensures.of_ticket in
     rw (more, c.answer.ensures.same.0, c.answer.ensures.same.1, c.answer.ensures.same.2, c.answer.ensures.same.3) (replies c.args.ticket out c.answer.result r0 r w0 w s0 _ _ _ all _ _ _ _ h is.command (λ of_session. is.session ∙ of_session) c.answer.ensures.kept.1 (λ before staged. counts_told g.row.A.Denot before _ _ c.in-Told.receipt staged c.in-Told.ensures.counted) c.answer.ensures.told)
 
@@ -22,5 +23,5 @@ pub returns-in-Stranger : goal.returns-in-Stranger
 returns-in-Stranger g c = λ r0 r w0 w s0 h.
     let all = c.args.talk.now.outs.items in
     let out = Refused Broken in
-    let more : c.answer-in-Stranger.new.talk.outs.items ≡ all ++ out ∷ [] = c.answer-in-Stranger.ensures.kept.0 ∙ ap (λ l. l ++ out ∷ []) c.reserve.ensures.items in
+    let more : c.answer-in-Stranger.new.talk.outs.items ≡ all ++ out ∷ [] = ◌∙◌ {A = List (Out g.row.A.Denot)} c.answer-in-Stranger.ensures.kept.0 (ap (λ l. l ++ out ∷ []) c.reserve.ensures.items) in
     rw (more, c.answer-in-Stranger.ensures.same.0, c.answer-in-Stranger.ensures.same.1, c.answer-in-Stranger.ensures.same.2, c.answer-in-Stranger.ensures.same.3) (replies c.args.ticket out c.answer-in-Stranger.result r0 r w0 w s0 _ _ _ all _ _ _ _ h broken_fits (λ of_session. tt) c.answer-in-Stranger.ensures.kept.1 (λ before staged. counts_broken g.row.A.Denot before _ _ staged (search rules)) c.answer-in-Stranger.ensures.told)

@@ -3,8 +3,9 @@ use denote.Param.Send.{sendable}
 use denote.Ref.{NamedLft}
 use Rattle.std.proofs.Crossing.{crosses}
 use Rattle.std.proofs.CrossingOver.{crosses as over}
-use Rattle.vault_sessions.proofs.Sends.{poll_send, rounds_send, share_send}
-use Rattle.vault_sessions.proofs.server.Server.start.Goals as goal
+use Rattle.vault_sessions.proofs.Sends.{share_send}
+use Rattle.vault_server.proofs.Sends.{poll_send, rounds_send}
+use Rattle.vault_server.proofs.server.Server.start.Goals as goal
 
 pub spawn-requires-send-F : goal.spawn-requires-send-F
 spawn-requires-send-F g c κs h =

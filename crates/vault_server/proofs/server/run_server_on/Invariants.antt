@@ -1,5 +1,5 @@
 use Rattle.group_commit.specs.View.{length_of}
-use Rattle.vault_sessions.proofs.server.run_server_on.Given as goal
+use Rattle.vault_server.proofs.server.run_server_on.Given as goal
 
 abbrev pub ghosts-run-S-Ledger : goal.ghosts-run-S-Ledger
 ghosts-run-S-Ledger g a = record { name = a.staged.name; parts = a.staged.parts }

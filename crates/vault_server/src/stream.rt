@@ -2,12 +2,12 @@
 
 ghost use Rattle.libc.specs.Net.{SockOption};
 
-use crate::report::Ended;
 use libc::net as c;
 use std::io::{self, ErrorKind, Read};
 use std::net::{Shutdown, TcpStream};
 use std::os::fd::AsRawFd;
 use std::time::{Duration, Instant};
+use vault_sessions::Ended;
 
 // The kernel asks after a client that said nothing for a minute, six times with ten seconds between, and then ends the connection.
 const FIRST_ASKED: u8 = 60;

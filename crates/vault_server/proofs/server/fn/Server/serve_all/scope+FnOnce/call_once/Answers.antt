@@ -1,5 +1,5 @@
 use denote.Param.Send.{sendable}
-use Rattle.vault_sessions.proofs.server.fn.Server.serve_all.scope+FnOnce.call_once.Goals as goal
+use Rattle.vault_server.proofs.server.fn.Server.serve_all.scope+FnOnce.call_once.Goals as goal
 
 pub scope-requires : goal.scope-requires
 scope-requires g c = (search sendable, (search sendable, (search sendable, (search sendable, (search sendable, (search sendable, (search sendable, (search sendable, (search sendable, search sendable)))))))))

@@ -42,26 +42,11 @@ impl Bell {
     }
 }
 
-/// What a flusher does once entries are settled, beside what those hear that wait at the desk.
-pub(crate) trait Settled {
-    /// Entries are settled, or the vault is broken.
-    fn tell(&self);
-}
-
-/// Whoever waits does so at the desk.
-#[derive(Drop)]
-pub(crate) struct AtTheDesk;
-
-impl Settled for AtTheDesk {
-    fn tell(&self) {}
-}
-
-impl<A: Allocator> Settled for Vec<Bell, A> {
-    fn tell(&self) {
-        for bell in self {
-            if bell.has_connections.load(Ordering::SeqCst) {
-                bell.ring();
-            }
+/// Rings the bells of the other threads that have connections.
+pub(crate) fn ring_others<A: Allocator>(bells: &Vec<Bell, A>, own: usize) {
+    for (number, bell) in bells.iter().enumerate() {
+        if number != own && bell.has_connections.load(Ordering::SeqCst) {
+            bell.ring();
         }
     }
 }

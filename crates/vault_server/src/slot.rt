@@ -1,19 +1,14 @@
 //! A place for one connection at a time, among those that a thread serves.
 
-use crate::conversation::Conversation;
-use crate::gate::Gate;
-use crate::report::Ended;
 use crate::server::Connection;
 use crate::stream::{Drain, Drained, Tap};
-use crate::tally::{Share, Tally};
-use crate::turn::{Turn, given_up, tell};
-use crate::worker::Worker;
 use std::alloc::Allocator;
 use std::mem;
 use std::net::TcpStream;
 use std::sync::Wait;
 use std::time::{Duration, Instant};
 use vault_device::Device;
+use vault_sessions::{Conversation, Ended, Gate, Share, Tally, Turn, Worker, tell};
 
 // How many steps a connection takes in a row. Then the others get their turn.
 const STEPS_IN_A_ROW: u32 = 48;
@@ -162,9 +157,21 @@ impl<S: Tally, T: Tally, A: Allocator + Copy> Slot<S, T, A> {
                 Drained::Over => Goes::Over,
             },
         };
-        if goes != Goes::Over {
-            return goes;
+        if goes == Goes::Over {
+            self.end(worker, now)
+        } else {
+            goes
         }
+    }
+
+    // Goes on with a connection that is over. Stands by itself, since it takes room on the stack for a whole slot.
+    #[cold]
+    #[inline(never)]
+    fn end<D: Device, G: Gate, H: Wait>(
+        &mut self,
+        worker: &Worker<'_, D, S, T, A, G, H>,
+        now: Option<Instant>,
+    ) -> Goes {
         let left = mem::replace(self, Slot::Open).over(worker, now);
         self.put(worker, left);
         if self.is_free() { Goes::Over } else { Goes::On }
@@ -201,6 +208,15 @@ impl<S: Tally, T: Tally, A: Allocator + Copy> Slot<S, T, A> {
             }
             Slot::Open => None,
         }
+    }
+}
+
+// What a conversation comes to whose client was silent for too long.
+fn given_up<A: Allocator>(turn: Turn<A>) -> Turn<A> {
+    match turn {
+        Turn::Hear => Turn::Over(Ended::Read),
+        Turn::Tell(_) => Turn::Over(Ended::Write),
+        other => other,
     }
 }
 

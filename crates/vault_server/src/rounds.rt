@@ -1,29 +1,36 @@
-//! One thread that serves several connections.
+//! One thread that serves several connections, and commits what they staged.
 
-use crate::bells::Bell;
-use crate::gate::Gate;
+use crate::bells::{Bell, ring_others};
+use crate::commits::{Committer, Tried};
 use crate::server::Connection;
 use crate::slot::{Goes, Slot};
-use crate::tally::{Share, Tally};
-use crate::worker::Worker;
 use crossbeam_channel::{Receiver, Sender};
+use flusher_pace::Commit;
 use mio::unix::SourceFd;
 use mio::{Events, Interest, Poll, Registry, Token};
 use std::alloc::Allocator;
 use std::os::fd::AsRawFd;
-use std::sync::Wait;
+use std::sync::{Mutex, Wait};
 use std::time::{Clock, Duration, Instant};
 use vault_device::Device;
+use vault_sessions::{Flusher, Gate, Share, Tally, Worker};
 
 // How many events one look at the kernel gives at most.
 const MOST_EVENTS: usize = 65;
+
+// The kernel waits for whole milliseconds. For less than so many microseconds a thread looks again and again.
+const SHORTEST_WAIT: u64 = 200;
 
 /// A thread's part of a server.
 #[derive(Drop)]
 pub(crate) struct Rounds<'a, D: Device, S: Tally, T: Tally, A: Allocator, G: Gate, H: Wait> {
     pub worker: Worker<'a, D, S, T, A, G, H>,
+    /// The last commit of all threads.
+    pub last: &'a Mutex<Commit>,
     /// What wakes it.
     pub bell: &'a Bell,
+    /// What wakes each thread.
+    pub bells: &'a Vec<Bell, A>,
     /// Its number among the threads.
     pub number: usize,
     /// The connections that come to it.
@@ -32,6 +39,17 @@ pub(crate) struct Rounds<'a, D: Device, S: Tally, T: Tally, A: Allocator, G: Gat
     pub freed: Sender<Option<usize>, A>,
     /// For how long a client may be silent.
     pub idle: Option<Duration>,
+}
+
+// For how long a thread waits that has nothing to do.
+#[derive(Debug, Clone, Copy, PartialEq, Eq)]
+enum Rest {
+    // There is more to do.
+    Nothing,
+    // Others may come in a moment.
+    Moment,
+    // Until something happens.
+    Long,
 }
 
 impl<D: Device, S: Tally, T: Tally, A: Allocator + Copy, G: Gate, H: Wait + Clock> Rounds<
@@ -58,7 +76,9 @@ impl<D: Device, S: Tally, T: Tally, A: Allocator + Copy, G: Gate, H: Wait + Cloc
             self.say(Some(self.number));
         }
         let mut poll = poll;
-        self.serve(&mut poll, &mut events, &mut slots);
+        let flusher = Flusher::new(self.worker.rt, self.worker.shared, self.worker.gate);
+        let mut committer = Committer::new(flusher, self.last);
+        self.serve(&mut committer, &mut poll, &mut events, &mut slots);
         while let Some(slot) = slots.pop() {
             if let Some(share) = slot.into_share(&self.worker) {
                 let _ = shares.push(share);
@@ -78,14 +98,24 @@ impl<D: Device, S: Tally, T: Tally, A: Allocator + Copy, G: Gate, H: Wait + Cloc
     }
 
     // Serves connections until no more come.
-    fn serve(&self, poll: &mut Poll, events: &mut Events<A>, slots: &mut Vec<Slot<S, T, A>, A>) {
-        let mut goes = Goes::Over;
+    fn serve(
+        &self,
+        committer: &mut Committer<'_, D, S, T, A, G, H>,
+        poll: &mut Poll,
+        events: &mut Events<A>,
+        slots: &mut Vec<Slot<S, T, A>, A>,
+    ) {
+        let mut rest = Rest::Long;
         for _ in self.worker.rt.forever() {
-            self.look(poll, events, slots, goes);
+            self.look(poll, events, slots, rest);
             let now = self.now();
             let may_come = self.take(poll.registry(), slots, now);
-            goes = self.turn(slots, now);
-            if goes == Goes::Over {
+            let goes = self.turn(slots, now);
+            rest = match goes {
+                Goes::On => Rest::Nothing,
+                Goes::Rests | Goes::Over => self.commit(committer, poll, events, slots),
+            };
+            if goes == Goes::Over && rest == Rest::Long {
                 self.bell.attend(false);
                 if !may_come {
                     return;
@@ -94,18 +124,51 @@ impl<D: Device, S: Tally, T: Tally, A: Allocator + Copy, G: Gate, H: Wait + Cloc
         }
     }
 
+    // Commits what is staged, unless another thread does. Then its connections take what came meanwhile, and after that those go on whose
+    // entries are settled.
+    fn commit(
+        &self,
+        committer: &mut Committer<'_, D, S, T, A, G, H>,
+        poll: &mut Poll,
+        events: &mut Events<A>,
+        slots: &mut Vec<Slot<S, T, A>, A>,
+    ) -> Rest {
+        match committer.commit() {
+            Tried::NotNow => return Rest::Long,
+            Tried::Early(left) if left < Duration::from_micros(SHORTEST_WAIT) => {
+                return Rest::Nothing;
+            }
+            Tried::Early(_) => return Rest::Moment,
+            Tried::InVain => {
+                ring_others(self.bells, self.number);
+                return Rest::Long;
+            }
+            Tried::Renewed | Tried::Settled(None) => {}
+            Tried::Settled(Some(settled)) => {
+                self.look(poll, events, slots, Rest::Nothing);
+                let _ = self.turn(slots, self.now());
+                committer.expect(settled);
+            }
+        }
+        ring_others(self.bells, self.number);
+        for slot in slots.as_mut_slice() {
+            slot.look_again();
+        }
+        Rest::Nothing
+    }
+
     // Waits until something happens where there is nothing to do, and notes what did.
     fn look(
         &self,
         poll: &mut Poll,
         events: &mut Events<A>,
         slots: &mut Vec<Slot<S, T, A>, A>,
-        goes: Goes,
+        rest: Rest,
     ) {
-        let wait = if goes == Goes::On {
-            Some(Duration::ZERO)
-        } else {
-            self.wait_for(slots)
+        let wait = match rest {
+            Rest::Nothing => Some(Duration::ZERO),
+            Rest::Moment => Some(Duration::from_millis(1)),
+            Rest::Long => self.wait_for(slots),
         };
         let mut is_rung = poll.poll(events, wait).is_err();
         for event in events.iter() {

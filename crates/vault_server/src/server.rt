@@ -6,26 +6,23 @@ ghost use Rattle.vault_sessions.specs.Tallies.{HasGrown};
 ghost use denote.Param.Send.{Frees};
 
 use crate::bells::Bell;
-use crate::flusher::{Flushed, run_flusher_on};
-use crate::gate::Gate;
 use crate::rounds::Rounds;
-use crate::shared::{Shared, gather};
 use crate::stream::prepare;
-use crate::tally::{Share, Tally, Totals};
-use crate::worker::Worker;
 use crossbeam_channel::{Receiver, Sender, bounded};
+use flusher_pace::Commit;
 use group_commit::Vault;
 use mio::Poll;
 use std::alloc::Allocator;
 use std::marker::Brand;
 use std::net::{Net, TcpListener, TcpStream};
-use std::sync::Wait;
 use std::sync::ledger::Blank;
+use std::sync::{Mutex, Wait};
 use std::thread::{JoinHandle, Scope, Threads};
 use std::time::{Clock, Duration};
 use std::{io, thread};
 use thiserror::Error;
 use vault_device::Device;
+use vault_sessions::{Gate, Share, Shared, Tally, Totals, Worker, gather, run_flusher};
 
 // How many accepts may fail in a row, and for how many milliseconds the server rests behind each.
 const MOST_FAULTS: u32 = 20;
@@ -68,10 +65,10 @@ pub(crate) struct Connection {
     pub stream: TcpStream,
 }
 
-/// Serves so many connections at a time by two threads at most and a flusher, all of which have ended when it returns. Where a number
-/// of connections is given, it ends once these were served, with the vault and what was counted. Connections count from 1, and wrap. At
-/// an error the connections that were handed to threads are served to their end first. With a broken vault it goes on, and every command
-/// is answered `Broken`.
+/// Serves so many connections at a time by two threads at most, which have ended when it returns. They commit what their connections
+/// staged, one of them at a time. Where a number of connections is given, it ends once these were served, with the vault and what was
+/// counted. Connections count from 1, and wrap. At an error the connections that were handed to threads are served to their end first.
+/// With a broken vault it goes on, and every command is answered `Broken`.
 pub fn run_server<
     D: Device + Drop + Send,
     A: Allocator + Copy + Send + Sync,
@@ -152,12 +149,14 @@ fn run<
         return Err(ServerError::NoMemory);
     };
     let (polls, bells) = polls_of(rt, alloc, workers.min(MOST_THREADS))?;
+    let last = Mutex::new(Commit::none());
     let server = Server {
         rt,
         alloc,
         shared: &shared,
         gate,
         bells: &bells,
+        last: &last,
     };
     let returned = server.serve_all(shares, polls, &listener, terms)?;
     match gather(shared, returned) {
@@ -192,6 +191,8 @@ struct Server<'a, D: Device, A: Allocator, G: Gate, H, S: Tally, T: Tally> {
     shared: &'a Shared<D, S, T, A>,
     gate: &'a G,
     bells: &'a Vec<Bell, A>,
+    // The last commit. Who has it commits.
+    last: &'a Mutex<Commit>,
 }
 
 // The threads that serve connections: how each gets them, and what it gives back.
@@ -249,9 +250,6 @@ impl<
         let Ok((freed, free)) = bounded::<Option<usize>, A>(self.alloc, most_said) else {
             return Err(ServerError::NoMemory);
         };
-        let Some(flusher) = self.start_flusher(scope) else {
-            return Err(ServerError::NoMemory);
-        };
         let mut running = Running {
             senders: Vec::new(self.alloc),
             handles: Vec::new(self.alloc),
@@ -268,19 +266,9 @@ impl<
         }
         join_all(self.rt, handles, &mut returned);
         self.shared.close(self.rt);
-        flusher.join(self.rt);
+        let _ = run_flusher(self.rt, self.shared, self.gate);
         accepted?;
         Ok(returned)
-    }
-
-    // Starts the flusher, unless there is no memory for it.
-    fn start_flusher<'s, E>(&'s self, scope: &'s Scope<'s, E>) -> Option<JoinHandle<Flushed>>
-        requires { Frees A.Allocator A.dealloc_token }
-    {
-        let (rt, shared, gate, bells) = (self.rt, self.shared, self.gate, self.bells);
-        scope
-            .spawn(move || run_flusher_on(rt, shared, gate, bells))
-            .ok()
     }
 
     // Starts a thread for each poll, with a like part of the shares, unless there is no memory for one.
@@ -350,6 +338,8 @@ impl<
                 shared: self.shared,
                 gate: self.gate,
             },
+            last: self.last,
+            bells: self.bells,
             bell,
             number,
             coming,

@@ -1,0 +1,49 @@
+-- The types of a server may be sent between threads, or shared by them, as what they are made of may.
+use denote.Builtin.{usize}
+use denote.RattleType.{RattleType}
+use denote.Param.Send.{IsSend, IsSync, Frees, sendable}
+use denote.Ref.{NamedLft}
+use Rattle.std.specs.contracts.option.Option as Option
+use Rattle.std.specs.declared.alloc.Allocator.{Ghosts}
+use Rattle.std.proofs.Crossing.{crosses as locks}
+use Rattle.std.proofs.CrossingOver.{crosses as over}
+use Rattle.std.specs.declared.sync.ledger.Ledger.{Ghosts as LedgerGhosts}
+use Rattle.crossbeam_channel.specs.contracts.channel.Receiver as Receiver
+use Rattle.crossbeam_channel.specs.contracts.channel.Sender as Sender
+use Rattle.mio.specs.contracts.poll.Poll as Poll
+use Rattle.vault_model.proofs.Sends.{fields}
+use Rattle.vault_device.specs.declared.device.Device.{Ghosts as DeviceGhosts}
+use Rattle.vault_sessions.specs.declared.tally.Tally.{Ghosts as TallyGhosts}
+use Rattle.flusher_pace.specs.contracts.commit.Commit as Commit
+use Rattle.vault_sessions.proofs.Sends.{worker_send}
+use Rattle.vault_server.specs.contracts.bells.Bell as Bell
+use Rattle.vault_server.specs.contracts.rounds.Rounds as Rounds
+use Rattle.vault_server.specs.contracts.server.Connection as Connection
+
+pub poll_send : IsSend Poll.the_row
+poll_send = search fields depth 40 fits 20000
+
+pub bell_sync : IsSync Bell.the_row
+bell_sync = search (fields, locks) depth 40 fits 20000
+
+connection_send : IsSend Connection.the_row
+connection_send = search fields depth 40 fits 20000
+
+pub receiver_send : (A : RattleType) (g : Ghosts A.Denot) → IsSend A → IsSync A → Frees g g.dealloc_token → IsSend (Receiver.the_field Connection.the_row A g).row
+receiver_send A g s y f = let c = connection_send in search (fields, locks) depth 60 fits 20000
+
+pub sender_send : (A : RattleType) (g : Ghosts A.Denot) → IsSend A → IsSync A → Frees g g.dealloc_token → IsSend (Sender.the_field (Option.the_row usize) A g).row
+sender_send A g s y f = search (fields, locks) depth 60 fits 20000
+
+commit_send : IsSend Commit.the_row
+commit_send = search fields depth 40 fits 20000
+
+module _ (D S T A : RattleType) (d : DeviceGhosts D.Denot) (sc : TallyGhosts S.Denot) (sl : LedgerGhosts S.Denot) (tc : TallyGhosts T.Denot) (tl : LedgerGhosts T.Denot) (g : Ghosts A.Denot) where
+  pub rounds_send : (ℓ : NamedLft) (G H : RattleType) → IsSend D → IsSend S → IsSync S → IsSend T → IsSync T → IsSend A → IsSync A → Frees g g.dealloc_token → IsSync G → IsSync H → IsSend (Rounds.the_field ℓ D S T A G H d sc sl tc tl g).row
+  rounds_send ℓ G H ds s sy t ty a ay f gy hy =
+      let w = λ (ℓ : NamedLft). worker_send D S T A d sc sl tc tl g ℓ G H ds s sy t ty a f gy hy in
+      let b = bell_sync in
+      let l = commit_send in
+      let r = receiver_send A g a ay f in
+      let c = sender_send A g a ay f in
+      search (sendable, locks, over, w) depth 60 fits 20000
