@@ -1,7 +1,8 @@
 //! For how many the flusher waits.
 
-use flusher_pace::{Pace, may_change};
+use flusher_pace::{Commit, Gathering, Pace, may_change};
 use group_commit::{Pumped, Started};
+use std::time::{Duration, Instant};
 use vault_lines::read_line_of;
 use vault_model::NoMemory;
 
@@ -22,6 +23,10 @@ enum Step {
     Staged(u64, bool, bool),
     /// It sleeps until so many wait.
     Sleeps(u64),
+    /// Whether a thread that commits in between waits for more, while so many wait.
+    Lacks(u64, bool),
+    /// So many were told, or came meanwhile.
+    Expects(u64),
 }
 
 // Whether a pace answers so.
@@ -46,11 +51,13 @@ fn is_answered(pace: &mut Pace, step: Step) -> bool {
             return pace.staged(waiting, may_change) == wakes;
         }
         Step::Sleeps(least) => return pace.sleeps(true, least),
+        Step::Lacks(waiting, lacks) => return pace.lacks(waiting) == lacks,
+        Step::Expects(group) => pace.expects(group),
     }
     true
 }
 
-static ROWS: [(&str, &[Step]); 5] = [
+static ROWS: [(&str, &[Step]); 6] = [
     (
         "behind a commit of three it waits for three, then without one that stays away for two, and behind one alone for none",
         &[
@@ -115,7 +122,43 @@ static ROWS: [(&str, &[Step]); 5] = [
             Step::Staged(3, true, false),
         ],
     ),
+    (
+        "a thread that commits in between waits for whom it told and who came meanwhile, and is woken by none of them",
+        &[
+            Step::Lacks(0, false),
+            Step::Commit(2),
+            Step::Lacks(1, false),
+            Step::Staged(1, true, false),
+            Step::Lacks(1, true),
+            Step::Expects(4),
+            Step::Staged(2, true, false),
+            Step::Lacks(3, true),
+            Step::Staged(4, true, false),
+            Step::Lacks(4, false),
+        ],
+    ),
 ];
+
+// How long is waited behind a commit that took a second: an eighth of that, from one look to the next.
+fn is_eighth_waited(rt: &HostRuntime) -> bool {
+    let second = Duration::from_secs(1);
+    let began = match Instant::now(rt) {
+        Ok(now) => now.checked_sub(second),
+        Err(_) => None,
+    };
+    let mut gathering = Gathering::new();
+    match gathering.left(rt, &Commit::since(rt, began), 1) {
+        Some(left) => left <= Duration::from_millis(130) && left > Duration::from_millis(1),
+        None => false,
+    }
+}
+
+#[test]
+fn a_thread_waits_for_a_part_of_a_commit(rt: HostRuntime) {
+    let mut gathering = Gathering::new();
+    assert!(rt; gathering.left(&rt, &Commit::none(), 1).is_none());
+    assert!(rt; is_eighth_waited(&rt));
+}
 
 // What may change the vault.
 static CHANGES: [(&[u8], bool); 3] = [
