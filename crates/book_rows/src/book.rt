@@ -3,18 +3,19 @@ ghost use Rattle.std.specs.Prelude.{◌+◌};
 ghost use Rattle.vault_model.specs.Vault.{CountsBelow};
 
 mod alike;
-mod applied;
-mod commands;
-mod limits;
-mod lives;
+mod effects;
 mod memory;
 mod parts;
+mod steps;
+mod worked;
 
+use effects::{Kind, NONE, kind_of};
 use std::alloc::{Allocator, Global};
-use std::process::Abort;
+use std::mem;
+use test_memory::Tried;
 use vault_checkout::Book;
 use vault_lines::{read_line_of, text_of};
-use vault_model::{ClaimId, Command, Effect, EffectIn, NoMemory, Reply, ReplyIn};
+use vault_model::{ClaimId, Command, EffectIn, ReplyIn};
 
 const C1: ClaimId = ClaimId::Long(1);
 
@@ -26,199 +27,108 @@ const H1: ClaimId = ClaimId::Short(1);
 
 const H2: ClaimId = ClaimId::Short(2);
 
-/// A session, and the line that it says.
-type Line<'a> = (u32, &'a str);
-
-/// A session, the line that it says, and the line that it is told.
-type Said<'a> = (u32, &'a str, &'a str);
-
-fn command(rt: &impl Abort, memory: Global, line: &str) -> Command {
-    read_line_of(memory, line.as_bytes()).expect(rt, "a command")
-}
-
 /// Whether a reply is told as this line.
-fn is_told(rt: &impl Abort, memory: Global, reply: &Reply, line: &str) -> bool {
-    let text = text_of(memory, reply).expect(rt, "memory");
-    text.as_slice().strip_suffix(b"\n") == Some(line.as_bytes())
+fn is_told<A: Allocator>(memory: Global, reply: &ReplyIn<A>, line: &str) -> bool {
+    let Ok(text) = text_of(memory, reply) else {
+        return false;
+    };
+    let is_so = text.as_slice().strip_suffix(b"\n") == Some(line.as_bytes());
+    drop(text);
+    is_so
 }
 
-/// The kind of an effect, and the number of its claim.
-type Kind = (&'static str, u32);
-
-/// The kind of effect that a check-out or an extension has, whose claim is this one then.
-fn kind_of_claim(command: &Command, id: ClaimId) -> Option<Kind> {
-    match (command, id) {
-        (Command::CheckOut(_), ClaimId::Long(number)) => Some(("Asked", number)),
-        (Command::CheckOut(_), ClaimId::Short(_)) => Some(("Asked", 0)),
-        (Command::Extend(_, _), ClaimId::Long(number)) => Some(("Extended", number)),
-        _ => None,
-    }
-}
-
-/// The kind of effect that a command has, with this reply.
-fn kind_told(command: &Command, reply: &Reply) -> Option<Kind> {
-    match (reply, command) {
-        (Reply::Held(id) | Reply::Queued(id, _), _) => kind_of_claim(command, *id),
-        (Reply::Place(_), Command::Make(_, _)) => Some(("Made", 0)),
-        (Reply::Place(_), Command::Nest(_, _)) => Some(("Nested", 0)),
-        (Reply::Saved, Command::Save(claim, _, _)) => Some(("Saved", *claim)),
-        (Reply::CheckedIn(_), Command::CheckIn(claim)) => Some(("CheckedIn", *claim)),
-        (Reply::Abandoned, Command::Abandon(claim)) => Some(("Abandoned", *claim)),
-        (Reply::Given, Command::Give(claim, _)) => Some(("Given", *claim)),
-        (Reply::Noted, Command::Note(claim, _)) => Some(("Noted", *claim)),
-        _ => None,
-    }
-}
-
-/// The kind of an effect.
-fn kind_of(effect: &Effect) -> Kind {
+/// Whether an effect is of this kind, and is made on the durable book.
+fn is_made<A: Allocator + Copy>(
+    durable: &mut Book<A>,
+    effect: &Option<EffectIn<A>>,
+    kind: Kind,
+) -> bool {
     match effect {
-        Effect::Made(_, _) => ("Made", 0),
-        Effect::Nested(_, _) => ("Nested", 0),
-        Effect::Asked(number, _, _) => ("Asked", *number),
-        Effect::Extended(number, _) => ("Extended", *number),
-        Effect::Saved(number, _, _) => ("Saved", *number),
-        Effect::CheckedIn(number) => ("CheckedIn", *number),
-        Effect::Abandoned(number) => ("Abandoned", *number),
-        Effect::Given(number, _) => ("Given", *number),
-        Effect::Noted(number, _) => ("Noted", *number),
+        Some(effect) => kind_of(effect) == kind && durable.apply(effect) == Ok(()),
+        None => kind == NONE,
     }
 }
 
-/// Whether a command that had this reply has an effect where it should, with its claim's number.
-fn is_effect(command: &Command, reply: &Reply, effect: &Option<Effect>) -> bool {
-    match effect {
-        Some(effect) => kind_told(command, reply) == Some(kind_of(effect)),
-        None => kind_told(command, reply) == None,
-    }
-}
-
-/// A book, and how many commands it was given.
+/// A book, the durable book that its effects make, and how many commands the book was given.
 #[derive(Drop)]
-struct Talk<A: Allocator = Global> {
+struct Talk<A: Allocator> {
     book: Book<A>,
+    durable: Book<A>,
     said: u32,
     ghost counts: { CountsBelow (said + 1) book },
 }
 
 impl<A: Allocator + Copy> Talk<A> {
-    fn new(rt: &impl Abort, alloc: A) -> Talk<A> {
-        Talk {
-            book: Book::new(alloc).expect(rt, "memory"),
+    /// A new book, and its durable book in memory of its own.
+    fn new(alloc: A, beside: A) -> Option<Talk<A>> {
+        let Ok(book) = Book::new(alloc) else {
+            return None;
+        };
+        let Ok(durable) = Book::new(beside) else {
+            drop(book);
+            return None;
+        };
+        Some(Talk {
+            book,
+            durable,
             said: 0,
-        }
+        })
     }
 
-    /// A new book that heard these lines.
-    fn behind(rt: &impl Abort, alloc: A, memory: Global, lines: &[Line<'_>]) -> Talk<A> {
-        let mut talk = Talk::new(rt, alloc);
-        talk.tell_all(rt, memory, lines);
-        talk
-    }
-
-    /// A book of its own that shows the same.
-    fn copy(&self, rt: &impl Abort) -> Talk<A> {
-        Talk {
-            book: self.book.copy().expect(rt, "memory"),
+    /// Two books of its own that show the same.
+    fn copy(&self) -> Option<Talk<A>> {
+        let Ok(book) = self.book.copy() else {
+            return None;
+        };
+        let Ok(durable) = self.durable.copy() else {
+            drop(book);
+            return None;
+        };
+        Some(Talk {
+            book,
+            durable,
             said: self.said,
-        }
+        })
     }
 
-    fn tell(
+    /// A restart, in which the durable book takes the book's place, and is given its commands from now on.
+    fn reopen(&mut self) -> Tried {
+        mem::swap(&mut self.book, &mut self.durable);
+        self.book.restart();
+        self.durable.restart();
+        self.said = 0;
+        Tried::Done
+    }
+
+    /// Tries a command: whether it is told as this line, and has an effect of this kind that is made on the durable book.
+    fn answers(
         &mut self,
+        memory: Global,
         session: u32,
         command: &Command,
-    ) -> Result<(ReplyIn<A>, Option<EffectIn<A>>), NoMemory> {
+        (want, kind): (&str, Kind),
+    ) -> Tried {
         if self.said == u32::MAX {
-            return Err(NoMemory);
+            return Tried::Wrong;
         }
-        let told = self.book.act(session, command)?;
+        let Ok((reply, effect)) = self.book.act(session, command) else {
+            return Tried::Refused;
+        };
         self.said += 1;
-        Ok(told)
-    }
-
-    fn say(&mut self, rt: &impl Abort, session: u32, command: &Command) -> ReplyIn<A> {
-        self.tell(session, command).expect(rt, "memory").0
-    }
-
-    /// Says each line of a session, of which none is refused.
-    fn tell_all(&mut self, rt: &impl Abort, memory: Global, lines: &[Line<'_>]) {
-        for (session, line) in lines {
-            let command = command(rt, memory, line);
-            let reply = self.say(rt, *session, &command);
-            assert!(rt; !matches!(&reply, Reply::Refused(_)), "{line} was refused");
-            drop(reply);
-            drop(command);
-        }
-    }
-}
-
-impl Talk {
-    /// A book as it is opened.
-    fn opened(mut book: Book) -> Talk {
-        book.restart();
-        Talk { book, said: 0 }
-    }
-
-    fn restart(&mut self) {
-        self.book.restart();
-        self.said = 0;
-    }
-
-    /// Whether a command is answered so, and has the effect that it should.
-    fn is_right(
-        &mut self,
-        rt: &impl Abort,
-        memory: Global,
-        (session, line, want): Said<'_>,
-    ) -> bool {
-        let command = command(rt, memory, line);
-        let (reply, effect) = self.tell(session, &command).expect(rt, "memory");
-        let is_right = is_told(rt, memory, &reply, want) && is_effect(&command, &reply, &effect);
+        let is_made = is_made(&mut self.durable, &effect, kind);
         drop(effect);
+        let is_told = is_told(memory, &reply, want);
         drop(reply);
+        Tried::done(is_made && is_told)
+    }
+
+    /// Tries a line in the same way.
+    fn hears(&mut self, memory: Global, session: u32, line: &str, want: (&str, Kind)) -> Tried {
+        let Ok(command) = read_line_of(memory, line.as_bytes()) else {
+            return Tried::Wrong;
+        };
+        let tried = self.answers(memory, session, &command, want);
         drop(command);
-        is_right
+        tried
     }
-
-    /// Says each line, and compares what it is told, and whether it has an effect.
-    fn hear(&mut self, rt: &impl Abort, memory: Global, lines: &[Said<'_>]) {
-        for said in lines {
-            assert!(rt; self.is_right(rt, memory, *said), "{said:?}");
-        }
-    }
-
-    /// Whether a command without effect is answered so.
-    fn is_answered(
-        &mut self,
-        rt: &impl Abort,
-        session: u32,
-        command: Command,
-        want: Reply,
-    ) -> bool {
-        let (reply, effect) = self.tell(session, &command).expect(rt, "memory");
-        let is_so = reply == want && effect.is_none();
-        drop(effect);
-        drop(reply);
-        drop(want);
-        drop(command);
-        is_so
-    }
-}
-
-/// What anna and ben say first.
-static STARTED: [Said<'static>; 6] = [
-    (0, "hello anna", "OK session 1"),
-    (0, "hello ben", "OK session 2"),
-    (1, "make /e", "OK place 1"),
-    (1, "make /e/b", "OK place 2"),
-    (1, "make /e/b/p1", "OK place 3"),
-    (1, "make /e/b/p2", "OK place 4"),
-];
-
-/// Anna and ben have joined, and anna has made `/e`, `/e/b` and the parts `p1` and `p2` in it.
-fn started(rt: &impl Abort, memory: Global) -> Talk {
-    let mut talk = Talk::new(rt, memory);
-    talk.hear(rt, memory, &STARTED);
-    talk
 }

@@ -1,8 +1,8 @@
-ghost use Rattle.std.specs.Prelude.{◌<◌, ◌≤◌, length};
+ghost use Rattle.std.specs.Prelude.{◌<◌, length};
 
-use std::alloc::Global;
+use std::alloc::{Allocator, Global};
 use std::process::Abort;
-use test_memory::{Refusing, Tried, requests};
+use test_memory::{Refusing, Tried};
 use vault_device::{Device, MemDevice};
 use vault_inspector::{InspectError, PrintError, Report, inspect, print};
 
@@ -25,52 +25,49 @@ pub(crate) fn holding(rt: &impl Abort, alloc: Global, bytes: &[u8]) -> MemDevice
     requires { length bytes.now < 200 }
 {
     let mut device = MemDevice::new(alloc).expect(rt, "a device");
-    assert!(rt; device.write_at(0, bytes).is_ok());
-    assert!(rt; device.sync().is_ok());
+    assert!(rt; device.write_at(0, bytes).is_ok() && device.sync().is_ok());
     device
 }
 
-// Whether a writer with room for so many bytes fails, and then holds the first of the text.
-fn is_cut(report: &Report, room: usize) -> bool
-    requires { room ≤ 179 }
-{
-    let mut bytes = [0; 179];
-    let mut writer = &mut bytes[..room];
-    let end = print(report, &mut writer);
-    end == Err(PrintError::Write) && bytes[..room] == QUEUED_TEXT[..room]
-}
-
-#[test]
-fn a_writer_that_fails(rt: HostRuntime) {
-    let mut a = holding(&rt, rt.alloc(), QUEUED);
-    let mut b = holding(&rt, rt.alloc(), NEW);
-    let report = inspect(rt.alloc(), &mut a, &mut b).expect(&rt, "a report");
-    for room in 0..179 {
-        assert!(rt; is_cut(&report, room), "{room}");
+// Whether it is printed whole where there is room for all, and else a writer fails that then holds the first of it.
+fn is_printed<A: Allocator + Copy>(report: &Report<A>) -> bool {
+    for room in 0..180 {
+        let mut bytes = [0; 179];
+        let mut writer = &mut bytes[..room];
+        let end = print(report, &mut writer);
+        let is_whole = room == QUEUED_TEXT.len();
+        let is_right = if is_whole {
+            end.is_ok()
+        } else {
+            end == Err(PrintError::Write)
+        };
+        if !is_right || bytes[..room] != QUEUED_TEXT[..room] {
+            return false;
+        }
     }
-    drop(report);
-    drop(a);
-    drop(b);
+    true
 }
 
-// Tries an inspection of a vault.
-fn inspects(rt: &impl Abort, memory: &Refusing<Global>, alloc: Global, number: u64) -> Tried {
+/// Tries an inspection of a vault. The report is printed into writers that fail, and into one that doesn't.
+pub(crate) fn inspects(
+    rt: &impl Abort,
+    memory: &Refusing<Global>,
+    alloc: Global,
+    number: u64,
+) -> Tried {
     let mut a = holding(rt, alloc, QUEUED);
     let mut b = holding(rt, alloc, NEW);
     memory.refuse(number);
-    let report = inspect(memory, &mut a, &mut b);
+    let told = inspect(memory, &mut a, &mut b);
+    let has_refused = memory.has_refused();
     drop(a);
     drop(b);
-    memory.judge(report, InspectError::NoMemory, |report| {
-        let mut printed = Vec::new(alloc);
-        let is_printed = print(report, &mut printed).is_ok();
-        is_printed && printed.as_slice() == QUEUED_TEXT.as_slice()
-    })
-}
-
-#[test]
-fn each_request_of_an_inspection_is_refused(rt: HostRuntime) {
-    let memory = Refusing::new(rt.alloc());
-    let made = requests(|number| inspects(&rt, &memory, rt.alloc(), number));
-    assert_eq!(rt; made, Some(31), "inspect");
+    match told {
+        Ok(report) => {
+            let is_printed = is_printed(&report);
+            drop(report);
+            Tried::done(!has_refused && is_printed)
+        }
+        Err(error) => Tried::refused(has_refused && error == InspectError::NoMemory),
+    }
 }

@@ -3,7 +3,7 @@
 //! Promises: nothing; it has no public function.
 //! Only tested: worked commits, tickets and pasts, retiring, snapshots, reports on two files, refused memory.
 //! Stands on: group_commit, vault_inspector, and what these stand on.
-//! Start at: vault.rt; vault/past.rt for a past of several lives.
+//! Start at: vault/scripts.rt, the rows; vault/play.rt, which makes their calls; vault/past.rt for a past of several lives.
 #![tactic(auto)]
 
 #[cfg(test)]

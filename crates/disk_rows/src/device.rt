@@ -3,207 +3,245 @@ mod short_file;
 
 use opening::append_behind;
 use short_file::ShortFile;
-use std::alloc::{AllocError, Allocator, Global};
+use std::alloc::{Allocator, Global};
 use std::fs;
-use std::process::Abort;
-use std::test::Fail;
-use test_memory::{Refusing, Tried, requests};
+use test_memory::{Refusing, Tried};
 use vault_device::{Device, Fault, FileDevice, MemDevice, Pick};
 
-// Whether the device shows these bytes.
-fn shows<D: Device>(alloc: Global, device: &mut D, expected: &[u8]) -> Result<bool, Fail> {
-    let len = device.len()?;
-    let mut bytes = vec![in alloc; 0; len as usize]?;
-    device.read_at(0, &mut bytes)?;
-    Ok(bytes.as_slice() == expected)
-}
+/// Bytes, and where they are written.
+type Write = (u64, &'static [u8]);
 
-// Writes where that is inside the device or at its end.
-fn write<D: Device>(device: &mut D, at: u64, bytes: &[u8]) -> Result<(), Fault> {
-    if device.len()? < at || at > 1000 || bytes.len() > 1000 {
-        return Err(Fault);
-    }
-    device.write_at(at, bytes)
-}
-
-// A device of these bytes, settled.
-fn device_of<A: Allocator + Copy>(alloc: A, bytes: &[u8]) -> Result<MemDevice<A>, Fail> {
-    let mut device = MemDevice::new(alloc)?;
-    write(&mut device, 0, bytes)?;
-    device.sync()?;
-    Ok(device)
-}
-
-// Whether these writes over `abc` and a crash with this pick leave these bytes, settled.
-fn leaves(alloc: Global, writes: &[(u64, &[u8])], pick: Pick, left: &[u8]) -> Result<bool, Fail> {
-    let mut device = device_of(alloc, b"abc")?;
-    for (at, bytes) in writes {
-        write(&mut device, *at, bytes)?;
-    }
-    device.crash(pick);
-    let first = shows(alloc, &mut device, left)?;
-    device.crash(Pick::Old);
-    Ok(first && shows(alloc, &mut device, left)?)
-}
-
-#[test]
-fn failed_sync(rt: HostRuntime) -> Result<(), Fail> {
-    let mut device = MemDevice::new(rt.alloc())?;
-    device.fail_at(2);
-    device.write_at(0, b"written")?;
-    assert_eq!(rt; device.sync(), Err(Fault));
-    assert_eq!(rt; device.calls(), 2);
-    assert!(rt; shows(rt.alloc(), &mut device, b"written")?);
-    device.crash(Pick::Old);
-    assert!(rt; shows(rt.alloc(), &mut device, b"")?);
-    Ok(())
-}
-
-#[test]
-fn picks(rt: HostRuntime) -> Result<(), Fail> {
-    let cases: [(&[(u64, &[u8])], &[u8], &[u8]); 6] = [
-        (&[], b"abc", b"abc"),
-        (&[(1, b"X")], b"aXc", b"a-c"),
-        (&[(1, b"XY"), (2, b"Z")], b"aXZ", b"a--"),
-        (&[(0, b"X"), (2, b"Y")], b"XbY", b"-b-"),
-        (&[(2, b"XYZ")], b"abXYZ", b"ab---"),
-        (&[(3, b"XY"), (4, b"ZWV")], b"abcXZWV", b"abc----"),
-    ];
-    for (writes, new, filled) in cases {
-        assert!(rt; leaves(rt.alloc(), writes, Pick::Old, b"abc")?, "{new:?}");
-        assert!(rt; leaves(rt.alloc(), writes, Pick::New, new)?, "{new:?}");
-        assert!(rt;
-            leaves(rt.alloc(), writes, Pick::Bytes(b'-'), filled)?,
-            "{new:?}"
-        );
-    }
-    Ok(())
-}
-
-#[test]
-fn picks_of_an_unsettled_one(rt: HostRuntime) -> Result<(), Fail> {
-    let cases: [(Pick, &[u8]); 5] = [
-        (Pick::Old, b"abc"),
-        (Pick::New, b"a\x01c"),
-        (Pick::Bytes(0), b"a\x00c"),
-        (Pick::Bytes(1), b"a\x01c"),
-        (Pick::Bytes(2), b"a\x02c"),
-    ];
-    for (pick, left) in cases {
-        assert!(rt;
-            leaves(rt.alloc(), &[(1, b"\x01")], pick, left)?,
-            "{pick:?}"
-        );
-    }
-    Ok(())
-}
-
-#[test]
-fn failing_calls(rt: HostRuntime) -> Result<(), Fail> {
-    let mut device = MemDevice::new(rt.alloc())?;
-    device.fail_at(1);
-    assert_eq!(rt; device.len(), Err(Fault));
-    device.fail_at(1);
-    assert_eq!(rt; device.read_at(0, &mut []), Err(Fault));
-    device.fail_at(1);
-    assert_eq!(rt; device.write_at(0, b"in place"), Err(Fault));
-    device.fail_at(1);
-    assert_eq!(rt; device.sync(), Err(Fault));
-    assert_eq!(rt; device.calls(), 4);
-    device.fail_at(1);
-    device.fail_at(0);
-    assert!(rt; shows(rt.alloc(), &mut device, b"in place")?);
-    assert_eq!(rt; device.refused(), 0);
-    device.crash(Pick::Old);
-    assert_eq!(rt; device.len(), Ok(0));
-    Ok(())
-}
-
-// Tries to make a device.
-fn makes_device(memory: &Refusing<Global>, number: u64) -> Tried {
-    memory.refuse(number);
-    memory.judge(MemDevice::new(memory), AllocError, |device| {
-        (device.calls(), device.refused()) == (0, 0)
-    })
-}
-
-// Whether the device shows so many bytes: `oooo`, and behind it each is `n`.
-fn shows_first<D: Device>(device: &mut D, len: usize) -> bool {
-    let mut bytes = [b'n'; 104];
-    bytes[..4].copy_from_slice(b"oooo");
+/// Whether the device shows these bytes.
+pub(crate) fn shows<D: Device>(device: &mut D, expected: &[u8]) -> bool {
     let mut read = [0; 104];
+    let len = expected.len();
     if len > 104 || device.len() != Ok(len as u64) {
         return false;
     }
-    device.read_at(0, &mut read[..len]).is_ok() && read[..len] == bytes[..len]
+    device.read_at(0, &mut read[..len]).is_ok() && &read[..len] == expected
 }
 
-// Tries a write of 100 bytes that grows all. A refusal is a counted fault, and nothing was put; the next try puts all.
-fn grows(rt: &impl Abort, memory: &Refusing<Global>, number: u64) -> Tried {
-    let mut device = MemDevice::new(memory).expect(rt, "a device");
-    for at in 0..4u64 {
-        assert!(rt; write(&mut device, at, b"o").is_ok() && device.sync().is_ok());
+/// Writes where that is inside the device or at its end, and says whether it did.
+fn writes<D: Device>(device: &mut D, at: u64, bytes: &[u8]) -> bool {
+    if at > 1000 || bytes.len() > 1000 {
+        return false;
     }
+    match device.len() {
+        Ok(len) if len >= at => device.write_at(at, bytes).is_ok(),
+        _ => false,
+    }
+}
+
+/// Whether all this is written.
+fn writes_all<D: Device>(device: &mut D, rows: &[Write]) -> bool {
+    for (at, bytes) in rows {
+        if !writes(device, *at, bytes) {
+            return false;
+        }
+    }
+    true
+}
+
+/// Whether all this is written and settled, and the device shows these bytes then.
+fn keeps<D: Device>(device: &mut D, rows: &[Write], expected: &[u8]) -> bool {
+    writes_all(device, rows) && device.sync().is_ok() && shows(device, expected)
+}
+
+/// Whether these writes over `abc` and a crash with this pick leave these bytes, settled.
+fn leaves(memory: Global, rows: &[Write], pick: Pick, left: &[u8]) -> bool {
+    let Ok(mut device) = MemDevice::new(memory) else {
+        return false;
+    };
+    let is_written = keeps(&mut device, &[(0, b"abc")], b"abc") && writes_all(&mut device, rows);
+    device.crash(pick);
+    let is_left = shows(&mut device, left);
+    device.crash(Pick::Old);
+    let is_settled = shows(&mut device, left);
+    drop(device);
+    is_written && is_left && is_settled
+}
+
+#[test]
+fn picks(rt: HostRuntime) {
+    for (rows, pick, left) in &PICKS {
+        assert!(rt; leaves(rt.alloc(), rows, *pick, left), "{pick:?} {left:?}");
+    }
+}
+
+/// What is written over `abc`, the pick of a crash, and what it leaves.
+static PICKS: [(&[Write], Pick, &[u8]); 23] = [
+    (&[], Pick::Old, b"abc"),
+    (&[], Pick::New, b"abc"),
+    (&[], Pick::Bytes(b'-'), b"abc"),
+    (&[(1, b"X")], Pick::Old, b"abc"),
+    (&[(1, b"X")], Pick::New, b"aXc"),
+    (&[(1, b"X")], Pick::Bytes(b'-'), b"a-c"),
+    (&[(1, b"XY"), (2, b"Z")], Pick::Old, b"abc"),
+    (&[(1, b"XY"), (2, b"Z")], Pick::New, b"aXZ"),
+    (&[(1, b"XY"), (2, b"Z")], Pick::Bytes(b'-'), b"a--"),
+    (&[(0, b"X"), (2, b"Y")], Pick::Old, b"abc"),
+    (&[(0, b"X"), (2, b"Y")], Pick::New, b"XbY"),
+    (&[(0, b"X"), (2, b"Y")], Pick::Bytes(b'-'), b"-b-"),
+    (&[(2, b"XYZ")], Pick::Old, b"abc"),
+    (&[(2, b"XYZ")], Pick::New, b"abXYZ"),
+    (&[(2, b"XYZ")], Pick::Bytes(b'-'), b"ab---"),
+    (&[(3, b"XY"), (4, b"ZWV")], Pick::Old, b"abc"),
+    (&[(3, b"XY"), (4, b"ZWV")], Pick::New, b"abcXZWV"),
+    (&[(3, b"XY"), (4, b"ZWV")], Pick::Bytes(b'-'), b"abc----"),
+    (&[(1, b"\x01")], Pick::Old, b"abc"),
+    (&[(1, b"\x01")], Pick::New, b"a\x01c"),
+    (&[(1, b"\x01")], Pick::Bytes(0), b"a\x00c"),
+    (&[(1, b"\x01")], Pick::Bytes(1), b"a\x01c"),
+    (&[(1, b"\x01")], Pick::Bytes(2), b"a\x02c"),
+];
+
+/// Whether a new device shows what it was to settle, where that failed, and nothing of it behind a crash.
+fn fails_to_sync<A: Allocator + Copy>(device: &mut MemDevice<A>) -> bool {
+    device.fail_at(2);
+    let is_failed = device.write_at(0, b"written").is_ok()
+        && device.sync() == Err(Fault)
+        && device.calls() == 2
+        && shows(device, b"written");
+    device.crash(Pick::Old);
+    is_failed && shows(device, b"")
+}
+
+/// Whether each call of a new device fails when it should.
+fn fails_each_call<A: Allocator + Copy>(device: &mut MemDevice<A>) -> bool {
+    device.fail_at(1);
+    let has_no_len = device.len() == Err(Fault);
+    device.fail_at(1);
+    let is_unread = device.read_at(0, &mut []) == Err(Fault);
+    device.fail_at(1);
+    let is_unwritten = device.write_at(0, b"in place") == Err(Fault);
+    device.fail_at(1);
+    let is_unsettled = device.sync() == Err(Fault);
+    has_no_len && is_unread && is_unwritten && is_unsettled && device.calls() == 4
+}
+
+/// Whether a device whose write failed shows it, once no call is to fail, and nothing of it behind a crash.
+fn shows_failed_write<A: Allocator + Copy>(device: &mut MemDevice<A>) -> bool {
+    device.fail_at(1);
+    device.fail_at(0);
+    let is_shown = shows(device, b"in place") && device.refused() == 0;
+    device.crash(Pick::Old);
+    is_shown && device.len() == Ok(0)
+}
+
+#[test]
+fn calls_fail_when_they_should(rt: HostRuntime) {
+    let mut device = MemDevice::new(rt.alloc()).expect(&rt, "a device");
+    assert!(rt; fails_to_sync(&mut device));
+    drop(device);
+    let mut other = MemDevice::new(rt.alloc()).expect(&rt, "a device");
+    assert!(rt; fails_each_call(&mut other) && shows_failed_write(&mut other));
+    drop(other);
+}
+
+/// Tries to make a device.
+pub(crate) fn makes_device(memory: &Refusing<Global>) -> Tried {
+    let made = MemDevice::new(memory);
+    let has_refused = memory.has_refused();
+    let Ok(device) = made else {
+        return Tried::refused(has_refused);
+    };
+    let is_new = (device.calls(), device.refused()) == (0, 0);
+    drop(device);
+    Tried::done(!has_refused && is_new)
+}
+
+/// Four bytes, and 100 behind them.
+static GROWN: &[u8; 104] =
+    b"oooonnnnnnnnnnnnnnnnnnnnnnnnnnnnnnnnnnnnnnnnnnnnnnnnnnnnnnnnnnnnnnnnnnnnnnnnnnnnnnnnnnnnnnnnnnnnnnnnnnnn";
+
+/// Tries a write of 100 bytes that grows all. A refusal is a counted fault, and nothing was put; the next try puts all.
+fn puts<A: Allocator + Copy>(
+    memory: &Refusing<Global>,
+    device: &mut MemDevice<A>,
+    number: u64,
+) -> Tried {
+    let grown = &GROWN[..];
     let before = device.calls();
     memory.refuse(number);
-    let answer = write(&mut device, 4, &[b'n'; 100]);
+    let is_put = writes(device, 4, &grown[4..]);
     let has_refused = memory.has_refused();
     let is_counted = device.calls().checked_sub(before) == Some(2);
-    let tried = if answer.is_ok() {
-        Tried::done(!has_refused && is_counted && device.refused() == 0)
-    } else {
-        let is_told = is_counted && device.refused() == 1 && shows_first(&mut device, 4);
-        Tried::refused(has_refused && is_told && write(&mut device, 4, &[b'n'; 100]).is_ok())
+    if is_put {
+        return Tried::done(!has_refused && is_counted && device.refused() == 0);
+    }
+    let is_told = is_counted && device.refused() == 1 && shows(device, &grown[..4]);
+    Tried::refused(has_refused && is_told && writes(device, 4, &grown[4..]))
+}
+
+/// Tries such a write of a device with four bytes, settled one by one.
+pub(crate) fn grows<A: Allocator + Copy>(
+    memory: &Refusing<Global>,
+    alloc: A,
+    number: u64,
+) -> Tried {
+    memory.refuse(0);
+    let Ok(mut device) = MemDevice::new(alloc) else {
+        return Tried::Wrong;
     };
-    let is_put = shows_first(&mut device, 104);
+    let is_ready = settles_each(&mut device);
+    let tried = puts(memory, &mut device, number);
+    let is_put = shows(&mut device, &GROWN[..]);
     drop(device);
-    tried.and(is_put)
+    tried.and(is_ready && is_put)
+}
+
+/// Whether four bytes are written and settled one by one.
+fn settles_each<D: Device>(device: &mut D) -> bool {
+    for at in 0..4u64 {
+        if !writes(device, at, b"o") || device.sync().is_err() {
+            return false;
+        }
+    }
+    true
 }
 
 #[test]
-fn each_request_of_a_device_is_refused(rt: HostRuntime) {
-    let memory = Refusing::new(rt.alloc());
-    let made = requests(|number| makes_device(&memory, number));
-    assert_eq!(rt; made, Some(1), "MemDevice::new");
-    // The write's bytes, what is shown, what will be settled, and the history.
-    let made = requests(|number| grows(&rt, &memory, number));
-    assert_eq!(rt; made, Some(4), "MemDevice::write_at");
+fn file_in_short_parts(rt: HostRuntime) {
+    let memory = MemDevice::new(rt.alloc()).expect(&rt, "a device");
+    let mut device = FileDevice::over(ShortFile::over(memory));
+    assert!(rt;
+        keeps(
+            &mut device,
+            &[(0, b"0123456789"), (8, b"abcd")],
+            b"01234567abcd"
+        )
+    );
+    drop(device);
 }
 
 #[test]
-fn file_in_short_parts(rt: HostRuntime) -> Result<(), Fail> {
-    let mut device = FileDevice::over(ShortFile::over(MemDevice::new(rt.alloc())?));
-    write(&mut device, 0, b"0123456789")?;
-    write(&mut device, 8, b"abcd")?;
-    device.sync()?;
-    assert!(rt; shows(rt.alloc(), &mut device, b"01234567abcd")?);
-    Ok(())
-}
-
-#[test]
-fn bytes_behind_a_settled_byte(rt: HostRuntime) -> Result<(), Fail> {
-    let mut device = MemDevice::new(rt.alloc())?;
-    device.write_at(0, &[0])?;
-    device.sync()?;
-    append_behind(&mut device, 0, b"whole")?;
+fn bytes_behind_a_settled_byte(rt: HostRuntime) {
+    let mut device = MemDevice::new(rt.alloc()).expect(&rt, "a device");
+    let Ok(()) = device.write_at(0, &[0]) else {
+        panic!(rt; "a write");
+    };
+    let Ok(()) = device.sync() else {
+        panic!(rt; "a sync");
+    };
+    assert!(rt; append_behind(&mut device, 0, b"whole").is_ok());
     device.crash(Pick::Old);
-    assert!(rt; shows(rt.alloc(), &mut device, b"\x01whole")?);
-    Ok(())
+    assert!(rt; shows(&mut device, b"\x01whole"));
+    drop(device);
 }
 
 #[test]
-fn real_file(rt: HostRuntime) -> Result<(), Fail> {
+fn real_file(rt: HostRuntime) {
     let name = "device_of_a_test";
-    let mut device = FileDevice::over(fs::create(&rt, name)?);
-    write(&mut device, 0, b"durable")?;
-    device.sync()?;
+    let mut device = FileDevice::over(fs::create(&rt, name).expect(&rt, "a file"));
+    assert!(rt; writes(&mut device, 0, b"durable") && device.sync().is_ok());
     drop(device);
-
-    let mut reader = FileDevice::over(fs::open(&rt, name)?);
-    assert!(rt; shows(rt.alloc(), &mut reader, b"durable")?);
-    assert_eq!(rt; reader.write_at(0, b"x"), Err(Fault));
-    assert_eq!(rt; reader.read_at(0, &mut [0; 9]), Err(Fault));
-    assert_eq!(rt; reader.len(), Ok(7));
-    fs::remove_file(&rt, name)?;
-    Ok(())
+    let mut reader = FileDevice::over(fs::open(&rt, name).expect(&rt, "the file"));
+    assert!(rt;
+        shows(&mut reader, b"durable")
+            && reader.write_at(0, b"x") == Err(Fault)
+            && reader.read_at(0, &mut [0; 9]) == Err(Fault)
+            && reader.len() == Ok(7)
+    );
+    drop(reader);
+    assert!(rt; fs::remove_file(&rt, name).is_ok());
 }

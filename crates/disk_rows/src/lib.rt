@@ -10,3 +10,5 @@
 mod device;
 #[cfg(test)]
 mod journal;
+#[cfg(test)]
+mod memory;

@@ -14,9 +14,9 @@ use Rattle.mio.specs.contracts.poll.Poll as Poll
 use Rattle.vault_model.proofs.Sends.{fields}
 use Rattle.vault_device.specs.declared.device.Device.{Ghosts as DeviceGhosts}
 use Rattle.vault_sessions.specs.declared.tally.Tally.{Ghosts as TallyGhosts}
-use Rattle.flusher_pace.specs.contracts.commit.Commit as Commit
 use Rattle.vault_sessions.proofs.Sends.{worker_send}
 use Rattle.vault_server.specs.contracts.bells.Bell as Bell
+use Rattle.vault_server.specs.contracts.commits.Seat as Seat
 use Rattle.vault_server.specs.contracts.rounds.Rounds as Rounds
 use Rattle.vault_server.specs.contracts.server.Connection as Connection
 
@@ -35,15 +35,15 @@ receiver_send A g s y f = let c = connection_send in search (fields, locks) dept
 pub sender_send : (A : RattleType) (g : Ghosts A.Denot) → IsSend A → IsSync A → Frees g g.dealloc_token → IsSend (Sender.the_field (Option.the_row usize) A g).row
 sender_send A g s y f = search (fields, locks) depth 60 fits 20000
 
-commit_send : IsSend Commit.the_row
-commit_send = search fields depth 40 fits 20000
+seat_send : IsSend Seat.the_row
+seat_send = search fields depth 40 fits 20000
 
 module _ (D S T A : RattleType) (d : DeviceGhosts D.Denot) (sc : TallyGhosts S.Denot) (sl : LedgerGhosts S.Denot) (tc : TallyGhosts T.Denot) (tl : LedgerGhosts T.Denot) (g : Ghosts A.Denot) where
   pub rounds_send : (ℓ : NamedLft) (G H : RattleType) → IsSend D → IsSend S → IsSync S → IsSend T → IsSync T → IsSend A → IsSync A → Frees g g.dealloc_token → IsSync G → IsSync H → IsSend (Rounds.the_field ℓ D S T A G H d sc sl tc tl g).row
   rounds_send ℓ G H ds s sy t ty a ay f gy hy =
       let w = λ (ℓ : NamedLft). worker_send D S T A d sc sl tc tl g ℓ G H ds s sy t ty a f gy hy in
       let b = bell_sync in
-      let l = commit_send in
+      let l = seat_send in
       let r = receiver_send A g a ay f in
       let c = sender_send A g a ay f in
       search (sendable, locks, over, w) depth 60 fits 20000

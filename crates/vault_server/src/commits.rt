@@ -5,14 +5,17 @@ use std::alloc::Allocator;
 use std::sync::{Mutex, Wait};
 use std::time::{Clock, Duration};
 use vault_device::Device;
-use vault_sessions::{Flusher, Gate, Tally};
+use vault_sessions::{Due, Flusher, Gate, Tally};
+
+/// Who has it commits. Nobody sleeps until he gets it.
+#[derive(Debug, Clone, Copy, PartialEq, Eq)]
+pub(crate) struct Seat;
 
 /// One thread's part in it.
 #[derive(Drop)]
 pub(crate) struct Committer<'a, D: Device, S: Tally, T: Tally, A: Allocator, G: Gate, H> {
     flusher: Flusher<'a, D, S, T, A, G, H>,
-    // The last commit of all threads. Who has it commits.
-    last: &'a Mutex<Commit>,
+    seat: &'a Mutex<Seat>,
     gathering: Gathering,
     // Whether it may begin a snapshot: once behind each commit of its own.
     may_begin: bool,
@@ -27,10 +30,10 @@ pub(crate) enum Tried {
     Early(Duration),
     /// Nothing was settled.
     InVain,
-    /// Entries were settled, or there is room again, or the vault is broken now. Behind a commit, how many were settled before.
-    Settled(Option<u64>),
-    /// A snapshot is done.
-    Renewed,
+    /// There is room again, questions are settled, a snapshot is done, or the vault is broken now.
+    Settled,
+    /// A commit, before which so many entries were settled.
+    Committed(u64, Commit),
 }
 
 impl<'a, D: Device, S: Tally, T: Tally, A: Allocator + Copy, G: Gate, H: Wait + Clock> Committer<
@@ -45,11 +48,11 @@ impl<'a, D: Device, S: Tally, T: Tally, A: Allocator + Copy, G: Gate, H: Wait + 
     /// It commits by this flusher.
     pub fn new(
         flusher: Flusher<'a, D, S, T, A, G, H>,
-        last: &'a Mutex<Commit>,
+        seat: &'a Mutex<Seat>,
     ) -> Committer<'a, D, S, T, A, G, H> {
         Committer {
             flusher,
-            last,
+            seat,
             gathering: Gathering::new(),
             may_begin: true,
         }
@@ -59,32 +62,28 @@ impl<'a, D: Device, S: Tally, T: Tally, A: Allocator + Copy, G: Gate, H: Wait + 
     /// once it is done.
     pub fn commit(&mut self) -> Tried {
         if self.renew() {
-            return Tried::Renewed;
+            return Tried::Settled;
         }
-        if !self.flusher.has_work() {
-            return Tried::NotNow;
-        }
-        let Some(mut last) = self.last.try_lock() else {
+        let before = match self.flusher.due(&mut self.gathering) {
+            Due::Never => return Tried::NotNow,
+            Due::In(left) => return Tried::Early(left),
+            Due::Now(settled) => settled,
+        };
+        let Some(seat) = self.seat.try_lock() else {
             return Tried::NotNow;
         };
-        if let Some(left) = self.flusher.waits_for(&mut self.gathering, &last) {
-            drop(last);
-            return Tried::Early(left);
-        }
         self.gathering = Gathering::new();
-        let before = self.flusher.settled();
         let has_room = self.flusher.retire();
-        let mut told = None;
-        if let Some(commit) = self.flusher.settle() {
-            *last = commit;
-            told = before;
-        }
-        drop(last);
-        if !has_room && self.flusher.settled() == before {
+        let commit = self.flusher.settle();
+        drop(seat);
+        if !has_room && self.flusher.settled() == Some(before) {
             return Tried::InVain;
         }
         self.may_begin = true;
-        Tried::Settled(told)
+        match commit {
+            Some(commit) => Tried::Committed(before, commit),
+            None => Tried::Settled,
+        }
     }
 
     // Makes a snapshot, where one is wanted, it may, and no other thread commits. Whether it did.
@@ -93,19 +92,19 @@ impl<'a, D: Device, S: Tally, T: Tally, A: Allocator + Copy, G: Gate, H: Wait + 
             return false;
         }
         self.may_begin = false;
-        let Some(last) = self.last.try_lock() else {
+        let Some(seat) = self.seat.try_lock() else {
             return false;
         };
         let has_begun = self.flusher.begin_snapshot();
         if has_begun {
             let _ = self.flusher.settle();
         }
-        drop(last);
+        drop(seat);
         has_begun
     }
 
-    /// What came while it committed has been staged: it waits for those before the next commit, too, and for whom it told.
-    pub fn expect(&self, settled: u64) {
-        self.flusher.expects(settled);
+    /// What came while it committed has been staged: for those the next commit waits, too, beside whom this one told.
+    pub fn expect(&self, settled: u64, commit: Commit) {
+        self.flusher.expects(settled, commit);
     }
 }

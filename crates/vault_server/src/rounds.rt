@@ -1,11 +1,10 @@
 //! One thread that serves several connections, and commits what they staged.
 
 use crate::bells::{Bell, ring_others};
-use crate::commits::{Committer, Tried};
+use crate::commits::{Committer, Seat, Tried};
 use crate::server::Connection;
 use crate::slot::{Goes, Slot};
 use crossbeam_channel::{Receiver, Sender};
-use flusher_pace::Commit;
 use mio::unix::SourceFd;
 use mio::{Events, Interest, Poll, Registry, Token};
 use std::alloc::Allocator;
@@ -25,8 +24,8 @@ const SHORTEST_WAIT: u64 = 200;
 #[derive(Drop)]
 pub(crate) struct Rounds<'a, D: Device, S: Tally, T: Tally, A: Allocator, G: Gate, H: Wait> {
     pub worker: Worker<'a, D, S, T, A, G, H>,
-    /// The last commit of all threads.
-    pub last: &'a Mutex<Commit>,
+    /// Who has it commits.
+    pub seat: &'a Mutex<Seat>,
     /// What wakes it.
     pub bell: &'a Bell,
     /// What wakes each thread.
@@ -77,7 +76,7 @@ impl<D: Device, S: Tally, T: Tally, A: Allocator + Copy, G: Gate, H: Wait + Cloc
         }
         let mut poll = poll;
         let flusher = Flusher::new(self.worker.rt, self.worker.shared, self.worker.gate);
-        let mut committer = Committer::new(flusher, self.last);
+        let mut committer = Committer::new(flusher, self.seat);
         self.serve(&mut committer, &mut poll, &mut events, &mut slots);
         while let Some(slot) = slots.pop() {
             if let Some(share) = slot.into_share(&self.worker) {
@@ -143,11 +142,11 @@ impl<D: Device, S: Tally, T: Tally, A: Allocator + Copy, G: Gate, H: Wait + Cloc
                 ring_others(self.bells, self.number);
                 return Rest::Long;
             }
-            Tried::Renewed | Tried::Settled(None) => {}
-            Tried::Settled(Some(settled)) => {
+            Tried::Settled => {}
+            Tried::Committed(settled, commit) => {
                 self.look(poll, events, slots, Rest::Nothing);
                 let _ = self.turn(slots, self.now());
-                committer.expect(settled);
+                committer.expect(settled, commit);
             }
         }
         ring_others(self.bells, self.number);

@@ -6,10 +6,10 @@ ghost use Rattle.vault_sessions.specs.Tallies.{HasGrown};
 ghost use denote.Param.Send.{Frees};
 
 use crate::bells::Bell;
+use crate::commits::Seat;
 use crate::rounds::Rounds;
 use crate::stream::prepare;
 use crossbeam_channel::{Receiver, Sender, bounded};
-use flusher_pace::Commit;
 use group_commit::Vault;
 use mio::Poll;
 use std::alloc::Allocator;
@@ -149,14 +149,14 @@ fn run<
         return Err(ServerError::NoMemory);
     };
     let (polls, bells) = polls_of(rt, alloc, workers.min(MOST_THREADS))?;
-    let last = Mutex::new(Commit::none());
+    let seat = Mutex::new(Seat);
     let server = Server {
         rt,
         alloc,
         shared: &shared,
         gate,
         bells: &bells,
-        last: &last,
+        seat: &seat,
     };
     let returned = server.serve_all(shares, polls, &listener, terms)?;
     match gather(shared, returned) {
@@ -191,8 +191,8 @@ struct Server<'a, D: Device, A: Allocator, G: Gate, H, S: Tally, T: Tally> {
     shared: &'a Shared<D, S, T, A>,
     gate: &'a G,
     bells: &'a Vec<Bell, A>,
-    // The last commit. Who has it commits.
-    last: &'a Mutex<Commit>,
+    // Who has it commits.
+    seat: &'a Mutex<Seat>,
 }
 
 // The threads that serve connections: how each gets them, and what it gives back.
@@ -338,7 +338,7 @@ impl<
                 shared: self.shared,
                 gate: self.gate,
             },
-            last: self.last,
+            seat: self.seat,
             bells: self.bells,
             bell,
             number,

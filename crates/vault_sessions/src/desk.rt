@@ -16,13 +16,25 @@ ghost use Rattle.vault_sessions.specs.declared.flusher.Flushed.TheVariants as Fl
 
 use crate::flusher::Flushed;
 use crate::tally::{Share, Tally};
-use flusher_pace::Pace;
+use flusher_pace::{Commit, Gathering, Pace};
 use group_commit::{Forgotten, Phase, Pumped, Redeemed, Retired, Started, Ticket, Vault};
 use std::alloc::{Allocator, Global};
 use std::marker::Model;
 use std::sync::ledger::Book as LedgerBook;
+use std::time::{Clock, Duration};
 use vault_device::{Device, Fault};
 use vault_model::{CommandIn, NoMemory, Outside};
+
+/// When a thread is to commit that does so in between.
+#[derive(Debug, Clone, Copy, PartialEq, Eq)]
+pub enum Due {
+    /// There is nothing to commit.
+    Never,
+    /// In so long at the latest: others may come by then.
+    In(Duration),
+    /// Now, behind so many entries that are settled.
+    Now(u64),
+}
 
 /// A vault and the books of both tallies, of what was counted before, and whether it is closed: the flusher is to end then.
 /// Contracts see the vault, and whether it is closed, but not when the flusher sleeps.
@@ -40,6 +52,8 @@ pub struct Desk<D: Device, S: Tally, T: Tally, A: Allocator = Global> {
     pub(crate) closed: bool,
     /// When the flusher sleeps, and for how many it waits. Contracts don't see it.
     pub(crate) pace: Pace,
+    /// The last commit of threads that commit in between. Contracts don't see it.
+    pub(crate) last: Commit,
 }
 
 impl<D: Device, S: Tally, T: Tally, A: Allocator> Model for Desk<D, S, T, A> {
@@ -240,22 +254,21 @@ impl<D: Device, S: Tally, T: Tally, A: Allocator + Copy> Desk<D, S, T, A> {
         self.pace.gathers(waiting)
     }
 
-    // Whether there is something to pump, or a worker waits for room.
-    pub(crate) fn has_work(&mut self) -> bool
+    // When to commit, for threads that do so in between. There is something to commit, too, where a worker waits for room.
+    pub(crate) fn due<C: Clock>(&mut self, clock: &C, gathering: &mut Gathering) -> Due
         ensures { self.new ≡ self.old }
     {
         let wants_room = self.pace.wants_room();
-        !self.vault.is_broken() && (wants_room || !self.is_settled())
-    }
-
-    // How many entries wait, where more are waited for.
-    pub(crate) fn lacks(&self) -> Option<u64> {
+        if self.vault.is_broken() || (self.is_settled() && !wants_room) {
+            return Due::Never;
+        }
         let waiting = self.waiting();
         if self.pace.lacks(waiting) {
-            Some(waiting)
-        } else {
-            None
+            if let Some(left) = gathering.left(clock, &self.last, waiting) {
+                return Due::In(left);
+            }
         }
+        Due::Now(self.vault.durable())
     }
 
     // How many entries are settled. None where the vault is broken.
@@ -267,10 +280,11 @@ impl<D: Device, S: Tally, T: Tally, A: Allocator + Copy> Desk<D, S, T, A> {
         }
     }
 
-    // The next commit waits for as many entries as there are behind so many.
-    pub(crate) fn expects(&mut self, settled: u64)
+    // A commit ended so, before which so many entries were settled. The next one waits for as many as there are now behind those.
+    pub(crate) fn expects(&mut self, settled: u64, commit: Commit)
         ensures { self.new ≡ self.old }
     {
+        self.last = commit;
         let group = self.vault.len().saturating_sub(settled);
         self.pace.expects(group);
     }

@@ -1,5 +1,6 @@
 //! The flusher commits what the workers staged.
 
+use crate::desk::Due;
 use crate::gate::{Gate, Point};
 use crate::shared::Shared;
 use crate::tally::Tally;
@@ -7,7 +8,7 @@ use flusher_pace::{Commit, Gathering, LOOKS};
 use group_commit::{Pumped, Retired, Started};
 use std::alloc::Allocator;
 use std::sync::Wait;
-use std::time::{Clock, Duration, Instant};
+use std::time::{Clock, Instant};
 use vault_device::Device;
 
 /// Why a flusher ended.
@@ -147,17 +148,10 @@ impl<'a, D: Device, S: Tally, T: Tally, A: Allocator + Copy, G: Gate, H: Wait + 
         }
     }
 
-    /// Whether there is something to pump, or to retire for somebody who wants room.
-    pub fn has_work(&self) -> bool {
+    /// When to commit, for threads that do so in between.
+    pub fn due(&self, gathering: &mut Gathering) -> Due {
         let shared = self.shared;
-        shared.desk.lock(self.rt).has_work()
-    }
-
-    /// How long it is better to wait for more entries before those that wait are committed. None: not any longer.
-    pub fn waits_for(&self, gathering: &mut Gathering, last: &Commit) -> Option<Duration> {
-        let shared = self.shared;
-        let waiting = shared.desk.lock(self.rt).lacks()?;
-        gathering.left(self.rt, last, waiting)
+        shared.desk.lock(self.rt).due(self.rt, gathering)
     }
 
     /// How many entries are settled. None where the vault is broken.
@@ -166,9 +160,10 @@ impl<'a, D: Device, S: Tally, T: Tally, A: Allocator + Copy, G: Gate, H: Wait + 
         shared.desk.lock(self.rt).settled()
     }
 
-    /// Before the next commit it is waited for as many entries as there are now behind so many that were settled.
-    pub fn expects(&self, settled: u64) {
+    /// A commit ended so, before which so many entries were settled. Before the next one it is waited for as many as there are now
+    /// behind those: whom it told, and who came since it began.
+    pub fn expects(&self, settled: u64, commit: Commit) {
         let shared = self.shared;
-        shared.desk.lock(self.rt).expects(settled);
+        shared.desk.lock(self.rt).expects(settled, commit);
     }
 }

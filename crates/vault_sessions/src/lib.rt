@@ -39,7 +39,7 @@ mod turn;
 mod worker;
 
 pub use conversation::Conversation;
-pub use desk::Desk;
+pub use desk::{Desk, Due};
 pub use flusher::{Flushed, Flusher, run_flusher};
 pub use gate::{Gate, OpenGate, Point};
 pub use inlet::{Inlet, NextByte, NextLine};

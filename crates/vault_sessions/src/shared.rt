@@ -4,7 +4,7 @@ ghost use Rattle.group_commit.specs.View.{length_of};
 
 use crate::desk::Desk;
 use crate::tally::{Share, Tally, Totals};
-use flusher_pace::Pace;
+use flusher_pace::{Commit, Pace};
 use group_commit::Vault;
 use std::alloc::{AllocError, Allocator, Global};
 use std::marker::Model;
@@ -79,6 +79,7 @@ impl<D: Device, S: Tally, T: Tally, A: Allocator + Copy> Shared<D, S, T, A> {
             },
             closed: false,
             pace: Pace::new(),
+            last: Commit::none(),
         };
         let shared = Shared {
             desk: Mutex::new(desk),
@@ -165,6 +166,7 @@ fn merge<D: Device, S: Tally, T: Tally, A: Allocator + Copy>(
         opening,
         closed: _,
         pace: _,
+        last: _,
     } = desk;
     let _length = vault.len();
     let _told = vault.told();

@@ -1,197 +1,155 @@
 //! Each request for memory refused in turn: the book is then as it was.
+use super::Talk;
 use super::alike::are_alike;
-use super::applied::{Row, applied, durable_book};
-use super::parts::makes_of_parts;
-use super::{Line, Talk, command};
+use super::effects::{MADE, NESTED, NONE, Row};
+use super::parts::{OWN, remakes_from};
+use super::steps::List::{Anna, Durable, New, Told};
+use super::steps::Step::{Applies, Says};
+use super::steps::{List, Step};
 use std::alloc::{Allocator, Global};
 use std::process::Abort;
 use test_memory::{Refusing, Tried, requests};
-use vault_checkout::{ApplyError, Book};
+use vault_checkout::{Book, FromPartsError};
 use vault_model::Intent::{Change, Look};
-use vault_model::{Claim, Command, NoMemory};
+use vault_model::NoMemory;
 
-/// The last claim of a book's line.
-fn last_claim<A: Allocator + Copy>(book: &Book<A>) -> Option<&Claim> {
-    book.line().at(book.line().len().wrapping_sub(1))
+/// What is said to books to see whether they know the same sessions: whose they are shows in what they check out, and so does
+/// the number that a new one gets.
+static PROBES: [(u32, &str); 7] = [
+    (0, "checkout r:/"),
+    (1, "checkout r:/"),
+    (0, "hello zoe"),
+    (1, "checkout r:/"),
+    (2, "checkout r:/"),
+    (3, "checkout r:/"),
+    (4, "checkout r:/"),
+];
+
+impl<A: Allocator + Copy> Talk<A> {
+    /// A copy that heard this.
+    fn probed(&self, memory: Global) -> Option<Talk<A>> {
+        let Some(mut copy) = self.copy() else {
+            return None;
+        };
+        for (session, line) in &PROBES {
+            copy.hears(memory, *session, line, ("", NONE));
+        }
+        Some(copy)
+    }
 }
 
-/// Whether a session's command is told the same by two books, and leaves the same claim last.
-fn is_told_alike<A: Allocator + Copy>(
-    rt: &impl Abort,
-    talk: &Talk<A>,
-    other: &Talk<A>,
-    session: u32,
-    command: &Command,
-) -> bool {
-    let mut one = talk.copy(rt);
-    let mut like = other.copy(rt);
-    let reply = one.say(rt, session, command);
-    let same = like.say(rt, session, command);
-    let is_alike = reply == same && last_claim(&one.book) == last_claim(&like.book);
-    drop(reply);
-    drop(same);
-    drop(one);
+/// Whether two talks have come to the same, with the same sessions.
+fn are_same<A: Allocator + Copy>(memory: Global, talk: &Talk<A>, other: &Talk<A>) -> bool {
+    let Some(probed) = talk.probed(memory) else {
+        return false;
+    };
+    let Some(like) = other.probed(memory) else {
+        drop(probed);
+        return false;
+    };
+    let is_same = are_alike(&probed.book, &like.book) && are_alike(&probed.durable, &like.durable);
+    drop(probed);
     drop(like);
-    is_alike
+    is_same
 }
 
-/// Whether two books show the same, and know the same sessions: by the owners of what these would check out, and by the number
-/// that a new one would get.
-fn are_same<A: Allocator + Copy>(
-    rt: &impl Abort,
-    memory: Global,
-    talk: &Talk<A>,
-    other: &Talk<A>,
-) -> bool {
-    let wanted = command(rt, memory, "checkout r:/");
-    for session in 0..4u32 {
-        if !is_told_alike(rt, talk, other, session, &wanted) {
-            drop(wanted);
-            return false;
-        }
-    }
-    drop(wanted);
-    let join = command(rt, memory, "hello zoe");
-    let is_next = is_told_alike(rt, talk, other, 0, &join);
-    drop(join);
-    is_next && are_alike(rt, &talk.book, &other.book)
-}
-
-/// Whether a line is not heard for want of memory.
-fn is_unheard<A: Allocator + Copy>(
-    rt: &impl Abort,
-    alloc: Global,
+/// Tries a step. Refused, the books are as their twins, and the next try succeeds.
+fn does<A: Allocator + Copy>(
+    memory: &Refusing<Global>,
+    aside: Global,
     talk: &mut Talk<A>,
-    (session, line): Line<'_>,
-) -> bool {
-    let command = command(rt, alloc, line);
-    let told = talk.tell(session, &command);
-    drop(command);
-    match told {
-        Ok((reply, effect)) => {
-            drop(reply);
-            drop(effect);
-            false
-        }
-        Err(NoMemory) => true,
-    }
-}
-
-/// Tries a line. Refused, the book is as its twin, and the next try succeeds.
-fn hears<'a>(
-    rt: &impl Abort,
-    (memory, alloc): (&'a Refusing<Global>, Global),
-    talk: &mut Talk<&'a Refusing<Global>>,
-    twin: &Talk<&'a Refusing<Global>>,
-    line: Line<'_>,
+    twin: &Talk<A>,
+    step: &Step,
     number: u64,
 ) -> Tried {
     memory.refuse(number);
-    let is_refused = is_unheard(rt, alloc, talk, line);
+    let tried = talk.does(aside, step);
     let has_refused = memory.has_refused();
-    if !is_refused {
-        return Tried::done(!has_refused);
+    if tried != Tried::Refused {
+        return tried.and(!has_refused);
     }
-    let is_kept = are_same(rt, alloc, talk, twin);
-    talk.tell_all(rt, alloc, &[line]);
-    Tried::refused(has_refused && is_kept)
+    let is_kept = are_same(aside, talk, twin);
+    tried.and(has_refused && is_kept && talk.does(aside, step) == Tried::Done)
 }
 
-/// Tries a line after others, beside a twin that hears all with ample memory. At the end both are the same.
-fn acts<'a>(
-    rt: &impl Abort,
-    (memory, ample): (&'a Refusing<Global>, &'a Refusing<Global>),
-    alloc: Global,
-    before: &[Line<'_>],
-    line: Line<'_>,
+/// Tries a step after others, which asks the first memory, beside a twin in ample memory. At the end both are the same.
+fn does_from<A: Allocator + Copy>(
+    memory: &Refusing<Global>,
+    aside: Global,
+    (asked, ample): (A, A),
+    start: List,
+    step: &Step,
     number: u64,
 ) -> Tried {
-    let mut talk = Talk::behind(rt, memory, alloc, before);
-    let mut twin = Talk::behind(rt, ample, alloc, before);
-    let tried = hears(rt, (memory, alloc), &mut talk, &twin, line, number);
-    twin.tell_all(rt, alloc, &[line]);
-    let is_like = are_same(rt, alloc, &talk, &twin);
+    let (of_book, of_durable) = match step {
+        Applies(_) => (ample, asked),
+        _ => (asked, ample),
+    };
+    let Some(mut talk) = Talk::from(of_book, of_durable, aside, start) else {
+        return Tried::Wrong;
+    };
+    let Some(mut twin) = Talk::from(ample, ample, aside, start) else {
+        drop(talk);
+        return Tried::Wrong;
+    };
+    let tried = does(memory, aside, &mut talk, &twin, step, number);
+    let is_like = twin.does(aside, step) == Tried::Done && are_same(aside, &talk, &twin);
     drop(talk);
     drop(twin);
     tried.and(is_like)
 }
 
-/// Tries to make a book.
-fn makes_book(memory: &Refusing<Global>, number: u64) -> Tried {
-    memory.refuse(number);
-    memory.judge(Book::new(memory), NoMemory, |book| {
-        book.tree().len() == 1 && book.line().len() == 0
-    })
+/// What a call told, and whether a request was refused then.
+fn judged(told: Option<bool>, has_refused: bool) -> Tried {
+    match told {
+        Some(is_right) => Tried::done(is_right && !has_refused),
+        None => Tried::refused(has_refused),
+    }
 }
 
-/// Tries to copy a book that heard what anna says.
-fn copies(rt: &impl Abort, memory: &Refusing<Global>, alloc: Global, number: u64) -> Tried {
-    let talk = Talk::behind(rt, memory, alloc, &BEFORE);
+/// Whether a book is like another, if it is there.
+fn is_like<A: Allocator + Copy>(book: Result<Book<A>, NoMemory>, other: &Book<A>) -> Option<bool> {
+    let Ok(book) = book else {
+        return None;
+    };
+    let is_like = are_alike(&book, other);
+    drop(book);
+    Some(is_like)
+}
+
+/// Whether a new book, or a copy, is like a book that these steps lead to.
+fn makes<A: Allocator + Copy>(
+    memory: &Refusing<Global>,
+    aside: Global,
+    alloc: A,
+    (start, is_new): (List, bool),
+    number: u64,
+) -> Option<bool> {
+    let Some(talk) = Talk::from(alloc, alloc, aside, start) else {
+        return Some(false);
+    };
     memory.refuse(number);
-    let told = match talk.book.copy() {
-        Ok(copy) => {
-            let is_like = are_alike(rt, &talk.book, &copy);
-            drop(copy);
-            Ok(is_like)
-        }
-        Err(NoMemory) => Err(NoMemory),
+    let told = if is_new {
+        is_like(Book::new(alloc), &talk.book)
+    } else {
+        is_like(talk.book.copy(), &talk.book)
     };
     drop(talk);
-    memory.judge(told, NoMemory, |is_like| *is_like)
+    told
 }
 
-/// Tries an effect. Refused, the book is as another, and the next try succeeds.
-fn is_applied<'a>(
+/// Whether a book is made of another's parts, like it.
+fn is_remade(
     rt: &impl Abort,
-    (memory, alloc): (&'a Refusing<Global>, Global),
-    book: &mut Book<&'a Refusing<Global>>,
-    like: &Book<&'a Refusing<Global>>,
-    row: Row,
+    memory: &Refusing<Global>,
+    aside: Global,
     number: u64,
-) -> Tried {
-    memory.refuse(number);
-    let told = applied(rt, alloc, book, row);
-    let has_refused = memory.has_refused();
-    if told == Ok(()) {
-        return Tried::done(!has_refused);
+) -> Option<bool> {
+    match remakes_from(rt, (memory, aside), memory, (Told, &OWN), number) {
+        Err(FromPartsError::NoMemory) => None,
+        told => Some(told == Ok(true)),
     }
-    let is_kept = told == Err(ApplyError::NoMemory) && are_alike(rt, book, like);
-    Tried::refused(has_refused && is_kept && applied(rt, alloc, book, row) == Ok(()))
 }
-
-/// Tries an effect on the durable book, beside another in ample memory. At the end both are the same.
-fn applies<'a>(
-    rt: &impl Abort,
-    (memory, ample): (&'a Refusing<Global>, &'a Refusing<Global>),
-    alloc: Global,
-    row: Row,
-    number: u64,
-) -> Tried {
-    let mut book = durable_book(rt, memory, alloc);
-    let mut like = durable_book(rt, ample, alloc);
-    let tried = is_applied(rt, (memory, alloc), &mut book, &like, row, number);
-    assert!(rt; applied(rt, alloc, &mut like, row) == Ok(()));
-    let is_like = are_alike(rt, &book, &like);
-    drop(book);
-    drop(like);
-    tried.and(is_like)
-}
-
-/// What anna says before each command: she has a part with a version and a draft.
-const BEFORE: [Line<'static>; 12] = [
-    (0, "hello anna"),
-    (1, "make /e"),
-    (1, "make /e/b"),
-    (1, "make /e/b/p"),
-    (1, "checkout w:/e"),
-    (1, "save c1 /e/b/p 6669727374"),
-    (1, "checkin c1"),
-    (1, "checkout w:/e"),
-    (1, "save c2 /e/b/p 7365636f6e64"),
-    (1, "hold r:/"),
-    (1, "checkout r:/"),
-    (1, "checkout r:/"),
-];
 
 /// What is tried.
 #[derive(Clone, Copy)]
@@ -199,27 +157,27 @@ enum Call {
     New,
     Copy,
     FromParts,
-    Apply(Row),
-    /// A line after others.
-    Act(&'static [Line<'static>], Line<'static>),
+    /// A step after others.
+    Does(List, Step),
 }
 
 /// Tries a call with its request of this number refused.
 fn tries(
     rt: &impl Abort,
-    memory: &Refusing<Global>,
-    ample: &Refusing<Global>,
-    alloc: Global,
+    (memory, ample): (&Refusing<Global>, &Refusing<Global>),
+    aside: Global,
     call: &Call,
     number: u64,
 ) -> Tried {
-    match *call {
-        Call::New => makes_book(memory, number),
-        Call::Copy => copies(rt, memory, alloc, number),
-        Call::FromParts => makes_of_parts(rt, alloc, memory, number),
-        Call::Apply(row) => applies(rt, (memory, ample), alloc, row, number),
-        Call::Act(before, line) => acts(rt, (memory, ample), alloc, before, line, number),
-    }
+    let told = match call {
+        Call::Does(start, step) => {
+            return does_from(memory, aside, (memory, ample), *start, step, number);
+        }
+        Call::New => makes(memory, aside, memory, (New, true), number),
+        Call::Copy => makes(memory, aside, memory, (Anna, false), number),
+        Call::FromParts => is_remade(rt, memory, aside, number),
+    };
+    judged(told, memory.has_refused())
 }
 
 #[test]
@@ -227,89 +185,171 @@ fn each_request_of_a_book_is_refused(rt: HostRuntime) {
     let (alloc, memory) = (rt.alloc(), Refusing::new(rt.alloc()));
     let ample = Refusing::new(alloc);
     for (name, call, wanted) in &WANTED {
-        let made = requests(|number| tries(&rt, &memory, &ample, alloc, call, number));
+        let made = requests(|number| tries(&rt, (&memory, &ample), alloc, call, number));
         assert_eq!(rt; made, Some(*wanted), "{name}");
     }
 }
 
 /// A call, what is tried, and how many requests it makes.
 static WANTED: [(&str, Call, u64); 31] = [
-    ("Book::apply, Made", Call::Apply(Row::Made(2, "p3")), 1),
-    ("Book::apply, Nested", Call::Apply(Row::Nested(2, "s")), 1),
+    (
+        "Book::apply, Made",
+        Call::Does(Durable, Applies(Row::Made(2, "p3"))),
+        1,
+    ),
+    (
+        "Book::apply, Nested",
+        Call::Does(Durable, Applies(Row::Nested(2, "s"))),
+        1,
+    ),
     (
         "Book::apply, Asked",
-        Call::Apply(Row::Asked(4, 1, Look, 1)),
+        Call::Does(Durable, Applies(Row::Asked(4, 1, Look, 1))),
         2,
     ),
     (
         "Book::apply, Extended",
-        Call::Apply(Row::Extended(2, 1, Change, 3)),
+        Call::Does(Durable, Applies(Row::Extended(2, 1, Change, 3))),
         1,
     ),
-    ("Book::apply, Saved", Call::Apply(Row::Saved(3, 4, 2)), 1),
-    ("Book::apply, CheckedIn", Call::Apply(Row::CheckedIn(3)), 3),
-    ("Book::apply, Abandoned", Call::Apply(Row::Abandoned(1)), 0),
-    ("Book::apply, Given", Call::Apply(Row::Given(1)), 0),
-    ("Book::apply, Noted", Call::Apply(Row::Noted(1)), 0),
-    ("Book::act, Join", Call::Act(&[], (0, "hello anna")), 1),
-    ("Book::act, Make", Call::Act(&BEFORE, (1, "make /f")), 1),
+    (
+        "Book::apply, Saved",
+        Call::Does(Durable, Applies(Row::Saved(3, 4, 2))),
+        1,
+    ),
+    (
+        "Book::apply, CheckedIn",
+        Call::Does(Durable, Applies(Row::CheckedIn(3))),
+        3,
+    ),
+    (
+        "Book::apply, Abandoned",
+        Call::Does(Durable, Applies(Row::Abandoned(1))),
+        0,
+    ),
+    (
+        "Book::apply, Given",
+        Call::Does(Durable, Applies(Row::Given(1))),
+        0,
+    ),
+    (
+        "Book::apply, Noted",
+        Call::Does(Durable, Applies(Row::Noted(1))),
+        0,
+    ),
+    (
+        "Book::act, Join",
+        Call::Does(New, Says(0, "hello anna", "OK session 1", NONE)),
+        1,
+    ),
+    (
+        "Book::act, Make",
+        Call::Does(Anna, Says(1, "make /f", "OK place 4", MADE)),
+        1,
+    ),
     (
         "Book::act, Make in a check-out",
-        Call::Act(&BEFORE, (1, "make /e/f c2")),
+        Call::Does(Anna, Says(1, "make /e/f c2", "OK place 4", MADE)),
         1,
     ),
     (
         "Book::act, Nest",
-        Call::Act(&BEFORE, (1, "nest /e/b/s c2")),
+        Call::Does(Anna, Says(1, "nest /e/b/s c2", "OK place 4", NESTED)),
         1,
     ),
     (
         "Book::act, CheckOut",
-        Call::Act(&BEFORE, (1, "checkout r:/")),
+        Call::Does(
+            Anna,
+            Says(1, "checkout r:/", "OK queued c5 behind c2", ("Asked", 5)),
+        ),
         5,
     ),
     (
         "Book::act, Extend",
-        Call::Act(&BEFORE, (1, "extend c2 w:/")),
+        Call::Does(
+            Anna,
+            Says(1, "extend c2 w:/", "OK held c2", ("Extended", 2)),
+        ),
         2,
     ),
     (
         "Book::act, Save",
-        Call::Act(&BEFORE, (1, "save c2 /e/b/p 7468697264")),
+        Call::Does(
+            Anna,
+            Says(1, "save c2 /e/b/p 7468697264", "OK saved", ("Saved", 2)),
+        ),
         2,
     ),
     (
         "Book::act, CheckIn",
-        Call::Act(&BEFORE, (1, "checkin c2")),
+        Call::Does(
+            Anna,
+            Says(1, "checkin c2", "OK checked in 1", ("CheckedIn", 2)),
+        ),
         1,
     ),
-    ("Book::act, Hold", Call::Act(&BEFORE, (1, "hold r:/")), 5),
-    ("Book::act, List", Call::Act(&BEFORE, (1, "list /")), 1),
+    (
+        "Book::act, Hold",
+        Call::Does(Anna, Says(1, "hold r:/", "OK queued h2 behind c2", NONE)),
+        5,
+    ),
+    (
+        "Book::act, List",
+        Call::Does(Anna, Says(1, "list /", "OK list 1 e", NONE)),
+        1,
+    ),
     (
         "Book::act, Fetch",
-        Call::Act(&BEFORE, (1, "fetch /e/b/p 1")),
+        Call::Does(
+            Anna,
+            Says(1, "fetch /e/b/p 1", "OK content 6669727374", NONE),
+        ),
         1,
     ),
     (
         "Book::act, Abandon",
-        Call::Act(&BEFORE, (1, "abandon c2")),
+        Call::Does(
+            Anna,
+            Says(1, "abandon c2", "OK abandoned", ("Abandoned", 2)),
+        ),
         0,
     ),
     (
         "Book::act, Release",
-        Call::Act(&BEFORE, (1, "release h1")),
+        Call::Does(Anna, Says(1, "release h1", "OK released", NONE)),
         0,
     ),
-    ("Book::act, State", Call::Act(&BEFORE, (1, "state h1")), 0),
+    (
+        "Book::act, State",
+        Call::Does(Anna, Says(1, "state h1", "OK queued h1 behind c2", NONE)),
+        0,
+    ),
     (
         "Book::act, Count",
-        Call::Act(&BEFORE, (1, "count /e/b/p")),
+        Call::Does(Anna, Says(1, "count /e/b/p", "OK versions 1", NONE)),
         0,
     ),
-    ("Book::act, Give", Call::Act(&BEFORE, (1, "give c2 ben")), 0),
-    ("Book::act, Note", Call::Act(&BEFORE, (1, "note c2 61")), 0),
-    ("Book::act, ReadNote", Call::Act(&BEFORE, (1, "note c2")), 0),
-    ("Book::act, Leave", Call::Act(&BEFORE, (1, "quit")), 0),
+    (
+        "Book::act, Give",
+        Call::Does(Anna, Says(1, "give c2 ben", "OK given", ("Given", 2))),
+        0,
+    ),
+    (
+        "Book::act, Note",
+        Call::Does(Anna, Says(1, "note c2 61", "OK noted", ("Noted", 2))),
+        0,
+    ),
+    (
+        "Book::act, ReadNote",
+        Call::Does(Anna, Says(1, "note c2", "OK note -", NONE)),
+        0,
+    ),
+    (
+        "Book::act, Leave",
+        Call::Does(Anna, Says(1, "quit", "OK left", NONE)),
+        0,
+    ),
     ("Book::new", Call::New, 2),
     ("Book::copy", Call::Copy, 29),
     ("Book::from_parts", Call::FromParts, 20),

@@ -1,188 +1,270 @@
-//! Each request of a vault for memory refused in turn.
+//! Each request for memory refused in turn: of a vault's public functions, and of an inspection.
 
-use crate::vault::given::{device, hello, make, settled_after, spend, staged};
-use group_commit::{CreateError, OpenError, Phase, Redeemed, Retired, Started, Vault};
+use crate::inspector::inspects;
+use crate::vault::call::Call::{Give, Numbers, Phase, Pump, Redeem, Retire, Stage, Start};
+use crate::vault::call::Fate::{Listed, NotYet};
+use crate::vault::call::Hand::Left;
+use crate::vault::call::Said::{Hello, List, Make};
+use crate::vault::call::{Call, Row};
+use crate::vault::play::{Hands, answered, call, device, end, new_vault};
+use group_commit::Pumped::{Moved, Settled};
+use group_commit::Retired::One;
+use group_commit::{CreateError, OpenError, Refused, Started, Vault};
 use std::alloc::Global;
 use std::process::Abort;
-use test_memory::{Refusing, Tried};
+use test_memory::{Refusing, Tried, requests};
 use vault_device::MemDevice;
-use vault_model::{Command, CommandIn, NoMemory, Outside, Path, Reply};
 
-// A vault that asks a memory that may refuse.
-type Wanting<'a> = Vault<MemDevice, &'a Refusing<Global>>;
-
-fn new_vault<'a>(rt: &impl Abort, memory: &'a Refusing<Global>, alloc: Global) -> Wanting<'a> {
-    Vault::create(memory, device(rt, alloc), device(rt, alloc), 1)
-        .ok()
-        .expect(rt, "a vault")
+// What asks for memory, and calls around it.
+struct Trial {
+    of: Asking,
+    /// Calls before it.
+    before: &'static [Row],
+    /// Further calls before it, which ask for no memory.
+    quiet: &'static [Row],
+    /// Calls behind its refusal.
+    refused: &'static [Row],
+    /// Calls behind that, which ask for no memory.
+    behind: &'static [Row],
 }
 
-// Whether a command is staged. Its ticket is given up.
-fn is_staged<'a>(
-    vault: &mut Wanting<'a>,
-    session: u32,
-    command: Option<CommandIn<&'a Refusing<Global>>>,
+enum Asking {
+    Create,
+    Open,
+    Call(Call),
+    Inspect,
+}
+
+const PLAIN: Trial = Trial {
+    of: Asking::Inspect,
+    before: &[],
+    quiet: &[],
+    refused: &[],
+    behind: &[],
+};
+
+fn are_answered<'a>(
+    vault: &mut Vault<MemDevice, &'a Refusing<Global>>,
+    hands: &mut Hands<&'a Refusing<Global>>,
+    memory: &'a Refusing<Global>,
+    rows: &[Row],
 ) -> bool {
-    let Some(command) = command else {
-        return false;
-    };
-    match staged(vault, session, command) {
-        Some(ticket) => {
-            let _ = vault.forget(ticket);
+    answered(vault, hands, memory, rows) == rows.len()
+}
+
+// A vault, or whether it is refused for want of memory, with the devices.
+type Begun<'a> = Result<Vault<MemDevice, &'a Refusing<Global>>, Refused<MemDevice, bool>>;
+
+// Creates a vault, or opens it again.
+fn begun<'a>(
+    memory: &'a Refusing<Global>,
+    is_new: bool,
+    first: MemDevice,
+    second: MemDevice,
+) -> Begun<'a> {
+    if is_new {
+        return match Vault::create(memory, first, second, 1) {
+            Ok(vault) => Ok(vault),
+            Err(Refused { why, first, second }) => {
+                let why = why == CreateError::NoMemory;
+                Err(Refused { why, first, second })
+            }
+        };
+    }
+    match Vault::open(memory, first, second, 2) {
+        Ok(vault) => Ok(vault),
+        Err(Refused { why, first, second }) => {
+            let why = why == OpenError::NoMemory;
+            Err(Refused { why, first, second })
+        }
+    }
+}
+
+// Whether a vault is begun. It is ended.
+fn is_ended<'a>(begun: Begun<'a>) -> bool {
+    match begun {
+        Ok(vault) => {
+            end(vault);
             true
         }
-        None => false,
+        Err(refused) => {
+            drop(refused);
+            false
+        }
     }
 }
 
-/// Tries to create a vault. Refused, the devices come back, still empty.
-pub(crate) fn creates(
-    rt: &impl Abort,
+// Tries to create a vault, or to open one again. Refused, the devices come back, and serve then.
+fn begins(
     memory: &Refusing<Global>,
-    alloc: Global,
+    is_new: bool,
+    (first, second): (MemDevice, MemDevice),
     number: u64,
 ) -> Tried {
-    let (first, second) = (device(rt, alloc), device(rt, alloc));
     memory.refuse(number);
-    match Vault::create(memory, first, second, 1) {
+    match begun(memory, is_new, first, second) {
         Ok(vault) => {
             let is_done = !memory.has_refused() && vault.len() == 0;
-            drop(vault);
+            end(vault);
             Tried::done(is_done)
         }
-        Err(back) => {
-            let is_told = memory.has_refused() && back.why == CreateError::NoMemory;
-            let again = Vault::create(memory, back.first, back.second, 1);
-            let is_made = again.is_ok();
-            drop(again);
-            Tried::refused(is_made && is_told)
+        Err(Refused { why, first, second }) => {
+            let is_told = memory.has_refused() && why;
+            let again = begun(memory, is_new, first, second);
+            let is_begun = is_ended(again);
+            Tried::refused(is_begun && is_told)
         }
     }
 }
 
-/// Tries to open a vault with a session's place in a frame. Refused, the devices come back, and open then.
-pub(crate) fn opens(
+// The devices of a vault behind these calls.
+fn left(
     rt: &impl Abort,
     memory: &Refusing<Global>,
     alloc: Global,
+    calls: &[Row],
+) -> (MemDevice, MemDevice) {
+    let mut vault = new_vault(rt, memory, alloc, 0);
+    let mut hands = Hands::empty();
+    let are_answered = are_answered(&mut vault, &mut hands, memory, calls);
+    assert!(rt; are_answered);
+    hands.end(&mut vault);
+    vault.into_devices()
+}
+
+// Tries a call of a vault.
+fn asks(
+    rt: &impl Abort,
+    memory: &Refusing<Global>,
+    alloc: Global,
+    trial: &Trial,
+    asking: Call,
     number: u64,
 ) -> Tried {
-    let mut vault = new_vault(rt, memory, alloc);
-    assert!(rt; is_staged(&mut vault, 0, hello(b"anna")) && is_staged(&mut vault, 1, make(b"/e")));
-    assert!(rt; settled_after(&mut vault, 4));
-    let (first, second) = vault.into_devices();
+    let mut vault = new_vault(rt, memory, alloc, 0);
+    let mut hands = Hands::empty();
+    let is_ready = are_answered(&mut vault, &mut hands, memory, trial.before);
+    memory.refuse(1);
+    let is_quiet = are_answered(&mut vault, &mut hands, memory, trial.quiet)
+        && !memory.has_refused();
     memory.refuse(number);
-    match Vault::open(memory, first, second, 2) {
-        Ok(vault) => {
-            let is_done = !memory.has_refused() && vault.len() == 0;
-            drop(vault);
-            Tried::done(is_done)
-        }
-        Err(back) => {
-            let is_told = memory.has_refused() && back.why == OpenError::NoMemory;
-            let again = Vault::open(memory, back.first, back.second, 2);
-            let is_open = again.is_ok();
-            drop(again);
-            Tried::refused(is_open && is_told)
-        }
+    let tried = call(&mut vault, &mut hands, memory, asking);
+    let has_refused = memory.has_refused();
+    let is_refused = tried == Tried::Refused;
+    let is_answered = !is_refused || are_answered(&mut vault, &mut hands, memory, trial.refused);
+    memory.refuse(1);
+    let is_over = are_answered(&mut vault, &mut hands, memory, trial.behind)
+        && !memory.has_refused();
+    hands.end(&mut vault);
+    end(vault);
+    tried.and(is_ready && is_quiet && is_refused == has_refused && is_answered && is_over)
+}
+
+// Tries it with that request refused.
+fn tries(
+    rt: &impl Abort,
+    memory: &Refusing<Global>,
+    alloc: Global,
+    trial: &Trial,
+    number: u64,
+) -> Tried {
+    match trial.of {
+        Asking::Create => begins(memory, true, (device(rt, alloc), device(rt, alloc)), number),
+        Asking::Open => begins(memory, false, left(rt, memory, alloc, trial.before), number),
+        Asking::Call(asking) => asks(rt, memory, alloc, trial, asking, number),
+        Asking::Inspect => inspects(rt, memory, alloc, number),
     }
 }
 
-fn is_anna<'a>(command: &CommandIn<&'a Refusing<Global>>) -> bool {
-    matches!(command, Command::Join(name) if name.as_bytes() == b"anna".as_slice())
+#[test]
+fn each_request_of_a_vault_is_refused(rt: HostRuntime) {
+    let memory = Refusing::new(rt.alloc());
+    for (name, trial, count) in &TRIALS {
+        let made = requests(|number| tries(&rt, &memory, rt.alloc(), trial, number));
+        assert_eq!(rt; made, Some(*count), "{name}");
+    }
 }
 
-/// Tries to stage a command. Refused, it comes back, and no entry is kept of it.
-pub(crate) fn stages(
-    rt: &impl Abort,
-    memory: &Refusing<Global>,
-    alloc: Global,
-    number: u64,
-) -> Tried {
-    let mut vault = new_vault(rt, memory, alloc);
-    let anna = hello(b"anna").expect(rt, "a name");
-    memory.refuse(number);
-    let answer = vault.stage(0, anna);
-    let has_refused = memory.has_refused();
-    let tried = match answer {
-        Ok(ticket) => {
-            let _ = vault.forget(ticket);
-            Tried::done(!has_refused)
-        }
-        Err((why, back)) => {
-            let is_told = why == Outside::NoMemory && is_anna(&back);
-            let is_kept = vault.len() == 0 && vault.kept() == 0;
-            Tried::refused(
-                has_refused && is_told && is_kept && is_staged(&mut vault, 0, Some(back)),
-            )
-        }
-    };
-    let is_one = vault.len() == 1;
-    drop(vault);
-    tried.and(is_one)
-}
-
-/// Tries to redeem the ticket of a list. Refused, the ticket comes back, and nothing is told; it is told then. Committing the list before
-/// asks for no memory, and nor does retiring it.
-pub(crate) fn redeems(
-    rt: &impl Abort,
-    memory: &Refusing<Global>,
-    alloc: Global,
-    number: u64,
-) -> Tried {
-    let mut vault = new_vault(rt, memory, alloc);
-    assert!(rt; is_staged(&mut vault, 0, hello(b"anna")) && is_staged(&mut vault, 1, make(b"/e")));
-    let Some(ticket) = staged(&mut vault, 1, Command::List(Path::root())) else {
-        panic!(rt; "a ticket");
-    };
-    memory.refuse(1);
-    assert!(rt; settled_after(&mut vault, 4) && !memory.has_refused());
-    memory.refuse(number);
-    let answer = vault.redeem(ticket);
-    let has_refused = memory.has_refused();
-    let tried = match answer {
-        Redeemed::Told(receipt) => {
-            let is_list =
-                matches!(receipt.reply(), Reply::Children(names) if names.as_slice().len() == 1);
-            drop(receipt);
-            Tried::done(!has_refused && is_list)
-        }
-        Redeemed::NoMemory(back) => {
-            let is_kept = vault.told() == 0;
-            let again = vault.redeem(back);
-            let is_told = matches!(&again, Redeemed::Told(_));
-            spend(&mut vault, again);
-            Tried::refused(has_refused && is_kept && is_told)
-        }
-        answer => {
-            spend(&mut vault, answer);
-            Tried::Wrong
-        }
-    };
-    memory.refuse(1);
-    let is_over = vault.told() == 1 && vault.retire() == Retired::One && !memory.has_refused();
-    drop(vault);
-    tried.and(is_over)
-}
-
-/// Tries to start a snapshot. Refused, nothing is under way, and the next try starts it.
-pub(crate) fn starts(
-    rt: &impl Abort,
-    memory: &Refusing<Global>,
-    alloc: Global,
-    number: u64,
-) -> Tried {
-    let mut vault = new_vault(rt, memory, alloc);
-    assert!(rt; is_staged(&mut vault, 0, hello(b"anna")) && is_staged(&mut vault, 1, make(b"/e")));
-    memory.refuse(number);
-    let started = vault.start_snapshot();
-    let has_refused = memory.has_refused();
-    let tried = if started == Ok(Started::Yes) {
-        Tried::done(!has_refused)
-    } else {
-        let is_told = started == Err(NoMemory) && vault.phase() == Phase::Idle;
-        Tried::refused(has_refused && is_told && vault.start_snapshot() == Ok(Started::Yes))
-    };
-    drop(vault);
-    tried
-}
+static TRIALS: [(&str, Trial, u64); 6] = [
+    (
+        "Vault::create",
+        Trial {
+            of: Asking::Create,
+            ..PLAIN
+        },
+        4,
+    ),
+    // A vault with a session's place in a frame.
+    (
+        "Vault::open",
+        Trial {
+            of: Asking::Open,
+            before: &[
+                (1, Give(0, Hello(b"anna"))),
+                (1, Give(1, Make(b"/e"))),
+                (3, Pump(Ok(Moved))),
+                (1, Pump(Ok(Settled))),
+            ],
+            ..PLAIN
+        },
+        8,
+    ),
+    // Refused, the command comes back, and no entry is kept of it.
+    (
+        "Vault::stage",
+        Trial {
+            of: Asking::Call(Stage(Left, 0, Hello(b"anna"))),
+            refused: &[
+                (1, Numbers([0, 0, 0, 0])),
+                (1, Stage(Left, 0, Hello(b"anna"))),
+            ],
+            behind: &[(1, Numbers([1, 1, 0, 0]))],
+            ..PLAIN
+        },
+        1,
+    ),
+    // Committing a list before its ticket is redeemed asks for no memory, and nor does retiring it. Refused, the ticket comes back, and
+    // nothing is told; it is told then.
+    (
+        "Vault::redeem",
+        Trial {
+            of: Asking::Call(Redeem(Left, Listed(b"e"))),
+            before: &[
+                (1, Give(0, Hello(b"anna"))),
+                (1, Give(1, Make(b"/e"))),
+                (1, Stage(Left, 1, List)),
+            ],
+            quiet: &[
+                (1, Redeem(Left, NotYet)),
+                (3, Pump(Ok(Moved))),
+                (1, Pump(Ok(Settled))),
+            ],
+            refused: &[(1, Numbers([3, 3, 3, 0])), (1, Redeem(Left, Listed(b"e")))],
+            behind: &[(1, Retire(One)), (1, Numbers([3, 2, 3, 1]))],
+            ..PLAIN
+        },
+        1,
+    ),
+    // Refused, nothing is under way, and the next try starts it.
+    (
+        "Vault::start_snapshot",
+        Trial {
+            of: Asking::Call(Start(Started::Yes)),
+            before: &[(1, Give(0, Hello(b"anna"))), (1, Give(1, Make(b"/e")))],
+            refused: &[
+                (1, Phase(group_commit::Phase::Idle)),
+                (1, Start(Started::Yes)),
+            ],
+            ..PLAIN
+        },
+        1,
+    ),
+    (
+        "inspect",
+        Trial {
+            of: Asking::Inspect,
+            ..PLAIN
+        },
+        31,
+    ),
+];

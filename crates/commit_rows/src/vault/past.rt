@@ -1,5 +1,5 @@
 //! The past of a vault, as calls make it, and its receipts found again.
-ghost use Rattle.std.specs.Prelude.{◌≡◌, List, [], ◌∷◌, length, IsTrue, IfSome, OnSome};
+ghost use Rattle.std.specs.Prelude.{◌≡◌, List, [], ◌∷◌, length};
 ghost use Rattle.vault_device.specs.MemDevice.{MemDisk, disk_of};
 ghost use Rattle.group_commit.specs.Seen.{VaultSeen};
 ghost use Rattle.group_commit.specs.Positions.{HasTold};
@@ -11,51 +11,124 @@ use group_commit::promises::{
 };
 use group_commit::{Receipt, Redeemed, Refused, Vault};
 use std::alloc::Global;
+use std::process::Abort;
 use vault_device::{MemDevice, Pick};
 use vault_model::CommandIn;
 
+/// How the first life begins.
+#[derive(Clone, Copy)]
+pub(crate) enum Beginning {
+    Made,
+    /// In files that another program wrote.
+    TakenOver,
+}
+
+/// Where the machine stops.
+#[derive(Clone, Copy)]
+pub(crate) enum Stop {
+    BetweenCalls,
+    /// Once more, inside the opening behind the first stop: at that call of the first device.
+    InAnOpening(u64),
+}
+
 // The receipt of a command without an effect, which is staged, settled and told.
-fn told(vault: &mut Vault<MemDevice>, command: CommandIn<Global>) -> Option<Receipt>
+fn told(rt: &impl Abort, vault: &mut Vault<MemDevice>, command: CommandIn<Global>) -> Receipt
     ensures past { (past : List (VaultSeen MemDisk)) → IsPast disk_of vault.old past
-        → OnSome result ((staged : VaultSeen MemDisk) × (pumped : VaultSeen MemDisk)
-        × IsPast disk_of vault.new (pumped ∷ staged ∷ vault.old ∷ past)) }
-    ensures receipt { IfSome result (λ receipt. HasTold vault.new.view receipt) }
+        → (staged : VaultSeen MemDisk) × (pumped : VaultSeen MemDisk)
+        × IsPast disk_of vault.new (pumped ∷ staged ∷ vault.old ∷ past) }
+    ensures receipt { HasTold vault.new.view result }
 {
-    let Ok(ticket) = vault.stage(0, command) else {
-        return None;
+    let ticket = match vault.stage(0, command) {
+        Ok(ticket) => ticket,
+        Err(_refused) => panic!(rt; "a ticket"),
     };
     a_past_goes_on(vault);
     let Ok(_) = vault.pump() else {
-        let _ = vault.forget(ticket);
-        return None;
+        panic!(rt; "a pump");
     };
     a_past_goes_on(vault);
     let answer = vault.redeem(ticket);
     a_past_goes_on(vault);
     receipts_are_of_their_entries();
     match answer {
-        Redeemed::Told(receipt) => Some(receipt),
-        Redeemed::NotYet(ticket)
-        | Redeemed::Stranger(ticket)
-        | Redeemed::Unknown(ticket)
-        | Redeemed::NoMemory(ticket) => {
-            let _ = vault.forget(ticket);
-            None
-        }
+        Redeemed::Told(receipt) => receipt,
+        _answer => panic!(rt; "a reply"),
     }
 }
 
+// A new vault.
+fn made(rt: &impl Abort, alloc: Global, first: MemDevice, second: MemDevice) -> Vault<MemDevice>
+    ensures { IsPast disk_of result [] }
+{
+    match Vault::create(alloc, first, second, 1) {
+        Ok(vault) => {
+            a_past_goes_on(&vault);
+            vault
+        }
+        Err(_refused) => panic!(rt; "a vault"),
+    }
+}
+
+// A vault in files that another program wrote.
+fn taken_over(
+    rt: &impl Abort,
+    alloc: Global,
+    first: MemDevice,
+    second: MemDevice,
+) -> Vault<MemDevice>
+    ensures { IsPast disk_of result [] }
+{
+    match Vault::open(alloc, first, second, 1) {
+        Ok(vault) => {
+            a_past_goes_on(&vault);
+            vault
+        }
+        Err(_refused) => panic!(rt; "a vault"),
+    }
+}
+
+fn begun(
+    rt: &impl Abort,
+    alloc: Global,
+    beginning: Beginning,
+    first: MemDevice,
+    second: MemDevice,
+) -> Vault<MemDevice>
+    ensures { IsPast disk_of result [] }
+{
+    match beginning {
+        Beginning::Made => made(rt, alloc, first, second),
+        Beginning::TakenOver => taken_over(rt, alloc, first, second),
+    }
+}
+
+// A vault that told somebody a reply in its first life.
+fn first_life(
+    rt: &impl Abort,
+    alloc: Global,
+    beginning: Beginning,
+    files: (MemDevice, MemDevice),
+    command: CommandIn<Global>,
+) -> (Vault<MemDevice>, Receipt)
+    ensures { (past : List (VaultSeen MemDisk)) × IsPast disk_of result.0 past × (length past ≡ 3) × HasTold result.0.view result.1 }
+{
+    let (first, second) = files;
+    let mut vault = begun(rt, alloc, beginning, first, second);
+    let receipt = told(rt, &mut vault, command);
+    (vault, receipt)
+}
+
 // The vault of the next life, in the files that a stop left.
-fn opened(alloc: Global, first: MemDevice, second: MemDevice) -> Option<Vault<MemDevice>>
+fn opened(rt: &impl Abort, alloc: Global, first: MemDevice, second: MemDevice) -> Vault<MemDevice>
     ensures { (old : VaultSeen MemDisk) (past : List (VaultSeen MemDisk)) → AreLeft disk_of old first second → IsPast disk_of old past
-        → IfSome result (λ next. IsPast disk_of next (old ∷ past)) }
+        → IsPast disk_of result (old ∷ past) }
 {
     match Vault::open(alloc, first, second, 2) {
         Ok(next) => {
             a_past_goes_on(&next);
-            Some(next)
+            next
         }
-        Err(_) => None,
+        Err(_refused) => panic!(rt; "another life"),
     }
 }
 
@@ -71,45 +144,47 @@ fn crashed(first: MemDevice, second: MemDevice, pick: Pick) -> (MemDevice, MemDe
 }
 
 // The vault of the next life, after its machine stopped between two calls.
-fn stopped(alloc: Global, vault: Vault<MemDevice>, pick: Pick) -> Option<Vault<MemDevice>>
-    ensures { (past : List (VaultSeen MemDisk)) → IsPast disk_of vault past → IfSome result (λ next. IsPast disk_of next (vault ∷ past)) }
+fn stopped(rt: &impl Abort, alloc: Global, vault: Vault<MemDevice>, pick: Pick) -> Vault<MemDevice>
+    ensures { (past : List (VaultSeen MemDisk)) → IsPast disk_of vault past → IsPast disk_of result (vault ∷ past) }
 {
     let (first, second) = vault.into_devices();
     let (first, second) = crashed(first, second, pick);
-    opened(alloc, first, second)
+    opened(rt, alloc, first, second)
 }
 
 // The same, after it stopped inside a pump.
-fn stopped_in_a_pump(alloc: Global, vault: Vault<MemDevice>, pick: Pick) -> Option<Vault<MemDevice>>
-    ensures { (past : List (VaultSeen MemDisk)) → IsPast disk_of vault past → IfSome result (λ next. IsPast disk_of next (vault ∷ past)) }
+fn stopped_in_a_pump(
+    rt: &impl Abort,
+    alloc: Global,
+    vault: Vault<MemDevice>,
+    pick: Pick,
+) -> Vault<MemDevice>
+    ensures { (past : List (VaultSeen MemDisk)) → IsPast disk_of vault past → IsPast disk_of result (vault ∷ past) }
 {
     let mut vault = vault;
     if vault.is_broken() {
-        drop(vault);
-        return None;
+        panic!(rt; "a whole vault");
     }
     let _ = vault.pump();
     let (first, second) = vault.into_devices();
     let (first, second) = crashed(first, second, pick);
-    opened(alloc, first, second)
+    opened(rt, alloc, first, second)
 }
 
 // The same, after the machine stopped once more, inside the opening behind the first stop: at that call of the first device.
 fn stopped_in_an_opening(
+    rt: &impl Abort,
     alloc: Global,
     vault: Vault<MemDevice>,
     pick: Pick,
     call: u64,
-) -> Option<Vault<MemDevice>>
-    ensures { (past : List (VaultSeen MemDisk)) → IsPast disk_of vault past → IfSome result (λ next. IsPast disk_of next (vault ∷ past)) }
+) -> Vault<MemDevice>
+    ensures { (past : List (VaultSeen MemDisk)) → IsPast disk_of vault past → IsPast disk_of result (vault ∷ past) }
 {
     let (mut first, second) = vault.into_devices();
     first.fail_at(call);
     match Vault::open(alloc, first, second, 2) {
-        Ok(next) => {
-            drop(next);
-            None
-        }
+        Ok(_next) => panic!(rt; "a stop"),
         Err(
             Refused {
                 why: _,
@@ -118,135 +193,54 @@ fn stopped_in_an_opening(
             },
         ) => {
             let (first, second) = crashed(first, second, pick);
-            opened(alloc, first, second)
+            opened(rt, alloc, first, second)
         }
-    }
-}
-
-// A vault without a past told somebody a reply.
-fn begun(vault: Vault<MemDevice>, command: CommandIn<Global>) -> Option<(Vault<MemDevice>, Receipt)>
-    ensures { IsPast disk_of vault [] → IfSome result (λ begun. (past : List (VaultSeen MemDisk)) × IsPast disk_of begun.0 past
-        × (length past ≡ 3) × HasTold begun.0.view begun.1) }
-{
-    let mut vault = vault;
-    let Some(receipt) = told(&mut vault, command) else {
-        drop(vault);
-        return None;
-    };
-    Some((vault, receipt))
-}
-
-// A new vault that told somebody a reply.
-fn made(
-    alloc: Global,
-    first: MemDevice,
-    second: MemDevice,
-    command: CommandIn<Global>,
-) -> Option<(Vault<MemDevice>, Receipt)>
-    ensures { IfSome result (λ begun. (past : List (VaultSeen MemDisk)) × IsPast disk_of begun.0 past × (length past ≡ 3)
-        × HasTold begun.0.view begun.1) }
-{
-    let Ok(vault) = Vault::create(alloc, first, second, 1) else {
-        return None;
-    };
-    a_past_goes_on(&vault);
-    begun(vault, command)
-}
-
-// A vault that told somebody a reply, in files that another program wrote.
-fn taken_over(
-    alloc: Global,
-    first: MemDevice,
-    second: MemDevice,
-    command: CommandIn<Global>,
-) -> Option<(Vault<MemDevice>, Receipt)>
-    ensures { IfSome result (λ begun. (past : List (VaultSeen MemDisk)) × IsPast disk_of begun.0 past × (length past ≡ 3)
-        × HasTold begun.0.view begun.1) }
-{
-    let Ok(vault) = Vault::open(alloc, first, second, 1) else {
-        return None;
-    };
-    a_past_goes_on(&vault);
-    begun(vault, command)
-}
-
-/// How the first life begins.
-#[derive(Clone, Copy)]
-pub enum Beginning {
-    Made,
-    /// In files that another program wrote.
-    TakenOver,
-}
-
-/// Where the machine stops.
-#[derive(Clone, Copy)]
-pub enum Stop {
-    BetweenCalls,
-    /// Once more, inside the opening behind the first stop: at that call of the first device.
-    InAnOpening(u64),
-}
-
-// A vault that told somebody a reply in its first life.
-fn first_life(
-    alloc: Global,
-    begun: Beginning,
-    first: MemDevice,
-    second: MemDevice,
-    command: CommandIn<Global>,
-) -> Option<(Vault<MemDevice>, Receipt)>
-    ensures { IfSome result (λ begun. (past : List (VaultSeen MemDisk)) × IsPast disk_of begun.0 past × (length past ≡ 3)
-        × HasTold begun.0.view begun.1) }
-{
-    match begun {
-        Beginning::Made => made(alloc, first, second, command),
-        Beginning::TakenOver => taken_over(alloc, first, second, command),
     }
 }
 
 // The vault of the next life, after its machine stopped there.
 fn next_life(
+    rt: &impl Abort,
     alloc: Global,
     stop: Stop,
     vault: Vault<MemDevice>,
     pick: Pick,
-) -> Option<Vault<MemDevice>>
-    ensures { (past : List (VaultSeen MemDisk)) → IsPast disk_of vault past → IfSome result (λ next. IsPast disk_of next (vault ∷ past)) }
+) -> Vault<MemDevice>
+    ensures { (past : List (VaultSeen MemDisk)) → IsPast disk_of vault past → IsPast disk_of result (vault ∷ past) }
 {
     match stop {
-        Stop::BetweenCalls => stopped(alloc, vault, pick),
-        Stop::InAnOpening(call) => stopped_in_an_opening(alloc, vault, pick, call),
+        Stop::BetweenCalls => stopped(rt, alloc, vault, pick),
+        Stop::InAnOpening(call) => stopped_in_an_opening(rt, alloc, vault, pick, call),
     }
 }
 
 /// A vault that told somebody a reply, stopped, and was opened again; and the receipt.
 pub(crate) fn two_lives(
+    rt: &impl Abort,
     alloc: Global,
     lives: (Beginning, Stop),
-    first: MemDevice,
-    second: MemDevice,
+    files: (MemDevice, MemDevice),
     command: CommandIn<Global>,
     pick: Pick,
-) -> Option<(Vault<MemDevice>, Receipt)>
-    ensures { IfSome result (λ found. (past : List (VaultSeen MemDisk)) × (is : IsPast disk_of found.0 past) × (length past ≡ 4)
-        × IsFoundAgain disk_of found.0 past is found.1) }
+) -> (Vault<MemDevice>, Receipt)
+    ensures { (past : List (VaultSeen MemDisk)) × (is : IsPast disk_of result.0 past) × (length past ≡ 4)
+        × IsFoundAgain disk_of result.0 past is result.1 }
 {
-    let (begun, stop) = lives;
-    let (vault, receipt) = first_life(alloc, begun, first, second, command)?;
-    let Some(next) = next_life(alloc, stop, vault, pick) else {
-        drop(receipt);
-        return None;
-    };
+    let (beginning, stop) = lives;
+    let (vault, receipt) = first_life(rt, alloc, beginning, files, command);
+    let next = next_life(rt, alloc, stop, vault, pick);
     receipts_are_found_again(&next);
-    Some((next, receipt))
+    (next, receipt)
 }
 
 // A place's making is staged, its ticket given up, and its commit begun: two of its steps are done.
-fn under_way(vault: &mut Vault<MemDevice>, command: CommandIn<Global>) -> bool
-    ensures { (past : List (VaultSeen MemDisk)) → IsPast disk_of vault.old past → IsTrue result
+fn under_way(rt: &impl Abort, vault: &mut Vault<MemDevice>, command: CommandIn<Global>)
+    ensures { (past : List (VaultSeen MemDisk)) → IsPast disk_of vault.old past
         → (staged given_up written : VaultSeen MemDisk) × IsPast disk_of vault.new (written ∷ given_up ∷ staged ∷ vault.old ∷ past) }
 {
-    let Ok(ticket) = vault.stage(1, command) else {
-        return false;
+    let ticket = match vault.stage(1, command) {
+        Ok(ticket) => ticket,
+        Err(_refused) => panic!(rt; "a ticket"),
     };
     a_past_goes_on(vault);
     let _ = vault.forget(ticket);
@@ -255,62 +249,43 @@ fn under_way(vault: &mut Vault<MemDevice>, command: CommandIn<Global>) -> bool
     a_past_goes_on(vault);
     let _ = vault.pump();
     a_past_goes_on(vault);
-    true
 }
 
 /// The same, where the machine stopped inside the pump that opens the gate of a frame.
 pub(crate) fn inside_a_pump(
+    rt: &impl Abort,
     alloc: Global,
-    first: MemDevice,
-    second: MemDevice,
+    files: (MemDevice, MemDevice),
     command: CommandIn<Global>,
     next: CommandIn<Global>,
     pick: Pick,
-) -> Option<(Vault<MemDevice>, Receipt)>
-    ensures { IfSome result (λ found. (past : List (VaultSeen MemDisk)) × (is : IsPast disk_of found.0 past) × (length past ≡ 8)
-        × IsFoundAgain disk_of found.0 past is found.1) }
+) -> (Vault<MemDevice>, Receipt)
+    ensures { (past : List (VaultSeen MemDisk)) × (is : IsPast disk_of result.0 past) × (length past ≡ 8)
+        × IsFoundAgain disk_of result.0 past is result.1 }
 {
-    let (mut vault, receipt) = made(alloc, first, second, command)?;
-    if !under_way(&mut vault, next) {
-        drop(vault);
-        drop(receipt);
-        return None;
-    }
-    let Some(next) = stopped_in_a_pump(alloc, vault, pick) else {
-        drop(receipt);
-        return None;
-    };
+    let (mut vault, receipt) = first_life(rt, alloc, Beginning::Made, files, command);
+    under_way(rt, &mut vault, next);
+    let next = stopped_in_a_pump(rt, alloc, vault, pick);
     receipts_are_found_again(&next);
-    Some((next, receipt))
+    (next, receipt)
 }
 
 /// A vault of three lives, with the receipts that it gave in the first and in the second.
 pub(crate) fn three_lives(
+    rt: &impl Abort,
     alloc: Global,
-    first: MemDevice,
-    second: MemDevice,
+    files: (MemDevice, MemDevice),
     one: CommandIn<Global>,
     other: CommandIn<Global>,
     pick: Pick,
-) -> Option<(Vault<MemDevice>, Receipt, Receipt)>
-    ensures { IfSome result (λ found. (past : List (VaultSeen MemDisk)) × (is : IsPast disk_of found.0 past) × (length past ≡ 8)
-        × IsFoundAgain disk_of found.0 past is found.1 × IsFoundAgain disk_of found.0 past is found.2) }
+) -> (Vault<MemDevice>, Receipt, Receipt)
+    ensures { (past : List (VaultSeen MemDisk)) × (is : IsPast disk_of result.0 past) × (length past ≡ 8)
+        × IsFoundAgain disk_of result.0 past is result.1 × IsFoundAgain disk_of result.0 past is result.2 }
 {
-    let (vault, early) = made(alloc, first, second, one)?;
-    let Some(mut vault) = stopped(alloc, vault, pick) else {
-        drop(early);
-        return None;
-    };
-    let Some(late) = told(&mut vault, other) else {
-        drop(vault);
-        drop(early);
-        return None;
-    };
-    let Some(next) = stopped(alloc, vault, pick) else {
-        drop(early);
-        drop(late);
-        return None;
-    };
+    let (vault, early) = first_life(rt, alloc, Beginning::Made, files, one);
+    let mut vault = stopped(rt, alloc, vault, pick);
+    let late = told(rt, &mut vault, other);
+    let next = stopped(rt, alloc, vault, pick);
     receipts_are_found_again(&next);
-    Some((next, early, late))
+    (next, early, late)
 }

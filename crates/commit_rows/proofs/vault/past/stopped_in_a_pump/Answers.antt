@@ -10,7 +10,7 @@ was_now [] t x image = image
 was_now (event ∷ earlier) t x image = inl image
 
 pub returns : goal.returns
-returns c = λ past p.
+returns g c = λ past p.
     c.opened.ensures c.args.vault past
     (c.crashed-first.ensures c.args.vault
     (pumped_devices disk_of c.args.vault c.pump.new.self c.into_devices-first.result.0 c.into_devices-first.result.1 (record { first = refl; second = refl }) (record { first = refl; second = refl }) c.into_devices-first.ensures.first c.into_devices-first.ensures.second

@@ -1,4 +1,4 @@
 use Rattle.commit_rows.proofs.vault.past.taken_over.Goals as goal
 
 pub returns : goal.returns
-returns c = c.begun.ensures (c.a_past_goes_on.ensures.opened c.in-Ok.ensures.begins)
+returns g c = c.a_past_goes_on.ensures.opened c.in-Ok.ensures.begins

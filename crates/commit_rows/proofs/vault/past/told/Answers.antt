@@ -10,14 +10,14 @@ use Rattle.group_commit.specs.Calls.{IsReceiptOf}
 use Rattle.group_commit.specs.Positions.{HasEntry, HasTold}
 use Rattle.commit_rows.proofs.vault.past.told.Goals as goal
 
-pub returns-in-Told-clause-past : goal.returns-in-Told-clause-past
-returns-in-Told-clause-past c = λ past p.
+pub returns-clause-past : goal.returns-clause-past
+returns-clause-past g c = λ past p.
     let staged = c.a_past_goes_on.ensures.goes_on c.args.vault.now past p c.stage.ensures.next in
     let pumped = c.a_past_goes_on-2.ensures.goes_on c.stage.new.self (c.args.vault.now ∷ past) staged c.pump.ensures.next in
     (c.stage.new.self, c.pump.new.self, c.a_past_goes_on-3.ensures.goes_on c.pump.new.self (c.stage.new.self ∷ c.args.vault.now ∷ past) pumped c.redeem-answer.ensures.next)
 
-pub returns-in-Told-clause-receipt : goal.returns-in-Told-clause-receipt
-returns-in-Told-clause-receipt c =
+pub returns-clause-receipt : goal.returns-clause-receipt
+returns-clause-receipt g c =
     let v : View = c.args.vault.now.view in
     let staged : View = c.stage.new.self.view in
     let pumped : View = c.pump.new.self.view in
