@@ -132,16 +132,13 @@ impl<D: Device, S: Tally, T: Tally, A: Allocator + Copy, G: Gate, H: Wait + Cloc
         events: &mut Events<A>,
         slots: &mut Vec<Slot<S, T, A>, A>,
     ) -> Rest {
+        let mut rest = Rest::Nothing;
         match committer.commit() {
             Tried::NotNow => return Rest::Long,
-            Tried::Early(left) if left < Duration::from_micros(SHORTEST_WAIT) => {
-                return Rest::Nothing;
-            }
+            Tried::Early(left) if left < Duration::from_micros(SHORTEST_WAIT) => return rest,
             Tried::Early(_) => return Rest::Moment,
-            Tried::InVain => {
-                ring_others(self.bells, self.number);
-                return Rest::Long;
-            }
+            // Who wants room tries again soon: another's ticket is still out.
+            Tried::InVain => rest = Rest::Moment,
             Tried::Settled => {}
             Tried::Committed(settled, commit) => {
                 self.look(poll, events, slots, Rest::Nothing);
@@ -153,7 +150,7 @@ impl<D: Device, S: Tally, T: Tally, A: Allocator + Copy, G: Gate, H: Wait + Cloc
         for slot in slots.as_mut_slice() {
             slot.look_again();
         }
-        Rest::Nothing
+        rest
     }
 
     // Waits until something happens where there is nothing to do, and notes what did.
