@@ -3,9 +3,11 @@
 //! Promises: nothing; it has no public function.
 //! Only tested: names, paths and notes, copies, a tree's and a shelf's calls, and each request for memory of theirs refused.
 //! Stands on: vault_model, design_tree, part_versions.
-//! Start at: tree.rt.
+//! Start at: tree.rt, `Step`; then memory.rt.
 #![tactic(auto)]
 
+#[cfg(test)]
+mod memory;
 #[cfg(test)]
 mod model;
 #[cfg(test)]

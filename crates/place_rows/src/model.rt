@@ -1,291 +1,228 @@
-use std::alloc::{AllocError, Allocator, Global};
+//! Words that are read, what values are made of, and copies.
+
+use std::alloc::Global;
 use std::process::Abort;
-use std::test::Fail;
-use test_memory::{Refusing, Tried, requests};
+use test_memory::{Refusing, Tried};
 use vault_model::split::cut;
 use vault_model::{
-    ClaimId, Command, CommandIn, Effect, EffectIn, Intent, Listing, Name, NoMemory, Note, Path,
-    PathItem, PlaceId, Refusal, Reply, ReplyIn, split,
+    ClaimId, Command, Effect, Intent, Listing, Name, Note, Path, PathItem, PlaceId, Refusal, Reply,
 };
 
-#[test]
-fn names_are_read(rt: HostRuntime) -> Result<(), Fail> {
-    let words: [(&[u8], bool); 9] = [
-        (b"a-_9", true),
-        (b"z", true),
-        (b"abcdefghijklmnopqrstuvwxyz012345", true),
-        (b"", false),
-        (b"abcdefghijklmnopqrstuvwxyz0123456", false),
-        (b"A", false),
-        (b"a b", false),
-        (b"a/b", false),
-        (b"\xc3\xa4", false),
-    ];
-    for (word, is_name) in words {
-        match Name::read(word) {
-            Some(name) => assert!(rt; is_name && name.as_bytes() == word),
-            None => assert!(rt; !is_name),
-        }
-    }
-    Ok(())
+/// Whether a word is read so: as a name or not, and as a path of so many names or as none.
+fn is_read_so(word: &[u8], is_name: bool, count: Option<usize>) -> bool {
+    let is_name_so = match Name::read(word) {
+        Some(name) => is_name && name.as_bytes() == word,
+        None => !is_name,
+    };
+    let is_path_so = match Path::read(word) {
+        Some(path) => count == Some(path.names().len()),
+        None => count.is_none(),
+    };
+    is_name_so && is_path_so
 }
 
 #[test]
-fn notes_are_read(rt: HostRuntime) {
+fn words_are_read(rt: HostRuntime) {
+    for (word, is_name, count) in &WORDS {
+        assert!(rt; is_read_so(word, *is_name, *count), "{word:?}");
+    }
+}
+
+/// A word, whether it is a name, and how many names it has as a path, if it is one.
+static WORDS: [(&[u8], bool, Option<usize>); 21] = [
+    (b"a-_9", true, None),
+    (b"z", true, None),
+    (b"abcdefghijklmnopqrstuvwxyz012345", true, None),
+    (b"", false, None),
+    (b"abcdefghijklmnopqrstuvwxyz0123456", false, None),
+    (b"A", false, None),
+    (b"a b", false, None),
+    (b"a/b", false, None),
+    (b"\xc3\xa4", false, None),
+    (b"/", false, Some(0)),
+    (b"/e", false, Some(1)),
+    (b"/e/b", false, Some(2)),
+    (b"/e/b/p1", false, Some(3)),
+    (b"e", true, None),
+    (b"//", false, None),
+    (b"/e/", false, None),
+    (b"/e//b", false, None),
+    (b"/e/B", false, None),
+    (b"/a/b/c/d/e/f/g", false, Some(7)),
+    (b"/a/b/c/d/e/f/g/h", false, None),
+    (b"/abcdefghijklmnopqrstuvwxyz0123456", false, None),
+];
+
+/// Whether a note has 64 bytes at most, and its own.
+fn are_notes_read() -> bool {
     let bytes = [255; 65];
     let longest = &bytes[..64];
-    let note = Note::read(longest).expect(&rt, "a note");
-    assert!(rt; note.as_bytes() == longest);
-    assert!(rt; Note::read(&bytes).is_none());
-    assert!(rt; Note::read(b"") == Some(Note::new()));
-    assert!(rt; Note::read(b"ab") != Some(note));
+    let Some(note) = Note::read(longest) else {
+        return false;
+    };
+    note.as_bytes() == longest
+        && Note::read(&bytes).is_none()
+        && Note::read(b"") == Some(Note::new())
+        && Note::read(b"ab") != Some(note)
 }
 
-#[test]
-fn paths_are_read(rt: HostRuntime) -> Result<(), Fail> {
-    let words: [(&[u8], Option<usize>); 13] = [
-        (b"/", Some(0)),
-        (b"/e", Some(1)),
-        (b"/e/b", Some(2)),
-        (b"/e/b/p1", Some(3)),
-        (b"", None),
-        (b"e", None),
-        (b"//", None),
-        (b"/e/", None),
-        (b"/e//b", None),
-        (b"/e/B", None),
-        (b"/a/b/c/d/e/f/g", Some(7)),
-        (b"/a/b/c/d/e/f/g/h", None),
-        (b"/abcdefghijklmnopqrstuvwxyz0123456", None),
-    ];
-    for (word, count) in words {
-        match (Path::read(word), count) {
-            (Some(path), Some(count)) => assert_eq!(rt; path.names().len(), count),
-            (None, None) => {}
-            _ => assert!(rt; false),
-        }
-    }
-    Ok(())
-}
-
-#[test]
-fn a_path_has_its_names(rt: HostRuntime) -> Result<(), Fail> {
+/// Whether a path has the names that it was made of, and the library's none.
+fn are_names_had() -> bool {
     let (Some(e), Some(b)) = (Name::read(b"e"), Name::read(b"b")) else {
-        assert!(rt; false);
-        return Ok(());
+        return false;
     };
     let path = Path::root().joined(e).joined(b);
-    assert!(rt; Path::read(b"/e/b") == Some(path));
-    let Some((last, front)) = path.split_last() else {
-        assert!(rt; false);
-        return Ok(());
-    };
-    assert!(rt; last == b && front == [e].as_slice());
-    assert!(rt; Path::root().split_last().is_none());
-    assert_eq!(rt; path.len(), 2);
-    Ok(())
+    Path::read(b"/e/b") == Some(path)
+        && matches!(path.split_last(), Some((last, [front])) if last == b && *front == e)
+        && Path::root().split_last().is_none()
+        && path.len() == 2
+}
+
+/// Whether a text is cut at the first separator alone.
+fn are_texts_cut() -> bool {
+    cut(b"ab cd ", b' ') == (b"ab".as_slice(), Some(b"cd ".as_slice()))
+        && cut(b"ab", b' ') == (b"ab".as_slice(), None)
 }
 
 #[test]
-fn texts_are_cut(rt: HostRuntime) -> Result<(), Fail> {
-    let (word, rest) = cut(b"ab cd ", b' ');
-    assert!(rt; word == b"ab".as_slice() && rest == Some(b"cd ".as_slice()));
-    let (word, rest) = cut(b"ab", b' ');
-    assert!(rt; word == b"ab".as_slice() && rest.is_none());
-    Ok(())
+fn values_have_their_parts(rt: HostRuntime) {
+    assert!(rt; are_notes_read(), "notes");
+    assert!(rt; are_names_had(), "names of a path");
+    assert!(rt; are_texts_cut(), "texts");
 }
 
-// Tries to copy a list.
-fn copies_list(memory: &Refusing<Global>, list: &Listing<u8>, number: u64) -> Tried {
-    memory.refuse(number);
-    let copy = list.copy(memory);
-    let has_refused = memory.has_refused();
-    match copy {
-        Ok(copy) => {
-            let is_same = copy.as_slice() == list.as_slice();
-            drop(copy);
-            Tried::done(!has_refused && is_same)
-        }
-        Err(AllocError) => Tried::refused(has_refused),
-    }
+/// What is copied: a list, or a command, a reply or an effect of a kind.
+#[derive(Clone, Copy)]
+pub(crate) enum Copied {
+    List,
+    CheckOut,
+    Extend,
+    Save,
+    Hold,
+    Leave,
+    Make,
+    Children,
+    Content,
+    Refused,
+    Saved,
+    CheckedIn,
 }
 
-#[test]
-fn a_listing_is_copied_without_memory(rt: HostRuntime) {
-    let memory = Refusing::new(rt.alloc());
-    let list = Listing::from_vec(Vec::from_slice(rt.alloc(), b"abc").expect(&rt, "memory"));
-    let made = requests(|number| copies_list(&memory, &list, number));
-    assert_eq!(rt; made, Some(1), "Listing::copy");
-    assert!(rt; list.into_vec().as_slice() == b"abc".as_slice());
+fn list<T: Copy>(rt: &impl Abort, alloc: Global, items: &[T]) -> Listing<T> {
+    Listing::from_vec(Vec::from_slice(alloc, items).expect(rt, "memory"))
 }
 
-// Whether a command is this one.
-fn is_command<A: Allocator>(alloc: Global, copy: &CommandIn<A>, command: &Command) -> bool {
-    match copy.copy(alloc) {
-        Ok(again) => {
-            let is_same = again == *command;
-            drop(again);
-            is_same
-        }
-        Err(NoMemory) => false,
-    }
-}
-
-// Tries to copy a command.
-fn copies_command(
-    memory: &Refusing<Global>,
-    alloc: Global,
-    command: &Command,
-    number: u64,
-) -> Tried {
-    memory.refuse(number);
-    let told = match command.copy(memory) {
-        Ok(copy) => {
-            let is_same = is_command(alloc, &copy, command);
-            drop(copy);
-            Ok(is_same)
-        }
-        Err(NoMemory) => Err(NoMemory),
+/// Tries to copy a list, which gives its items, too.
+fn copies_list(memory: &Refusing<Global>, list: Listing<u8>) -> Tried {
+    let Ok(copy) = list.copy(memory) else {
+        drop(list);
+        return Tried::Refused;
     };
-    memory.judge(told, NoMemory, |is_same| *is_same)
+    let is_same = copy.as_slice() == list.as_slice();
+    drop(copy);
+    let bytes = list.into_vec();
+    let has_all = bytes.as_slice() == b"abc".as_slice();
+    drop(bytes);
+    Tried::done(is_same && has_all)
 }
 
-fn three_items(rt: &impl Abort, alloc: Global) -> Listing<PathItem> {
+/// Tries to copy a command. The copy is copied back, and is the command then.
+fn copies_command(memory: &Refusing<Global>, alloc: Global, command: Command) -> Tried {
+    let Ok(copy) = command.copy(memory) else {
+        drop(command);
+        return Tried::Refused;
+    };
+    let Ok(again) = copy.copy(alloc) else {
+        drop(copy);
+        drop(command);
+        return Tried::Wrong;
+    };
+    let is_same = again == command;
+    drop(again);
+    drop(copy);
+    drop(command);
+    Tried::done(is_same)
+}
+
+/// Tries to copy a reply in the same way.
+fn copies_reply(memory: &Refusing<Global>, alloc: Global, reply: Reply) -> Tried {
+    let Ok(copy) = reply.copy(memory) else {
+        drop(reply);
+        return Tried::Refused;
+    };
+    let Ok(again) = copy.copy(alloc) else {
+        drop(copy);
+        drop(reply);
+        return Tried::Wrong;
+    };
+    let is_same = again == reply;
+    drop(again);
+    drop(copy);
+    drop(reply);
+    Tried::done(is_same)
+}
+
+/// Tries to copy an effect in the same way.
+fn copies_effect(memory: &Refusing<Global>, alloc: Global, effect: Effect) -> Tried {
+    let Ok(copy) = effect.copy(memory) else {
+        drop(effect);
+        return Tried::Refused;
+    };
+    let Ok(again) = copy.copy(alloc) else {
+        drop(copy);
+        drop(effect);
+        return Tried::Wrong;
+    };
+    let is_same = again == effect;
+    drop(again);
+    drop(copy);
+    drop(effect);
+    Tried::done(is_same)
+}
+
+/// Three items.
+fn items(rt: &impl Abort, alloc: Global) -> Listing<PathItem> {
     let item = PathItem {
         intent: Intent::Change,
         path: Path::root(),
     };
-    Listing::from_vec(Vec::from_slice(alloc, &[item; 3]).expect(rt, "memory"))
+    list(rt, alloc, &[item; 3])
 }
 
-#[test]
-fn commands_are_copied_without_memory(rt: HostRuntime) {
-    let memory = Refusing::new(rt.alloc());
-    let content = Listing::from_vec(Vec::from_slice(rt.alloc(), b"abc").expect(&rt, "memory"));
-    let commands: [(&str, Command, u64); 6] = [
-        (
-            "Command::copy, CheckOut",
-            Command::CheckOut(three_items(&rt, rt.alloc())),
-            1,
-        ),
-        (
-            "Command::copy, Extend",
-            Command::Extend(ClaimId::Long(1), three_items(&rt, rt.alloc())),
-            1,
-        ),
-        (
-            "Command::copy, Save",
-            Command::Save(1, Path::root(), content),
-            1,
-        ),
-        (
-            "Command::copy, Hold",
-            Command::Hold(three_items(&rt, rt.alloc())),
-            1,
-        ),
-        ("Command::copy, Leave", Command::Leave, 0),
-        (
-            "Command::copy, Make",
-            Command::Make(Path::root(), Some(1)),
-            0,
-        ),
-    ];
-    for (call, command, wanted) in &commands {
-        let made = requests(|number| copies_command(&memory, rt.alloc(), command, number));
-        assert_eq!(rt; made, Some(*wanted), "{call}");
-    }
-    drop(commands);
-}
-
-// Whether a reply is this one.
-fn is_reply<A: Allocator>(alloc: Global, copy: &ReplyIn<A>, reply: &Reply) -> bool {
-    match copy.copy(alloc) {
-        Ok(again) => {
-            let is_same = again == *reply;
-            drop(again);
-            is_same
+/// Tries to copy what is in ample memory.
+pub(crate) fn copies(
+    rt: &impl Abort,
+    memory: &Refusing<Global>,
+    alloc: Global,
+    copied: Copied,
+) -> Tried {
+    match copied {
+        Copied::List => copies_list(memory, list(rt, alloc, b"abc")),
+        Copied::CheckOut => copies_command(memory, alloc, Command::CheckOut(items(rt, alloc))),
+        Copied::Extend => {
+            let extend = Command::Extend(ClaimId::Long(1), items(rt, alloc));
+            copies_command(memory, alloc, extend)
         }
-        Err(NoMemory) => false,
-    }
-}
-
-// Tries to copy a reply.
-fn copies_reply(memory: &Refusing<Global>, alloc: Global, reply: &Reply, number: u64) -> Tried {
-    memory.refuse(number);
-    let told = match reply.copy(memory) {
-        Ok(copy) => {
-            let is_same = is_reply(alloc, &copy, reply);
-            drop(copy);
-            Ok(is_same)
+        Copied::Save => {
+            let save = Command::Save(1, Path::root(), list(rt, alloc, b"abc"));
+            copies_command(memory, alloc, save)
         }
-        Err(NoMemory) => Err(NoMemory),
-    };
-    memory.judge(told, NoMemory, |is_same| *is_same)
-}
-
-#[test]
-fn replies_are_copied_without_memory(rt: HostRuntime) {
-    let memory = Refusing::new(rt.alloc());
-    let names = [Name::read(b"e").expect(&rt, "a name"); 3];
-    let names = Listing::from_vec(Vec::from_slice(rt.alloc(), &names).expect(&rt, "memory"));
-    let content = Listing::from_vec(Vec::from_slice(rt.alloc(), b"abc").expect(&rt, "memory"));
-    let replies: [(&str, Reply, u64); 3] = [
-        ("Reply::copy, Children", Reply::Children(names), 1),
-        ("Reply::copy, Content", Reply::Content(content), 1),
-        (
-            "Reply::copy, Refused",
-            Reply::Refused(Refusal::Overlaps(ClaimId::Short(1))),
-            0,
-        ),
-    ];
-    for (call, reply, wanted) in &replies {
-        let made = requests(|number| copies_reply(&memory, rt.alloc(), reply, number));
-        assert_eq!(rt; made, Some(*wanted), "{call}");
-    }
-    drop(replies);
-}
-
-// Whether an effect is this one.
-fn is_effect<A: Allocator>(alloc: Global, copy: &EffectIn<A>, effect: &Effect) -> bool {
-    match copy.copy(alloc) {
-        Ok(again) => {
-            let is_same = again == *effect;
-            drop(again);
-            is_same
+        Copied::Hold => copies_command(memory, alloc, Command::Hold(items(rt, alloc))),
+        Copied::Leave => copies_command(memory, alloc, Command::Leave),
+        Copied::Make => copies_command(memory, alloc, Command::Make(Path::root(), Some(1))),
+        Copied::Children => {
+            let names = [Name::read(b"e").expect(rt, "a name"); 3];
+            copies_reply(memory, alloc, Reply::Children(list(rt, alloc, &names)))
         }
-        Err(NoMemory) => false,
-    }
-}
-
-// Tries to copy an effect.
-fn copies_effect(memory: &Refusing<Global>, alloc: Global, effect: &Effect, number: u64) -> Tried {
-    memory.refuse(number);
-    let told = match effect.copy(memory) {
-        Ok(copy) => {
-            let is_same = is_effect(alloc, &copy, effect);
-            drop(copy);
-            Ok(is_same)
+        Copied::Content => { copies_reply(memory, alloc, Reply::Content(list(rt, alloc, b"abc"))) }
+        Copied::Refused => {
+            let refusal = Refusal::Overlaps(ClaimId::Short(1));
+            copies_reply(memory, alloc, Reply::Refused(refusal))
         }
-        Err(NoMemory) => Err(NoMemory),
-    };
-    memory.judge(told, NoMemory, |is_same| *is_same)
-}
-
-#[test]
-fn effects_are_copied_without_memory(rt: HostRuntime) {
-    let memory = Refusing::new(rt.alloc());
-    let content = Listing::from_vec(Vec::from_slice(rt.alloc(), b"abc").expect(&rt, "memory"));
-    let effects: [(&str, Effect, u64); 2] = [
-        (
-            "Effect::copy, Saved",
-            Effect::Saved(1, PlaceId(3), content),
-            1,
-        ),
-        ("Effect::copy, CheckedIn", Effect::CheckedIn(1), 0),
-    ];
-    for (call, effect, wanted) in &effects {
-        let made = requests(|number| copies_effect(&memory, rt.alloc(), effect, number));
-        assert_eq!(rt; made, Some(*wanted), "{call}");
+        Copied::Saved => {
+            let saved = Effect::Saved(1, PlaceId(3), list(rt, alloc, b"abc"));
+            copies_effect(memory, alloc, saved)
+        }
+        Copied::CheckedIn => copies_effect(memory, alloc, Effect::CheckedIn(1)),
     }
-    drop(effects);
 }

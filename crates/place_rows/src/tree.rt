@@ -1,391 +1,490 @@
-ghost use Rattle.std.specs.Prelude.{◌≡◌, ◌≤◌, length};
+//! What is done to a tree of places, and what it has to show.
+ghost use Rattle.std.specs.Prelude.{◌≤◌, length};
 
+use Step::{
+    Adds, Counts, Has, HasChild, HasNames, Is, IsFull, IsUnder, Lacks, MayHave, Projects, Pushes,
+    Small,
+};
+use design_tree::AddError::{Exists, Limit, WrongKind};
 use design_tree::{AddError, Tree};
 use std::alloc::{Allocator, Global};
-use std::process::Abort;
-use test_memory::{Refusing, Tried, requests};
+use test_memory::{Refusing, Tried};
+use vault_model::Kind::{Assembly, Library, Part, Project};
 use vault_model::{Kind, Name, NoMemory, Path, PlaceId};
 
-fn name(rt: &impl Abort, text: &[u8]) -> Name {
-    Name::read(text).expect(rt, "a name")
+/// What is done to a place of a tree, or looked at.
+pub(crate) enum Step {
+    /// The project `/e`, its assembly `/e/b`, and two parts `/e/b/p1` and `/e/b/p2` are made: places 1 to 4.
+    Small,
+    /// So many projects are made.
+    Projects(u8),
+    /// A child is added, or refused.
+    Adds(&'static [u8], Kind, Result<u32, AddError>),
+    /// A child that may be made is pushed.
+    Pushes(&'static [u8], Kind, u32),
+    /// The place has this path, parent and kind, and is found by the path.
+    Is(&'static [u8], Option<u32>, Kind),
+    /// The place has these children.
+    Has(&'static [u32]),
+    /// Its children have the names of this path.
+    HasNames(&'static [u8]),
+    /// It has this child by a name.
+    HasChild(&'static [u8], Option<u32>),
+    /// Whether it is another, or lies under it.
+    IsUnder(u32, bool),
+    /// Whether an assembly may be asked for under it, whether it may have a part, and what is made under it.
+    MayHave(bool, bool, Kind),
+    /// It is full, with so many children.
+    IsFull(usize),
+    /// The tree has so many places, with the library.
+    Counts(usize),
+    /// There is no place by this path.
+    Lacks(&'static [u8]),
 }
 
-fn path(rt: &impl Abort, text: &[u8]) -> Path {
-    Path::read(text).expect(rt, "a path")
+/// The number of a place, and what is done to it.
+pub(crate) type Row = (u32, Step);
+
+/// Tries to add a child, which gets the number of places that there were, or is refused and leaves as many.
+fn adds<A: Allocator + Copy>(
+    tree: &mut Tree<A>,
+    parent: u32,
+    text: &[u8],
+    kind: Kind,
+    want: Result<u32, AddError>,
+) -> Tried {
+    let Some(name) = Name::read(text) else {
+        return Tried::Wrong;
+    };
+    let count = tree.len();
+    if parent as usize >= count {
+        return Tried::Wrong;
+    }
+    match tree.add(PlaceId(parent), name, kind) {
+        Ok(place) => Tried::done(want == Ok(place.number()) && place.number() as usize == count),
+        Err(AddError::NoMemory) => Tried::Refused,
+        Err(error) => Tried::done(want == Err(error) && tree.len() == count),
+    }
 }
 
-// The project `/e`, its assembly `/e/b`, and two parts `/e/b/p1` and `/e/b/p2`: places 1 to 4.
-fn small_tree<A: Allocator + Copy>(rt: &impl Abort, alloc: A) -> Tree<A>
-    ensures { length result ≡ 4 }
+/// Tries to make the small tree of a new one.
+fn adds_small<A: Allocator + Copy>(tree: &mut Tree<A>) -> Tried {
+    for (place, parent, text, kind) in &SMALL {
+        let tried = adds(tree, *parent, text, *kind, Ok(*place));
+        if tried != Tried::Done {
+            return tried;
+        }
+    }
+    Tried::done(tree.len() == 5)
+}
+
+/// The places of the small tree: the parent, the name and the kind of each.
+static SMALL: [(u32, u32, &[u8], Kind); 4] = [
+    (1, 0, b"e", Project),
+    (2, 1, b"b", Assembly),
+    (3, 2, b"p1", Part),
+    (4, 2, b"p2", Part),
+];
+
+/// Tries to make so many projects, 63 at most, beside five places at most.
+fn adds_projects<A: Allocator + Copy>(tree: &mut Tree<A>, count: u8) -> Tried {
+    let first = tree.len();
+    if first > 5 {
+        return Tried::Wrong;
+    }
+    for index in 0..count.min(63) {
+        let number = index + 1;
+        let name = [b'a' + number / 8, b'0' + number % 8];
+        let place = first as u32 + u32::from(index);
+        let tried = adds(tree, 0, &name, Project, Ok(place));
+        if tried != Tried::Done {
+            return tried;
+        }
+    }
+    Tried::Done
+}
+
+/// Tries to push a child that may be made.
+fn pushes<A: Allocator + Copy>(
+    tree: &mut Tree<A>,
+    parent: PlaceId,
+    text: &[u8],
+    kind: Kind,
+    want: u32,
+) -> Tried
+    requires { parent ≤ length tree.old }
 {
-    let mut tree = Tree::new(alloc).expect(rt, "memory");
-    let project = tree
-        .add(PlaceId(0), name(rt, b"e"), Kind::Project)
-        .expect(rt, "a project");
-    let assembly = tree
-        .add(project, name(rt, b"b"), Kind::Assembly)
-        .expect(rt, "an assembly");
-    let _ = tree
-        .add(assembly, name(rt, b"p1"), Kind::Part)
-        .expect(rt, "a part");
-    let _ = tree
-        .add(assembly, name(rt, b"p2"), Kind::Part)
-        .expect(rt, "a part");
-    tree
+    let Some(name) = Name::read(text) else {
+        return Tried::Wrong;
+    };
+    let may_have = tree.may_have(parent, kind);
+    if !may_have || tree.is_full(parent) || tree.child(parent, &name).is_some() {
+        return Tried::Wrong;
+    }
+    match tree.push(parent, name, kind) {
+        Ok(place) => Tried::done(place.number() == want),
+        Err(NoMemory) => Tried::Refused,
+    }
 }
 
-// Whether these are all children of a place.
-fn are_children<A: Allocator + Copy>(
-    rt: &impl Abort,
+/// The place of this number, if there is one.
+fn placed(number: Option<u32>) -> Option<PlaceId> {
+    Some(PlaceId(number?))
+}
+
+/// Whether a place has this path, parent and kind, and room for a child, and is found by the path.
+fn is_place<A: Allocator>(
     tree: &Tree<A>,
     place: PlaceId,
-    want: &[PlaceId],
+    text: &[u8],
+    parent: Option<u32>,
+    kind: Kind,
 ) -> bool
     requires { place ≤ length tree.now }
 {
-    let children = tree.children(place).expect(rt, "memory");
-    let are_all = children.as_slice() == want;
-    drop(children);
-    are_all
+    let Some(path) = Path::read(text) else {
+        return false;
+    };
+    tree.find(&path) == Some(place)
+        && tree.find_names(path.names()) == Some(place)
+        && tree.path_of(place) == path
+        && tree.parent(place) == placed(parent)
+        && tree.name_of(place) == path.names().last().copied()
+        && tree.kind(place) == kind
+        && tree.is_part(place) == (kind == Part)
+        && !tree.is_full(place)
 }
 
-// Whether a place has the same path and the same children in two trees.
-fn is_alike<A: Allocator + Copy, B: Allocator + Copy>(
-    rt: &impl Abort,
-    one: &Tree<A>,
-    other: &Tree<B>,
-    place: PlaceId,
-) -> bool
-    requires { (place ≤ length one.now) × (place ≤ length other.now) }
-{
-    let children = other.children(place).expect(rt, "memory");
-    let alike = one.path_of(place) == other.path_of(place)
-        && are_children(rt, one, place, children.as_slice());
-    drop(children);
-    alike
-}
-
-// Whether two trees answer alike.
-fn is_same<A: Allocator + Copy, B: Allocator + Copy>(
-    rt: &impl Abort,
-    one: &Tree<A>,
-    other: &Tree<B>,
-) -> bool {
-    if one.len() != other.len() || one.len() > 4096 {
+/// Whether places have these numbers.
+fn are_numbered(places: &[PlaceId], numbers: &[u32]) -> bool {
+    if places.len() != numbers.len() {
         return false;
     }
-    for number in 0..one.len() {
-        if !is_alike(rt, one, other, PlaceId(number as u32)) {
+    for (index, place) in places.iter().enumerate() {
+        if place.number() != numbers[index] {
             return false;
         }
     }
     true
 }
 
-#[test]
-fn each_place_is_found(rt: HostRuntime) {
-    let tree = small_tree(&rt, rt.alloc());
-    assert_eq!(rt; tree.len(), 5);
-    let rows: [(u32, &[u8], Option<PlaceId>, Kind); 5] = [
-        (0, b"/", None, Kind::Library),
-        (1, b"/e", Some(PlaceId(0)), Kind::Project),
-        (2, b"/e/b", Some(PlaceId(1)), Kind::Assembly),
-        (3, b"/e/b/p1", Some(PlaceId(2)), Kind::Part),
-        (4, b"/e/b/p2", Some(PlaceId(2)), Kind::Part),
-    ];
-    for (number, text, parent, kind) in rows {
-        assert!(rt; number <= 4);
-        let place = PlaceId(number);
-        let path = path(&rt, text);
-        assert_eq!(rt; tree.find(&path), Some(place));
-        assert_eq!(rt; tree.find_names(path.names()), Some(place));
-        assert_eq!(rt; tree.path_of(place), path);
-        assert_eq!(rt; tree.parent(place), parent);
-        assert_eq!(rt; tree.name_of(place), path.names().last().copied());
-        assert_eq!(rt; tree.kind(place), kind);
-        assert_eq!(rt; tree.is_part(place), kind == Kind::Part);
-        assert!(rt; !tree.is_full(place));
-    }
-    assert_eq!(rt; tree.find(&path(&rt, b"/e/b/p3")), None);
-    assert_eq!(rt; tree.find(&path(&rt, b"/b")), None);
-    drop(tree);
-}
-
-#[test]
-fn children_stand_under_their_parent(rt: HostRuntime) {
-    let tree = small_tree(&rt, rt.alloc());
-    let rows: [(u32, &[PlaceId]); 5] = [
-        (0, &[PlaceId(1)]),
-        (1, &[PlaceId(2)]),
-        (2, &[PlaceId(3), PlaceId(4)]),
-        (3, &[]),
-        (4, &[]),
-    ];
-    for (number, children) in rows {
-        assert!(rt; number <= 4);
-        assert!(rt; are_children(&rt, &tree, PlaceId(number), children));
-    }
-    let second = name(&rt, b"p2");
-    assert_eq!(rt; tree.child(PlaceId(2), &second), Some(PlaceId(4)));
-    assert_eq!(rt; tree.child(PlaceId(1), &second), None);
-    for (place, top, is_under) in [
-        (3, 3, true),
-        (3, 2, true),
-        (3, 1, true),
-        (3, 0, true),
-        (3, 4, false),
-        (2, 3, false),
-        (0, 1, false),
-    ] {
-        assert!(rt; place <= 4);
-        assert_eq!(rt; tree.is_under(PlaceId(place), PlaceId(top)), is_under);
-    }
-    drop(tree);
-}
-
-#[test]
-fn a_place_is_pushed(rt: HostRuntime) {
-    let mut tree = small_tree(&rt, rt.alloc());
-    let (parent, third) = (PlaceId(2), name(&rt, b"p3"));
-    assert!(rt; tree.may_have(parent, Kind::Part) && !tree.is_full(parent));
-    assert!(rt; tree.child(parent, &third).is_none());
-    assert_eq!(rt; tree.push(parent, third, Kind::Part), Ok(PlaceId(5)));
-    assert_eq!(rt; tree.find(&path(&rt, b"/e/b/p3")), Some(PlaceId(5)));
-    drop(tree);
-}
-
-// Makes a child, an assembly where one may be asked for, and says whether all is as it has to be at this depth.
-fn goes_down<A: Allocator + Copy>(
-    rt: &impl Abort,
-    tree: &mut Tree<A>,
-    parent: PlaceId,
-    depth: u32,
-) -> bool
-    requires { parent ≤ length tree.old }
-    ensures { length tree.old ≤ length tree.new }
+/// Tries to list the children of a place.
+fn has_children<A: Allocator + Copy>(tree: &Tree<A>, place: PlaceId, want: &[u32]) -> Tried
+    requires { place ≤ length tree.now }
 {
-    let is_between = 3 <= depth && depth < 7;
-    if tree.may_nest_under(parent) != is_between
-        || tree.may_have(parent, Kind::Part) != (3 <= depth)
-    {
+    let Ok(children) = tree.children(place) else {
+        return Tried::Refused;
+    };
+    let are_so = are_numbered(children.as_slice(), want);
+    drop(children);
+    Tried::done(are_so)
+}
+
+/// Tries to list the children of a place that is full, and has so many.
+fn is_full<A: Allocator + Copy>(tree: &Tree<A>, place: PlaceId, want: usize) -> Tried
+    requires { place ≤ length tree.now }
+{
+    let Ok(children) = tree.children(place) else {
+        return Tried::Refused;
+    };
+    let count = children.len();
+    drop(children);
+    Tried::done(count == want && tree.is_full(place))
+}
+
+/// Tries to list the names of a place's children.
+fn has_names<A: Allocator + Copy>(tree: &Tree<A>, place: PlaceId, text: &[u8]) -> Tried
+    requires { place ≤ length tree.now }
+{
+    let Some(want) = Path::read(text) else {
+        return Tried::Wrong;
+    };
+    let Ok(names) = tree.names_under(place) else {
+        return Tried::Refused;
+    };
+    let are_so = names.as_slice() == want.names();
+    drop(names);
+    Tried::done(are_so)
+}
+
+/// Whether a place has this child by a name.
+fn has_child<A: Allocator>(tree: &Tree<A>, place: PlaceId, text: &[u8], want: Option<u32>) -> bool
+    requires { place ≤ length tree.now }
+{
+    let Some(name) = Name::read(text) else {
+        return false;
+    };
+    tree.child(place, &name) == placed(want)
+}
+
+/// Whether there is no place by this path.
+fn is_nowhere<A: Allocator>(tree: &Tree<A>, text: &[u8]) -> bool {
+    let Some(path) = Path::read(text) else {
+        return false;
+    };
+    tree.find(&path).is_none()
+}
+
+/// Tries a step.
+fn does<A: Allocator + Copy>(tree: &mut Tree<A>, row: &Row) -> Tried {
+    let (number, step) = row;
+    if *number as usize >= tree.len() {
+        return Tried::Wrong;
+    }
+    let place = PlaceId(*number);
+    match *step {
+        Small => adds_small(tree),
+        Projects(count) => adds_projects(tree, count),
+        Adds(text, kind, want) => adds(tree, *number, text, kind, want),
+        Pushes(text, kind, want) => pushes(tree, place, text, kind, want),
+        Is(text, parent, kind) => Tried::done(is_place(tree, place, text, parent, kind)),
+        Has(want) => has_children(tree, place, want),
+        HasNames(text) => has_names(tree, place, text),
+        HasChild(text, want) => Tried::done(has_child(tree, place, text, want)),
+        IsUnder(top, want) => Tried::done(tree.is_under(place, PlaceId(top)) == want),
+        MayHave(nests, parts, kind) => Tried::done(
+            tree.may_nest_under(place) == nests
+                && tree.may_have(place, Part) == parts
+                && tree.kind_under(place) == kind,
+        ),
+        IsFull(count) => is_full(tree, place, count),
+        Counts(count) => Tried::done(tree.len() == count),
+        Lacks(text) => Tried::done(is_nowhere(tree, text)),
+    }
+}
+
+/// How many steps are done, up to the first that isn't.
+fn does_all<A: Allocator + Copy>(tree: &mut Tree<A>, steps: &[Row]) -> usize {
+    for (index, row) in steps.iter().enumerate() {
+        if does(tree, row) != Tried::Done {
+            return index;
+        }
+    }
+    steps.len()
+}
+
+#[test]
+fn trees_answer(rt: HostRuntime) {
+    for (name, steps, looks) in &STORIES {
+        let mut tree = Tree::new(rt.alloc()).expect(&rt, "memory");
+        let done = (does_all(&mut tree, steps), does_all(&mut tree, looks));
+        drop(tree);
+        assert_eq!(rt; done, (steps.len(), looks.len()), "{name}");
+    }
+}
+
+/// What the small tree shows.
+const SHOWN: &[Row] = &[
+    (0, Counts(5)),
+    (0, Is(b"/", None, Library)),
+    (1, Is(b"/e", Some(0), Project)),
+    (2, Is(b"/e/b", Some(1), Assembly)),
+    (3, Is(b"/e/b/p1", Some(2), Part)),
+    (4, Is(b"/e/b/p2", Some(2), Part)),
+    (0, Has(&[1])),
+    (1, Has(&[2])),
+    (2, Has(&[3, 4])),
+    (3, Has(&[])),
+    (4, Has(&[])),
+];
+
+/// What is done to a new tree, step by step, and what it shows then.
+static STORIES: [(&str, &[Row], &[Row]); 5] = [
+    (
+        "a small tree",
+        &[
+            (0, Small),
+            (0, Lacks(b"/e/b/p3")),
+            (0, Lacks(b"/b")),
+            (2, HasChild(b"p2", Some(4))),
+            (1, HasChild(b"p2", None)),
+            (3, IsUnder(3, true)),
+            (3, IsUnder(2, true)),
+            (3, IsUnder(1, true)),
+            (3, IsUnder(0, true)),
+            (3, IsUnder(4, false)),
+            (2, IsUnder(3, false)),
+            (0, IsUnder(1, false)),
+        ],
+        SHOWN,
+    ),
+    (
+        "additions are refused in order",
+        &[
+            (0, Small),
+            (3, Adds(b"p1", Part, Err(WrongKind))),
+            (3, Adds(b"p1", Assembly, Err(WrongKind))),
+            (0, Adds(b"p1", Library, Err(WrongKind))),
+            (0, Adds(b"p1", Assembly, Err(WrongKind))),
+            (0, Adds(b"p1", Part, Err(WrongKind))),
+            (1, Adds(b"p1", Project, Err(WrongKind))),
+            (1, Adds(b"p1", Part, Err(WrongKind))),
+            (2, Adds(b"p1", Library, Err(WrongKind))),
+            (2, Adds(b"p1", Project, Err(WrongKind))),
+            (0, Counts(5)),
+            (2, Adds(b"p1", Part, Err(Exists))),
+        ],
+        SHOWN,
+    ),
+    (
+        "a place is pushed",
+        &[(0, Small), (2, Pushes(b"p3", Part, 5))],
+        &[(5, Is(b"/e/b/p3", Some(2), Part))],
+    ),
+    (
+        "assemblies stand down to the sixth name",
+        &[
+            (0, MayHave(false, false, Project)),
+            (0, Adds(b"x", Project, Ok(1))),
+            (1, MayHave(false, false, Assembly)),
+            (1, Adds(b"x", Assembly, Ok(2))),
+            (2, MayHave(true, true, Part)),
+            (2, Adds(b"x", Assembly, Ok(3))),
+            (3, MayHave(true, true, Part)),
+            (3, Adds(b"x", Assembly, Ok(4))),
+            (4, MayHave(true, true, Part)),
+            (4, Adds(b"x", Assembly, Ok(5))),
+            (5, MayHave(true, true, Part)),
+            (5, Adds(b"x", Assembly, Ok(6))),
+            (6, MayHave(false, true, Part)),
+            (6, Adds(b"x", Part, Ok(7))),
+        ],
+        &[
+            (0, Counts(8)),
+            (6, Is(b"/x/x/x/x/x/x", Some(5), Assembly)),
+            (7, Is(b"/x/x/x/x/x/x/x", Some(6), Part)),
+            (7, MayHave(false, false, Part)),
+            (7, IsUnder(1, true)),
+        ],
+    ),
+    (
+        "a place has at most 64 children",
+        &[
+            (0, Small),
+            (0, Projects(63)),
+            (0, IsFull(64)),
+            (0, Adds(b"x", Project, Err(Limit))),
+            (0, Adds(b"e", Project, Err(Exists))),
+        ],
+        &[(0, IsFull(64)), (0, Counts(68))],
+    ),
+];
+
+/// Whether a place has the same path and the same children in two trees.
+fn is_alike<A: Allocator + Copy, B: Allocator + Copy>(
+    one: &Tree<A>,
+    other: &Tree<B>,
+    place: PlaceId,
+) -> bool
+    requires { (place ≤ length one.now) × (place ≤ length other.now) }
+{
+    let Ok(children) = one.children(place) else {
+        return false;
+    };
+    let Ok(others) = other.children(place) else {
+        drop(children);
+        return false;
+    };
+    let has_same = children.as_slice() == others.as_slice();
+    drop(children);
+    drop(others);
+    has_same && one.path_of(place) == other.path_of(place)
+}
+
+/// Whether two trees answer alike.
+fn is_same<A: Allocator + Copy, B: Allocator + Copy>(one: &Tree<A>, other: &Tree<B>) -> bool {
+    if one.len() != other.len() || one.len() > 4096 {
         return false;
     }
-    let made = tree.kind_under(parent);
-    let wanted = match depth {
-        1 => Kind::Project,
-        2 => Kind::Assembly,
-        _ => Kind::Part,
+    for number in 0..one.len() {
+        if !is_alike(one, other, PlaceId(number as u32)) {
+            return false;
+        }
+    }
+    true
+}
+
+/// A new tree, to which this is done.
+fn tree_from<A: Allocator + Copy>(alloc: A, start: &Row) -> Option<Tree<A>> {
+    let Ok(mut tree) = Tree::new(alloc) else {
+        return None;
     };
-    let kind = if is_between { Kind::Assembly } else { made };
-    made == wanted && tree.add(parent, name(rt, b"x"), kind).is_ok()
-}
-
-#[test]
-fn assemblies_stand_down_to_the_sixth_name(rt: HostRuntime) {
-    let mut tree = Tree::new(rt.alloc()).expect(&rt, "memory");
-    for depth in 1..8u32 {
-        let parent = PlaceId(depth - 1);
-        assert!(rt; tree.len() == depth as usize);
-        assert!(rt; goes_down(&rt, &mut tree, parent, depth), "{depth}");
+    if does(&mut tree, start) != Tried::Done {
+        drop(tree);
+        return None;
     }
-    assert_eq!(rt; tree.len(), 8);
-    assert!(rt; tree.is_part(PlaceId(7)) && !tree.is_part(PlaceId(6)));
-    assert!(rt; !tree.may_have(PlaceId(7), Kind::Part));
-    assert_eq!(rt; tree.path_of(PlaceId(7)), path(&rt, b"/x/x/x/x/x/x/x"));
-    assert!(rt; tree.is_under(PlaceId(7), PlaceId(1)));
-    drop(tree);
+    Some(tree)
 }
 
-#[test]
-fn additions_are_refused_in_order(rt: HostRuntime) {
-    let mut tree = small_tree(&rt, rt.alloc());
-    let first = name(&rt, b"p1");
-    for (parent, kind) in [
-        (3, Kind::Part),
-        (3, Kind::Assembly),
-        (0, Kind::Library),
-        (0, Kind::Assembly),
-        (0, Kind::Part),
-        (1, Kind::Project),
-        (1, Kind::Part),
-        (2, Kind::Library),
-        (2, Kind::Project),
-    ] {
-        assert!(rt; parent < 4 && tree.len() == 5);
-        assert_eq!(rt;
-            tree.add(PlaceId(parent), first, kind),
-            Err(AddError::WrongKind)
-        );
-    }
-    assert_eq!(rt; tree.len(), 5);
-    assert_eq!(rt;
-        tree.add(PlaceId(2), first, Kind::Part),
-        Err(AddError::Exists)
-    );
-    let same = small_tree(&rt, rt.alloc());
-    assert!(rt; is_same(&rt, &tree, &same));
-    drop(same);
-    drop(tree);
-}
-
-#[test]
-fn a_place_has_at_most_64_children(rt: HostRuntime) {
-    let mut tree = small_tree(&rt, rt.alloc());
-    let other = name(&rt, b"x");
-    // The library has `/e`, and 63 more are made.
-    for number in 1..64u8 {
-        let child = name(&rt, &[b'a' + number / 8, b'0' + number % 8]);
-        let place = PlaceId(u32::from(number) + 4);
-        assert_eq!(rt; tree.add(PlaceId(0), child, Kind::Project), Ok(place));
-    }
-    assert!(rt; tree.is_full(PlaceId(0)));
-    assert_eq!(rt;
-        tree.add(PlaceId(0), other, Kind::Project),
-        Err(AddError::Limit)
-    );
-    assert_eq!(rt;
-        tree.add(PlaceId(0), name(&rt, b"e"), Kind::Project),
-        Err(AddError::Exists)
-    );
-    let children = tree.children(PlaceId(0)).expect(&rt, "memory");
-    assert_eq!(rt; children.len(), 64);
-    drop(children);
-    assert_eq!(rt; tree.len(), 68);
-    drop(tree);
-}
-
-// Tries to make a tree.
-fn makes_tree(memory: &Refusing<Global>, number: u64) -> Tried {
-    memory.refuse(number);
-    memory.judge(Tree::new(memory), NoMemory, |tree| tree.len() == 1)
-}
-
-// Tries to list the children of the assembly.
-fn lists_children(rt: &impl Abort, memory: &Refusing<Global>, number: u64) -> Tried {
-    let tree = small_tree(rt, memory);
-    memory.refuse(number);
-    let tried = memory.judge(tree.children(PlaceId(2)), NoMemory, |children| {
-        children.as_slice() == [PlaceId(3), PlaceId(4)].as_slice()
-    });
-    drop(tree);
-    tried
-}
-
-// Tries to list the names under a place.
-fn lists_names(
-    rt: &impl Abort,
+/// Tries a step. Refused, the tree is as its twin, and the next try succeeds.
+fn does_beside<A: Allocator + Copy, B: Allocator + Copy>(
     memory: &Refusing<Global>,
-    number: u64,
-    place: u32,
-    want: &[Name],
-) -> Tried
-    requires { place ≤ 4 }
-{
-    let tree = small_tree(rt, memory);
-    memory.refuse(number);
-    let listed = tree.names_under(PlaceId(place));
-    let tried = memory.judge(listed, NoMemory, |names| names.as_slice() == want);
-    drop(tree);
-    tried
-}
-
-// Tries to copy a tree.
-fn copies(rt: &impl Abort, memory: &Refusing<Global>, alloc: Global, number: u64) -> Tried {
-    let tree = small_tree(rt, memory);
-    let ample = small_tree(rt, alloc);
-    memory.refuse(number);
-    let tried = memory.judge(tree.copy(), NoMemory, |copy| is_same(rt, copy, &ample));
-    let is_kept = is_same(rt, &tree, &ample);
-    drop(tree);
-    drop(ample);
-    tried.and(is_kept)
-}
-
-// A new tree with so many projects.
-fn projects<A: Allocator + Copy>(rt: &impl Abort, alloc: A, count: u8) -> Tree<A> {
-    let mut tree = Tree::new(alloc).expect(rt, "memory");
-    for number in 0..count.min(20) {
-        let project = name(rt, &[b'a' + number]);
-        assert!(rt; tree.add(PlaceId(0), project, Kind::Project).is_ok());
-    }
-    tree
-}
-
-// Adds a project, or pushes it.
-fn takes_project<A: Allocator + Copy>(
-    rt: &impl Abort,
     tree: &mut Tree<A>,
-    is_push: bool,
-) -> Result<PlaceId, AddError> {
-    let project = name(rt, b"z");
-    if !is_push {
-        return tree.add(PlaceId(0), project, Kind::Project);
+    twin: &Tree<B>,
+    step: &Row,
+    number: u64,
+) -> Tried {
+    memory.refuse(number);
+    let tried = does(tree, step);
+    let has_refused = memory.has_refused();
+    if tried != Tried::Refused {
+        return tried.and(!has_refused);
     }
-    assert!(rt; tree.may_have(PlaceId(0), Kind::Project) && !tree.is_full(PlaceId(0)));
-    assert!(rt; tree.child(PlaceId(0), &project).is_none());
-    match tree.push(PlaceId(0), project, Kind::Project) {
-        Ok(place) => Ok(place),
-        Err(NoMemory) => Err(AddError::NoMemory),
-    }
+    let is_kept = is_same(tree, twin);
+    tried.and(has_refused && is_kept && does(tree, step) == Tried::Done)
 }
 
-// Tries to add a project behind so many, or to push it.
-fn adds(
-    rt: &impl Abort,
+/// Tries a step after another, beside a twin in ample memory. At the end both are the same.
+pub(crate) fn does_from(
     memory: &Refusing<Global>,
     alloc: Global,
+    (start, step): (&Row, &Row),
     number: u64,
-    count: u8,
-    is_push: bool,
 ) -> Tried {
-    let mut tree = projects(rt, memory, count);
-    let mut ample = projects(rt, alloc, count);
-    memory.refuse(number);
-    let added = takes_project(rt, &mut tree, is_push);
-    let has_refused = memory.has_refused();
-    let tried = if added.is_ok() {
-        Tried::done(!has_refused)
-    } else {
-        let is_kept = is_same(rt, &tree, &ample) && added == Err(AddError::NoMemory);
-        Tried::refused(has_refused && is_kept && takes_project(rt, &mut tree, is_push).is_ok())
+    let Some(mut tree) = tree_from(memory, start) else {
+        return Tried::Wrong;
     };
-    assert!(rt; takes_project(rt, &mut ample, is_push).is_ok());
-    let is_like = is_same(rt, &tree, &ample);
+    let Some(mut ample) = tree_from(alloc, start) else {
+        drop(tree);
+        return Tried::Wrong;
+    };
+    let tried = does_beside(memory, &mut tree, &ample, step, number);
+    let is_like = does(&mut ample, step) == Tried::Done && is_same(&tree, &ample);
     drop(tree);
     drop(ample);
     tried.and(is_like)
 }
 
-#[test]
-fn each_request_of_a_tree_is_refused(rt: HostRuntime) {
-    let memory = Refusing::new(rt.alloc());
-    let made = requests(|number| makes_tree(&memory, number));
-    assert_eq!(rt; made, Some(1), "Tree::new");
-    let made = requests(|number| lists_children(&rt, &memory, number));
-    assert_eq!(rt; made, Some(1), "Tree::children");
-    let parts = [name(&rt, b"p1"), name(&rt, b"p2")];
-    let made = requests(|number| lists_names(&rt, &memory, number, 2, &parts));
-    assert_eq!(rt; made, Some(1), "Tree::names_under");
-    let made = requests(|number| lists_names(&rt, &memory, number, 4, &[]));
-    assert_eq!(rt; made, Some(0), "Tree::names_under, none");
-    // The places, the lists, and three that have children.
-    let made = requests(|number| copies(&rt, &memory, rt.alloc(), number));
-    assert_eq!(rt; made, Some(5), "Tree::copy");
+/// Tries to make a tree.
+pub(crate) fn makes(memory: &Refusing<Global>) -> Tried {
+    let Ok(tree) = Tree::new(memory) else {
+        return Tried::Refused;
+    };
+    let is_new = tree.len() == 1;
+    drop(tree);
+    Tried::done(is_new)
 }
 
-#[test]
-fn each_request_of_an_addition_is_refused(rt: HostRuntime) {
-    let memory = Refusing::new(rt.alloc());
-    let rows = [
-        ("Tree::add", 4, false, 2),
-        ("Tree::push", 4, true, 2),
-        ("Tree::add, behind none", 0, false, 2),
-        ("Tree::add, behind 1", 1, false, 0),
-        ("Tree::add, behind 3", 3, false, 1),
-        ("Tree::push, behind 16", 16, true, 2),
-    ];
-    for (call, count, is_push, wanted) in rows {
-        let made = requests(|number| adds(&rt, &memory, rt.alloc(), number, count, is_push));
-        assert_eq!(rt; made, Some(wanted), "{call}");
-    }
+/// Tries to copy the small tree.
+pub(crate) fn copies(memory: &Refusing<Global>, alloc: Global, number: u64) -> Tried {
+    let Some(tree) = tree_from(memory, &(0, Small)) else {
+        return Tried::Wrong;
+    };
+    let Some(ample) = tree_from(alloc, &(0, Small)) else {
+        drop(tree);
+        return Tried::Wrong;
+    };
+    memory.refuse(number);
+    let copy = tree.copy();
+    let has_refused = memory.has_refused();
+    let is_kept = is_same(&tree, &ample);
+    drop(tree);
+    let Ok(copy) = copy else {
+        drop(ample);
+        return Tried::refused(has_refused && is_kept);
+    };
+    let is_copied = is_same(&copy, &ample);
+    drop(copy);
+    drop(ample);
+    Tried::done(!has_refused && is_kept && is_copied)
 }
