@@ -1,5 +1,5 @@
 //! When the flusher sleeps, and for how many it waits.
-ghost use Rattle.std.specs.Prelude.{◌≡◌, ◌==◌, ◌&&◌, ◌||◌, nat_lt, not, ℕ, true, false, if◌then◌else◌, None, Some, Ok};
+ghost use Rattle.std.specs.Prelude.{◌≡◌, ◌+◌, ◌<◌, ◌==◌, ◌&&◌, ◌||◌, nat_lt, not, ℕ, true, false, if◌then◌else◌, None, Some, Ok};
 ghost use Rattle.vault_store.specs.declared.phase.Advanced.TheVariants as Advanced;
 ghost use Rattle.vault_store.specs.declared.starting.Started.TheVariants as Started;
 ghost use Rattle.flusher_pace.specs.declared.pace.UnderWay.TheVariants as UnderWay;
@@ -38,6 +38,8 @@ pub struct Pace {
     pub under_way: UnderWay,
     /// Whether a worker waits for room in the history.
     pub is_asked_for_room: bool,
+    /// How many tickets were forgotten, whose entries nobody is told.
+    pub forgotten: u64,
 }
 
 /// What was begun at the devices, and isn't settled.
@@ -60,6 +62,7 @@ impl Pace {
           has_change = false;
           under_way = UnderWay.Nothing;
           is_asked_for_room = false;
+          forgotten = 0;
         } }
     {
         Pace {
@@ -68,6 +71,7 @@ impl Pace {
             has_change: false,
             under_way: UnderWay::Nothing,
             is_asked_for_room: false,
+            forgotten: 0,
         }
     }
 
@@ -117,6 +121,24 @@ impl Pace {
     {
         self.wake_from = if is_early { Some(least) } else { None };
         is_early
+    }
+
+    /// A ticket was forgotten. The last number stays.
+    pub fn forgets(&mut self)
+        ensures counted { self.old.forgotten < 18446744073709551615
+            → self.new ≡ record self.old { forgotten = self.old.forgotten + 1 } }
+        ensures last { self.old.forgotten ≡ 18446744073709551615 → self.new ≡ self.old }
+    {
+        if self.forgotten < u64::MAX {
+            self.forgotten += 1;
+        }
+    }
+
+    /// Whether somebody isn't told yet whose entry is settled, where so many are settled and so many were told, and a change waits.
+    pub fn owes(&self, settled: u64, told: u64) -> bool
+        ensures { result ≡ (self.now.has_change && nat_lt (told + self.now.forgotten) settled) }
+    {
+        self.has_change && told < settled && self.forgotten < settled - told
     }
 
     /// Whether more entries are waited for: those who waited for the last commit aren't all back, and nobody asks who needs no device.

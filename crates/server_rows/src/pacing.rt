@@ -2,6 +2,7 @@
 
 use flusher_pace::{Commit, Gathering, Pace, may_change};
 use group_commit::{Pumped, Started};
+use std::thread;
 use std::time::{Duration, Instant};
 use vault_lines::read_line_of;
 use vault_model::NoMemory;
@@ -27,6 +28,10 @@ enum Step {
     Lacks(u64, bool),
     /// So many were told, or came meanwhile.
     Expects(u64),
+    /// A ticket is forgotten.
+    Forgets,
+    /// Whether somebody isn't told yet, where so many are settled and so many were told.
+    Owes(u64, u64, bool),
 }
 
 // Whether a pace answers so.
@@ -53,11 +58,13 @@ fn is_answered(pace: &mut Pace, step: Step) -> bool {
         Step::Sleeps(least) => return pace.sleeps(true, least),
         Step::Lacks(waiting, lacks) => return pace.lacks(waiting) == lacks,
         Step::Expects(group) => pace.expects(group),
+        Step::Forgets => pace.forgets(),
+        Step::Owes(settled, told, owes) => return pace.owes(settled, told) == owes,
     }
     true
 }
 
-static ROWS: [(&str, &[Step]); 6] = [
+static ROWS: [(&str, &[Step]); 7] = [
     (
         "behind a commit of three it waits for three, then without one that stays away for two, and behind one alone for none",
         &[
@@ -137,27 +144,69 @@ static ROWS: [(&str, &[Step]); 6] = [
             Step::Lacks(4, false),
         ],
     ),
+    (
+        "whoever is settled and neither told nor forgotten is waited for, where a change waits",
+        &[
+            Step::Owes(3, 2, false),
+            Step::Staged(1, false, false),
+            Step::Owes(3, 2, false),
+            Step::Staged(2, true, false),
+            Step::Owes(3, 2, true),
+            Step::Owes(3, 3, false),
+            Step::Forgets,
+            Step::Owes(3, 2, false),
+            Step::Owes(4, 2, true),
+            Step::Owes(4, 3, false),
+        ],
+    ),
 ];
 
-// How long is waited behind a commit that took a second: an eighth of that, from one look to the next.
-fn is_eighth_waited(rt: &HostRuntime) -> bool {
-    let second = Duration::from_secs(1);
+// A commit that ended now and took so many milliseconds.
+fn commit_of(rt: &HostRuntime, millis: u64) -> Commit {
     let began = match Instant::now(rt) {
-        Ok(now) => now.checked_sub(second),
+        Ok(now) => now.checked_sub(Duration::from_millis(millis)),
         Err(_) => None,
     };
-    let mut gathering = Gathering::new();
-    match gathering.left(rt, &Commit::since(rt, began), 1) {
+    Commit::since(rt, began)
+}
+
+// Whether an eighth of a commit that took a second is waited for, from one look to the next.
+fn is_eighth_waited(rt: &HostRuntime) -> bool {
+    match Gathering::new().left(rt, &commit_of(rt, 1000), 1, false) {
         Some(left) => left <= Duration::from_millis(130) && left > Duration::from_millis(1),
         None => false,
     }
 }
 
+// Whether a thread that saw nothing come or be told for a whole part of a commit goes on, but waits where more came, or where somebody
+// isn't told yet. The second look is over behind 200 milliseconds, and the last behind 800.
+fn is_waited_for_more(rt: &HostRuntime) -> bool {
+    let commit = commit_of(rt, 800);
+    let mut gathering = Gathering::new();
+    if gathering.left(rt, &commit, 3, false).is_none() {
+        return false;
+    }
+    thread::sleep(rt, Duration::from_millis(250));
+    let (mut quiet, mut moved, mut owed) = (gathering, gathering, gathering);
+    quiet.left(rt, &commit, 3, false).is_none()
+        && moved.left(rt, &commit, 4, false).is_some()
+        && owed.left(rt, &commit, 3, true).is_some()
+}
+
+// Whether nobody is waited for once a commit of a millisecond has been over for some time: whoever isn't told holds nobody up for long.
+fn is_waited_for_no_longer(rt: &HostRuntime) -> bool {
+    let commit = commit_of(rt, 1);
+    thread::sleep(rt, Duration::from_millis(10));
+    Gathering::new().left(rt, &commit, 1, true).is_none()
+}
+
 #[test]
 fn a_thread_waits_for_a_part_of_a_commit(rt: HostRuntime) {
     let mut gathering = Gathering::new();
-    assert!(rt; gathering.left(&rt, &Commit::none(), 1).is_none());
+    assert!(rt; gathering.left(&rt, &Commit::none(), 1, true).is_none());
     assert!(rt; is_eighth_waited(&rt));
+    assert!(rt; is_waited_for_more(&rt));
+    assert!(rt; is_waited_for_no_longer(&rt));
 }
 
 // What may change the vault.

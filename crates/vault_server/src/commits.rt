@@ -75,6 +75,9 @@ impl<'a, D: Device, S: Tally, T: Tally, A: Allocator + Copy, G: Gate, H: Wait + 
         self.gathering = Gathering::new();
         let has_room = self.flusher.retire();
         let commit = self.flusher.settle();
+        if let Some(commit) = commit {
+            self.flusher.expects(before, commit);
+        }
         drop(seat);
         if !has_room && self.flusher.settled() == Some(before) {
             return Tried::InVain;

@@ -10,6 +10,7 @@ use mio::{Events, Interest, Poll, Registry, Token};
 use std::alloc::Allocator;
 use std::os::fd::AsRawFd;
 use std::sync::{Mutex, Wait};
+use std::thread::yield_now;
 use std::time::{Clock, Duration, Instant};
 use vault_device::Device;
 use vault_sessions::{Flusher, Gate, Share, Tally, Worker};
@@ -45,6 +46,8 @@ pub(crate) struct Rounds<'a, D: Device, S: Tally, T: Tally, A: Allocator, G: Gat
 enum Rest {
     // There is more to do.
     Nothing,
+    // Others may come in so little time that the kernel can't wait for it. A client may be waiting for the processor, too.
+    Blink,
     // Others may come in a moment.
     Moment,
     // Until something happens.
@@ -135,7 +138,7 @@ impl<D: Device, S: Tally, T: Tally, A: Allocator + Copy, G: Gate, H: Wait + Cloc
         let mut rest = Rest::Nothing;
         match committer.commit() {
             Tried::NotNow => return Rest::Long,
-            Tried::Early(left) if left < Duration::from_micros(SHORTEST_WAIT) => return rest,
+            Tried::Early(left) if left < Duration::from_micros(SHORTEST_WAIT) => return Rest::Blink,
             Tried::Early(_) => return Rest::Moment,
             // Who wants room tries again soon: another's ticket is still out.
             Tried::InVain => rest = Rest::Moment,
@@ -163,6 +166,10 @@ impl<D: Device, S: Tally, T: Tally, A: Allocator + Copy, G: Gate, H: Wait + Cloc
     ) {
         let wait = match rest {
             Rest::Nothing => Some(Duration::ZERO),
+            Rest::Blink => {
+                yield_now();
+                Some(Duration::ZERO)
+            }
             Rest::Moment => Some(Duration::from_millis(1)),
             Rest::Long => self.wait_for(slots),
         };

@@ -132,6 +132,7 @@ impl<D: Device, S: Tally, T: Tally, A: Allocator + Copy> Desk<D, S, T, A> {
         ensures open { self.new.closed ≡ self.old.closed }
         ensures next { IsNext D.disk self.old.vault self.new.vault }
     {
+        self.pace.forgets();
         self.vault.forget(ticket)
     }
 
@@ -262,13 +263,15 @@ impl<D: Device, S: Tally, T: Tally, A: Allocator + Copy> Desk<D, S, T, A> {
         if self.vault.is_broken() || (self.is_settled() && !wants_room) {
             return Due::Never;
         }
-        let waiting = self.waiting();
-        if self.pace.lacks(waiting) {
-            if let Some(left) = gathering.left(clock, &self.last, waiting) {
+        let (settled, told) = (self.vault.durable(), self.vault.told());
+        let is_owed = self.pace.owes(settled, told);
+        if is_owed || self.pace.lacks(self.waiting()) {
+            let moved = self.vault.len().saturating_add(told);
+            if let Some(left) = gathering.left(clock, &self.last, moved, is_owed) {
                 return Due::In(left);
             }
         }
-        Due::Now(self.vault.durable())
+        Due::Now(settled)
     }
 
     // How many entries are settled. None where the vault is broken.

@@ -4,8 +4,8 @@
 //! a connection has its answer at its place, a receipt shows the line's command, and what is written is the texts of the
 //! answers (`serve_one`). A conversation goes by steps, and each step keeps that (`Worker::hear`, `settle`, `tell`). The shares of all
 //! workers sum to what the history grew by (`gather`). A pump, the start of a snapshot and the retiring of an entry are one act of the
-//! vault each, and count nothing (`Desk`). Of `run_flusher`, `Flusher`, `Shared::close`,
-//! `Worker::forget` and `Worker::try_leave` safety alone is proved.
+//! vault each, and count nothing (`Desk`). Of `run_flusher`, `Flusher`, `Shared::close` and `Worker::forget` safety alone is
+//! proved.
 //! Stands on: group_commit, flusher_pace, vault_lines, and what they stand on. Must not know: what a command does, what a file holds,
 //! what a socket is.
 //!

@@ -1,5 +1,5 @@
 //! The steps of a conversation: it hears a line, waits for the reply, and tells it.
-ghost use Rattle.std.specs.Prelude.{◌≡◌, ◌≢◌, ◌+◌, ◌≤◌, ◌<◌, ℕ, List, Option, [], ◌∷◌, ◌++◌, MatchOption, IfOk, IfErr, IfSome, length, vec_capacity, vec_len};
+ghost use Rattle.std.specs.Prelude.{◌≡◌, ◌≢◌, ◌+◌, ◌≤◌, ◌<◌, ℕ, List, Option, false, [], ◌∷◌, ◌++◌, MatchOption, IfOk, IfErr, IfSome, length, vec_capacity, vec_len};
 ghost use Rattle.vault_lines.specs.Limits.{longest_line};
 ghost use Rattle.vault_sessions.specs.Serving.{Counts, session_of, session_after as session_after_out};
 ghost use Rattle.vault_sessions.specs.Tallies.{IsOfTicket, CountsRedeem};
@@ -289,7 +289,10 @@ impl<D: Device, S: Tally, T: Tally, A: Allocator + Copy, G: Gate, H: Wait> Worke
 
     /// Stages a last leave of a session, and forgets its ticket. False where there is no room for it yet. Where it is refused for
     /// another reason, the session stands.
-    pub fn try_leave(&self, session: u32, share: &mut Share<S, T>) -> bool {
+    pub fn try_leave(&self, session: u32, share: &mut Share<S, T>) -> bool
+        ensures full { result ≡ false → share.new ≡ share.old }
+        ensures counted { Counts share.old 0 1 share.new }
+    {
         match self.stage(session, Command::Leave, share) {
             Ok(ticket) => {
                 self.forget(ticket);
