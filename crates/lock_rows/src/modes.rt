@@ -2,7 +2,7 @@ use Mode::{IS, IX, S, SIX, X};
 use lock_modes::{Group, Mode};
 
 // Two modes, whether they are compatible, whether the first is at least the second, their join.
-const TABLE: [(Mode, Mode, bool, bool, Mode); 25] = [
+static TABLE: [(Mode, Mode, bool, bool, Mode); 25] = [
     (IS, IS, true, true, IS),
     (IS, IX, true, false, IX),
     (IS, S, true, false, S),
@@ -43,19 +43,19 @@ fn matrix_order_and_join(rt: HostRuntime) {
     }
 }
 
-// Whether a group of intentions to look and one to change has this mode, and admits what it should.
-fn has_intentions(group: &Group) -> bool {
-    group.mode() == Some(IX) && group.admits(IX) && !group.admits(S)
+// Whether a group of intentions to look and one to change has its mode and admits what it should, and then without the one.
+fn groups_intentions() -> bool {
+    let mut group = Group::empty();
+    let is_empty = group.mode() == None;
+    group.add(IS);
+    group.add(IS);
+    group.add(IX);
+    let is_full = group.mode() == Some(IX) && group.admits(IX) && !group.admits(S);
+    group.remove(IX);
+    is_empty && is_full && group.admits(SIX)
 }
 
 #[test]
 fn group_of_intentions(rt: HostRuntime) {
-    let mut group = Group::empty();
-    assert!(rt; group.mode() == None);
-    group.add(IS);
-    group.add(IS);
-    group.add(IX);
-    assert!(rt; has_intentions(&group));
-    group.remove(IX);
-    assert!(rt; group.admits(SIX));
+    assert!(rt; groups_intentions());
 }

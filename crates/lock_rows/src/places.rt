@@ -1,10 +1,50 @@
 ghost use Rattle.std.specs.Prelude.{◌↔◌, IsTrue};
 ghost use Rattle.vault_model.specs.Vault.{AreThere};
 
+use Kind::{Assembly, Part, Project};
 use design_tree::Tree;
 use std::alloc::Allocator;
 use std::process::Abort;
-use vault_model::{Intent, Item, Items, PlaceId};
+use test_memory::Tried;
+use vault_model::{Intent, Item, Items, Kind, Name, NoMemory, PlaceId};
+
+/// The number of a place, a name, and what stands under that place then: one place in the other, all of this name.
+pub(crate) type Chain = (u32, &'static str, &'static [Kind]);
+
+/// A project, an assembly in it, and two parts.
+pub(crate) static SMALL: [Chain; 4] = SMALL_CHAINS;
+
+pub(crate) const SMALL_CHAINS: [Chain; 4] = [
+    (0, "e", &[Project]),
+    (1, "b", &[Assembly]),
+    (2, "p1", &[Part]),
+    (2, "p2", &[Part]),
+];
+
+fn make<A: Allocator + Copy>(
+    rt: &impl Abort,
+    tree: &mut Tree<A>,
+    parent: u32,
+    name: &str,
+    kind: Kind,
+) -> u32 {
+    assert!(rt; (parent as usize) < tree.len());
+    let name = Name::read(name.as_bytes()).expect(rt, "a name");
+    let place = tree.add(PlaceId(parent), name, kind);
+    place.expect(rt, "a place").number()
+}
+
+/// The tree of these.
+pub(crate) fn tree_of<A: Allocator + Copy>(rt: &impl Abort, alloc: A, chains: &[Chain]) -> Tree<A> {
+    let mut tree = Tree::new(alloc).expect(rt, "memory");
+    for (top, name, kinds) in chains {
+        let mut parent = *top;
+        for kind in *kinds {
+            parent = make(rt, &mut tree, parent, name, *kind);
+        }
+    }
+    tree
+}
 
 /// An intent, and the number of the place that it is for.
 pub(crate) type Wish = (Intent, u32);
@@ -32,21 +72,45 @@ pub(crate) fn are_there<A: Allocator>(tree: &Tree<A>, items: &[Item]) -> bool
         .all(|item| (item.place.number() as usize) < count)
 }
 
-/// A name, and the calls of what has it.
-pub(crate) type Worked<R> = (&'static str, &'static [R]);
+/// The places that items look at, and those that they change, a bit each. What is changed is looked at, too.
+pub(crate) type Reach = (u32, u32);
 
-/// The first of these that answers a row otherwise, and how many it answered before. `count` tells how many rows are answered so.
-pub(crate) fn first_wrong<R, F: FnMut(&[R]) -> usize>(
-    all: &[Worked<R>],
-    mut count: F,
-) -> Option<(&'static str, usize)>
-    requires { F.IsAlwaysCallable count }
-{
-    for (name, rows) in all {
-        let right = count(rows);
-        if right != rows.len() {
-            return Some((*name, right));
+// The places at or under one, a bit each.
+fn places_under<A: Allocator>(tree: &Tree<A>, top: PlaceId) -> u32 {
+    let mut places = 0;
+    for number in 0..32u32 {
+        if (number as usize) < tree.len() && tree.is_under(PlaceId(number), top) {
+            places |= 1 << number;
         }
     }
-    None
+    places
 }
+
+pub(crate) fn reach_of<A: Allocator>(tree: &Tree<A>, items: &[Item]) -> Reach {
+    let mut looks = 0;
+    let mut changes = 0;
+    for item in items {
+        let places = places_under(tree, item.place);
+        looks |= places;
+        if item.intent == Intent::Change {
+            changes |= places;
+        }
+    }
+    (looks, changes)
+}
+
+/// Whether one changes a place that the other looks at.
+pub(crate) fn overlap(one: Reach, other: Reach) -> bool {
+    one.0 & other.1 != 0 || one.1 & other.0 != 0
+}
+
+/// Whether a call answers so.
+pub(crate) fn answers<T: PartialEq + Copy>(told: Result<T, NoMemory>, wanted: T) -> Tried {
+    match told {
+        Ok(told) => Tried::done(told == wanted),
+        Err(NoMemory) => Tried::Refused,
+    }
+}
+
+/// A name, and the calls of what has it.
+pub(crate) type Worked<R> = (&'static str, &'static [R]);

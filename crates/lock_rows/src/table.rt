@@ -1,17 +1,18 @@
-ghost use Rattle.std.specs.Prelude.{◌≤◌, length};
-
 mod calls;
 mod refused;
 
-use crate::line::{make, small_tree};
-use crate::places::{Wish, are_there, items_of};
+use crate::places::{
+    Chain, SMALL, SMALL_CHAINS, Wish, are_there, items_of, overlap, reach_of, tree_of,
+};
 use Intent::{Change, Look};
+use Kind::{Assembly, Part, Project};
 use Mode::{IS, IX, S, SIX, X};
 use design_tree::Tree;
 use lock_modes::Mode;
 use lock_table::{LockSet, lock_set};
+use std::alloc::Global;
 use std::process::Abort;
-use vault_model::{Intent, Kind, Name, PlaceId};
+use vault_model::{Intent, Kind, PlaceId};
 
 fn locks_of(rt: &impl Abort, tree: &Tree, wishes: &[Wish]) -> LockSet {
     let items = items_of(rt, wishes);
@@ -19,21 +20,55 @@ fn locks_of(rt: &impl Abort, tree: &Tree, wishes: &[Wish]) -> LockSet {
     lock_set(tree, items.as_slice())
 }
 
-fn make_kind(rt: &impl Abort, tree: &mut Tree, parent: PlaceId, name: &str, kind: Kind) -> u32
-    requires { parent ≤ length tree.old }
-{
-    let name = Name::read(name.as_bytes()).expect(rt, "a name");
-    tree.add(parent, name, kind).expect(rt, "a place").number()
-}
+/// A place, and its mode in a lock set.
+type Locked = (u32, Option<Mode>);
 
-fn has_modes(locks: &LockSet, modes: &[(u32, Option<Mode>)]) -> bool {
-    for (place, mode) in modes {
-        if locks.mode_at(PlaceId(*place)) != *mode {
-            return false;
-        }
-    }
-    true
-}
+/// A name, a tree, wishes, how many locks they have in all, and some of these.
+static LOCKS: [(&str, &[Chain], &[Wish], usize, &[Locked]); 2] = [
+    (
+        "a look at an assembly and a change of a part",
+        &SMALL_CHAINS,
+        &[(Look, 2), (Change, 3)],
+        4,
+        &[
+            (0, Some(IX)),
+            (1, Some(IX)),
+            (2, Some(SIX)),
+            (3, Some(X)),
+            (4, None),
+        ],
+    ),
+    (
+        "eight parts fill the room",
+        &[
+            (0, "a", &DEEP),
+            (0, "b", &DEEP),
+            (0, "c", &DEEP),
+            (0, "d", &DEEP),
+            (0, "e", &DEEP),
+            (0, "f", &DEEP),
+            (0, "g", &DEEP),
+            (0, "h", &DEEP),
+        ],
+        &[
+            (Look, 7),
+            (Look, 14),
+            (Look, 21),
+            (Look, 28),
+            (Look, 35),
+            (Look, 42),
+            (Look, 49),
+            (Look, 56),
+        ],
+        57,
+        &[(0, Some(IS)), (55, Some(IS)), (56, Some(S))],
+    ),
+];
+
+/// A part as deep as parts are, in assemblies in a project of its own.
+const DEEP: [Kind; 7] = [
+    Project, Assembly, Assembly, Assembly, Assembly, Assembly, Part,
+];
 
 // Whether the locks of these wishes are so many, and have these modes.
 fn are_locks(
@@ -41,83 +76,27 @@ fn are_locks(
     tree: &Tree,
     wishes: &[Wish],
     count: usize,
-    modes: &[(u32, Option<Mode>)],
+    modes: &[Locked],
 ) -> bool {
     let locks = locks_of(rt, tree, wishes);
-    let holds = locks.as_slice().len() == count && has_modes(&locks, modes);
+    let mut holds = locks.as_slice().len() == count;
+    for (place, mode) in modes {
+        holds &= locks.mode_at(PlaceId(*place)) == *mode;
+    }
     drop(locks);
     holds
 }
 
-const LOOK_AND_CHANGE: [(u32, Option<Mode>); 5] = [
-    (0, Some(IX)),
-    (1, Some(IX)),
-    (2, Some(SIX)),
-    (3, Some(X)),
-    (4, None),
-];
-
 #[test]
-fn look_at_assembly_and_change_of_part(rt: HostRuntime) {
-    let tree = small_tree(&rt, rt.alloc());
-    let wishes = [(Look, 2), (Change, 3)];
-    assert!(rt; are_locks(&rt, &tree, &wishes, 4, &LOOK_AND_CHANGE));
-    drop(tree);
-}
-
-const NAMES: [&str; 8] = ["a", "b", "c", "d", "e", "f", "g", "h"];
-
-// A part as deep as parts are, in assemblies in a project of its own, all of one name.
-fn make_part(rt: &impl Abort, tree: &mut Tree, name: &str) -> u32 {
-    let mut place = make(rt, tree, 0, name);
-    place = make(rt, tree, place, name);
-    for _ in 3..7 {
-        assert!(rt; (place as usize) < tree.len());
-        place = make_kind(rt, tree, PlaceId(place), name, Kind::Assembly);
+fn worked_lock_sets(rt: HostRuntime) {
+    for (name, chains, wishes, count, modes) in &LOCKS {
+        let tree = tree_of(&rt, rt.alloc(), chains);
+        assert!(rt; are_locks(&rt, &tree, wishes, *count, modes), "{name}");
+        drop(tree);
     }
-    make(rt, tree, place, name)
 }
 
-const EIGHT_PARTS: [(u32, Option<Mode>); 3] = [(0, Some(IS)), (55, Some(IS)), (56, Some(S))];
-
-#[test]
-fn eight_parts_fill_the_room(rt: HostRuntime) {
-    let mut tree = Tree::new(rt.alloc()).expect(&rt, "memory");
-    let mut wishes = [(Look, 0); 8];
-    for index in 0..8usize {
-        wishes[index] = (Look, make_part(&rt, &mut tree, NAMES[index]));
-    }
-    assert!(rt; are_locks(&rt, &tree, &wishes, 57, &EIGHT_PARTS));
-    drop(tree);
-}
-
-// Whether a wish is for a place, or for one that it lies under.
-fn covers(rt: &impl Abort, tree: &Tree, wish: Wish, place: u32) -> bool {
-    assert!(rt; (place as usize) < tree.len());
-    tree.is_under(PlaceId(place), PlaceId(wish.1))
-}
-
-// Whether the change set of one meets the look set of the other, place by place.
-fn overlap(rt: &impl Abort, tree: &Tree, one: Wish, other: Wish) -> bool {
-    let both_look = one.0 == Look && other.0 == Look;
-    for place in 0..5 {
-        if !both_look && covers(rt, tree, one, place) && covers(rt, tree, other, place) {
-            return true;
-        }
-    }
-    false
-}
-
-fn conflict(rt: &impl Abort, tree: &Tree, one: Wish, other: Wish) -> bool {
-    let locks = locks_of(rt, tree, &[one]);
-    let others = locks_of(rt, tree, &[other]);
-    let found = locks.conflicts(&others);
-    drop(others);
-    drop(locks);
-    found
-}
-
-const WISHES: [Wish; 10] = [
+static WISHES: [Wish; 10] = [
     (Look, 0),
     (Look, 1),
     (Look, 2),
@@ -130,13 +109,34 @@ const WISHES: [Wish; 10] = [
     (Change, 4),
 ];
 
-#[test]
-fn modes_agree_with_overlap(rt: HostRuntime) {
-    let tree = small_tree(&rt, rt.alloc());
-    for one in WISHES {
-        for other in WISHES {
-            assert!(rt; conflict(&rt, &tree, one, other) == overlap(&rt, &tree, one, other));
-        }
+// Whether the modes of two wishes are in conflict just where one changes what the other looks at, place by place.
+fn agree(rt: &impl Abort, tree: &Tree, one: Wish, other: Wish) -> bool {
+    let locks = locks_of(rt, tree, &[one]);
+    let others = locks_of(rt, tree, &[other]);
+    let found = locks.conflicts(&others);
+    drop(others);
+    drop(locks);
+    let reach = reach_of(tree, items_of(rt, &[one]).as_slice());
+    found == overlap(reach, reach_of(tree, items_of(rt, &[other]).as_slice()))
+}
+
+// Whether all wishes agree so with one.
+fn all_agree(rt: &impl Abort, alloc: Global, one: Wish) -> bool {
+    let tree = tree_of(rt, alloc, &SMALL);
+    let mut holds = true;
+    for other in &WISHES {
+        holds &= agree(rt, &tree, one, *other);
     }
     drop(tree);
+    holds
+}
+
+#[test]
+fn modes_agree_with_overlap(rt: HostRuntime) {
+    for (intent, place) in &WISHES {
+        assert!(rt;
+            all_agree(&rt, rt.alloc(), (*intent, *place)),
+            "{intent:?} {place}"
+        );
+    }
 }

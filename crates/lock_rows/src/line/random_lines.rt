@@ -1,15 +1,17 @@
-//! Random lines, against a plain program that judges items pair by pair.
-ghost use Rattle.std.specs.Prelude.{◌<◌, ◌≤◌, List, length};
+//! Random lines, against a plain program that judges claims place by place.
+ghost use Rattle.std.specs.Prelude.{◌<◌, List};
 ghost use Rattle.vault_model.specs.declared.place.Place.{Place};
 ghost use Rattle.long_locks.specs.Lines.{IsGrownFrom};
 
-use crate::line::{check_out, extend, hold, make, new_line};
+use super::{ask, claim_of, extend, has_claim, new_line};
+use crate::places::{Chain, Reach, overlap, reach_of, tree_of};
+use Kind::{Assembly, Part, Project};
 use design_tree::Tree;
 use lock_table::Extension;
 use long_locks::Line;
 use std::alloc::Allocator;
 use std::process::Abort;
-use vault_model::{ClaimId, Intent, Item, Items, PlaceId, Standing};
+use vault_model::{Claim, ClaimId, Intent, Item, Items, Kind, Owner, PlaceId, Standing};
 
 /// Numbers that look random, the same in each run.
 #[derive(Drop)]
@@ -25,141 +27,87 @@ impl Random {
     }
 }
 
-/// A claim as the plain program keeps it. The session of a long one is 0.
+/// A claim as the plain program keeps it.
 #[derive(Clone, Copy)]
 struct Plain {
-    id: ClaimId,
-    session: u32,
-    items: Items,
+    claim: Claim,
+    reach: Reach,
 }
 
-/// What random lines have shown.
-#[derive(Clone, Copy, Debug)]
-struct Seen {
-    held: bool,
-    queued: bool,
-    done: bool,
-    in_the_way: bool,
-}
+/// What random lines have shown, a bit each.
+const HELD: u32 = 1;
 
-// The library, two projects, two assemblies in each, and two parts in each of these.
-fn wide_tree<A: Allocator + Copy>(rt: &impl Abort, alloc: A) -> Tree<A> {
-    let mut tree = Tree::new(alloc).expect(rt, "memory");
-    for project in ["d", "e"] {
-        let project = make(rt, &mut tree, 0, project);
-        for assembly in ["a", "b"] {
-            let assembly = make(rt, &mut tree, project, assembly);
-            make(rt, &mut tree, assembly, "p1");
-            make(rt, &mut tree, assembly, "p2");
-        }
-    }
-    tree
-}
+const QUEUED: u32 = 2;
 
-fn leads_to<A: Allocator>(tree: &Tree<A>, place: PlaceId, top: PlaceId) -> bool
-    requires { place ≤ length tree.now }
-{
-    if place == top {
-        return true;
-    }
-    match tree.parent(place) {
-        Some(parent) => leads_to(tree, parent, top),
-        None => false,
-    }
-}
+const DONE: u32 = 4;
 
-// The places at or under one, a bit each.
-fn places_under<A: Allocator>(tree: &Tree<A>, top: PlaceId) -> u32 {
-    let mut places = 0;
-    for number in 0..32u32 {
-        if (number as usize) < tree.len() && leads_to(tree, PlaceId(number), top) {
-            places |= 1 << number;
-        }
-    }
-    places
-}
+const IN_THE_WAY: u32 = 8;
 
-fn overlap<A: Allocator>(tree: &Tree<A>, items: &[Item], others: &[Item]) -> bool {
-    for item in items {
-        for other in others {
-            let change = item.intent == Intent::Change || other.intent == Intent::Change;
-            if change && places_under(tree, item.place) & places_under(tree, other.place) != 0 {
-                return true;
-            }
-        }
-    }
-    false
-}
+/// The library, two projects, two assemblies in each, and two parts in each of these.
+static WIDE: [Chain; 14] = [
+    (0, "d", &[Project]),
+    (1, "a", &[Assembly]),
+    (2, "p1", &[Part]),
+    (2, "p2", &[Part]),
+    (1, "b", &[Assembly]),
+    (5, "p1", &[Part]),
+    (5, "p2", &[Part]),
+    (0, "e", &[Project]),
+    (8, "a", &[Assembly]),
+    (9, "p1", &[Part]),
+    (9, "p2", &[Part]),
+    (8, "b", &[Assembly]),
+    (12, "p1", &[Part]),
+    (12, "p2", &[Part]),
+];
 
-fn plain_standing<A: Allocator>(
-    tree: &Tree<A>,
-    plain: &[Plain],
-    id: ClaimId,
-    items: &[Item],
-) -> Standing {
-    for claim in plain {
-        if claim.id == id {
+fn plain_standing(plain: &[Plain], id: ClaimId, reach: Reach) -> Standing {
+    for before in plain {
+        if before.claim.id == id {
             return Standing::Held;
         }
-        if overlap(tree, claim.items.as_slice(), items) {
-            return Standing::Queued(claim.id);
+        if overlap(before.reach, reach) {
+            return Standing::Queued(before.claim.id);
         }
     }
     Standing::Held
 }
 
-fn plain_extension<A: Allocator>(
-    tree: &Tree<A>,
-    plain: &[Plain],
-    id: ClaimId,
-    items: &[Item],
-) -> Extension {
-    for claim in plain {
-        let own = claim.items.as_slice();
-        if claim.id != id
-            && plain_standing(tree, plain, claim.id, own) == Standing::Held
-            && overlap(tree, own, items)
+fn plain_extension(plain: &[Plain], id: ClaimId, reach: Reach) -> Extension {
+    for other in plain {
+        let own = other.claim.id;
+        if own != id
+            && overlap(other.reach, reach)
+            && plain_standing(plain, own, other.reach) == Standing::Held
         {
-            return Extension::InTheWay(claim.id);
+            return Extension::InTheWay(own);
         }
     }
     Extension::Done
 }
 
-fn items_at_random<A: Allocator>(rt: &impl Abort, tree: &Tree<A>, random: &mut Random) -> Items {
+fn items_at_random(rt: &impl Abort, random: &mut Random) -> Items {
     let mut items = Items::new();
-    let places = tree.len();
-    assert!(rt; 0 < places && places < 32);
     for _ in 0..random.below(4) + 1 {
         let intent = if random.below(3) == 0 {
             Intent::Change
         } else {
             Intent::Look
         };
-        let place = PlaceId(random.below(places as u32));
+        let place = PlaceId(random.below(15));
         assert!(rt; items.len() < 8);
         items.push(Item { intent, place });
     }
     items
 }
 
-// Asks for a check-out where the session is 0, and for a hold otherwise.
-fn ask<A: Allocator + Copy>(
-    rt: &impl Abort,
-    tree: &Tree<A>,
-    line: &mut Line<A>,
-    session: u32,
-    items: Items,
-) -> (Standing, ClaimId)
-    requires { IsGrownFrom line.old.tree tree.now }
-    ensures { IsGrownFrom line.new.tree tree.now }
-{
-    if session == 0 {
-        let told = check_out(rt, line, tree, items).expect(rt, "memory");
-        return (told, ClaimId::Long(line.last_long()));
+fn index_at_random(rt: &impl Abort, plain: &[Plain], random: &mut Random) -> Option<usize> {
+    let count = plain.len();
+    if count == 0 {
+        return None;
     }
-    let told = hold(rt, line, tree, session, items).expect(rt, "memory");
-    (told, ClaimId::Short(line.last_short()))
+    assert!(rt; count < 256);
+    Some(random.below(count as u32) as usize)
 }
 
 fn ask_at_random<A: Allocator + Copy>(
@@ -172,25 +120,18 @@ fn ask_at_random<A: Allocator + Copy>(
     requires { IsGrownFrom line.old.tree tree.now }
     ensures { IsGrownFrom line.new.tree tree.now }
 {
-    let items = items_at_random(rt, tree, random);
+    let items = items_at_random(rt, random);
     let session = random.below(4);
-    let (told, id) = ask(rt, tree, line, session, items);
-    assert!(rt; told == plain_standing(tree, plain, id, items.as_slice()));
-    let claim = Plain { id, session, items };
-    assert!(rt; plain.push(claim).is_ok());
-}
-
-// Puts a claim first, with other items.
-fn extend_plain<A: Allocator + Copy>(
-    rt: &impl Abort,
-    plain: &mut Vec<Plain, A>,
-    index: usize,
-    items: Items,
-) {
-    assert!(rt; index < plain.len());
-    let Plain { id, session, .. } = plain.remove(index);
-    let claim = Plain { id, session, items };
-    assert!(rt; plain.insert(0, claim).is_ok());
+    let told = ask(rt, line, tree, session, items);
+    let id = if session == 0 {
+        ClaimId::Long(line.last_long())
+    } else {
+        ClaimId::Short(line.last_short())
+    };
+    let reach = reach_of(tree, items.as_slice());
+    assert!(rt; told == Ok(plain_standing(plain, id, reach)));
+    let claim = claim_of(rt, id, (session, "anna"), items, "");
+    assert!(rt; plain.push(Plain { claim, reach }).is_ok());
 }
 
 fn extend_at_random<A: Allocator + Copy>(
@@ -199,32 +140,30 @@ fn extend_at_random<A: Allocator + Copy>(
     line: &mut Line<A>,
     plain: &mut Vec<Plain, A>,
     random: &mut Random,
-) -> Option<Extension>
+) -> u32
     requires { IsGrownFrom line.old.tree tree.now }
     ensures { IsGrownFrom line.new.tree tree.now }
 {
-    let index = index_at_random(rt, plain, random)?;
+    let Some(index) = index_at_random(rt, plain, random) else {
+        return 0;
+    };
     assert!(rt; index < plain.len());
-    let id = plain[index].id;
-    if line.standing(id) != Some(Standing::Held) {
-        return None;
-    }
-    let items = items_at_random(rt, tree, random);
-    let expected = plain_extension(tree, plain, id, items.as_slice());
+    let id = plain[index].claim.id;
+    let Some(Standing::Held) = line.standing(id) else {
+        return 0;
+    };
+    let items = items_at_random(rt, random);
+    let reach = reach_of(tree, items.as_slice());
+    let expected = plain_extension(plain, id, reach);
     assert!(rt; extend(rt, line, tree, id, items) == Ok(expected));
-    if expected == Extension::Done {
-        extend_plain(rt, plain, index, items);
+    if expected != Extension::Done {
+        return IN_THE_WAY;
     }
-    Some(expected)
-}
-
-fn index_at_random(rt: &impl Abort, plain: &[Plain], random: &mut Random) -> Option<usize> {
-    let count = plain.len();
-    if count == 0 {
-        return None;
-    }
-    assert!(rt; count < 256);
-    Some(random.below(count as u32) as usize)
+    let mut first = plain.remove(index);
+    first.claim.items = items;
+    first.reach = reach;
+    assert!(rt; plain.insert(0, first).is_ok());
+    DONE
 }
 
 fn drop_at_random<A: Allocator + Copy>(
@@ -237,45 +176,27 @@ fn drop_at_random<A: Allocator + Copy>(
 {
     if random.below(8) == 0 {
         line.drop_session(1);
-        plain.retain(|claim| claim.session != 1);
+        plain.retain(|plain| plain.claim.owner != Owner::Session(1));
         return;
     }
     if let Some(index) = index_at_random(rt, plain, random) {
         assert!(rt; index < plain.len());
-        line.drop_claim(plain.remove(index).id);
+        line.drop_claim(plain.remove(index).claim.id);
     }
 }
 
-// Whether the line has this claim at a position, finds it, and says that it stands so.
-fn has_claim<A: Allocator>(
-    line: &Line<A>,
-    position: usize,
-    claim: &Plain,
-    standing: Standing,
-) -> bool {
-    let Some(at) = line.at(position) else {
-        return false;
-    };
-    at.id == claim.id
-        && at.items == claim.items
-        && line.get(claim.id) == Some(at)
-        && line.standing(claim.id) == Some(standing)
-}
-
 // Whether the line has the plain program's claims, and each stands as that one says.
-fn agrees<A: Allocator + Copy>(
-    tree: &Tree<A>,
-    line: &Line<A>,
-    plain: &[Plain],
-    seen: &mut Seen,
-) -> bool {
-    for (position, claim) in plain.iter().enumerate() {
-        let standing = plain_standing(tree, plain, claim.id, claim.items.as_slice());
-        if !has_claim(line, position, claim, standing) {
+fn agrees<A: Allocator>(line: &Line<A>, plain: &[Plain], seen: &mut u32) -> bool {
+    for (position, Plain { claim, reach }) in plain.iter().enumerate() {
+        let standing = plain_standing(plain, claim.id, *reach);
+        if !has_claim(line, position, claim) || line.standing(claim.id) != Some(standing) {
             return false;
         }
-        seen.held |= standing == Standing::Held;
-        seen.queued |= standing != Standing::Held;
+        *seen |= if standing == Standing::Held {
+            HELD
+        } else {
+            QUEUED
+        };
     }
     line.len() == plain.len()
 }
@@ -286,52 +207,44 @@ fn take_turn<A: Allocator + Copy>(
     line: &mut Line<A>,
     plain: &mut Vec<Plain, A>,
     random: &mut Random,
-    seen: &mut Seen,
-)
+) -> u32
     requires { IsGrownFrom line.old.tree tree.now }
     ensures { IsGrownFrom line.new.tree tree.now }
 {
     let choice = random.below(8);
     if choice < 2 {
-        let extension = extend_at_random(rt, tree, line, plain, random);
-        seen.done |= extension == Some(Extension::Done);
-        seen.in_the_way |= extension.is_some() && extension != Some(Extension::Done);
-        return;
+        return extend_at_random(rt, tree, line, plain, random);
     }
     if choice == 2 || plain.len() == 40 {
         drop_at_random(rt, line, plain, random);
-        return;
+        return 0;
     }
     ask_at_random(rt, tree, line, plain, random);
+    0
 }
 
-fn random_line<A: Allocator + Copy>(rt: &impl Abort, alloc: A, seed: u32, seen: &mut Seen) {
-    let tree = wide_tree(rt, alloc);
+// What a random line shows.
+fn random_line<A: Allocator + Copy>(rt: &impl Abort, alloc: A, seed: u32) -> u32 {
+    let tree = tree_of(rt, alloc, &WIDE);
     let mut line = new_line(rt, alloc);
     let mut plain = Vec::new(alloc);
     let mut random = Random(seed);
+    let mut seen = 0;
     for _ in 0..80 {
-        take_turn(rt, &tree, &mut line, &mut plain, &mut random, seen);
-        assert!(rt; agrees(&tree, &line, &plain, seen));
+        seen |= take_turn(rt, &tree, &mut line, &mut plain, &mut random);
+        assert!(rt; agrees(&line, &plain, &mut seen));
     }
     drop(plain);
     drop(line);
     drop(tree);
+    seen
 }
 
 #[test]
 fn random_lines_stand_as_a_plain_program_says(rt: HostRuntime) {
-    let mut seen = Seen {
-        held: false,
-        queued: false,
-        done: false,
-        in_the_way: false,
-    };
+    let mut seen = 0;
     for seed in 1..9u32 {
-        random_line(&rt, rt.alloc(), seed, &mut seen);
+        seen |= random_line(&rt, rt.alloc(), seed);
     }
-    assert!(rt;
-        seen.held && seen.queued && seen.done && seen.in_the_way,
-        "{seen:?}"
-    );
+    assert_eq!(rt; seen, HELD | QUEUED | DONE | IN_THE_WAY);
 }

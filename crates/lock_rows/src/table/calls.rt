@@ -1,7 +1,6 @@
 //! Tables of claims, by rows of calls with their answers.
 use super::locks_of;
-use crate::line::small_tree;
-use crate::places::{Wish, Worked, first_wrong};
+use crate::places::{SMALL, Wish, Worked, answers, tree_of};
 use Extension::{Done, InTheWay};
 use Intent::{Change, Look};
 use Mode::{IS, IX, S, SIX, X};
@@ -9,8 +8,9 @@ use Standing::{Held, Queued};
 use design_tree::Tree;
 use lock_modes::Mode;
 use lock_table::{Extension, Table};
-use std::alloc::{Allocator, Global};
+use std::alloc::Allocator;
 use std::process::Abort;
+use test_memory::Tried;
 use vault_model::{ClaimId, Intent, NoMemory, PlaceId, Standing};
 
 pub(super) const C1: ClaimId = ClaimId::Long(1);
@@ -23,64 +23,6 @@ const H1: ClaimId = ClaimId::Short(1);
 
 const H2: ClaimId = ClaimId::Short(2);
 
-fn ask<A: Allocator + Copy>(
-    rt: &impl Abort,
-    tree: &Tree,
-    table: &mut Table<A>,
-    id: ClaimId,
-    wishes: &[Wish],
-) -> Result<Standing, NoMemory> {
-    assert!(rt; table.standing(id).is_none());
-    assert!(rt; !table.is_full());
-    table.ask(id, locks_of(rt, tree, wishes))
-}
-
-fn extend<A: Allocator + Copy>(
-    rt: &impl Abort,
-    tree: &Tree,
-    table: &mut Table<A>,
-    id: ClaimId,
-    wishes: &[Wish],
-) -> Result<Extension, NoMemory> {
-    assert!(rt; matches!(table.standing(id), Some(Standing::Held)));
-    table.extend(id, locks_of(rt, tree, wishes))
-}
-
-fn put_first<A: Allocator + Copy>(
-    rt: &impl Abort,
-    tree: &Tree,
-    table: &mut Table<A>,
-    id: ClaimId,
-    wishes: &[Wish],
-) -> Result<(), NoMemory> {
-    assert!(rt; table.standing(id).is_some());
-    table.put_first(id, locks_of(rt, tree, wishes))
-}
-
-// Whether a claim stands so.
-pub(super) fn stands<A: Allocator>(
-    table: &Table<A>,
-    id: ClaimId,
-    standing: Option<Standing>,
-) -> bool {
-    let blocker = match standing {
-        Some(Standing::Queued(first)) => Some(first),
-        Some(Standing::Held) => None,
-        None => None,
-    };
-    table.standing(id) == standing && table.blocker(id) == blocker
-}
-
-pub(super) fn over<A: Allocator>(
-    rt: &impl Abort,
-    tree: &Tree,
-    table: &Table<A>,
-    place: u32,
-) -> Option<ClaimId> {
-    assert!(rt; (place as usize) < tree.len());
-    table.held_over(tree, PlaceId(place))
-}
-
 /// A call of a table, with what it has to answer.
 #[derive(Clone, Copy)]
 pub(super) enum Row {
@@ -89,93 +31,148 @@ pub(super) enum Row {
     PutFirst(ClaimId, &'static [Wish]),
     Release(ClaimId),
     ReleaseShort,
+    /// Another table is made, which is like this one and goes its own way: the first claim leaves it, and the second stands so then.
+    New(Option<Standing>),
+    Copy(Option<Standing>),
     Stands(ClaimId, Option<Standing>),
     /// The modes of the group of all claims at a place, and of that of the held ones.
     Groups(u32, Option<Mode>, Option<Mode>),
     Covered(u32, Option<ClaimId>),
 }
 
-fn has_groups<A: Allocator>(
-    table: &Table<A>,
-    place: u32,
-    all: Option<Mode>,
-    held: Option<Mode>,
-) -> bool {
-    table.group_at(PlaceId(place)).mode() == all && table.held_at(PlaceId(place)).mode() == held
+// Whether a claim stands so.
+fn stands<A: Allocator>(table: &Table<A>, id: ClaimId, standing: Option<Standing>) -> bool {
+    let blocker = match standing {
+        Some(Standing::Queued(first)) => Some(first),
+        _ => None,
+    };
+    table.standing(id) == standing && table.blocker(id) == blocker
 }
 
-// Whether a call answers so.
-fn answers<T: PartialEq + Copy>(told: Result<T, NoMemory>, wanted: T) -> Result<bool, NoMemory> {
-    match told {
-        Ok(told) => Ok(told == wanted),
-        Err(NoMemory) => Err(NoMemory),
+// Whether two tables have the same groups at a place, and the same held claim over it.
+fn is_same_at<A: Allocator>(tree: &Tree, one: &Table<A>, other: &Table<A>, place: PlaceId) -> bool {
+    (place.number() as usize) < tree.len()
+        && one.group_at(place) == other.group_at(place)
+        && one.held_at(place) == other.held_at(place)
+        && one.held_over(tree, place) == other.held_over(tree, place)
+}
+
+/// Whether two tables answer alike about the claims of numbers 0 to 4 and all places.
+pub(super) fn is_same<A: Allocator>(tree: &Tree, one: &Table<A>, other: &Table<A>) -> bool {
+    for number in 0..5u32 {
+        let id = ClaimId::Long(number);
+        if !is_same_at(tree, one, other, PlaceId(number))
+            || one.standing(id) != other.standing(id)
+            || one.blocker(id) != other.blocker(id)
+        {
+            return false;
+        }
+    }
+    true
+}
+
+// Whether a table that was made is like this one. Once the first claim has left it, the second stands so.
+fn is_like<A: Allocator>(
+    tree: &Tree,
+    made: Result<Table<A>, NoMemory>,
+    table: &Table<A>,
+    second: Option<Standing>,
+) -> Tried {
+    match made {
+        Ok(mut made) => {
+            let is_like = is_same(tree, &made, table);
+            made.release(C1);
+            let is_apart = stands(&made, C2, second);
+            drop(made);
+            Tried::done(is_like && is_apart)
+        }
+        Err(NoMemory) => Tried::Refused,
     }
 }
 
-// Whether a claim that asks is told this, and stands so.
-fn is_asked<A: Allocator + Copy>(
+// Whether the table shows what a row says.
+fn shows<A: Allocator>(tree: &Tree, table: &Table<A>, row: &Row) -> bool {
+    match *row {
+        Row::Stands(id, standing) => stands(table, id, standing),
+        Row::Groups(number, all, held) => {
+            let place = PlaceId(number);
+            table.group_at(place).mode() == all && table.held_at(place).mode() == held
+        }
+        Row::Covered(place, id) => {
+            (place as usize) < tree.len() && table.held_over(tree, PlaceId(place)) == id
+        }
+        _ => false,
+    }
+}
+
+// A claim that asked stands as it was told.
+fn ask<A: Allocator + Copy>(
     rt: &impl Abort,
     tree: &Tree,
     table: &mut Table<A>,
     id: ClaimId,
     wishes: &[Wish],
     standing: Standing,
-) -> Result<bool, NoMemory> {
-    let told = ask(rt, tree, table, id, wishes)?;
-    Ok(told == standing && stands(table, id, Some(told)))
+) -> Tried {
+    assert!(rt; table.standing(id).is_none());
+    assert!(rt; !table.is_full());
+    match answers(table.ask(id, locks_of(rt, tree, wishes)), standing) {
+        Tried::Done => Tried::done(stands(table, id, Some(standing))),
+        tried => tried,
+    }
 }
 
 // Whether the table answers as a row says.
 pub(super) fn act<A: Allocator + Copy>(
     rt: &impl Abort,
+    alloc: A,
     tree: &Tree,
     table: &mut Table<A>,
     row: &Row,
-) -> Result<bool, NoMemory> {
+) -> Tried {
     match *row {
-        Row::Ask(id, wishes, standing) => is_asked(rt, tree, table, id, wishes, standing),
-        Row::Extend(id, wishes, told) => answers(extend(rt, tree, table, id, wishes), told),
-        Row::PutFirst(id, wishes) => answers(put_first(rt, tree, table, id, wishes), ()),
+        Row::Ask(id, wishes, standing) => ask(rt, tree, table, id, wishes, standing),
+        Row::Extend(id, wishes, told) => {
+            let Some(Standing::Held) = table.standing(id) else {
+                panic!(rt; "a held claim");
+            };
+            answers(table.extend(id, locks_of(rt, tree, wishes)), told)
+        }
+        Row::PutFirst(id, wishes) => {
+            assert!(rt; table.standing(id).is_some());
+            answers(table.put_first(id, locks_of(rt, tree, wishes)), ())
+        }
         Row::Release(id) => {
             table.release(id);
-            Ok(stands(table, id, None))
+            Tried::done(stands(table, id, None))
         }
         Row::ReleaseShort => {
             table.release_short();
-            Ok(true)
+            Tried::Done
         }
-        Row::Stands(id, standing) => Ok(stands(table, id, standing)),
-        Row::Groups(place, all, held) => Ok(has_groups(table, place, all, held)),
-        Row::Covered(place, id) => Ok(over(rt, tree, table, place) == id),
+        Row::New(second) => is_like(tree, Table::new(alloc), table, second),
+        Row::Copy(second) => is_like(tree, table.copy(), table, second),
+        _ => Tried::done(shows(tree, table, row)),
     }
 }
 
-// How many of these rows it answers so, one after another, up to the first that it doesn't.
-pub(super) fn act_all<A: Allocator + Copy>(
+/// A table that answered these rows so. A failure names the row.
+pub(super) fn table_behind<A: Allocator + Copy>(
     rt: &impl Abort,
+    alloc: A,
     tree: &Tree,
-    table: &mut Table<A>,
-    rows: &[Row],
-) -> usize {
-    for (index, row) in rows.iter().enumerate() {
-        if act(rt, tree, table, row) != Ok(true) {
-            return index;
-        }
-    }
-    rows.len()
-}
-
-// How many of these rows a new table answers so.
-fn count_right(rt: &impl Abort, alloc: Global, rows: &[Row]) -> usize {
-    let tree = small_tree(rt, alloc);
+    (name, rows): Worked<Row>,
+) -> Table<A> {
     let mut table = Table::new(alloc).expect(rt, "memory");
-    let count = act_all(rt, &tree, &mut table, rows);
-    drop(table);
-    drop(tree);
-    count
+    for (index, row) in rows.iter().enumerate() {
+        let tried = act(rt, alloc, tree, &mut table, row);
+        assert!(rt; tried == Tried::Done, "{name}, row {index}");
+    }
+    table
 }
 
-static TABLES: [Worked<Row>; 12] = [
+static TABLES: [Worked<Row>; 13] = [
+    ("a new table", &[Row::Stands(C1, None)]),
     (
         "a newcomer waits for a change above",
         &[
@@ -317,6 +314,9 @@ static TABLES: [Worked<Row>; 12] = [
 
 #[test]
 fn worked_tables(rt: HostRuntime) {
-    let wrong = first_wrong(&TABLES, |rows| count_right(&rt, rt.alloc(), rows));
-    assert_eq!(rt; wrong, None);
+    let tree = tree_of(&rt, rt.alloc(), &SMALL);
+    for worked in &TABLES {
+        drop(table_behind(&rt, rt.alloc(), &tree, *worked));
+    }
+    drop(tree);
 }

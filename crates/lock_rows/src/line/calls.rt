@@ -1,0 +1,233 @@
+//! Calls of a line, each with what it has to answer.
+ghost use Rattle.long_locks.specs.Lines.{IsGrownFrom};
+
+use super::{ask, claim_of, extend, has_claim, is_ready, is_same, new_line};
+use crate::places::{Wish, Worked, answers, items_of};
+use design_tree::Tree;
+use lock_table::Extension;
+use long_locks::{FromClaimsError, Line};
+use std::alloc::Global;
+use std::process::Abort;
+use test_memory::{Refusing, Tried};
+use vault_model::{Claim, ClaimId, Name, NoMemory, Note, PlaceId, Standing};
+
+/// The memory of a line.
+pub(super) type Memory<'a> = &'a Refusing<Global>;
+
+/// A claim of which a line is made, and how it stands there. A long one is anna's, a short one of the first session.
+pub(super) type Listed = (ClaimId, &'static [Wish], Standing);
+
+/// A call of a line, with what it has to answer.
+#[derive(Clone, Copy)]
+pub(super) enum Row {
+    CheckOut(&'static [Wish], Standing),
+    Hold(u32, &'static [Wish], Standing),
+    Extend(ClaimId, &'static [Wish], Extension),
+    PutFirst(ClaimId, &'static [Wish]),
+    Drop(ClaimId),
+    DropSession(u32),
+    Restart,
+    Give(u32, &'static str),
+    SetNote(u32, &'static str),
+    /// Another line is made, which is like this one.
+    New,
+    Copy,
+    /// Another line is made of these claims, the last number being this, or refused.
+    FromClaims(u32, &'static [Listed], Option<FromClaimsError>),
+    /// From here on no memory is asked for.
+    NoMemoryFrom,
+    /// Up to here.
+    NoMemoryTo,
+    Covered(u32, Option<ClaimId>),
+    Stands(ClaimId, Option<Standing>),
+    /// The check-out at a position, its designer, its items and its note.
+    At(usize, ClaimId, &'static str, &'static [Wish], &'static str),
+    /// How many claims there are, and the last numbers given.
+    Counts(usize, u32, u32),
+}
+
+fn put_first<'a>(
+    rt: &impl Abort,
+    line: &mut Line<Memory<'a>>,
+    tree: &Tree<Memory<'a>>,
+    id: ClaimId,
+    wishes: &[Wish],
+) -> Tried
+    requires { IsGrownFrom line.old.tree tree.now }
+    ensures { IsGrownFrom line.new.tree tree.now }
+{
+    let items = items_of(rt, wishes);
+    assert!(rt; is_ready(line, tree, &items));
+    assert!(rt; line.get(id).is_some());
+    answers(line.put_first(tree, id, items), ())
+}
+
+// Whether a line that was made is like this one.
+fn is_like(made: Result<Line<Memory<'_>>, NoMemory>, line: &Line<Memory<'_>>) -> Tried {
+    match made {
+        Ok(made) => {
+            let is_like = is_same(&made, line);
+            drop(made);
+            Tried::done(is_like)
+        }
+        Err(NoMemory) => Tried::Refused,
+    }
+}
+
+fn listed(rt: &impl Abort, (id, wishes, _): &Listed) -> Claim {
+    let session = match id {
+        ClaimId::Long(_) => 0,
+        ClaimId::Short(_) => 1,
+    };
+    claim_of(rt, *id, (session, "anna"), items_of(rt, wishes), "")
+}
+
+// Whether a line has just these claims, in this order, and they stand so.
+fn keeps(rt: &impl Abort, line: &Line<Memory<'_>>, last_long: u32, claims: &[Listed]) -> bool {
+    for (position, claim) in claims.iter().enumerate() {
+        let is_there = has_claim(line, position, &listed(rt, claim));
+        if !is_there || line.standing(claim.0) != Some(claim.2) {
+            return false;
+        }
+    }
+    line.len() == claims.len() && line.last_long() == last_long && line.last_short() == 0
+}
+
+// Makes a line of claims, for the list of which there is ample memory.
+fn is_made<'a>(
+    rt: &impl Abort,
+    (memory, ample): (Memory<'a>, Memory<'a>),
+    tree: &Tree<Memory<'a>>,
+    last_long: u32,
+    claims: &[Listed],
+    wanted: Option<FromClaimsError>,
+) -> Tried {
+    let mut list = Vec::new(ample);
+    for claim in claims {
+        assert!(rt; list.push(listed(rt, claim)).is_ok());
+    }
+    match Line::from_claims(memory, tree, last_long, list) {
+        Ok(line) => {
+            let is_right = wanted.is_none() && keeps(rt, &line, last_long, claims);
+            drop(line);
+            Tried::done(is_right)
+        }
+        Err(FromClaimsError::NoMemory) => Tried::Refused,
+        Err(error) => Tried::done(wanted == Some(error)),
+    }
+}
+
+// Whether a check-out stands at a position, with this designer, these items and this note.
+fn is_at(
+    rt: &impl Abort,
+    line: &Line<Memory<'_>>,
+    position: usize,
+    (id, designer): (ClaimId, &str),
+    wishes: &[Wish],
+    note: &str,
+) -> bool {
+    let claim = claim_of(rt, id, (0, designer), items_of(rt, wishes), note);
+    has_claim(line, position, &claim)
+}
+
+// Whether the line shows what a row says.
+fn shows<'a>(
+    rt: &impl Abort,
+    memory: Memory<'a>,
+    line: &Line<Memory<'a>>,
+    tree: &Tree<Memory<'a>>,
+    row: &Row,
+) -> bool
+    requires { IsGrownFrom line.now.tree tree.now }
+{
+    match *row {
+        Row::NoMemoryFrom => {
+            memory.refuse(1);
+            true
+        }
+        Row::NoMemoryTo => !memory.has_refused(),
+        Row::Covered(place, id) => {
+            assert!(rt; (place as usize) < tree.len());
+            line.covers(tree, PlaceId(place)) == id
+        }
+        Row::Stands(id, standing) => {
+            line.standing(id) == standing && line.get(id).is_some() == standing.is_some()
+        }
+        Row::At(position, id, designer, wishes, note) => {
+            is_at(rt, line, position, (id, designer), wishes, note)
+        }
+        Row::Counts(len, long, short) => {
+            (line.len(), line.last_long(), line.last_short()) == (len, long, short)
+        }
+        _ => false,
+    }
+}
+
+// Whether the line answers as a row says.
+pub(super) fn act<'a>(
+    rt: &impl Abort,
+    memories: (Memory<'a>, Memory<'a>),
+    line: &mut Line<Memory<'a>>,
+    tree: &Tree<Memory<'a>>,
+    row: &Row,
+) -> Tried
+    requires { IsGrownFrom line.old.tree tree.now }
+    ensures { IsGrownFrom line.new.tree tree.now }
+{
+    match *row {
+        Row::CheckOut(wishes, told) => {
+            answers(ask(rt, line, tree, 0, items_of(rt, wishes)), told)
+        }
+        Row::Hold(session, wishes, told) => {
+            answers(ask(rt, line, tree, session, items_of(rt, wishes)), told)
+        }
+        Row::Extend(id, wishes, told) => {
+            answers(extend(rt, line, tree, id, items_of(rt, wishes)), told)
+        }
+        Row::PutFirst(id, wishes) => put_first(rt, line, tree, id, wishes),
+        Row::Drop(id) => {
+            line.drop_claim(id);
+            Tried::Done
+        }
+        Row::DropSession(session) => {
+            line.drop_session(session);
+            Tried::Done
+        }
+        Row::Restart => {
+            line.restart();
+            Tried::Done
+        }
+        Row::Give(number, designer) => {
+            line.give(number, Name::read(designer.as_bytes()).expect(rt, "a name"));
+            Tried::Done
+        }
+        Row::SetNote(number, note) => {
+            line.set_note(number, Note::read(note.as_bytes()).expect(rt, "a note"));
+            Tried::Done
+        }
+        Row::New => is_like(Line::new(memories.0), line),
+        Row::Copy => is_like(line.copy(), line),
+        Row::FromClaims(last_long, claims, wanted) => {
+            is_made(rt, memories, tree, last_long, claims, wanted)
+        }
+        _ => Tried::done(shows(rt, memories.0, line, tree, row)),
+    }
+}
+
+/// A line that answered these rows so, its tree being in ample memory. A failure names the row.
+pub(super) fn line_behind<'a>(
+    rt: &impl Abort,
+    memories: (Memory<'a>, Memory<'a>),
+    tree: &Tree<Memory<'a>>,
+    worked: Worked<Row>,
+) -> Line<Memory<'a>>
+    ensures { IsGrownFrom result.tree tree.now }
+{
+    let (name, rows) = worked;
+    let mut line = new_line(rt, memories.0);
+    for (index, row) in rows.iter().enumerate() {
+        let tried = act(rt, memories, &mut line, tree, row);
+        assert!(rt; tried == Tried::Done, "{name}, row {index}");
+    }
+    line
+}
