@@ -87,7 +87,11 @@ impl Gathering {
                 self.seen = moved;
                 self.until = look + 1;
             }
-            return if look > self.until && !is_owed { None } else { Some(left) };
+            return if look > self.until && !is_owed {
+                None
+            } else {
+                Some(left)
+            };
         }
         None
     }
