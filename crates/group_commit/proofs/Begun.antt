@@ -3,7 +3,7 @@ use Rattle.std.proofs.Common.{ℕ, List, Result, Ok, Err, IfOk, IfErr, sym, subs
 use Rattle.vault_model.specs.Vault.{Vault}
 use Rattle.vault_store.specs.declared.refused.Refused.{Refused}
 use Rattle.vault_store.specs.declared.opening.OpenError.{OpenError}
-use Rattle.vault_store.specs.Files.{AreRead}
+use Rattle.vault_format.specs.Files.{AreRead}
 use Rattle.vault_store.specs.State.{at_rest}
 use Rattle.vault_store.specs.Seen.{StoreSeen, first_of, second_of, settled_reading}
 use Rattle.group_commit.specs.Seen.{VaultSeen}

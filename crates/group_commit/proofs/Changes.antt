@@ -6,7 +6,7 @@ use Rattle.vault_model.specs.Vault.{Vault, IsVault, durable}
 use Rattle.vault_model.specs.Step.{Outcome}
 use Rattle.vault_model.specs.After.{IsDurableChange}
 use Rattle.group_commit.specs.Entries.{Kept}
-use Rattle.vault_store.specs.Files.{applied}
+use Rattle.vault_format.specs.Files.{applied}
 use Rattle.group_commit.specs.History.{replay, outcome_of, members, effects}
 use Rattle.group_commit.specs.World.{World, history_to, vault_at}
 use Rattle.group_commit.proofs.Facts.{well_formed_stays, effect_is_the_durable_change}

@@ -4,7 +4,7 @@ use Rattle.std.specs.Prelude.{slice_index}
 use Rattle.std.proofs.lemmas.Bool.{cases_eq}
 use Rattle.vault_model.specs.Vault.{Vault, durable}
 use Rattle.vault_device.specs.Disk.{Disk}
-use Rattle.vault_store.specs.Files.{StandFor}
+use Rattle.vault_format.specs.Files.{StandFor}
 use Rattle.vault_store.specs.Phases.{is_opening}
 use Rattle.vault_store.specs.Seen.{of_file, Keeps, settled_reading, sealed_reading, gate_at, gated, IsByGate, IsLeftWhile, IsLeft}
 use Rattle.vault_store.specs.Laws.{CrashLeavesWhatIsKept, OneGateIsOpened}

@@ -7,7 +7,7 @@ use Rattle.vault_model.specs.Vault.{Vault, CountsBelow, durable}
 use Rattle.vault_device.specs.Disk.{Disk}
 use Rattle.vault_store.specs.declared.phase.Phase.{Phase}
 use Rattle.vault_store.specs.declared.phase.Phase.TheVariants.{Idle, Written, Bodied, Opening, Start, Closing, Writing, Filled, Ready, SnapOpening}
-use Rattle.vault_store.specs.Files.{StandFor}
+use Rattle.vault_format.specs.Files.{StandFor}
 use Rattle.vault_store.specs.Phases.{is_opening, may_open}
 use Rattle.vault_store.specs.Seen.{settled_reading, sealed_reading, IsLeftInside}
 use Rattle.vault_store.specs.Laws.{CrashLeavesWhatIsKept, OneGateIsOpened, OneVault}

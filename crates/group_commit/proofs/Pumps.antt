@@ -11,11 +11,11 @@ use Rattle.vault_device.specs.declared.device.Fault.{Fault as DeviceFault}
 use Rattle.vault_journal.specs.Spelling.{records_of}
 use Rattle.vault_store.specs.declared.phase.Advanced.{Advanced as Pumped}
 use Rattle.vault_store.specs.declared.phase.Advanced.TheVariants as answers
-use Rattle.vault_store.specs.Files.{header, frame_extra}
+use Rattle.vault_format.specs.Files.{header, frame_extra}
 use Rattle.vault_store.specs.Step.{IsStep, IsAtMostOneCall, MayBeLeft, renews as store_renews, gained as store_gained, AreNumbers as AreStoreNumbers}
 use Rattle.vault_store.specs.Phases.{Waiting, DeviceCall, NoCall, Write, Sync, NoMore, TheSealed, All, Row, row, rests, ends, seals, is_idle, is_snapshot, settled_by, after_fault}
 use Rattle.vault_store.specs.State.{StoreState, waiting_in, row_of, advanced, failed}
-use Rattle.vault_store.specs.Snapshot.{current_version}
+use Rattle.vault_format.specs.Snapshot.{current_version}
 use Rattle.vault_store.specs.Seen.{StoreSeen, other, first_of, second_of, Keeps, IsLeftInside}
 use Rattle.vault_store.proofs.Asides.{length-behind}
 use Rattle.vault_store.proofs.Busy.{idle_or_busy, snapshot_is_busy}

@@ -2,7 +2,7 @@
 use Rattle.std.proofs.Common.{◌≡◌, inl, inr, ℕ, refl, sym, ap, ◌∙◌, subst}
 use Rattle.vault_model.specs.Vault.{Vault, IsVault, durable}
 use Rattle.vault_device.specs.Disk.{Disk}
-use Rattle.vault_store.specs.Snapshot.{HasSnapshot}
+use Rattle.vault_format.specs.Snapshot.{HasSnapshot}
 use Rattle.vault_store.specs.Laws.{NotedIsSpelled}
 use Rattle.vault_store.specs.State.{started}
 use Rattle.vault_store.specs.Seen.{StoreSeen, Keeps, MayStart as MayStartStore, started_seen}

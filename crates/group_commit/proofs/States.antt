@@ -9,7 +9,7 @@ use Rattle.vault_model.specs.Step.{step}
 use Rattle.vault_model.specs.After.{after, IsDurableChange}
 use Rattle.vault_store.specs.declared.phase.Phase.{Phase}
 use Rattle.vault_store.specs.declared.phase.Phase.TheVariants.{Idle, Written, Bodied, Opening, Start, Closing, Writing, Filled, Ready, SnapOpening}
-use Rattle.vault_store.specs.Files.{applied}
+use Rattle.vault_format.specs.Files.{applied}
 use Rattle.vault_store.specs.Phases.{row, is_idle, most_piece}
 use Rattle.vault_store.specs.State.{StoreState, with_effect, started, waiting_in, row_of, stepped, failed, advanced}
 use Rattle.group_commit.specs.Entries.{Kept, opened}

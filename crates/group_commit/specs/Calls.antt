@@ -8,9 +8,9 @@ use Rattle.vault_device.specs.declared.device.Fault.{Fault as DeviceFault}
 use Rattle.vault_journal.specs.Spelling.{record_of, records_of}
 use Rattle.vault_store.specs.declared.phase.Advanced.{Advanced as Pumped}
 use Rattle.vault_store.specs.declared.phase.Advanced.TheVariants as answers
-use Rattle.vault_store.specs.Files.{header, frame_extra}
+use Rattle.vault_format.specs.Files.{header, frame_extra}
 use Rattle.vault_store.specs.Phases.{is_idle, is_snapshot}
-use Rattle.vault_store.specs.Snapshot.{current_version}
+use Rattle.vault_format.specs.Snapshot.{current_version}
 use Rattle.vault_store.specs.Seen.{StoreSeen, other, has_room}
 use Rattle.group_commit.specs.declared.answers.Redeemed.{Redeemed}
 use Rattle.group_commit.specs.declared.answers.Redeemed.TheVariants as redeemed

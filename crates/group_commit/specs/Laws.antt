@@ -9,7 +9,7 @@ use Rattle.vault_model.specs.Claims.{same_id, overlap, claim_of, standing_of, wi
 use Rattle.vault_model.specs.Vault.{Vault, IsVault, CountsBelow, new_vault, durable}
 use Rattle.group_commit.specs.declared.mark.Mark.TheVariants.{Told}
 use Rattle.group_commit.specs.Entries.{Entry, mark_at}
-use Rattle.vault_store.specs.Files.{applied}
+use Rattle.vault_format.specs.Files.{applied}
 use Rattle.group_commit.specs.History.{Given, replay, IsLegal, effects}
 use Rattle.vault_store.specs.Phases.{is_opening, is_idle}
 use Rattle.group_commit.specs.Phases.{InOrder}

@@ -8,7 +8,7 @@ use Rattle.vault_store.specs.Create.{IsNotMade, ShowTheSame}
 use Rattle.vault_store.specs.declared.refused.Refused.{Refused}
 use Rattle.vault_store.specs.declared.opening.OpenError.{OpenError}
 use Rattle.vault_store.specs.declared.opening.OpenError.TheVariants as open_errors
-use Rattle.vault_store.specs.Snapshot.{current_version}
+use Rattle.vault_format.specs.Snapshot.{current_version}
 use Rattle.vault_store.specs.Seen.{StoreSeen, first_of, second_of}
 use Rattle.group_commit.specs.View.{opened_view}
 use Rattle.group_commit.specs.Seen.{VaultSeen}

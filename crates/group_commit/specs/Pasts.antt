@@ -2,7 +2,7 @@
 use Rattle.std.specs.Prelude.{◌≡◌, ◌⊎◌, ℕ, IsTrue, false, List, [], ◌∷◌}
 use Rattle.vault_model.specs.Vault.{Vault}
 use Rattle.vault_device.specs.Disk.{Disk}
-use Rattle.vault_store.specs.Files.{AreRead}
+use Rattle.vault_format.specs.Files.{AreRead}
 use Rattle.vault_store.specs.Laws.{AreHonest}
 use Rattle.vault_store.specs.Seen.{first_of, second_of, Keeps}
 use Rattle.vault_store.specs.Step.{MayBeLeft}

@@ -2,7 +2,7 @@
 use Rattle.std.specs.Prelude.{◌≡◌, ℕ, true, false, List}
 use Rattle.vault_model.specs.Vault.{Vault}
 use Rattle.vault_device.specs.Disk.{Disk}
-use Rattle.vault_store.specs.Files.{StandFor}
+use Rattle.vault_format.specs.Files.{StandFor}
 use Rattle.vault_store.specs.Laws.{AreHonest, IsOneGate}
 use Rattle.vault_store.specs.Phases.{is_opening}
 use Rattle.vault_store.specs.Seen.{first_of, second_of, gate_at, gated, IsLeft, IsLeftInside}

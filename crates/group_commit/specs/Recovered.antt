@@ -6,7 +6,7 @@ use Rattle.vault_model.specs.Claims.{claim_of, without_short}
 use Rattle.vault_model.specs.Vault.{Vault, durable}
 use Rattle.vault_device.specs.Disk.{Disk}
 use Rattle.vault_store.specs.declared.opening.OpenError.{OpenError}
-use Rattle.vault_store.specs.Files.{StandFor}
+use Rattle.vault_format.specs.Files.{StandFor}
 use Rattle.vault_store.specs.Opening.{IsNotOpened, IsFound}
 use Rattle.vault_store.specs.Phases.{is_opening, may_open}
 use Rattle.group_commit.specs.declared.mark.Mark.TheVariants.{Told}

@@ -2,7 +2,7 @@
 use Rattle.std.specs.Prelude.{◌≡◌, ℕ, ◌+◌, ◌-◌, ◌<◌, ◌≤◌, if◌then◌else◌, List, [], length, take, drop, Some}
 use Rattle.vault_model.specs.Said.{Effect}
 use Rattle.vault_model.specs.Vault.{Vault, IsVault, CountsBelow, durable}
-use Rattle.vault_store.specs.Snapshot.{snapshot_of}
+use Rattle.vault_format.specs.Snapshot.{snapshot_of}
 use Rattle.vault_store.specs.Phases.{is_idle}
 use Rattle.vault_store.specs.State.{StoreState}
 use Rattle.vault_store.specs.Seen.{StoreSeen}

@@ -2,7 +2,7 @@
 ghost use Rattle.std.specs.Prelude.{◌≡◌, ◌⊎◌, [], IfOk, IfErr, IsTrue};
 ghost use Rattle.vault_store.specs.declared.opening.OpenError.TheVariants.{Device as DeviceFailed, NoMemory as Wanted};
 ghost use Rattle.vault_store.specs.Calls.{HasCause, AreQuiet};
-ghost use Rattle.vault_store.specs.Files.{AreRead};
+ghost use Rattle.vault_format.specs.Files.{AreRead};
 ghost use Rattle.vault_store.specs.Opening.{IsNotOpened, IsHandedOn, AreLeftSettled};
 ghost use Rattle.vault_store.specs.State.{at_rest};
 ghost use Rattle.vault_store.specs.Seen.{first_of, second_of, Keeps};

@@ -24,10 +24,10 @@ use Rattle.vault_model.proofs.Stays.{same_id_is, same_id_turned, own_id, standin
 use Rattle.vault_model.proofs.Fronts.{held_front}
 use Rattle.vault_model.proofs.Grown.{standing_of-grown}
 use Rattle.vault_model.proofs.Lists.{All-back}
-use Rattle.vault_checkout.specs.declared.check_outs.AnyCheckOut.{AnyCheckOut}
-use Rattle.vault_checkout.specs.declared.check_outs.AnyCheckOut.TheVariants.{Waiting, Held}
-use Rattle.vault_checkout.specs.Typed.{number_of, is_granted, own_drafts, marked, saved, check_out_of, without_check_out, saving, with_saved, is_open, is_held_standing, is_holding, granted_if, granted, recalled_unless, recalled, IsAscending, Agrees}
-use Rattle.vault_checkout.proofs.AllDrafts.{saved-append, ascending_saved, drafts_are}
+use Rattle.check_outs.specs.declared.any.AnyCheckOut.{AnyCheckOut}
+use Rattle.check_outs.specs.declared.any.AnyCheckOut.TheVariants.{Waiting, Held}
+use Rattle.check_outs.specs.Typed.{number_of, is_granted, own_drafts, marked, saved, check_out_of, without_check_out, saving, with_saved, is_open, is_held_standing, is_holding, granted_if, granted, recalled_unless, recalled, IsAscending, Agrees}
+use Rattle.check_outs.proofs.AllDrafts.{saved-append, ascending_saved, drafts_are}
 use Rattle.vault_checkout.proofs.Agreement.{claim_kept, claim_gone, found_there, stands_there, claim_of-other, both, each_found, kept_ascending, mapped_there, mapped_ascending, number_recalled, agrees_granted, agrees_moved, agrees_same}
 
 -- the claim of a new check-out, and the check-out

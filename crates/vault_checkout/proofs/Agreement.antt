@@ -13,10 +13,10 @@ use Rattle.vault_model.specs.declared.ids.ClaimId.{ClaimId}
 use Rattle.vault_model.specs.declared.ids.ClaimId.TheVariants.{Long}
 use Rattle.vault_model.specs.Claims.{same_id, claim_of, before, without, standing_of, standing_behind}
 use Rattle.vault_model.proofs.Stays.{take_while-cons, same_id_itself}
-use Rattle.vault_checkout.specs.declared.check_outs.AnyCheckOut.{AnyCheckOut}
-use Rattle.vault_checkout.specs.declared.check_outs.AnyCheckOut.TheVariants.{Waiting, Held}
-use Rattle.vault_checkout.specs.Typed.{number_of, is_granted, check_out_of, is_held_standing, is_holding, granted_if, granted, recalled_unless, IsAscending, Agrees}
-use Rattle.vault_checkout.proofs.OwnDrafts.{all_kept}
+use Rattle.check_outs.specs.declared.any.AnyCheckOut.{AnyCheckOut}
+use Rattle.check_outs.specs.declared.any.AnyCheckOut.TheVariants.{Waiting, Held}
+use Rattle.check_outs.specs.Typed.{number_of, is_granted, check_out_of, is_held_standing, is_holding, granted_if, granted, recalled_unless, IsAscending, Agrees}
+use Rattle.check_outs.proofs.OwnDrafts.{all_kept}
 
 -- a claim that is held, as a test and as a standing
 pub held_is : (o : Option Standing) → is_held_standing o ≡ true → o ≡ Some standings.Held

@@ -14,8 +14,8 @@ use Rattle.vault_model.proofs.Kept.{kept_first}
 use Rattle.vault_model.proofs.DraftsKept.{drafts_first, drafts_put_first}
 use Rattle.vault_model.proofs.Stays.{held_there, claim_there}
 use Rattle.long_locks.specs.Lines.{extended_by}
-use Rattle.vault_checkout.specs.declared.check_outs.AnyCheckOut.{AnyCheckOut}
-use Rattle.vault_checkout.specs.Typed.{granted, recalled, saved, Agrees}
+use Rattle.check_outs.specs.declared.any.AnyCheckOut.{AnyCheckOut}
+use Rattle.check_outs.specs.Typed.{granted, recalled, saved, Agrees}
 use Rattle.vault_checkout.proofs.Agreeing.{agrees_first, agrees_still, agrees_put_first}
 
 module _ (v : Vault) (kept : IsVault v) (id : ClaimId) (items : List Item) (held : standing_of v.tree v.line id ≡ Some Held) where

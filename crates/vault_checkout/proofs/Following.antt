@@ -6,8 +6,8 @@ use Rattle.vault_model.specs.declared.replies.Refusal.{Refusal}
 use Rattle.vault_model.specs.Vault.{Vault}
 use Rattle.vault_model.specs.Step.{Outcome}
 use Rattle.vault_checkout.specs.declared.done.Done.{Done}
-use Rattle.vault_checkout.specs.declared.done.Stop.{Stop}
-use Rattle.vault_checkout.specs.declared.done.Stop.TheVariants.{Refused, OutOfMemory}
+use Rattle.check_outs.specs.declared.stop.Stop.{Stop}
+use Rattle.check_outs.specs.declared.stop.Stop.TheVariants.{Refused, OutOfMemory}
 use Rattle.vault_checkout.specs.Done.{Follows}
 
 -- a refusal

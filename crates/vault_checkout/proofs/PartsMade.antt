@@ -19,13 +19,13 @@ use Rattle.vault_model.specs.Vault.{Vault, IsClaim, IsGiven, IsDraft, AreDrafts}
 use Rattle.vault_model.proofs.Kept.{kept_new}
 use Rattle.vault_model.proofs.Stays.{ids}
 use Rattle.long_locks.specs.LongClaims.{AreLongClaims}
-use Rattle.vault_checkout.specs.CheckOuts.{IsRising}
-use Rattle.vault_checkout.specs.declared.check_outs.AnyCheckOut.{AnyCheckOut}
-use Rattle.vault_checkout.specs.Typed.{number_of, is_granted, own_drafts, marked, saved, check_out_of, is_held_standing, is_holding, granted, drafts_at, IsAscending, Agrees}
-use Rattle.vault_checkout.specs.Parts.{drafts_under, IsVaultOf, MayBe, MayHave, EachMayHave, AreFit, number_in, opened, opened_all}
-use Rattle.vault_checkout.proofs.AllDrafts.{drafts_are}
+use Rattle.check_outs.specs.CheckOuts.{IsRising}
+use Rattle.check_outs.specs.declared.any.AnyCheckOut.{AnyCheckOut}
+use Rattle.check_outs.specs.Typed.{number_of, is_granted, own_drafts, marked, saved, check_out_of, is_held_standing, is_holding, granted, drafts_at, IsAscending, Agrees}
+use Rattle.check_outs.specs.Parts.{drafts_under, IsVaultOf, MayBe, MayHave, EachMayHave, AreFit, number_in, opened, opened_all}
+use Rattle.check_outs.proofs.AllDrafts.{drafts_are}
 use Rattle.vault_checkout.proofs.Agreement.{found_there, stands_there, agrees_granted}
-use Rattle.vault_checkout.proofs.PutIn.{Match, EachOf, IsLong, AreLong, All_opened, ascending_opened, found_opened, drafts_opened, weight_opened}
+use Rattle.check_outs.proofs.PutIn.{Match, EachOf, IsLong, AreLong, All_opened, ascending_opened, found_opened, drafts_opened, weight_opened}
 
 -- where claims have different ids, none before one has its
 id_behind : (P : ClaimId → Type 0) (before : List Claim) (c : Claim) (more : List Claim) → AllByRecursion P (ids (before ++ c ∷ more)) → P c.id

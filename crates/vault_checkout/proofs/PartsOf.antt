@@ -20,11 +20,11 @@ use Rattle.vault_model.proofs.Kept.{All-kept}
 use Rattle.vault_model.proofs.Overlaps.{eq_from}
 use Rattle.vault_model.proofs.Stays.{own_id}
 use Rattle.long_locks.specs.LongClaims.{AreLongClaims}
-use Rattle.vault_checkout.specs.CheckOuts.{IsRising}
-use Rattle.vault_checkout.specs.Typed.{saved}
-use Rattle.vault_checkout.specs.Parts.{Parts, drafts_under, parts_of, IsVaultOf, MayBe, MayHave, EachMayHave, AreFit, number_in, opened_all}
-use Rattle.vault_checkout.proofs.OneDrafts.{one_drafts, no_drafts_of}
-use Rattle.vault_checkout.proofs.PutIn.{IsLong, AreLong, weight_opened}
+use Rattle.check_outs.specs.CheckOuts.{IsRising}
+use Rattle.check_outs.specs.Typed.{saved}
+use Rattle.check_outs.specs.Parts.{Parts, drafts_under, parts_of, IsVaultOf, MayBe, MayHave, EachMayHave, AreFit, number_in, opened_all}
+use Rattle.vault_model.proofs.OneDrafts.{one_drafts, no_drafts_of}
+use Rattle.check_outs.proofs.PutIn.{IsLong, AreLong, weight_opened}
 use Rattle.vault_checkout.proofs.PartsMade.{found_in, stands_in, all_long, match_of, drafts_made, drafts_given}
 
 -- drafts in order rise in each check-out

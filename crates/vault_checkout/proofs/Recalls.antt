@@ -17,8 +17,8 @@ use Rattle.vault_model.specs.Drafts.{SavedDraft, saved_by}
 use Rattle.vault_model.specs.Vault.{IsDraft}
 use Rattle.vault_model.specs.After.{drafts_held}
 use Rattle.vault_model.proofs.Stays.{ids, stood, take_while-cons, same_id_itself, same_id_turned, own_id, held_none, claim_of-kept, held_kept, kept_there}
-use Rattle.vault_checkout.specs.Typed.{number_of, own_drafts, marked, saved}
-use Rattle.vault_checkout.specs.declared.check_outs.AnyCheckOut.{AnyCheckOut}
+use Rattle.check_outs.specs.Typed.{number_of, own_drafts, marked, saved}
+use Rattle.check_outs.specs.declared.any.AnyCheckOut.{AnyCheckOut}
 
 -- the drafts of some and of others
 pub held-append : (tree : List Place) (line : List Claim) (xs ys : List SavedDraft) → drafts_held tree line (xs ++ ys) ≡ (drafts_held tree line xs && drafts_held tree line ys)

@@ -8,8 +8,7 @@ ghost use Rattle.vault_model.specs.Vault.{new_vault};
 ghost use Rattle.vault_checkout.specs.Applied.{Applies};
 
 use crate::book::Book;
-use crate::done::Stop;
-use crate::places::{is_changed_by, joined};
+use check_outs::{Stop, are_there, joined, may_change};
 use design_tree::Tree;
 use long_locks::Line;
 use std::alloc::Allocator;
@@ -38,18 +37,6 @@ impl From<NoMemory> for ApplyError {
     }
 }
 
-fn is_there<A: Allocator>(tree: &Tree<A>, item: &Item) -> bool
-    ensures { result ≡ nat_le item.now.place (length tree.now) }
-{
-    (item.place.number() as usize) < tree.len()
-}
-
-pub(crate) fn are_there<A: Allocator>(tree: &Tree<A>, items: &[Item]) -> bool
-    ensures { result ≡ are_there tree.now items.now }
-{
-    items.iter().all(|item| is_there(tree, item))
-}
-
 /// Whether a place may be made: its parent is there and no part, has no child of the name, and there
 /// is room.
 fn may_make<A: Allocator>(tree: &Tree<A>, parent: PlaceId, name: &Name) -> bool
@@ -66,15 +53,6 @@ fn may_grow<A: Allocator>(tree: &Tree<A>, own: &Items, items: &Items) -> bool
     ensures { result ≡ (nat_le (length own.now + length items.now) most_items && are_there tree.now items.now) }
 {
     items.len() <= MOST_ITEMS - own.len() && are_there(tree, items.as_slice())
-}
-
-/// Whether a place is a part that these items change.
-pub(crate) fn may_change<A: Allocator>(tree: &Tree<A>, items: &Items, place: PlaceId) -> bool
-    ensures { result ≡ (nat_le place (length tree.now) && is_part tree.now place && change_set tree.now items.now place) }
-{
-    (place.number() as usize) < tree.len()
-        && tree.is_part(place)
-        && is_changed_by(tree, items.as_slice(), place)
 }
 
 /// Whether a check-out may be asked for: it has the next number, its places are there, and there is

@@ -3,7 +3,8 @@ ghost use Rattle.vault_model.specs.Step.{state, list};
 ghost use Rattle.vault_checkout.specs.Done.{Follows};
 
 use crate::book::{Book, reply_of};
-use crate::done::{Done, Stop};
+use crate::done::Done;
+use check_outs::Stop;
 use std::alloc::Allocator;
 use vault_model::{ClaimId, Path, Refusal, Reply};
 

@@ -9,13 +9,14 @@ ghost use Rattle.vault_model.specs.declared.session.Session.{Session};
 ghost use Rattle.vault_model.specs.declared.claims.Standing.TheVariants as standings;
 ghost use Rattle.long_locks.specs.Lines.{IsGrownFrom};
 ghost use Rattle.vault_model.specs.declared.ids.ClaimId.TheVariants.{Long};
-ghost use Rattle.vault_checkout.specs.Typed.{number_of, is_granted, own_drafts, is_holding};
+ghost use Rattle.check_outs.specs.Typed.{number_of, is_granted, own_drafts, is_holding};
 ghost use Rattle.vault_checkout.specs.Done.{Follows};
 
-use crate::check_outs::{AnyCheckOut, check_out_at, drafts_at, grant_held};
-use crate::done::{Done, Stop};
-use crate::owners::{is_designer, is_owned_by};
-use crate::places::{joined, places_of};
+use crate::done::Done;
+use crate::granting::grant_held;
+use check_outs::{
+    AnyCheckOut, Stop, check_out_at, drafts_at, is_designer, is_owned_by, joined, places_of,
+};
 use design_tree::Tree;
 use lock_table::Extension;
 use long_locks::Line;

@@ -6,8 +6,8 @@ ghost use Rattle.vault_checkout.specs.Done.{Follows};
 
 use crate::book::Book;
 use crate::changes::copied;
-use crate::done::{Done, Stop};
-use crate::places::is_changed_by;
+use crate::done::Done;
+use check_outs::{Stop, is_changed_by};
 use std::alloc::Allocator;
 use vault_model::{ClaimId, Effect, Path, Refusal, Reply, Session};
 

@@ -1,20 +1,20 @@
 //! A book made of parts that were kept.
-ghost use Rattle.std.specs.Prelude.{◌≡◌, ◌+◌, ◌<◌, ◌≤◌, nat_lt, position, length, All, vec_len, vec_capacity, IfOk, IfErr};
-ghost use Rattle.vault_checkout.specs.CheckOuts.{IsRising};
-ghost use Rattle.vault_checkout.specs.Parts.{Parts, IsVaultOf, IsRefusalOf, number_in, opened, put_in, opened_all};
+ghost use Rattle.std.specs.Prelude.{◌≡◌, length, All, IfOk, IfErr};
+ghost use Rattle.check_outs.specs.CheckOuts.{IsRising};
+ghost use Rattle.check_outs.specs.Parts.{Parts, IsVaultOf, opened_all};
+ghost use Rattle.vault_checkout.specs.FromParts.{IsRefusalOf};
 ghost use Rattle.vault_model.specs.Vault.{Vault};
-ghost use Rattle.vault_checkout.specs.Typed.{number_of};
 
 use crate::book::Book;
-use crate::check_out::CheckOut;
-use crate::check_outs::{AnyCheckOut, grant_held};
+use crate::granting::grant_held;
 use crate::parts::are_fit;
+use check_outs::{AnyCheckOut, number_in, opened, put_in};
 use design_tree::Tree;
 use long_locks::{FromClaimsError, Line};
 use part_versions::Shelf;
 use std::alloc::Allocator;
 use thiserror::Error;
-use vault_model::{Claim, ClaimId, Drafts, NoMemory};
+use vault_model::{Claim, Drafts, NoMemory};
 
 /// Why parts make no book.
 #[derive(Clone, Copy, Debug, PartialEq, Eq, Error)]
@@ -23,43 +23,6 @@ pub enum FromPartsError {
     NotWellFormed,
     #[error("want of memory")]
     NoMemory,
-}
-
-fn number_in(id: ClaimId) -> u32
-    ensures { result ≡ number_in id }
-{
-    match id {
-        ClaimId::Long(number) | ClaimId::Short(number) => number,
-    }
-}
-
-fn opened<A: Allocator>(alloc: A, number: u32, drafts: Drafts<A>) -> AnyCheckOut<A>
-    requires { IsRising drafts }
-    ensures { result ≡ opened number drafts }
-{
-    if drafts.as_slice().is_empty() {
-        AnyCheckOut::Waiting(CheckOut::asked(alloc, number))
-    } else {
-        AnyCheckOut::Held(CheckOut::reopened(number, drafts))
-    }
-}
-
-fn first_above<A: Allocator>(check_outs: &[AnyCheckOut<A>], number: u32) -> Option<usize>
-    ensures { result ≡ position (λ c. nat_lt number (number_of c)) check_outs.now }
-{
-    check_outs
-        .iter()
-        .position(|check_out| number < check_out.number())
-}
-
-fn put_in<A: Allocator>(check_outs: &mut Vec<AnyCheckOut<A>, A>, check_out: AnyCheckOut<A>)
-    requires { vec_len check_outs.old < vec_capacity check_outs.old }
-    ensures items { check_outs.new.items ≡ put_in check_out check_outs.old.items }
-    ensures len { vec_len check_outs.new ≡ vec_len check_outs.old + 1 }
-    ensures capacity { vec_capacity check_outs.old ≤ vec_capacity check_outs.new }
-{
-    let index = first_above(check_outs, check_out.number()).unwrap_or(check_outs.len());
-    check_outs.insert(index, check_out).unwrap();
 }
 
 fn opened_all<A: Allocator + Copy>(

@@ -5,8 +5,8 @@ ghost use Rattle.vault_model.specs.Step.{owned, give, note, read_note};
 ghost use Rattle.vault_checkout.specs.Done.{Follows};
 
 use crate::book::Book;
-use crate::done::{Done, Stop};
-use crate::owners::is_owned_by;
+use crate::done::Done;
+use check_outs::{Stop, is_owned_by};
 use std::alloc::Allocator;
 use vault_model::{Claim, ClaimId, Effect, Name, Note, Refusal, Reply, Session};
 

@@ -5,10 +5,9 @@ ghost use Rattle.vault_model.specs.Step.{hold, release, leave};
 ghost use Rattle.vault_checkout.specs.Done.{Follows};
 
 use crate::book::{Book, drop_session, reply_of};
-use crate::check_outs::grant_held;
-use crate::done::{Done, Stop};
-use crate::owners::is_owned_by;
-use crate::places::places_of;
+use crate::done::Done;
+use crate::granting::grant_held;
+use check_outs::{Stop, is_owned_by, places_of};
 use std::alloc::Allocator;
 use vault_model::{
     ClaimId, LAST_NUMBER, MOST_CLAIMS, MOST_ITEMS, PathItem, Refusal, Reply, Session,

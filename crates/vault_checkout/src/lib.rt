@@ -4,17 +4,16 @@
 //! leaves the durable vault. A book is made of the parts of a durable vault exactly where there is one, and there is at most
 //! one (`from_parts`). A copy equals its source. Want of memory comes last and changes nothing. Each check-out's type agrees
 //! with the line, and the vault is well formed (`check_out_of`).
-//! Stands on: vault_model, design_tree, part_versions, lock_table, long_locks. Must not know: devices, bytes of records, the
+//! Stands on: vault_model, design_tree, part_versions, check_outs, lock_table, long_locks. Must not know: devices, bytes of records, the
 //! history, tickets.
 //!
 //! Invariants, of `Book`:
 //! 1. The vault that its fields are is well formed.
 //! 2. Its line was weighed over its tree, or before the last places came to it.
 //! 3. There is one check-out for each long claim, by rising number, and its type says whether the claim is held.
-//! Of `Held`: 4. drafts stand by rising place, one of a part.
 //!
 //! Only tested: that memory is asked for only once a command needs it.
-//! Start at: book.rt, `act`: one private function a command. check_out.rt says why a draft can't be saved under a check-out
+//! Start at: book.rt, `act`: one private function a command. check_outs says why a draft can't be saved under a check-out
 //! that waits.
 #![tactic(auto)]
 
@@ -22,23 +21,17 @@ mod apply;
 mod asking;
 mod book;
 mod changes;
-mod check_out;
-mod check_outs;
-mod closing;
 mod copy;
 mod done;
 mod drafting;
 mod from_parts;
 mod giving;
+mod granting;
 mod holding;
 mod making;
-mod owners;
 mod parts;
-mod places;
-mod weights;
 
 pub use apply::ApplyError;
 pub use book::Book;
-pub use check_out::{CheckOut, Held, Waiting};
-pub use check_outs::AnyCheckOut;
+pub use check_outs::{AnyCheckOut, CheckOut, Held, Waiting};
 pub use from_parts::FromPartsError;

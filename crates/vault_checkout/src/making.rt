@@ -6,8 +6,8 @@ ghost use Rattle.vault_model.specs.Step.{permitted, admitted, make, nest};
 ghost use Rattle.vault_checkout.specs.Done.{Follows};
 
 use crate::book::Book;
-use crate::done::{Done, Stop};
-use crate::places::is_changed_by;
+use crate::done::Done;
+use check_outs::{Stop, is_changed_by};
 use std::alloc::Allocator;
 use vault_model::{ClaimId, Effect, Kind, Name, Path, PlaceId, Refusal, Reply, Session};
 

@@ -2,9 +2,9 @@
 use Rattle.std.proofs.Common.{◌≡◌, ℕ, List, Some, refl, subst}
 use Rattle.vault_store.specs.declared.front.Head.{Head}
 use Rattle.vault_store.specs.declared.front.Head.TheVariants.{Closed, Open, Damaged}
-use Rattle.vault_store.specs.Files.{HasHead, HasRightHead}
+use Rattle.vault_format.specs.Files.{HasHead, HasRightHead}
 use Rattle.vault_store.specs.Parts.{IsHead}
-use Rattle.vault_store.proofs.Rights.{head_right, head_open, not_both, one_generation}
+use Rattle.vault_format.proofs.Rights.{head_right, head_open, not_both, one_generation}
 use Rattle.vault_inspector.specs.declared.inspecting.Right.{Right}
 use Rattle.vault_inspector.specs.Found.{right_in}
 

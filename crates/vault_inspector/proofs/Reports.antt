@@ -8,10 +8,10 @@ use Rattle.vault_store.specs.declared.front.Head.{Head}
 use Rattle.vault_store.specs.declared.front.Head.TheVariants as heads
 use Rattle.vault_store.specs.declared.opening.File.TheVariants.{First, Second}
 use Rattle.vault_store.specs.declared.opening.OpenError.TheVariants as why
-use Rattle.vault_store.specs.declared.front.FileVersion.{FileVersion}
-use Rattle.vault_store.specs.Files.{frames_bytes, Holds, IsSpare, HasHead, HasRightHead}
+use Rattle.vault_format.specs.declared.version.FileVersion.{FileVersion}
+use Rattle.vault_format.specs.Files.{frames_bytes, Holds, IsSpare, HasHead, HasRightHead}
 use Rattle.vault_store.specs.Parts.{IsHead, IsWhole}
-use Rattle.vault_store.specs.Faults.{IsBodyFault}
+use Rattle.vault_format.specs.Faults.{IsBodyFault}
 use Rattle.vault_store.specs.Read.{AreReads}
 use Rattle.vault_store.proofs.Wholes.{whole_holds}
 use Rattle.vault_inspector.specs.declared.report.FileState.{FileState}

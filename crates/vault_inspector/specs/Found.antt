@@ -5,7 +5,7 @@ use Rattle.vault_store.specs.declared.front.Head.{Head}
 use Rattle.vault_store.specs.declared.front.Head.TheVariants as heads
 use Rattle.vault_store.specs.declared.body.BodyError.{BodyError}
 use Rattle.vault_store.specs.declared.body.BodyError.TheVariants as body_errors
-use Rattle.vault_store.specs.Faults.{IsBodyFault}
+use Rattle.vault_format.specs.Faults.{IsBodyFault}
 use Rattle.vault_store.specs.Parts.{IsWhole}
 use Rattle.vault_inspector.specs.declared.report.FileState.{FileState}
 use Rattle.vault_inspector.specs.declared.report.FileState.TheVariants.{Closed, Open, Older, Damaged}

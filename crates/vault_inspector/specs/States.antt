@@ -2,9 +2,9 @@
 use Rattle.std.specs.Prelude.{◌≡◌, ◌⊎◌, ℕ, ◌<◌, ◌≤◌, List, Option, None, Some}
 use Rattle.vault_model.specs.Vault.{Vault}
 use Rattle.vault_store.specs.declared.opening.OpenError.{OpenError}
-use Rattle.vault_store.specs.declared.front.FileVersion.{FileVersion}
-use Rattle.vault_store.specs.Files.{IsClosedFile, StandFor, HasHead, HasRightHead}
-use Rattle.vault_store.specs.Faults.{IsDamagedHead, IsBodyFault}
+use Rattle.vault_format.specs.declared.version.FileVersion.{FileVersion}
+use Rattle.vault_format.specs.Files.{IsClosedFile, StandFor, HasHead, HasRightHead}
+use Rattle.vault_format.specs.Faults.{IsDamagedHead, IsBodyFault}
 use Rattle.vault_store.specs.Opening.{IsFound, IsNotOpened}
 use Rattle.vault_store.specs.Parts.{IsWhole}
 use Rattle.vault_inspector.specs.declared.report.FileState.{FileState}

@@ -17,8 +17,8 @@ use Rattle.vault_model.specs.Tree.{path_of}
 use Rattle.vault_model.specs.Path.{path_text}
 use Rattle.vault_model.specs.Claims.{standing_of}
 use Rattle.vault_model.specs.Vault.{Vault}
-use Rattle.vault_store.specs.declared.front.FileVersion.{FileVersion}
-use Rattle.vault_store.specs.declared.front.FileVersion.TheVariants.{One, Two}
+use Rattle.vault_format.specs.declared.version.FileVersion.{FileVersion}
+use Rattle.vault_format.specs.declared.version.FileVersion.TheVariants.{One, Two}
 use Rattle.vault_inspector.specs.declared.report.FileState.{FileState}
 use Rattle.vault_inspector.specs.declared.report.FileState.TheVariants.{Closed, Open, Older, Damaged}
 use Rattle.vault_inspector.specs.Counts.{version_count, draft_count}

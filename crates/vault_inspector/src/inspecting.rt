@@ -1,7 +1,7 @@
 //! Reading two files for a report.
 ghost use Rattle.std.specs.Prelude.{◌≡◌, ◌⊎◌, IsTrue, IfOk, IfErr};
 ghost use Rattle.vault_store.specs.Calls.{HasCause, IsQuiet, AreQuiet};
-ghost use Rattle.vault_store.specs.Files.{HasHead};
+ghost use Rattle.vault_format.specs.Files.{HasHead};
 ghost use Rattle.vault_store.specs.Read.{AreReads};
 ghost use Rattle.vault_inspector.specs.Found.{IsActiveRead, active_among, beside, found, head_state, right_in};
 ghost use Rattle.vault_inspector.specs.States.{IsFirstState, IsSecondState, IsVaultFound};

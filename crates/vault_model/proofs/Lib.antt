@@ -27,3 +27,4 @@ pub mod Sends
 pub mod Ways
 pub mod CheckIns
 pub mod SecondSaves
+pub mod OneDrafts

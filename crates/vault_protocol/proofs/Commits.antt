@@ -9,7 +9,7 @@ use Rattle.vault_model.specs.Said.{Effect}
 use Rattle.vault_model.specs.Vault.{durable}
 use Rattle.vault_store.specs.declared.phase.Phase.{Phase}
 use Rattle.vault_store.specs.declared.phase.Phase.TheVariants.{Idle, Written, Bodied, Opening, Start, Closing, Writing, Filled, Ready, SnapOpening}
-use Rattle.vault_store.specs.Files.{header}
+use Rattle.vault_format.specs.Files.{header}
 use Rattle.vault_store.specs.Phases.{Waiting, Nothing, NoEffects, Effects, row, behind_piece, most_piece}
 use Rattle.group_commit.specs.Entries.{Kept}
 use Rattle.group_commit.specs.History.{effects}

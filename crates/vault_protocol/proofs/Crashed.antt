@@ -6,7 +6,7 @@ use Rattle.vault_device.specs.declared.history.Pick.{Pick}
 use Rattle.vault_journal.specs.Spelling.{records_of}
 use Rattle.vault_store.specs.declared.phase.Advanced.TheVariants.{Settled}
 use Rattle.vault_store.specs.declared.phase.Phase.{Phase}
-use Rattle.vault_store.specs.Files.{header, frame_extra}
+use Rattle.vault_format.specs.Files.{header, frame_extra}
 use Rattle.vault_store.specs.Phases.{is_idle, is_snapshot, is_opening}
 use Rattle.group_commit.specs.View.{View, opened_view, view_at}
 use Rattle.group_commit.specs.Seen.{VaultSeen, snapshot_length}

@@ -6,11 +6,11 @@ use Rattle.vault_device.specs.declared.history.Pick.{Pick}
 use Rattle.vault_device.specs.Memory.{content_of, picked}
 use Rattle.vault_device.specs.MemDevice.{MemDisk, disk_of}
 use Rattle.vault_journal.specs.Spelling.{records_of}
-use Rattle.vault_store.specs.declared.front.FileVersion.{FileVersion}
+use Rattle.vault_format.specs.declared.version.FileVersion.{FileVersion}
 use Rattle.vault_store.specs.declared.opening.File.{File}
 use Rattle.vault_store.specs.declared.opening.File.TheVariants.{First, Second}
 use Rattle.vault_store.specs.declared.phase.Advanced.TheVariants.{Settled}
-use Rattle.vault_store.specs.Files.{header, frame_extra, Reading, AreRead}
+use Rattle.vault_format.specs.Files.{header, frame_extra, Reading, AreRead}
 use Rattle.vault_store.specs.Phases.{is_snapshot, is_opening}
 use Rattle.vault_store.specs.Seen.{of_file, first_of, second_of, Keeps, settled_reading, sealed_reading, gate_at, gated, IsByGate, IsLeftWhile}
 use Rattle.vault_store.specs.Laws.{AreHonest, OneReading}

@@ -11,7 +11,7 @@ use Rattle.vault_journal.specs.Spelling.{record_of}
 use Rattle.vault_store.specs.declared.phase.Advanced.TheVariants.{Settled}
 use Rattle.vault_store.specs.declared.phase.Phase.{Phase}
 use Rattle.vault_store.specs.declared.phase.Phase.TheVariants.{Idle, Written, Bodied, Opening, Start, Closing, Writing, Filled, Ready, SnapOpening}
-use Rattle.vault_store.specs.Files.{header}
+use Rattle.vault_format.specs.Files.{header}
 use Rattle.vault_store.specs.Phases.{Waiting, Nothing, NoEffects, Effects, most_piece, is_idle, is_opening}
 use Rattle.vault_store.specs.Seen.{most_noted, last_tail}
 use Rattle.group_commit.specs.declared.mark.Mark.{Mark}

@@ -145,10 +145,22 @@ fn run<
     ensures grown { IfOk result (λ served. HasGrown vault.view served.0.view served.1) }
 {
     let workers = terms.workers;
-    let Ok((shared, shares)) = Shared::<D, S, T, A>::new(alloc, staged, told, vault, workers) else {
-        return Err(ServerError::NoMemory);
+    let (polls, bells) = match polls_of(rt, alloc, workers.min(MOST_THREADS)) {
+        Ok(made) => made,
+        Err(error) => {
+            drop(vault);
+            return Err(error);
+        }
     };
-    let (polls, bells) = polls_of(rt, alloc, workers.min(MOST_THREADS))?;
+    let (shared, shares) = match Shared::<D, S, T, A>::new(alloc, staged, told, vault, workers) {
+        Ok(made) => made,
+        Err(refused) => {
+            drop(refused);
+            drop(polls);
+            drop(bells);
+            return Err(ServerError::NoMemory);
+        }
+    };
     let seat = Mutex::new(Seat);
     let server = Server {
         rt,
@@ -158,10 +170,21 @@ fn run<
         bells: &bells,
         seat: &seat,
     };
-    let returned = server.serve_all(shares, polls, &listener, terms)?;
+    let returned = match server.serve_all(shares, polls, &listener, terms) {
+        Ok(returned) => returned,
+        Err(error) => {
+            drop(shared);
+            drop(bells);
+            return Err(error);
+        }
+    };
+    drop(bells);
     match gather(shared, returned) {
         Ok(served) => Ok(served),
-        Err(_) => Err(ServerError::NoMemory),
+        Err(refused) => {
+            drop(refused);
+            Err(ServerError::NoMemory)
+        }
     }
 }
 
@@ -244,10 +267,15 @@ impl<
         let count = shares.len();
         let mut returned = Vec::new(self.alloc);
         if returned.reserve(count).is_err() {
+            drop(polls);
+            drop(shares);
             return Err(ServerError::NoMemory);
         }
         let most_said = count.saturating_add(MOST_THREADS);
         let Ok((freed, free)) = bounded::<Option<usize>, A>(self.alloc, most_said) else {
+            drop(returned);
+            drop(polls);
+            drop(shares);
             return Err(ServerError::NoMemory);
         };
         let mut running = Running {
@@ -267,8 +295,14 @@ impl<
         join_all(self.rt, handles, &mut returned);
         self.shared.close(self.rt);
         let _ = run_flusher(self.rt, self.shared, self.gate);
-        accepted?;
-        Ok(returned)
+        drop(free);
+        match accepted {
+            Ok(()) => Ok(returned),
+            Err(error) => {
+                drop(returned);
+                Err(error)
+            }
+        }
     }
 
     // Starts a thread for each poll, with a like part of the shares, unless there is no memory for one.
@@ -284,19 +318,39 @@ impl<
         requires { Frees A.Allocator A.dealloc_token }
     {
         let mut shares = shares;
-        let mut threads = polls.len();
+        let threads = polls.len();
         for (number, poll) in polls.into_iter().enumerate() {
-            let own = part_of(self.alloc, &mut shares, threads)?;
-            let rounds = self.rounds_of(number, own.len(), freed, idle, &mut running.senders)?;
-            let Some(handle) = self.start(scope, rounds, poll, own) else {
-                return Err(ServerError::NoMemory);
-            };
-            if running.handles.push(handle).is_err() {
-                return Err(ServerError::NoMemory);
-            }
-            threads = threads.saturating_sub(1);
+            let own = part_of(self.alloc, &mut shares, threads.saturating_sub(number))?;
+            self.start_one(scope, number, poll, own, freed, idle, running)?;
         }
         Ok(())
+    }
+
+    // Starts the thread of this number, and keeps its handle.
+    fn start_one<'s, E>(
+        &'s self,
+        scope: &'s Scope<'s, E>,
+        number: usize,
+        poll: Poll,
+        own: Vec<Share<S, T>, A>,
+        freed: &Sender<Option<usize>, A>,
+        idle: Option<Duration>,
+        running: &mut Running<S, T, A>,
+    ) -> Result<(), ServerError>
+        requires { Frees A.Allocator A.dealloc_token }
+    {
+        let rounds = match self.rounds_of(number, own.len(), freed, idle, &mut running.senders) {
+            Ok(rounds) => rounds,
+            Err(error) => {
+                drop(poll);
+                drop(own);
+                return Err(error);
+            }
+        };
+        let Some(handle) = self.start(scope, rounds, poll, own) else {
+            return Err(ServerError::NoMemory);
+        };
+        running.handles.push(handle).or(Err(ServerError::NoMemory))
     }
 
     // Starts a thread, unless there is no memory for it.

@@ -8,8 +8,8 @@ use Rattle.std.proofs.KnownBytes.{Consumes-trans, Consumes-nil}
 use Rattle.std.proofs.lemmas.Grind.{flat_map-append}
 use Rattle.vault_lines.specs.Limits.{longest_line}
 use Rattle.vault_lines.specs.Grammar.{command_of}
-use Rattle.vault_sessions.specs.Inflow.{Inflow}
-use Rattle.vault_sessions.specs.Incoming.{CutsLine}
+use Rattle.line_inlet.specs.Inflow.{Inflow}
+use Rattle.line_inlet.specs.Incoming.{CutsLine}
 use Rattle.vault_sessions.specs.Serving.{Fits, IsAnswer, with_feed, HeardSoFar, HeardAll, EndsBy}
 use Rattle.vault_sessions.specs.declared.report.Out.{Out}
 use Rattle.vault_sessions.specs.declared.report.Ended.{Ended}

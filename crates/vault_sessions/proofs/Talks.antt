@@ -10,8 +10,8 @@ use Rattle.vault_lines.specs.Limits.{longest_line}
 use Rattle.vault_lines.specs.Grammar.{command_of}
 use Rattle.vault_model.specs.Said.{Command}
 use Rattle.group_commit.specs.Ticket.{TicketSeen, Told as ToldSeen}
-use Rattle.vault_sessions.specs.Inflow.{Inflow}
-use Rattle.vault_sessions.specs.Incoming.{most_bytes, IsOneLine, KeepsLine, CutsLine}
+use Rattle.line_inlet.specs.Inflow.{Inflow}
+use Rattle.line_inlet.specs.Incoming.{most_bytes, IsOneLine, KeepsLine, CutsLine}
 use Rattle.vault_sessions.specs.Serving.{Fits, FitsCommand, HeardSoFar, HeardAll, EndsBy, IsOf, SpeaksFor, session_of, session_after, text_of, texts_of, IsLeft, NoneLeft, CountsOne, CountsWith, lost_by, most_lines}
 use Rattle.vault_sessions.specs.Talking.{HeardPart, IsBetween, TellsLast, Stands, TellsOn, IsAnswered, IsReaders, IsHeard, FitsLine}
 use Rattle.vault_model.specs.declared.replies.Outside.{Outside}

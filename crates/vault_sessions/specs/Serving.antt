@@ -8,8 +8,8 @@ use Rattle.vault_model.specs.declared.replies.Outside.TheVariants as outsides
 use Rattle.vault_lines.specs.Limits.{longest_line}
 use Rattle.vault_lines.specs.Grammar.{command_of}
 use Rattle.vault_lines.specs.Texts.{reply_text, outside_text}
-use Rattle.vault_sessions.specs.Inflow.{Inflow}
-use Rattle.vault_sessions.specs.Incoming.{most_bytes, IsOneLine}
+use Rattle.line_inlet.specs.Inflow.{Inflow}
+use Rattle.line_inlet.specs.Incoming.{most_bytes, IsOneLine}
 use Rattle.vault_sessions.specs.declared.report.Out.{Out}
 use Rattle.vault_sessions.specs.declared.report.Out.TheVariants.{Told, Refused}
 use Rattle.vault_sessions.specs.declared.report.Ended.{Ended}

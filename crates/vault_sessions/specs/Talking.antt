@@ -3,8 +3,8 @@ use Rattle.std.specs.Prelude.{◌≡◌, ℕ, ◌+◌, ◌≤◌, ◌<◌, Bool,
 use Rattle.std.specs.Io.KnownBytes.{Appends}
 use Rattle.vault_lines.specs.Grammar.{command_of}
 use Rattle.group_commit.specs.Ticket.{TicketSeen}
-use Rattle.vault_sessions.specs.Inflow.{Inflow}
-use Rattle.vault_sessions.specs.Incoming.{most_bytes, IsOneLine, KeepsLine}
+use Rattle.line_inlet.specs.Inflow.{Inflow}
+use Rattle.line_inlet.specs.Incoming.{most_bytes, IsOneLine, KeepsLine}
 use Rattle.vault_sessions.specs.Serving.{most_lines, Fits, FitsCommand, HeardSoFar, HeardAll, SpeaksFor, session_of, text_of, texts_of, IsLeft, NoneLeft, WritesAll, QuitsBy, CountsWith, lost_by}
 use Rattle.vault_sessions.specs.declared.report.Out.{Out}
 use Rattle.vault_sessions.specs.declared.report.Out.TheVariants.{Refused}

@@ -2,9 +2,9 @@
 ghost use Rattle.std.specs.Prelude.{◌≡◌, ◌≤◌, [], IfOk, IfErr, vec_capacity, false};
 ghost use Rattle.vault_lines.specs.Limits.{longest_line};
 
-use crate::inlet::Inlet;
 use crate::report::Out;
 use crate::tally::{Share, Tally};
+use line_inlet::Inlet;
 use std::alloc::Allocator;
 use vault_lines::LONGEST_LINE;
 

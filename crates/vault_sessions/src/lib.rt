@@ -6,8 +6,8 @@
 //! workers sum to what the history grew by (`gather`). A pump, the start of a snapshot and the retiring of an entry are one act of the
 //! vault each, and count nothing (`Desk`). Of `run_flusher`, `Flusher`, `Shared::close` and `Worker::forget` safety alone is
 //! proved.
-//! Stands on: group_commit, flusher_pace, vault_lines, and what they stand on. Must not know: what a command does, what a file holds,
-//! what a socket is.
+//! Stands on: group_commit, flusher_pace, vault_lines, line_inlet, and what they stand on. Must not know: what a command does, what a
+//! file holds, what a socket is.
 //!
 //! Invariants:
 //! 1. `Desk`: the staged tally is the length of the history.
@@ -15,8 +15,7 @@
 //! 3. `Desk`: the opening share counts what there was before, and never changes.
 //! 4. `Shared`: each ledger has one part for each worker, and one for the opening.
 //! 5. `Share`: it has one part of each ledger, which counts what the share says.
-//! 6. `Inlet`: what waits lies within the chunk, and no more bytes and reads were taken than may be.
-//! 7. `Conversation`: the buffer has room for the longest line.
+//! 6. `Conversation`: the buffer has room for the longest line.
 //!
 //! Only tested: two sessions share a frame; a second one is answered while the first waits; the flusher waits for a client
 //! that comes back, goes on without one that doesn't, and stays until it is closed; it begins a snapshot where one is wanted,
@@ -31,7 +30,6 @@ mod conversation;
 mod desk;
 mod flusher;
 mod gate;
-mod inlet;
 mod report;
 mod serve;
 mod shared;
@@ -43,7 +41,6 @@ pub use conversation::Conversation;
 pub use desk::{Desk, Due};
 pub use flusher::{Flushed, Flusher, run_flusher};
 pub use gate::{Gate, OpenGate, Point};
-pub use inlet::{Inlet, NextByte, NextLine};
 pub use report::{Ended, Out, Report};
 pub use serve::serve_one;
 pub use shared::{Shared, gather};

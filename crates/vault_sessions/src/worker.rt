@@ -12,13 +12,13 @@ ghost use Rattle.vault_model.specs.declared.commands.Command.TheVariants.{Leave}
 
 use crate::conversation::Conversation;
 use crate::gate::{Gate, Point};
-use crate::inlet::{NextByte, NextLine};
 use crate::report::{Ended, Out};
 use crate::shared::Shared;
 use crate::tally::{Share, Tally};
 use crate::turn::{Telling, Turn, is_left, session_after, text_of_out};
 use flusher_pace::may_change;
 use group_commit::{Redeemed, Ticket};
+use line_inlet::{NextByte, NextLine};
 use std::alloc::Allocator;
 use std::io::Read;
 use std::sync::Wait;

@@ -13,7 +13,7 @@ use Rattle.vault_store.specs.declared.phase.Phase.{Phase}
 use Rattle.vault_store.specs.declared.phase.Phase.TheVariants.{Idle, Written, Bodied, Opening, Start, Closing, Writing, Filled, Ready, SnapOpening}
 use Rattle.vault_store.specs.declared.phase.Advanced.{Advanced}
 use Rattle.vault_store.specs.declared.phase.Advanced.TheVariants as answers
-use Rattle.vault_store.specs.Files.{most_records, frame_bytes, EndsBehind, IsSpare}
+use Rattle.vault_format.specs.Files.{most_records, frame_bytes, EndsBehind, IsSpare}
 use Rattle.vault_store.specs.Phases.{is_idle, is_snapshot, may_open}
 use Rattle.vault_store.specs.State.{StoreState}
 use Rattle.vault_store.specs.OnDisk.{IsEither, IsOnDisk}
@@ -26,7 +26,7 @@ use Rattle.vault_store.proofs.Kept.{IsMove, phase_kept, sealed_kept, settled_kep
 use Rattle.vault_store.proofs.Left.{IsLeftHere, left, inside_front, inside_either}
 use Rattle.vault_store.proofs.Placed.{inside_exchanged, calls_placed, moments_placed}
 use Rattle.vault_store.proofs.Rests.{still_numbers}
-use Rattle.vault_store.specs.Snapshot.{current_version}
+use Rattle.vault_format.specs.Snapshot.{current_version}
 
 -- a state in a phase is the state with that phase
 pub at_phase : (s : StoreState) (p : Phase) → s.phase ≡ p → s.broken ≡ false → record s { phase = p; broken = false } ≡ s

@@ -9,12 +9,12 @@ use Rattle.vault_journal.specs.Spelling.{in_four, in_eight}
 use Rattle.vault_journal.specs.Gate.{IsClosed}
 use Rattle.vault_store.specs.declared.phase.Phase.{Phase}
 use Rattle.vault_store.specs.declared.phase.Phase.TheVariants.{Idle, Written, Bodied, Opening, Start, Closing, Writing, Filled, Ready, SnapOpening}
-use Rattle.vault_store.specs.Snapshot.{current_version, snapshot_of, HasSnapshot}
-use Rattle.vault_store.specs.Files.{header, mark, version_number, current_head, snapshot_bytes, behind_gate, IsFront, EndsBehind, IsSpare}
+use Rattle.vault_format.specs.Snapshot.{current_version, snapshot_of, HasSnapshot}
+use Rattle.vault_format.specs.Files.{header, mark, version_number, current_head, snapshot_bytes, behind_gate, IsFront, EndsBehind, IsSpare}
 use Rattle.vault_store.specs.Phases.{is_snapshot}
 use Rattle.vault_store.specs.Spares.{ClosedMayStand, HasFirst, IsAside, IsSpareIn, LeavesSpareIn, IsSpareOn}
 use Rattle.vault_store.proofs.Fronts.{ends_before}
-use Rattle.vault_store.proofs.Spelled.{now_spelled}
+use Rattle.vault_format.proofs.Spelled.{now_spelled}
 
 -- a closed file is a spare, and so is what a torn write leaves of a spare without a closed head gate
 pub closed_spare : (g : ℕ) → ClosedMayStand (IsSpare g)

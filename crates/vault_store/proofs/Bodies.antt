@@ -10,14 +10,14 @@ use Rattle.vault_model.specs.Vault.{Vault}
 use Rattle.vault_device.specs.Disk.{Disk, IsOneCall, IsRead}
 use Rattle.vault_journal.specs.Spelling.{in_four}
 use Rattle.vault_store.specs.declared.body.ReadError.{ReadError}
-use Rattle.vault_store.specs.declared.front.FileVersion.{FileVersion}
-use Rattle.vault_store.specs.Snapshot.{spelling_of, HasSpelling}
+use Rattle.vault_format.specs.declared.version.FileVersion.{FileVersion}
+use Rattle.vault_format.specs.Snapshot.{spelling_of, HasSpelling}
 use Rattle.vault_store.specs.Calls.{IsQuiet}
-use Rattle.vault_store.specs.Files.{header, head_length, head_of, snapshot_bytes, frames_bytes, Holds, HasHead, HasRightHead}
-use Rattle.vault_store.specs.Faults.{version_in, snapshot_length, snapshot_in, IsVersion, IsNoSnapshot, IsBodyFault}
+use Rattle.vault_format.specs.Files.{header, head_length, head_of, snapshot_bytes, frames_bytes, Holds, HasHead, HasRightHead}
+use Rattle.vault_format.specs.Faults.{version_in, snapshot_length, snapshot_in, IsVersion, IsNoSnapshot, IsBodyFault}
 use Rattle.vault_store.specs.Parts.{IsWhole}
 use Rattle.vault_store.specs.Read.{AreReads, IsWhy, IsBaseRead, IsBaseFault, IsFrameWrong, AreAllRead, AreContents, IsFaultBehindHead}
-use Rattle.vault_store.proofs.Rights.{version_told, told_once}
+use Rattle.vault_format.proofs.Rights.{version_told, told_once}
 use Rattle.vault_store.proofs.Wholes.{whole_holds}
 use Rattle.vault_store.proofs.Behind.{honest_behind, and_reads, why_behind, passed_on}
 

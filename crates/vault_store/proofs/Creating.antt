@@ -6,7 +6,7 @@ use Rattle.vault_model.specs.Vault.{new_vault}
 use Rattle.vault_device.specs.Disk.{Disk, IsLawful, IsTorn, IsTornImage, LeavesOnly, LeavesSince, overwritten}
 use Rattle.vault_device.proofs.Moments.{and_then, stands_now}
 use Rattle.vault_device.proofs.Torn.{torn_byte, torn_none}
-use Rattle.vault_store.specs.Files.{IsClosedFile, StandFor}
+use Rattle.vault_format.specs.Files.{IsClosedFile, StandFor}
 use Rattle.vault_store.specs.OnDisk.{IsSettled}
 use Rattle.vault_store.specs.Create.{new_front, new_file, IsClosedOrNew, StopsInCreation}
 use Rattle.vault_store.proofs.New.{new_reading, new_is_front, new_ends}

@@ -3,7 +3,7 @@ use Rattle.std.proofs.Common.{◌≡◌, ℕ, ◌+◌, List, [], ◌∷◌, ◌+
 use Rattle.std.proofs.lemmas.List.{get_or-set_same}
 use Rattle.vault_device.specs.Disk.{Disk, IsLawful, IsSync, IsWrite, LeavesOnly}
 use Rattle.vault_journal.specs.Gate.{body_of, IsClosed, SameBut, StaysClosed, IsBehind, IsOpening}
-use Rattle.vault_store.specs.Files.{frame_bytes, EndsBehind}
+use Rattle.vault_format.specs.Files.{frame_bytes, EndsBehind}
 use Rattle.vault_store.specs.OnDisk.{IsSettled, IsIdle, IsWritten, IsBodied, IsGated, IsEither}
 use Rattle.vault_store.proofs.Fronts.{ends_front, body_written, either_but}
 

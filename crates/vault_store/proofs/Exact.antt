@@ -9,19 +9,19 @@ use Rattle.vault_model.specs.Vault.{Vault}
 use Rattle.vault_model.proofs.Lists.{and_then_some}
 use Rattle.vault_journal.specs.Spelling.{in_four, records_of}
 use Rattle.vault_journal.proofs.OneSpelling.{one_row}
-use Rattle.vault_store.specs.declared.front.FileVersion.{FileVersion}
-use Rattle.vault_store.specs.Snapshot.{spelling_of, HasSpelling}
-use Rattle.vault_store.specs.Files.{header, head_of, snapshot_bytes, frame_of, frames_bytes, IsFrame, applied, after_frames, Reading, Holds, IsSpare, HasHead}
-use Rattle.vault_store.specs.Faults.{snapshot_length, snapshot_in, IsSnapshotFault, IsFrameFault, IsBodyFault}
+use Rattle.vault_format.specs.declared.version.FileVersion.{FileVersion}
+use Rattle.vault_format.specs.Snapshot.{spelling_of, HasSpelling}
+use Rattle.vault_format.specs.Files.{header, head_of, snapshot_bytes, frame_of, frames_bytes, IsFrame, applied, after_frames, Reading, Holds, IsSpare, HasHead}
+use Rattle.vault_format.specs.Faults.{snapshot_length, snapshot_in, IsSnapshotFault, IsFrameFault, IsBodyFault}
 use Rattle.vault_store.specs.declared.opening.File.TheVariants.{First, Second}
 use Rattle.vault_store.specs.declared.opening.OpenError.{OpenError}
 use Rattle.vault_store.specs.declared.opening.OpenError.TheVariants.{NoVault, Damaged, Device, NoMemory}
 use Rattle.vault_store.specs.Opening.{IsNotOpened, IsFound}
-use Rattle.vault_store.specs.Laws.{OneSpelling, AllAreSpelled, OneReading, OneVault, NothingIsWrong}
-use Rattle.vault_store.proofs.Short.{spelling_short}
-use Rattle.vault_store.proofs.OneReading.{same_reading, same_version, snapshots, holds_whole, one_number, same_front, frames_split}
-use Rattle.vault_store.proofs.Rights.{head_right, head_open, not_both, one_told, one_generation, spare_older, spare_right, holds_head, one_base}
-use Rattle.vault_store.proofs.Spelled.{snapshot_tells, now_spelled}
+use Rattle.vault_store.specs.Laws.{OneReading, OneVault, NothingIsWrong}
+use Rattle.vault_format.proofs.Short.{spelling_short}
+use Rattle.vault_format.proofs.OneReading.{same_reading, same_version, snapshots, holds_whole, one_number, same_front, frames_split}
+use Rattle.vault_format.proofs.Rights.{head_right, head_open, not_both, one_told, one_generation, spare_older, spare_right, holds_head, one_base}
+use Rattle.vault_format.proofs.Spelled.{snapshot_tells}
 
 -- a frame stands here, with a byte behind it, and its effects may be made
 pub record HasFrame (v : Vault) (bytes : List ℕ) : Type 0 where
@@ -139,12 +139,6 @@ one_reading first second r q (inr (one, spare)) (inl (other, spare_too)) = absur
 
 pub one_vault : OneVault
 one_vault first second v w one two = sym one.2 ∙ ap (λ (r : Reading). r.vault) (one_reading first second one.0 two.0 one.1 two.1) ∙ two.2
-
-pub one_spelling : OneSpelling
-one_spelling version v w has_v has_w same = snapshot_tells version v w has_v has_w same
-
-pub all_spelled : AllAreSpelled
-all_spelled v has = now_spelled v has
 
 -- nor with that of a file with such a head
 wrong_body : (x : List ℕ) (r : Reading) → Holds x r → (at : ℕ) (v : FileVersion) (g : ℕ) → HasHead v g x → IsBodyFault v x at → ⊥

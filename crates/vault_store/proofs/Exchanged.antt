@@ -12,8 +12,8 @@ use Rattle.vault_store.specs.declared.phase.Phase.{Phase}
 use Rattle.vault_store.specs.declared.phase.Phase.TheVariants.{Idle, Start, SnapOpening}
 use Rattle.vault_store.specs.declared.phase.Advanced.{Advanced}
 use Rattle.vault_store.specs.declared.phase.Advanced.TheVariants as answers
-use Rattle.vault_store.specs.Snapshot.{current_version, snapshot_of, HasSnapshot}
-use Rattle.vault_store.specs.Files.{mark, version_number, current_head, snapshot_bytes, behind_gate, applied, IsFront, IsSpare, HasHead}
+use Rattle.vault_format.specs.Snapshot.{current_version, snapshot_of, HasSnapshot}
+use Rattle.vault_format.specs.Files.{mark, version_number, current_head, snapshot_bytes, behind_gate, applied, IsFront, IsSpare, HasHead}
 use Rattle.vault_store.specs.Phases.{is_idle, is_snapshot}
 use Rattle.vault_store.specs.State.{StoreState, started}
 use Rattle.vault_store.specs.OnDisk.{IsIdle}
@@ -23,13 +23,13 @@ use Rattle.vault_store.specs.Sound.{IsReached, IsRest, IsActive, IsSoundStore}
 use Rattle.vault_store.specs.Step.{IsAtMostOneCall, IsStep, MayBeLeft, IsAdvance}
 use Rattle.vault_store.proofs.Advances.{moved_on}
 use Rattle.vault_store.proofs.Asides.{torn_spare, renewed_front, length-behind}
-use Rattle.vault_store.proofs.Named.{spelled_stays}
+use Rattle.vault_format.proofs.Named.{spelled_stays}
 use Rattle.vault_store.proofs.Placed.{calls_placed}
 use Rattle.vault_store.proofs.Renewals.{to_active}
 use Rattle.vault_store.proofs.Rests.{rest_kept}
 use Rattle.vault_store.proofs.Renewed.{spare_called, leaves_renewed, snap_phase, snap_keeps}
-use Rattle.vault_store.proofs.Rights.{holds_head, head_open}
-use Rattle.vault_store.proofs.Short.{spelled_short}
+use Rattle.vault_format.proofs.Rights.{holds_head, head_open}
+use Rattle.vault_format.proofs.Short.{spelled_short}
 
 -- the same files, the other way round
 exchanged : {D : Type 0} (which : File) (one two : D) → of_file (other which) one two ≡ of_file which two one

@@ -4,7 +4,7 @@ use Rattle.std.proofs.lemmas.List.{length-take-le, get_or-take, take_at, drop_at
 use Rattle.vault_device.specs.Disk.{overwritten}
 use Rattle.vault_journal.specs.Spelling.{in_four}
 use Rattle.vault_journal.specs.Gate.{body_of, SameBut}
-use Rattle.vault_store.specs.Files.{frame_bytes, EndsBehind}
+use Rattle.vault_format.specs.Files.{frame_bytes, EndsBehind}
 use Rattle.vault_store.specs.OnDisk.{HasBody, IsEither}
 
 -- what has the same bytes up to the gate, and with it, ends behind the same front

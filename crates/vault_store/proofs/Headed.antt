@@ -3,8 +3,8 @@ use Rattle.std.proofs.Common.{◌≡◌, Bool, true, false, inl, inr, ℕ, ◌�
 use Rattle.std.proofs.lemmas.List.{drop-take, take-take, get_or-take, length-take-le}
 use Rattle.vault_store.specs.declared.front.Head.{Head}
 use Rattle.vault_store.specs.declared.front.Head.TheVariants.{Closed, Open, Damaged}
-use Rattle.vault_store.specs.Files.{header, head_length}
-use Rattle.vault_store.specs.Faults.{mark_in, version_in, generation_in, IsHeadFault}
+use Rattle.vault_format.specs.Files.{header, head_length}
+use Rattle.vault_format.specs.Faults.{mark_in, version_in, generation_in, IsHeadFault}
 use Rattle.vault_store.specs.Parts.{IsHead}
 
 pub not_both : (b : Bool) → b ≡ true → b ≡ false → ⊥

@@ -8,15 +8,15 @@ use Rattle.vault_device.specs.Disk.{Disk}
 use Rattle.vault_journal.specs.Spelling.{record_of, records_of, HasRecord}
 use Rattle.vault_store.specs.declared.phase.Phase.{Phase}
 use Rattle.vault_store.specs.declared.phase.Phase.TheVariants.{Idle, Written, Opening}
-use Rattle.vault_store.specs.Files.{most_records, frame_bytes, IsFrame, IsSpare, applied}
+use Rattle.vault_format.specs.Files.{most_records, frame_bytes, IsFrame, IsSpare, applied}
 use Rattle.vault_store.specs.Phases.{is_idle, is_snapshot}
 use Rattle.vault_store.specs.State.{StoreState, with_effect}
 use Rattle.vault_store.specs.OnDisk.{IsOnDisk}
 use Rattle.vault_store.specs.Seen.{StoreSeen, Keeps, settled_reading}
 use Rattle.vault_store.proofs.Asides.{still_aside}
-use Rattle.vault_store.proofs.Named.{spelled_stays}
+use Rattle.vault_format.proofs.Named.{spelled_stays}
 use Rattle.vault_store.proofs.Rests.{rest_kept}
-use Rattle.vault_store.proofs.Frames.{applied_more, records_more, longer_front}
+use Rattle.vault_format.proofs.Frames.{applied_more, records_more, longer_front}
 
 pub note_kept : {D : Type 0} (disk : D → Disk) (store : StoreSeen D) (s : StoreState) (effect : Effect) (next : Vault) → HasRecord effect → Keeps disk store s → after s.noted effect ≡ Some next
     → Keeps disk (record store { buffer = store.buffer ++ record_of effect }) (with_effect s effect next)

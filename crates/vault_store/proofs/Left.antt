@@ -5,8 +5,8 @@ use Rattle.vault_device.specs.Disk.{Disk}
 use Rattle.vault_journal.specs.Spelling.{records_of}
 use Rattle.vault_store.specs.declared.phase.Phase.{Phase}
 use Rattle.vault_store.specs.declared.phase.Phase.TheVariants.{Idle, Written, Bodied, Opening, Start, Closing, Writing, Filled, Ready, SnapOpening}
-use Rattle.vault_store.specs.Snapshot.{current_version}
-use Rattle.vault_store.specs.Files.{frame_bytes, current_head, snapshot_bytes, Reading, IsFront, EndsBehind, IsSpare, AreRead}
+use Rattle.vault_format.specs.Snapshot.{current_version}
+use Rattle.vault_format.specs.Files.{frame_bytes, current_head, snapshot_bytes, Reading, IsFront, EndsBehind, IsSpare, AreRead}
 use Rattle.vault_store.specs.Phases.{is_idle, is_snapshot, is_opening, may_open}
 use Rattle.vault_store.specs.State.{StoreState}
 use Rattle.vault_store.specs.OnDisk.{IsEither, LeavesInPhase, IsOnDisk}
@@ -14,9 +14,9 @@ use Rattle.vault_store.specs.Spares.{HasFirst, LeavesSpareIn}
 use Rattle.vault_store.specs.Seen.{StoreSeen, Keeps, IsRenewal, settled_reading, counted_reading, sealed_reading, gate_at, gated, IsByGate, IsLeftWhile, IsLeftInside}
 use Rattle.vault_store.specs.Laws.{AreHonest, CrashLeavesWhatIsKept, IsOneGate, OneGateIsOpened}
 use Rattle.vault_store.proofs.Asides.{closed_spare, spare_leaves, file_opened, renewed_front}
-use Rattle.vault_store.proofs.Frames.{longer_front}
+use Rattle.vault_format.proofs.Frames.{longer_front}
 use Rattle.vault_store.proofs.Placed.{both_honest, left_placed}
-use Rattle.vault_store.proofs.Rights.{holds_head}
+use Rattle.vault_format.proofs.Rights.{holds_head}
 
 -- a file that ends behind the front is read as that, beside a spare
 pub reads_front : (front x y : List ℕ) (r : Reading) → IsFront front r → EndsBehind front x → IsSpare r.generation y → AreRead x y r

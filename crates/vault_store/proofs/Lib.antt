@@ -2,8 +2,6 @@ mod Fronts
 mod Disks
 pub mod Busy
 mod Renewals
-mod Frames
-mod Named
 pub mod Asides
 mod Rests
 mod Kept
@@ -13,21 +11,12 @@ mod Sounds
 mod Advances
 mod Failed
 mod Renewed
-mod Short
 mod Exchanged
-mod Sized
 mod New
 pub mod Creating
-pub mod OneReading
-mod SpelledLists
-mod KindBytes
-mod SpelledPlaces
-mod SpelledClaims
-mod Spelled
-pub mod Rights
+mod Sized
 mod Exact
 mod OneFault
-mod Heads
 mod Headed
 mod Pieces
 mod Made
@@ -38,15 +27,5 @@ pub mod Wholes
 mod Bodies
 mod Opened
 mod HandedOn
-mod Refusals
-mod ListsRead
-mod TreeFronts
-mod ShelfFronts
-mod VersionsRead
-mod PlaceRead
-mod PlacesRead
-mod DraftsRead
-mod ClaimsRead
 mod SnapshotRead
 pub mod Sends
-mod Adding

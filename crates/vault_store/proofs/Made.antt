@@ -6,7 +6,7 @@ use Rattle.vault_journal.specs.Rows.{AreRecordsOf}
 use Rattle.vault_journal.proofs.OneSpelling.{one_row}
 use Rattle.vault_checkout.specs.declared.apply.ApplyError.{ApplyError}
 use Rattle.vault_checkout.specs.declared.apply.ApplyError.TheVariants.{NotApplicable, NoMemory}
-use Rattle.vault_store.specs.Files.{applied}
+use Rattle.vault_format.specs.Files.{applied}
 use Rattle.vault_store.specs.Read.{AreNotMade}
 
 pub none_made : (bytes : List ℕ) (old : Vault) (effects : List Effect) (result : Result (Unit {0}) ApplyError) → AreRecordsOf effects bytes → (result ≡ Err NotApplicable → applied old effects ≡ None) → IfErr result (λ (why : ApplyError). AreNotMade bytes old why)

@@ -10,8 +10,8 @@ use Rattle.vault_model.proofs.Kept.{kept_new}
 use Rattle.vault_device.specs.Disk.{Disk, IsTorn}
 use Rattle.vault_store.specs.declared.opening.File.TheVariants.{First}
 use Rattle.vault_store.specs.declared.phase.Phase.TheVariants.{Idle}
-use Rattle.vault_store.specs.Snapshot.{current_version, HasSnapshot, designer_of}
-use Rattle.vault_store.specs.Files.{Reading, IsFront, EndsBehind, IsSpare}
+use Rattle.vault_format.specs.Snapshot.{current_version, HasSnapshot, designer_of}
+use Rattle.vault_format.specs.Files.{Reading, IsFront, EndsBehind, IsSpare}
 use Rattle.vault_store.specs.OnDisk.{IsIdle}
 use Rattle.vault_store.specs.Spares.{IsAside}
 use Rattle.vault_store.specs.State.{at_rest}
@@ -19,7 +19,7 @@ use Rattle.vault_store.specs.Seen.{StoreSeen, Keeps}
 use Rattle.vault_store.specs.Sound.{IsSoundStore}
 use Rattle.vault_store.specs.Create.{new_front, new_file, IsFilled}
 use Rattle.vault_store.proofs.Rests.{rest_kept}
-use Rattle.vault_store.proofs.Spelled.{now_spelled}
+use Rattle.vault_format.proofs.Spelled.{now_spelled}
 
 pub new_snapshot : HasSnapshot new_vault
 new_snapshot = record { well_formed = kept_new; durable = refl; places = All-nil (λ (place : Place). IsName place.name); owners = All-nil (λ (claim : Claim). IsName (designer_of claim.owner)) }

@@ -10,15 +10,15 @@ use Rattle.vault_journal.specs.Spelling.{in_four, records_of}
 use Rattle.vault_journal.proofs.OneSpelling.{one_row}
 use Rattle.vault_store.specs.declared.opening.File.TheVariants.{First, Second}
 use Rattle.vault_store.specs.declared.opening.OpenError.TheVariants.{NoVault, Damaged, Device, NoMemory}
-use Rattle.vault_store.specs.declared.front.FileVersion.{FileVersion}
-use Rattle.vault_store.specs.Snapshot.{spelling_of}
-use Rattle.vault_store.specs.Files.{header, head_of, snapshot_bytes, frame_of, frames_bytes, IsFrame, applied, after_frames, IsClosedFile, IsSpare, HasHead}
-use Rattle.vault_store.specs.Faults.{IsHeadFault, IsDamagedHead, IsSnapshotFault, IsFrameFault, IsBodyFault}
+use Rattle.vault_format.specs.declared.version.FileVersion.{FileVersion}
+use Rattle.vault_format.specs.Snapshot.{spelling_of}
+use Rattle.vault_format.specs.Files.{header, head_of, snapshot_bytes, frame_of, frames_bytes, IsFrame, applied, after_frames, IsClosedFile, IsSpare, HasHead}
+use Rattle.vault_format.specs.Faults.{IsHeadFault, IsDamagedHead, IsSnapshotFault, IsFrameFault, IsBodyFault}
 use Rattle.vault_store.specs.Opening.{HasNoHeadFault, IsActiveFault, IsFirstFault, IsSecondFault}
 use Rattle.vault_store.specs.Laws.{OneFault}
-use Rattle.vault_store.proofs.OneReading.{one_number, same_front, frames_split}
+use Rattle.vault_format.proofs.OneReading.{one_number, same_front, frames_split}
 use Rattle.vault_store.proofs.Exact.{HasFrame, here, fault_whole, snapshot_right}
-use Rattle.vault_store.proofs.Rights.{head_right, head_open, not_both, one_told, one_generation, spare_older, spare_right, one_base}
+use Rattle.vault_format.proofs.Rights.{head_right, head_open, not_both, one_told, one_generation, spare_older, spare_right, one_base}
 
 one_head_fault : (x : List ℕ) (a b : ℕ) → IsHeadFault x a → IsHeadFault x b → a ≡ b
 one_head_fault x a b (inl one) (inl other) = one.0 ∙ sym other.0

@@ -13,9 +13,9 @@ use Rattle.vault_store.specs.declared.phase.Phase.TheVariants.{Idle}
 use Rattle.vault_store.specs.declared.opening.File.{File}
 use Rattle.vault_store.specs.declared.opening.File.TheVariants.{First, Second}
 use Rattle.vault_store.specs.Calls.{IsQuiet, AreQuiet}
-use Rattle.vault_store.specs.declared.front.FileVersion.{FileVersion}
-use Rattle.vault_store.specs.Files.{Reading, Holds, EndsBehind, IsSpare, AreRead, HasHead, HasRightHead}
-use Rattle.vault_store.specs.Faults.{IsDamagedHead, IsBodyFault}
+use Rattle.vault_format.specs.declared.version.FileVersion.{FileVersion}
+use Rattle.vault_format.specs.Files.{Reading, Holds, EndsBehind, IsSpare, AreRead, HasHead, HasRightHead}
+use Rattle.vault_format.specs.Faults.{IsDamagedHead, IsBodyFault}
 use Rattle.vault_store.specs.OnDisk.{IsSettled}
 use Rattle.vault_store.specs.Spares.{IsAside}
 use Rattle.vault_store.specs.Opening.{HasNoHeadFault, IsNewer, IsNotOpened, IsHandedOn, AreSettled}
@@ -26,7 +26,7 @@ use Rattle.vault_store.specs.Sound.{IsSoundStore}
 use Rattle.vault_store.proofs.Asides.{torn_spare}
 use Rattle.vault_store.proofs.Behind.{quiet_then}
 use Rattle.vault_store.proofs.Bodies.{holds_read}
-use Rattle.vault_store.proofs.Named.{frames_spelled}
+use Rattle.vault_format.proofs.Named.{frames_spelled}
 use Rattle.vault_store.proofs.HandedOn.{handed_behind, settled_reads}
 use Rattle.vault_store.proofs.Placed.{both_honest}
 use Rattle.vault_store.proofs.Rests.{rest_kept}

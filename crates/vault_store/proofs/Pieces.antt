@@ -9,9 +9,9 @@ use Rattle.vault_model.specs.Said.{Effect}
 use Rattle.vault_journal.specs.Spelling.{in_four, record_of, records_of}
 use Rattle.vault_journal.proofs.Sizes.{record_some}
 use Rattle.std.proofs.lemmas.List.Concat.{flat_map-cons}
-use Rattle.vault_store.specs.Files.{most_records, frame_extra, frame_bytes, frame_of, IsFrame}
+use Rattle.vault_format.specs.Files.{most_records, frame_extra, frame_bytes, frame_of, IsFrame}
 use Rattle.vault_store.specs.Read.{BeginsWithNoFrame}
-use Rattle.vault_store.proofs.Frames.{length-frame}
+use Rattle.vault_format.proofs.Frames.{length-frame}
 
 records_some : (effects : List Effect) → effects ≢ [] → 1 ≤ length (records_of effects)
 records_some [] some = absurd (some refl)

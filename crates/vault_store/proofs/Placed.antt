@@ -3,7 +3,7 @@ use Rattle.std.proofs.Common.{inl, inr, IsTrue, Bool, true, false, ℕ, List, ar
 use Rattle.vault_device.specs.Disk.{Disk}
 use Rattle.vault_store.specs.declared.opening.File.{File}
 use Rattle.vault_store.specs.declared.opening.File.TheVariants.{First, Second}
-use Rattle.vault_store.specs.Files.{Reading, AreRead}
+use Rattle.vault_format.specs.Files.{Reading, AreRead}
 use Rattle.vault_store.specs.State.{StoreState}
 use Rattle.vault_store.specs.Seen.{StoreSeen, of_file, IsLeftWhile, IsLeftInside}
 use Rattle.vault_store.specs.Step.{IsAtMostOneCall, MayBeLeft}

@@ -9,7 +9,7 @@ use Rattle.vault_device.proofs.Torn.{length-overwritten}
 use Rattle.vault_journal.specs.Gate.{IsClosed, SameBut, IsOpening}
 use Rattle.vault_store.specs.declared.phase.Phase.{Phase}
 use Rattle.vault_store.specs.declared.phase.Phase.TheVariants.{Idle, Written, Bodied, Opening, Start, Closing, Writing, Filled, Ready, SnapOpening}
-use Rattle.vault_store.specs.Files.{EndsBehind}
+use Rattle.vault_format.specs.Files.{EndsBehind}
 use Rattle.vault_store.specs.Phases.{is_snapshot, most_piece, piece_size, behind_piece}
 use Rattle.vault_store.specs.OnDisk.{IsIdle, IsOnDisk}
 use Rattle.vault_store.specs.Spares.{HasFirst, IsAside, IsShutting, IsFilling, IsReady, IsRenewing, IsSpareIn, LeavesSpareIn}

@@ -11,8 +11,8 @@ use Rattle.vault_store.specs.declared.phase.Phase.{Phase}
 use Rattle.vault_store.specs.declared.phase.Phase.TheVariants.{Idle, Written, Bodied, Opening, Start, Closing, Writing, Filled, Ready, SnapOpening}
 use Rattle.vault_store.specs.declared.phase.Advanced.{Advanced}
 use Rattle.vault_store.specs.declared.phase.Advanced.TheVariants as answers
-use Rattle.vault_store.specs.Snapshot.{snapshot_of}
-use Rattle.vault_store.specs.Files.{header, IsSpare}
+use Rattle.vault_format.specs.Snapshot.{snapshot_of}
+use Rattle.vault_format.specs.Files.{header, IsSpare}
 use Rattle.vault_store.specs.Phases.{is_idle, is_snapshot, may_open, most_piece, piece_size, behind_piece}
 use Rattle.vault_store.specs.State.{StoreState}
 use Rattle.vault_store.specs.Spares.{ClosedMayStand, HasFirst, IsAside, IsFilling, IsSpareIn, IsSpareOn}

@@ -9,8 +9,8 @@ use Rattle.vault_journal.specs.Rows.{AreRecordsOf}
 use Rattle.vault_store.specs.declared.phase.Phase.{Phase}
 use Rattle.vault_store.specs.declared.phase.Phase.TheVariants.{Idle}
 use Rattle.vault_store.specs.declared.phase.Advanced.{Advanced}
-use Rattle.vault_store.specs.Snapshot.{current_version, HasSnapshot}
-use Rattle.vault_store.specs.Files.{applied}
+use Rattle.vault_format.specs.Snapshot.{current_version, HasSnapshot}
+use Rattle.vault_format.specs.Files.{applied}
 use Rattle.vault_store.specs.Phases.{is_idle}
 use Rattle.vault_store.specs.State.{StoreState}
 use Rattle.vault_store.specs.Seen.{StoreSeen, Keeps, AreFiles, other, settled_reading}

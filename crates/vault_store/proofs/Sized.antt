@@ -2,8 +2,8 @@
 use Rattle.std.proofs.Common.{◌≡◌, ℕ, ◌+◌, List, [], ◌∷◌, ◌++◌, length, ◌∙◌, ap, arith, length-append}
 use Rattle.vault_device.specs.Disk.{overwritten}
 use Rattle.vault_journal.specs.Spelling.{in_four, in_eight}
-use Rattle.vault_store.specs.Snapshot.{current_version}
-use Rattle.vault_store.specs.Files.{mark, version_number}
+use Rattle.vault_format.specs.Snapshot.{current_version}
+use Rattle.vault_format.specs.Files.{mark, version_number}
 
 module _ (generation : ℕ) (none front items snapshot : List ℕ) (empty : none ≡ []) (is : front ≡ none ++ (mark ++ in_four (version_number current_version) ++ in_eight generation ++ in_four 0)) (behind : items ≡ front ++ snapshot) where
   whole : items ≡ (mark ++ in_four (version_number current_version) ++ in_eight generation ++ in_four 0) ++ snapshot

@@ -13,22 +13,22 @@ use Rattle.vault_model.specs.Name.{IsName}
 use Rattle.vault_model.specs.Shelf.{Draft}
 use Rattle.vault_model.specs.Drafts.{SavedDraft, drafts_of}
 use Rattle.vault_model.specs.Vault.{Vault}
-use Rattle.vault_checkout.specs.Parts.{Parts, drafts_under, parts_of, IsVaultOf}
+use Rattle.check_outs.specs.Parts.{Parts, drafts_under, parts_of, IsVaultOf}
 use Rattle.vault_journal.specs.Laws.{AreBytes}
 use Rattle.vault_journal.specs.Reading.{u16_at, u32_at}
 use Rattle.vault_journal.specs.Spelling.{in_two, in_four}
 use Rattle.vault_journal.proofs.OneSpelling.{fields_are_spelled}
-use Rattle.vault_store.specs.declared.front.FileVersion.{FileVersion}
-use Rattle.vault_store.specs.Snapshot.{spelling_of, claim_bytes, AreKindsIn, IsNoteIn, number_of, designer_of, HasSpelling}
-use Rattle.vault_store.specs.Places.{places_of, ArePlacesAt, BeginsWithNoPlaces}
-use Rattle.vault_store.specs.Claims.{Drafted, drafted_bytes, drafted, HasClaim, HasOwn, claims_bytes, AreClaimsRead, BeginsWithNoClaims}
-use Rattle.vault_store.proofs.OneReading.{one_spelled}
-use Rattle.vault_store.proofs.SpelledLists.{lists_tell}
-use Rattle.vault_store.proofs.SpelledClaims.{claims_of}
-use Rattle.vault_store.proofs.Spelled.{claims_have}
-use Rattle.vault_store.proofs.PlacesRead.{places_spelled, has_places, one_places}
-use Rattle.vault_store.proofs.DraftsRead.{one_read, none_read}
-use Rattle.vault_store.proofs.ClaimsRead.{own_tells}
+use Rattle.vault_format.specs.declared.version.FileVersion.{FileVersion}
+use Rattle.vault_format.specs.Snapshot.{spelling_of, claim_bytes, AreKindsIn, IsNoteIn, number_of, designer_of, HasSpelling}
+use Rattle.vault_format.specs.Places.{places_of, ArePlacesAt, BeginsWithNoPlaces}
+use Rattle.vault_format.specs.Claims.{Drafted, drafted_bytes, drafted, HasClaim, HasOwn, claims_bytes, AreClaimsRead, BeginsWithNoClaims}
+use Rattle.vault_format.proofs.OneReading.{one_spelled}
+use Rattle.vault_format.proofs.SpelledLists.{lists_tell}
+use Rattle.vault_format.proofs.SpelledClaims.{claims_of}
+use Rattle.vault_format.proofs.Spelled.{claims_have}
+use Rattle.vault_format.proofs.PlacesRead.{places_spelled, has_places, one_places}
+use Rattle.vault_format.proofs.DraftsRead.{one_read, none_read}
+use Rattle.vault_format.proofs.ClaimsRead.{own_tells}
 
 -- the claims of a vault with their drafts
 abbrev told_of : Vault → List Drafted

@@ -6,7 +6,7 @@ use Rattle.vault_device.specs.Disk.{Disk}
 use Rattle.vault_journal.specs.Gate.{frame_room}
 use Rattle.vault_store.specs.declared.phase.Phase.{Phase}
 use Rattle.vault_store.specs.declared.phase.Phase.TheVariants.{Idle, Written, Bodied, Opening, Start, Closing, Writing, Filled, Ready, SnapOpening}
-use Rattle.vault_store.specs.Files.{frame_bytes}
+use Rattle.vault_format.specs.Files.{frame_bytes}
 use Rattle.vault_store.specs.Phases.{is_idle, is_snapshot}
 use Rattle.vault_store.specs.OnDisk.{IsOnDisk}
 use Rattle.vault_store.specs.Spares.{IsSpareIn, IsSpareOn}
@@ -14,7 +14,7 @@ use Rattle.vault_store.specs.Seen.{StoreSeen, has_room, most_noted, last_tail}
 use Rattle.vault_store.specs.Sound.{IsReached, IsBusy, IsBounded, IsActive, IsSoundStore}
 use Rattle.vault_store.proofs.Asides.{still_aside}
 use Rattle.vault_store.proofs.Kept.{IsMove}
-use Rattle.vault_store.proofs.Frames.{length-frame}
+use Rattle.vault_format.proofs.Frames.{length-frame}
 
 busy_in : (p : Phase) (n tail : ℕ) → is_idle p ≡ false → is_snapshot p ≡ false → IsBounded p n tail → IsBusy n tail
 busy_in Idle n tail busy commit bounded = absurd (false≢true (sym busy))

@@ -9,9 +9,9 @@ use Rattle.vault_journal.specs.Spelling.{in_four, records_of}
 use Rattle.vault_checkout.specs.declared.apply.ApplyError.TheVariants.{NotApplicable}
 use Rattle.vault_store.specs.declared.body.ReadError.{ReadError}
 use Rattle.vault_store.specs.Calls.{IsQuiet}
-use Rattle.vault_store.specs.Files.{frame_extra, frame_bytes, frame_of}
+use Rattle.vault_format.specs.Files.{frame_extra, frame_bytes, frame_of}
 use Rattle.vault_store.specs.Read.{AreReads, IsWhy, IsLengthRead, BeginsWithNoFrame, BeginsWithNone, AreMade, AreNotMade, IsFrameRead, IsNoFrame}
-use Rattle.vault_store.proofs.OneReading.{one_number, same_front}
+use Rattle.vault_format.proofs.OneReading.{one_number, same_front}
 use Rattle.vault_store.proofs.Pieces.{frame_here}
 use Rattle.vault_store.proofs.Behind.{honest_behind, why_behind, passed_on}
 

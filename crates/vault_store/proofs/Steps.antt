@@ -10,9 +10,9 @@ use Rattle.vault_device.specs.Disk.{Disk}
 use Rattle.vault_journal.specs.Spelling.{records_of}
 use Rattle.vault_store.specs.declared.body.ReadError.{ReadError}
 use Rattle.vault_store.specs.Calls.{IsQuiet}
-use Rattle.vault_store.specs.Files.{frame_extra, frame_of, frames_bytes, IsFrame}
+use Rattle.vault_format.specs.Files.{frame_extra, frame_of, frames_bytes, IsFrame}
 use Rattle.vault_store.specs.Read.{AreReads, IsWhy, IsFrameRead, IsNoFrame, AreFramesRead, AreAllRead, IsFrameWrong}
-use Rattle.vault_store.proofs.Frames.{each_more, frames_more, length-frame}
+use Rattle.vault_format.proofs.Frames.{each_more, frames_more, length-frame}
 use Rattle.vault_store.proofs.Behind.{honest_behind, and_reads, quiet_then, why_behind, passed_on}
 
 pub no_reads : (disk : Disk) → AreReads disk disk

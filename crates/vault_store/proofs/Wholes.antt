@@ -2,8 +2,8 @@
 use Rattle.std.proofs.Common.{◌≡◌, ℕ, List, ◌++◌, length, take, refl, subst}
 use Rattle.vault_model.specs.Vault.{Vault}
 use Rattle.vault_journal.specs.Gate.{IsClosed}
-use Rattle.vault_store.specs.declared.front.FileVersion.{FileVersion}
-use Rattle.vault_store.specs.Files.{head_of, snapshot_bytes, frames_bytes, Holds, HasHead}
+use Rattle.vault_format.specs.declared.version.FileVersion.{FileVersion}
+use Rattle.vault_format.specs.Files.{head_of, snapshot_bytes, frames_bytes, Holds, HasHead}
 use Rattle.vault_store.specs.Parts.{IsWhole}
 
 pub whole_holds : (file : List ℕ) (version : FileVersion) (generation : ℕ) (vault : Vault) (frames tail journal_length : ℕ) → HasHead version generation file

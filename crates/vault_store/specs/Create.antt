@@ -4,8 +4,8 @@ use Rattle.vault_model.specs.Vault.{new_vault}
 use Rattle.vault_device.specs.Disk.{Disk, LeavesOnly}
 use Rattle.vault_store.specs.declared.creation.CreateError.{CreateError}
 use Rattle.vault_store.specs.declared.creation.CreateError.TheVariants.{Exists, Device, NoMemory}
-use Rattle.vault_store.specs.Snapshot.{current_version}
-use Rattle.vault_store.specs.Files.{snapshot_bytes, current_head, IsClosedFile, StandFor}
+use Rattle.vault_format.specs.Snapshot.{current_version}
+use Rattle.vault_format.specs.Files.{snapshot_bytes, current_head, IsClosedFile, StandFor}
 use Rattle.vault_store.specs.Calls.{HasCause}
 use Rattle.vault_store.specs.OnDisk.{IsSettled}
 use Rattle.vault_store.specs.Opening.{AreSettled}

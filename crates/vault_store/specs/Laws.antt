@@ -1,12 +1,11 @@
 -- What is promised of the files of a store. This project's own.
-use Rattle.std.specs.Prelude.{◌≡◌, ◌≢◌, ◌<◌, ◌^◌, length, ℕ, IsTrue, true, false, List, slice_index}
+use Rattle.std.specs.Prelude.{◌≡◌, ◌≢◌, ℕ, IsTrue, true, false, List, slice_index}
 use Rattle.vault_model.specs.Vault.{Vault}
 use Rattle.vault_device.specs.Disk.{Disk}
 use Rattle.vault_journal.specs.Gate.{SameBut}
-use Rattle.vault_store.specs.declared.front.FileVersion.{FileVersion}
 use Rattle.vault_store.specs.declared.opening.OpenError.{OpenError}
-use Rattle.vault_store.specs.Snapshot.{current_version, snapshot_of, spelling_of, HasSnapshot, HasSpelling}
-use Rattle.vault_store.specs.Files.{Reading, AreRead, StandFor}
+use Rattle.vault_format.specs.Snapshot.{HasSnapshot}
+use Rattle.vault_format.specs.Files.{Reading, AreRead, StandFor}
 use Rattle.vault_store.specs.Opening.{IsNotOpened, IsFound}
 use Rattle.vault_store.specs.Phases.{is_opening}
 use Rattle.vault_store.specs.State.{StoreState}
@@ -36,19 +35,6 @@ OneGateIsOpened {D} disk = (store : StoreSeen D) (s : StoreState) → Keeps disk
 -- what is noted has a spelling
 abbrev pub NotedIsSpelled : {D : Type 0} → (D → Disk) → Type 0
 NotedIsSpelled {D} disk = (store : StoreSeen D) (s : StoreState) → Keeps disk store s → HasSnapshot s.noted
-
--- four bytes can count a spelling
-abbrev pub SnapshotsAreShort : Type 0
-SnapshotsAreShort = (v : Vault) → HasSnapshot v → length (snapshot_of v) < 2 ^ 32
-
--- a spelling in a version is of one vault
-abbrev pub OneSpelling : Type 0
-OneSpelling = (version : FileVersion) (v w : Vault) → HasSpelling version v → HasSpelling version w
-    → spelling_of version v ≡ spelling_of version w → v ≡ w
-
--- each vault that has a snapshot has a spelling in today's version
-abbrev pub AllAreSpelled : Type 0
-AllAreSpelled = (v : Vault) → HasSnapshot v → HasSpelling current_version v
 
 -- two files are read in at most one way
 abbrev pub OneReading : Type 0

@@ -1,8 +1,3 @@
-pub mod Snapshot
-pub mod Places
-pub mod Claims
-pub mod Files
-pub mod Faults
 pub mod Phases
 pub mod State
 pub mod OnDisk
@@ -18,4 +13,3 @@ pub mod Parts
 pub mod Read
 pub mod Laws
 pub mod Rows
-pub mod Adds

@@ -4,7 +4,7 @@ use Rattle.vault_device.specs.Disk.{Disk, LeavesOnly}
 use Rattle.vault_journal.specs.Gate.{body_of, SameBut}
 use Rattle.vault_store.specs.declared.phase.Phase.{Phase}
 use Rattle.vault_store.specs.declared.phase.Phase.TheVariants.{Written, Bodied, Opening}
-use Rattle.vault_store.specs.Files.{frame_bytes, EndsBehind}
+use Rattle.vault_format.specs.Files.{frame_bytes, EndsBehind}
 
 -- what a read gives is settled
 pub record IsSettled (disk : Disk) : Type 0 where

@@ -1,13 +1,13 @@
 -- Why two files are not opened, and what opening leaves of their devices. This project's own.
 use Rattle.std.specs.Prelude.{◌≡◌, ◌⊎◌, ℕ, IsTrue, List}
 use Rattle.vault_device.specs.Disk.{Disk, LeavesSince}
-use Rattle.vault_store.specs.declared.front.FileVersion.{FileVersion}
+use Rattle.vault_format.specs.declared.version.FileVersion.{FileVersion}
 use Rattle.vault_store.specs.declared.opening.File.TheVariants.{First, Second}
 use Rattle.vault_store.specs.declared.opening.OpenError.{OpenError}
 use Rattle.vault_store.specs.declared.opening.OpenError.TheVariants.{NoVault, Damaged, Device, NoMemory}
 use Rattle.vault_store.specs.Calls.{IsCalled}
-use Rattle.vault_store.specs.Files.{IsClosedFile, IsSpare, HasHead, HasRightHead}
-use Rattle.vault_store.specs.Faults.{IsDamagedHead, IsBodyFault}
+use Rattle.vault_format.specs.Files.{IsClosedFile, IsSpare, HasHead, HasRightHead}
+use Rattle.vault_format.specs.Faults.{IsDamagedHead, IsBodyFault}
 use Rattle.vault_store.specs.OnDisk.{IsSettled}
 
 -- no fault is in the head of a file: it is closed, or right

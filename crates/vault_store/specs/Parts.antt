@@ -4,14 +4,14 @@ use Rattle.std.specs.List.{AllByRecursion}
 use Rattle.vault_model.specs.Said.{Effect}
 use Rattle.vault_model.specs.Vault.{Vault}
 use Rattle.vault_journal.specs.Gate.{IsClosed}
-use Rattle.vault_store.specs.declared.front.FileVersion.{FileVersion}
+use Rattle.vault_format.specs.declared.version.FileVersion.{FileVersion}
 use Rattle.vault_store.specs.declared.front.Head.{Head}
 use Rattle.vault_store.specs.declared.front.Head.TheVariants.{Closed, Open, Damaged}
 use Rattle.vault_store.specs.declared.body.Body.{Body}
 use Rattle.vault_store.specs.declared.body.Body.TheVariants as bodies
-use Rattle.vault_store.specs.Snapshot.{HasSpelling}
-use Rattle.vault_store.specs.Files.{snapshot_bytes, frames_bytes, IsFrame, after_frames, IsClosedFile, head_of, HasHead}
-use Rattle.vault_store.specs.Faults.{IsDamagedHead, IsBodyFault}
+use Rattle.vault_format.specs.Snapshot.{HasSpelling}
+use Rattle.vault_format.specs.Files.{snapshot_bytes, frames_bytes, IsFrame, after_frames, IsClosedFile, head_of, HasHead}
+use Rattle.vault_format.specs.Faults.{IsDamagedHead, IsBodyFault}
 
 -- what the head of a file is: closed, right, or faulty there
 abbrev pub IsHead : List ℕ → Head → Type 0

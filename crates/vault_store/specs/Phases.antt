@@ -4,7 +4,7 @@ use Rattle.vault_store.specs.declared.phase.Phase.{Phase}
 use Rattle.vault_store.specs.declared.phase.Phase.TheVariants.{Idle, Written, Bodied, Opening, Start, Closing, Writing, Filled, Ready, SnapOpening}
 use Rattle.vault_store.specs.declared.phase.Advanced.{Advanced}
 use Rattle.vault_store.specs.declared.phase.Advanced.TheVariants.{Idle as AnswersIdle, Moved, Settled}
-use Rattle.vault_store.specs.Files.{header}
+use Rattle.vault_format.specs.Files.{header}
 
 -- how many bytes of a snapshot one step writes at most
 abbrev pub most_piece : ℕ

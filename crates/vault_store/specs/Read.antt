@@ -9,15 +9,15 @@ use Rattle.vault_journal.specs.Rows.{AreRecordsOf}
 use Rattle.vault_journal.specs.Gate.{IsClosed}
 use Rattle.vault_checkout.specs.declared.apply.ApplyError.{ApplyError}
 use Rattle.vault_checkout.specs.declared.apply.ApplyError.TheVariants as unmade
-use Rattle.vault_store.specs.declared.front.FileVersion.{FileVersion}
+use Rattle.vault_format.specs.declared.version.FileVersion.{FileVersion}
 use Rattle.vault_store.specs.declared.opening.File.{File}
 use Rattle.vault_store.specs.declared.opening.OpenError.{OpenError}
 use Rattle.vault_store.specs.declared.opening.OpenError.TheVariants.{NoVault, Damaged, Device, NoMemory}
 use Rattle.vault_store.specs.declared.body.ReadError.{ReadError}
 use Rattle.vault_store.specs.declared.body.ReadError.TheVariants as errors
-use Rattle.vault_store.specs.Snapshot.{spelling_of, HasSpelling}
-use Rattle.vault_store.specs.Files.{header, head_length, most_records, frame_extra, snapshot_bytes, frame_of, frames_bytes, IsFrame, applied, after_frames, IsClosedFile, HasHead, HasRightHead}
-use Rattle.vault_store.specs.Faults.{version_in, IsVersion, IsNoVersion, IsSnapshotFault, IsBodyFault}
+use Rattle.vault_format.specs.Snapshot.{spelling_of, HasSpelling}
+use Rattle.vault_format.specs.Files.{header, head_length, most_records, frame_extra, snapshot_bytes, frame_of, frames_bytes, IsFrame, applied, after_frames, IsClosedFile, HasHead, HasRightHead}
+use Rattle.vault_format.specs.Faults.{version_in, IsVersion, IsNoVersion, IsSnapshotFault, IsBodyFault}
 use Rattle.vault_store.specs.Opening.{IsNewer}
 use Rattle.vault_store.specs.Seen.{of_file}
 use Rattle.vault_store.specs.Calls.{HasCause, IsCalled, IsQuiet}
@@ -33,11 +33,6 @@ abbrev pub IsWhy : Disk → Disk → (ℕ → Type 0) → ReadError → Type 0
 IsWhy old new IsWrong (errors.Damaged at) = IsTrue old.honest → IsWrong at
 IsWhy old new IsWrong errors.Device = HasCause old new
 IsWhy old new IsWrong errors.NoMemory = IsQuiet old new
-
--- which version four bytes tell, if any
-abbrev pub IsVersionRead : List ℕ → Option FileVersion → Type 0
-IsVersionRead bytes (Some version) = IsVersion version bytes
-IsVersionRead bytes None = IsNoVersion bytes
 
 -- the snapshot of a vault in the spelling of the file's version, which ends in front of this offset, with a byte behind it
 pub record IsBaseRead (disk : Disk) (len : ℕ) (version : FileVersion) (base : Vault) (end : ℕ) : Type 0 where

@@ -7,9 +7,9 @@ use Rattle.vault_model.specs.declared.place.Kind.TheVariants.{Project}
 use Rattle.vault_model.specs.Tree.{new_place}
 use Rattle.vault_model.specs.Claims.{new_check_out}
 use Rattle.vault_model.specs.Changes.{with_owner, with_note}
-use Rattle.vault_store.specs.declared.front.FileVersion.TheVariants.{One, Two}
-use Rattle.vault_store.specs.Snapshot.{snapshot_of, spelling_of}
-use Rattle.vault_store.specs.Files.{frame_of, head_of, snapshot_bytes}
+use Rattle.vault_format.specs.declared.version.FileVersion.TheVariants.{One, Two}
+use Rattle.vault_format.specs.Snapshot.{snapshot_of, spelling_of}
+use Rattle.vault_format.specs.Files.{frame_of, head_of, snapshot_bytes}
 use Rattle.vault_store.specs.Create.{new_front, new_file}
 
 -- 35 bytes: the head, ten bytes of a snapshot behind their number, and the tail gate

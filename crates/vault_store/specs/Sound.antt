@@ -4,7 +4,7 @@ use Rattle.vault_device.specs.Disk.{Disk}
 use Rattle.vault_journal.specs.Gate.{frame_room}
 use Rattle.vault_store.specs.declared.phase.Phase.{Phase}
 use Rattle.vault_store.specs.declared.phase.Phase.TheVariants.{Idle, Written, Bodied, Opening, Start, Closing, Writing, Filled, Ready, SnapOpening}
-use Rattle.vault_store.specs.Files.{frame_extra}
+use Rattle.vault_format.specs.Files.{frame_extra}
 use Rattle.vault_store.specs.OnDisk.{IsOnDisk}
 use Rattle.vault_store.specs.Spares.{IsSpareOn}
 use Rattle.vault_store.specs.Seen.{StoreSeen, last_tail}

@@ -6,7 +6,7 @@ use Rattle.vault_store.specs.declared.phase.Phase.{Phase}
 use Rattle.vault_store.specs.declared.phase.Phase.TheVariants.{Idle, Start}
 use Rattle.vault_store.specs.declared.phase.Advanced.{Advanced}
 use Rattle.vault_store.specs.declared.phase.Advanced.TheVariants.{Broken}
-use Rattle.vault_store.specs.Snapshot.{snapshot_of}
+use Rattle.vault_format.specs.Snapshot.{snapshot_of}
 use Rattle.vault_store.specs.Phases.{Waiting, Nothing, Effects, Row, row, settled_by, after_fault}
 
 -- the settled vault, the sealed one and the one after all effects; the effects from the first to the second and from the

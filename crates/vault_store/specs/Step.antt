@@ -4,8 +4,8 @@ use Rattle.vault_device.specs.Disk.{Disk}
 use Rattle.vault_device.specs.declared.device.Fault.{Fault}
 use Rattle.vault_store.specs.declared.phase.Advanced.{Advanced}
 use Rattle.vault_store.specs.declared.phase.Advanced.TheVariants as answers
-use Rattle.vault_store.specs.Snapshot.{current_version}
-use Rattle.vault_store.specs.Files.{frame_extra}
+use Rattle.vault_format.specs.Snapshot.{current_version}
+use Rattle.vault_format.specs.Files.{frame_extra}
 use Rattle.vault_store.specs.Calls.{HasCause}
 use Rattle.vault_store.specs.Phases.{NoCall, is_idle, is_snapshot}
 use Rattle.vault_store.specs.State.{StoreState, row_of, answer_of, advanced, failed}

@@ -1,20 +1,20 @@
 //! What stands behind the head of a file, read: its snapshot and its frames.
 ghost use Rattle.std.specs.Prelude.{◌≡◌, ◌≤◌, ℕ, IfOk, IfErr, IsTrue, length, OnOk};
-ghost use Rattle.vault_store.specs.declared.front.FileVersion.{FileVersion};
+ghost use Rattle.vault_format.specs.declared.version.FileVersion.{FileVersion};
 ghost use Rattle.vault_store.specs.declared.body.BodyError.TheVariants.{Device as DeviceFailed, NoMemory as Wanted};
 ghost use Rattle.vault_store.specs.declared.body.ReadError.TheVariants as errors;
 ghost use Rattle.vault_store.specs.Calls.{HasCause, IsQuiet};
-ghost use Rattle.vault_store.specs.Files.{header, HasHead};
+ghost use Rattle.vault_format.specs.Files.{header, HasHead};
 ghost use Rattle.vault_store.specs.Parts.{IsBody};
 ghost use Rattle.vault_store.specs.Read.{AreReads, IsWhy, IsBaseRead, IsBaseFault, AreContents, IsFaultBehindHead};
 
-use crate::front::{FileVersion, HEADER, version_of};
 use crate::journal::{number_in, read_bytes, read_frames};
-use crate::snapshot::{SnapshotError, read_snapshot};
+use crate::snapshot::read_snapshot;
 use std::alloc::Allocator;
 use thiserror::Error;
 use vault_checkout::Book;
 use vault_device::{Device, Fault};
+use vault_format::{FileVersion, HEADER, SnapshotError, version_of};
 
 /// What stands behind the head of a file.
 #[derive(Drop)]

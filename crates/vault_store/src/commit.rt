@@ -6,10 +6,10 @@ ghost use Rattle.vault_store.specs.State.{StoreState};
 ghost use Rattle.vault_store.specs.Seen.{first_of, second_of, Keeps, IsLeftInside};
 ghost use Rattle.vault_store.specs.Step.{IsStep, AreNumbers, IsAtMostOneCall, MayBeLeft, IsAdvance};
 
-use crate::journal::FRAME_EXTRA;
 use crate::{Advanced, Phase, Store};
 use std::alloc::Allocator;
 use vault_device::{Device, Fault};
+use vault_format::FRAME_EXTRA;
 use vault_journal::{open_gate, settle_body, settle_gate, write_body};
 
 // Notes that a device call failed: none is made after it.

@@ -6,7 +6,7 @@ ghost use Rattle.vault_device.specs.Disk.{LeavesOnly, LeavesSince};
 ghost use Rattle.vault_store.specs.Calls.{AreCalls, IsCalled, AreQuiet};
 ghost use Rattle.vault_store.specs.OnDisk.{IsSettled};
 ghost use Rattle.vault_store.specs.Create.{new_file, IsNotMade, IsFilled, IsClosedOrNew, StopsInCreation, AreSettledUnmade};
-ghost use Rattle.vault_store.specs.Snapshot.{current_version};
+ghost use Rattle.vault_format.specs.Snapshot.{current_version};
 ghost use Rattle.vault_store.specs.State.{at_rest};
 ghost use Rattle.vault_store.specs.Seen.{first_of, second_of, Keeps};
 

@@ -2,40 +2,12 @@
 ghost use Rattle.std.specs.Prelude.{IfOk, IsErr, IsTrue, OnOk};
 ghost use Rattle.vault_store.specs.Calls.{HasCause, IsQuiet};
 ghost use Rattle.vault_store.specs.Parts.{IsHead};
-ghost use Rattle.vault_store.specs.Read.{AreReads, IsVersionRead};
+ghost use Rattle.vault_store.specs.Read.{AreReads};
 
 use vault_device::{Device, Fault};
-
-/// How many bytes stand before the snapshot.
-pub const HEADER: u64 = 24;
+use vault_format::{FileVersion, HEADER, version_of};
 
 const MAGIC: [u8; 7] = *b"LLVAULT";
-
-const FIRST_VERSION: [u8; 4] = [0, 0, 0, 1];
-
-const SECOND_VERSION: [u8; 4] = [0, 0, 0, 2];
-
-/// The version of a file, which says how its snapshot is spelled. Frames are the same in both.
-#[derive(Clone, Copy, Debug, PartialEq, Eq)]
-pub enum FileVersion {
-    /// The first: the kind of a place isn't written, and no claim has a note. It is read, and not written any more.
-    One,
-    /// Today's.
-    Two,
-}
-
-/// The version that these four bytes tell, if any.
-pub fn version_of(bytes: &[u8]) -> Option<FileVersion>
-    ensures { IsVersionRead bytes.now result }
-{
-    if bytes[..] == FIRST_VERSION[..] {
-        return Some(FileVersion::One);
-    }
-    if bytes[..] == SECOND_VERSION[..] {
-        return Some(FileVersion::Two);
-    }
-    None
-}
 
 /// What the head of a file is.
 #[derive(Clone, Copy, Debug, PartialEq, Eq)]

@@ -3,21 +3,16 @@ ghost use Rattle.std.specs.Prelude.{◌≡◌, ◌+◌, ◌<◌, ◌≤◌, ◌�
 ghost use Rattle.vault_checkout.specs.declared.apply.ApplyError.TheVariants.{NotApplicable};
 ghost use Rattle.vault_journal.specs.Spelling.{in_four};
 ghost use Rattle.vault_store.specs.Calls.{HasCause, IsQuiet};
-ghost use Rattle.vault_store.specs.Files.{applied, frame_extra, most_records};
+ghost use Rattle.vault_format.specs.Files.{applied, frame_extra, most_records};
 ghost use Rattle.vault_store.specs.Read.{AreReads, IsWhy, IsLengthRead, BeginsWithNoFrame, AreMade, AreNotMade, IsStepRead, IsNoFrame, AreAllRead, IsFrameWrong};
 
 use crate::body::ReadError;
 use std::alloc::Allocator;
 use vault_checkout::{ApplyError, Book};
 use vault_device::{Device, Fault};
+use vault_format::{FRAME_EXTRA, MOST_RECORDS};
 use vault_journal::{Damage, read_effects};
 use vault_model::EffectIn;
-
-// The most bytes of a frame's records.
-const MOST_RECORDS: u32 = 262_139;
-
-/// How many bytes a frame has beside its records: its gate and the length of its records.
-pub const FRAME_EXTRA: u64 = 5;
 
 /// The byte of a gate. One device call.
 pub fn read_gate<D: Device>(device: &mut D, at: u64) -> Result<u8, Fault>

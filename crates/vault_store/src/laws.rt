@@ -1,5 +1,5 @@
 //! Laws of what is kept, on which the program's theorems rest.
-ghost use Rattle.vault_store.specs.Laws.{CrashLeavesWhatIsKept, OneGateIsOpened, NotedIsSpelled, OneSpelling, AllAreSpelled, SnapshotsAreShort, OneReading, EitherWay, OneVault, NothingIsWrong, OneFault};
+ghost use Rattle.vault_store.specs.Laws.{CrashLeavesWhatIsKept, OneGateIsOpened, NotedIsSpelled, OneReading, EitherWay, OneVault, NothingIsWrong, OneFault};
 ghost use Rattle.vault_store.specs.Rows.{Rows};
 
 use vault_device::Device;
@@ -14,14 +14,6 @@ pub fn a_crash_leaves_what_is_kept<D: Device>()
 /// The vault that all noted effects lead to has a spelling.
 pub fn what_is_noted_is_spelled<D: Device>()
     ensures { NotedIsSpelled D.disk }
-{}
-
-/// A durable vault has at most one spelling in each version of the files, and a spelling is of one vault. Each has one in today's
-/// version, whose length four bytes can hold.
-pub fn a_spelling_is_of_one_vault()
-    ensures one { OneSpelling }
-    ensures all { AllAreSpelled }
-    ensures short { SnapshotsAreShort }
 {}
 
 /// Two files stand for at most one vault, in whichever order, and then nothing is wrong with them; at most one thing is wrong

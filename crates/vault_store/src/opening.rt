@@ -3,8 +3,8 @@ ghost use Rattle.std.specs.Prelude.{◌≡◌, ◌⊎◌, ◌↔◌, ℕ, List, 
 ghost use Rattle.vault_journal.specs.Gate.{IsClosed};
 ghost use Rattle.vault_store.specs.declared.opening.OpenError.TheVariants.{Device as DeviceFailed, NoMemory as Wanted};
 ghost use Rattle.vault_store.specs.Calls.{HasCause, IsQuiet, AreQuiet};
-ghost use Rattle.vault_store.specs.Faults.{IsDamagedHead};
-ghost use Rattle.vault_store.specs.Files.{AreRead};
+ghost use Rattle.vault_format.specs.Faults.{IsDamagedHead};
+ghost use Rattle.vault_format.specs.Files.{AreRead};
 ghost use Rattle.vault_store.specs.OnDisk.{IsSettled};
 ghost use Rattle.vault_store.specs.Opening.{IsNotOpened, IsHandedOn, AreSettled, AreLeftSettled};
 ghost use Rattle.vault_store.specs.Read.{AreReads, AreContents, IsFaultBehindHead, IsGenerationRead, IsWhyNot, IsNewerIn};

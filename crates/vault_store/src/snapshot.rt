@@ -1,55 +1,19 @@
 //! The snapshot of a vault, read.
 ghost use Rattle.std.specs.Prelude.{◌≡◌, ◌≢◌, Err, IfOk};
 ghost use Rattle.vault_model.specs.Vault.{Vault};
-ghost use Rattle.vault_store.specs.declared.snapshot.SnapshotError.TheVariants as errors;
-ghost use Rattle.vault_store.specs.Snapshot.{spelling_of, HasSpelling};
+ghost use Rattle.vault_format.specs.declared.error.SnapshotError.TheVariants as errors;
+ghost use Rattle.vault_format.specs.Snapshot.{spelling_of, HasSpelling};
 
-mod claims;
 mod file;
-mod places;
 mod spelling;
 
-use crate::FileVersion;
-use claims::read_claims;
 pub use file::spell_file;
-use places::read_places;
-use std::alloc::{AllocError, AllocFailed, Allocator};
+use std::alloc::Allocator;
 use vault_checkout::{Book, FromPartsError};
+use vault_format::{FileVersion, SnapshotError, read_claims, read_places};
 use vault_journal::u32_at;
-use vault_model::NoMemory;
 
-/// Why bytes were not read as a snapshot.
-#[derive(Clone, Copy, Debug, PartialEq, Eq)]
-pub enum SnapshotError {
-    NotWellFormed,
-    NoMemory,
-}
-
-impl From<AllocError> for SnapshotError {
-    ghost from_gives = { λ _ e. e ≡ errors.NoMemory };
-
-    fn from(_error: AllocError) -> SnapshotError {
-        SnapshotError::NoMemory
-    }
-}
-
-impl From<NoMemory> for SnapshotError {
-    ghost from_gives = { λ _ e. e ≡ errors.NoMemory };
-
-    fn from(_error: NoMemory) -> SnapshotError {
-        SnapshotError::NoMemory
-    }
-}
-
-impl<T: Drop> From<AllocFailed<T>> for SnapshotError {
-    ghost from_gives = { λ _ e. e ≡ errors.NoMemory };
-
-    fn from(_error: AllocFailed<T>) -> SnapshotError {
-        SnapshotError::NoMemory
-    }
-}
-
-// A snapshot: the last number given to a check-out in 4 bytes, the places (places.rt), the check-outs (claims.rt), and no byte more.
+// A snapshot: the last number given to a check-out in 4 bytes, the places and the check-outs, as vault_format has them, and no byte more.
 
 /// The book whose snapshot these bytes are, in the spelling of this version.
 ///

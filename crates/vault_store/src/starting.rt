@@ -2,7 +2,7 @@
 ghost use Rattle.std.specs.Prelude.{◌≡◌, Ok, OnErr};
 ghost use Rattle.vault_model.specs.Vault.{IsVault, durable};
 ghost use Rattle.vault_store.specs.declared.starting.Started.TheVariants as answers;
-ghost use Rattle.vault_store.specs.Snapshot.{HasSnapshot};
+ghost use Rattle.vault_format.specs.Snapshot.{HasSnapshot};
 ghost use Rattle.vault_store.specs.State.{StoreState, started};
 ghost use Rattle.vault_store.specs.Seen.{Keeps, MayStart, started_seen, wants_snapshot};
 

@@ -1,7 +1,7 @@
 //! How many descriptors the program may have, and needs.
 
-use crate::failure::Failure;
 use libc::types::rlimit;
+use vaultd_tasks::Failure;
 
 /// What the program has open beside the connections that it serves: the standard streams, what stands in for them, two files and the
 /// listener, what two threads wait by and are woken by, a connection that waits for a worker, and one to spare.

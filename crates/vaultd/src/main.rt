@@ -1,34 +1,22 @@
 //! The program of the design vault: `create`, `serve`, `inspect` and `script`.
 //!
 //! Promises: it is safe and, but for `serve`, total. Each subcommand is one call of a crate beneath.
-//! Stands on: vault_device, vault_store, group_commit, vault_protocol, vault_inspector, vault_sessions, vault_server. Must not know:
-//! anything that a contract should say; it is kept thin.
+//! Stands on: vaultd_tasks, vault_device, group_commit, vault_sessions, vault_server. Must not know: anything that a contract should say;
+//! it is kept thin.
 //! Only tested: the stored run of a script; by `tools/try-program`, behind the proofs, what the words ask for, statuses, texts and order
 //! of failures, `create`, `inspect` and `serve` on real files and beside their locks, signals, closed streams, odd clients.
 //! Neither: texts of help and usage; what standard input and output are.
-//! Start at: command_line.rt, then the file of a subcommand.
+//! Start at: command_line.rt of vaultd_tasks, then the file of a subcommand; serving.rt has `serve`.
 #![tactic(auto)]
 
-mod command_line;
-mod creating;
 mod descriptors;
-mod failure;
-mod files;
-mod inspecting;
-mod scripting;
 mod serving;
-mod streams;
 
-use crate::command_line::{Task, task_of};
-use crate::creating::create;
-use crate::failure::Failure;
-use crate::inspecting::inspect;
-use crate::scripting::script;
 use crate::serving::serve;
-use crate::streams::take_streams;
 use clap::error::ErrorKind;
 use std::process::ExitCode;
 use std::{env, io};
+use vaultd_tasks::{Failure, Task, create, inspect, script, take_streams, task_of};
 
 /// The status after a failure.
 const FAULT: u8 = 1;

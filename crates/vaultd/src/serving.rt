@@ -3,8 +3,6 @@
 ghost use Rattle.std.specs.Prelude.{◌<◌, ◌≤◌};
 
 use crate::descriptors::check_limit;
-use crate::failure::Failure;
-use crate::files::open_locked;
 use group_commit::Vault;
 use std::fs::File;
 use std::net::{Net, TcpListener, TcpStream};
@@ -13,27 +11,12 @@ use std::sync::Wait;
 use std::thread::Threads;
 use std::time::{Clock, Duration};
 use vault_device::FileDevice;
-use vault_server::{Terms, run_server_on};
+use vault_server::{ServerError, Terms, run_server_on};
 use vault_sessions::OpenGate;
+use vaultd_tasks::{Failure, Serving, open_locked};
 
 /// The number of the program's one life of a vault.
 const LIFE: u64 = 1;
-
-/// What is served, where, and by how many workers.
-#[derive(Clone, Copy)]
-pub(crate) struct Serving<'a> {
-    /// The paths of the vault's files.
-    pub(crate) first: &'a str,
-    pub(crate) second: &'a str,
-    /// What is handed to bind.
-    pub(crate) address: &'a str,
-    /// 1 to 64.
-    pub(crate) workers: u32,
-    /// After how many connections the program ends.
-    pub(crate) connections: Option<u32>,
-    /// After how many seconds a silent connection is ended.
-    pub(crate) idle: Option<u32>,
-}
 
 /// Opens the vault in the two files.
 fn open<R: Files<File = File> + AllocGlobal>(
@@ -78,6 +61,14 @@ fn terms_of(serving: &Serving<'_>) -> Terms
     }
 }
 
+/// What a server's error is told as: in the server's own words.
+fn failure_of(error: ServerError) -> Failure {
+    match error {
+        ServerError::Accept => Failure::Accept,
+        ServerError::NoMemory => Failure::NoMemory,
+    }
+}
+
 /// Opens the vault, binds the address, says so on standard output, and serves until enough connections were served.
 pub(crate) fn serve<
     R: Files<File = File>
@@ -99,7 +90,8 @@ pub(crate) fn serve<
         }
     };
     let terms = terms_of(serving);
-    let (vault, _) = run_server_on(rt, rt.alloc(), listener, vault, &terms, &OpenGate)?;
+    let served = run_server_on(rt, rt.alloc(), listener, vault, &terms, &OpenGate);
+    let (vault, _) = served.map_err(failure_of)?;
     let is_broken = vault.is_broken();
     drop(vault);
     if is_broken {

@@ -3,13 +3,14 @@ ghost use Rattle.std.specs.Prelude.{◌≡◌, ◌≤◌, ◌-◌, ◌++◌, [],
 ghost use Rattle.vault_model.specs.Vault.{IsVault, durable};
 ghost use Rattle.vault_device.specs.Disk.{overwritten};
 ghost use Rattle.vault_journal.specs.Spelling.{in_four, in_eight};
-ghost use Rattle.vault_store.specs.Snapshot.{current_version, HasSnapshot};
-ghost use Rattle.vault_store.specs.Files.{mark, version_number, behind_gate};
-ghost use Rattle.vault_store.specs.Adds.{Adds};
+ghost use Rattle.vault_format.specs.Snapshot.{current_version, HasSnapshot};
+ghost use Rattle.vault_format.specs.Files.{mark, version_number, behind_gate};
+ghost use Rattle.vault_format.specs.Adds.{Adds};
 
-use super::spelling::{claim_at, put, put_u32, spell_snapshot};
+use super::spelling::{claim_at, spell_snapshot};
 use std::alloc::Allocator;
 use vault_checkout::Book;
+use vault_format::fields::{put, put_u32};
 use vault_model::{Claim, ClaimId, DraftIn, NoMemory};
 
 // Where the snapshot's length and the snapshot stand behind the head gate.

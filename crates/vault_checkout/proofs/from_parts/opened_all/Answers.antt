@@ -1,7 +1,7 @@
 use Rattle.std.proofs.Common.{◌≡◌, ◌∙◌, ◌+◌, ◌-◌, ◌<◌, arith, sym, ap, vec_len, get_or, Some}
 use Rattle.std.specs.Prelude.{slice_get}
-use Rattle.vault_checkout.specs.Parts.{number_in, opened, put_in}
-use Rattle.vault_checkout.proofs.PutIn.{opened_step, rest_taken}
+use Rattle.check_outs.specs.Parts.{number_in, opened, put_in}
+use Rattle.check_outs.proofs.PutIn.{opened_step, rest_taken}
 use Rattle.vault_checkout.proofs.from_parts.opened_all.Goals as goal
 
 pub loop-own-preserved : goal.loop-own-preserved

@@ -1,5 +1,5 @@
 use Rattle.std.specs.Prelude.{◌≡◌, ◌+◌, ◌≤◌, take, drop, length, vec_len, vec_capacity}
-use Rattle.vault_checkout.specs.Parts.{opened_all}
+use Rattle.check_outs.specs.Parts.{opened_all}
 use Rattle.vault_checkout.proofs.from_parts.opened_all.Given as goal
 
 -- the last ones are opened, and there is room for those that are left

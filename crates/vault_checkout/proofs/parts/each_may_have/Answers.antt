@@ -1,5 +1,5 @@
 use Rattle.std.proofs.Common.{[]}
-use Rattle.vault_checkout.proofs.PutIn.{match_length}
+use Rattle.check_outs.proofs.PutIn.{match_length}
 use Rattle.vault_checkout.proofs.PartsMade.{match_of}
 use Rattle.vault_checkout.proofs.parts.each_may_have.Goals as goal
 

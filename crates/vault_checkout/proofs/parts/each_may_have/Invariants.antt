@@ -1,5 +1,5 @@
 use Rattle.std.specs.Prelude.{◌↔◌, [], take, drop}
-use Rattle.vault_checkout.specs.Parts.{EachMayHave}
+use Rattle.check_outs.specs.Parts.{EachMayHave}
 use Rattle.vault_checkout.proofs.parts.each_may_have.Given as goal
 
 -- what is left decides

@@ -2,8 +2,8 @@ use Rattle.std.proofs.Common.{◌≡◌, inr, refl, arith, rules, ap, ◌∙◌}
 use Rattle.std.specs.Prelude.{slice_range}
 use Rattle.vault_journal.specs.Spelling.{in_four, in_eight}
 use Rattle.vault_journal.specs.Laws.{AreBytes}
-use Rattle.vault_store.specs.Files.{mark, version_number}
-use Rattle.vault_store.proofs.Heads.{right_head, generation_spelled}
+use Rattle.vault_format.specs.Files.{mark, version_number}
+use Rattle.vault_format.proofs.Heads.{right_head, generation_spelled}
 use Rattle.vault_store.proofs.front.head_in.Goals as goal
 
 pub returns-then-generation-eq0 : goal.returns-then-generation-eq0

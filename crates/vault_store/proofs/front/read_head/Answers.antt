@@ -1,5 +1,5 @@
 use Rattle.std.proofs.Common.{ℕ, List, ◌∙◌, ap, arith, take}
-use Rattle.vault_store.specs.Files.{header}
+use Rattle.vault_format.specs.Files.{header}
 use Rattle.vault_store.proofs.Headed.{is_head}
 use Rattle.vault_store.proofs.Behind.{honest_behind}
 use Rattle.vault_store.proofs.Bodies.{one_read}

@@ -1,5 +1,5 @@
 use Rattle.std.proofs.Common.{◌≡◌, drop}
-use Rattle.vault_store.specs.Files.{applied}
+use Rattle.vault_format.specs.Files.{applied}
 use Rattle.vault_store.proofs.journal.make_each.Given as goal
 
 abbrev pub invariant-loop-effect : goal.invariant-loop-effect

@@ -1,4 +1,4 @@
-use Rattle.vault_store.proofs.Heads.{four_spelled}
+use Rattle.vault_format.proofs.Heads.{four_spelled}
 use Rattle.vault_store.proofs.journal.number_in.Goals as goal
 
 pub returns : goal.returns

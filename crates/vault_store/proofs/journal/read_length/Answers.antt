@@ -1,6 +1,6 @@
 use Rattle.std.proofs.Common.{◌≡◌, ℕ, ◌+◌, refl, sym, ◌∙◌, ap, arith}
 use Rattle.std.specs.Prelude.{slice_range}
-use Rattle.vault_store.specs.Files.{frame_extra}
+use Rattle.vault_format.specs.Files.{frame_extra}
 use Rattle.vault_store.proofs.Headed.{not_both}
 use Rattle.vault_store.proofs.Pieces.{no_room, wrong_length}
 use Rattle.vault_store.proofs.journal.read_length.Goals as goal

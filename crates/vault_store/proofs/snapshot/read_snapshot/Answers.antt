@@ -1,5 +1,5 @@
 use Rattle.std.proofs.Common.{arith}
-use Rattle.vault_store.proofs.Refusals.{passed}
+use Rattle.vault_format.proofs.Refusals.{passed}
 use Rattle.vault_store.proofs.SnapshotRead.{no_places, no_claims, is_end, not_end, more_behind, no_parts, has_spelling, is_snapshot}
 use Rattle.vault_store.proofs.snapshot.read_snapshot.Goals as goal
 

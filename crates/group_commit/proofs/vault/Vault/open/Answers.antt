@@ -1,6 +1,6 @@
 use Rattle.std.proofs.Common.{inr, sym, ap, ◌∙◌, subst}
 use Rattle.vault_store.specs.Calls.{AreQuiet}
-use Rattle.vault_store.specs.Files.{AreRead}
+use Rattle.vault_format.specs.Files.{AreRead}
 use Rattle.vault_store.specs.State.{at_rest}
 use Rattle.vault_store.specs.Seen.{StoreSeen, first_of, second_of, settled_reading, Keeps}
 use Rattle.vault_store.specs.declared.refused.Refused.{Refused}

@@ -2,9 +2,9 @@ use Rattle.std.proofs.Common.{◌≡◌, ◌+◌, ◌++◌, ◌∷◌, [], refl,
 use Rattle.vault_model.specs.Claims.{standing_behind}
 use Rattle.vault_model.proofs.Kept.{kept_asked_long}
 use Rattle.long_locks.proofs.Grown.{grown_itself}
-use Rattle.vault_checkout.specs.declared.check_outs.AnyCheckOut.TheVariants.{Waiting}
+use Rattle.check_outs.specs.declared.any.AnyCheckOut.TheVariants.{Waiting}
 use Rattle.vault_checkout.specs.Seen.{vault_of}
-use Rattle.vault_checkout.specs.Typed.{granted_if, is_held_standing}
+use Rattle.check_outs.specs.Typed.{granted_if, is_held_standing}
 use Rattle.vault_checkout.proofs.Agreeing.{agrees_asked, saved_asked}
 use Rattle.vault_checkout.proofs.book.Book.ask.Goals as goal
 

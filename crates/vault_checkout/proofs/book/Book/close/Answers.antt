@@ -6,8 +6,8 @@ use Rattle.vault_model.specs.Drafts.{drafts_of}
 use Rattle.vault_model.specs.Shelf.{is_shelvable}
 use Rattle.vault_model.proofs.Kept.{kept_checked_in}
 use Rattle.vault_checkout.specs.Seen.{vault_of}
-use Rattle.vault_checkout.specs.Typed.{granted, saved, without_check_out}
-use Rattle.vault_checkout.proofs.AllDrafts.{drafts_are, others_are}
+use Rattle.check_outs.specs.Typed.{granted, saved, without_check_out}
+use Rattle.check_outs.proofs.AllDrafts.{drafts_are, others_are}
 use Rattle.vault_checkout.proofs.Agreeing.{open_held, agrees_without, saved_granted}
 use Rattle.vault_checkout.proofs.book.Book.close.Goals as goal
 

@@ -1,4 +1,4 @@
-use Rattle.vault_checkout.proofs.AllDrafts.{drafts_are}
+use Rattle.check_outs.proofs.AllDrafts.{drafts_are}
 use Rattle.vault_checkout.proofs.book.Book.drafts.Goals as goal
 
 pub returns : goal.returns

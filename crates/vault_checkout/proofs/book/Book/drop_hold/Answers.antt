@@ -4,7 +4,7 @@ use Rattle.vault_model.specs.declared.ids.ClaimId.TheVariants.{Short}
 use Rattle.vault_model.specs.Claims.{without}
 use Rattle.vault_model.proofs.Kept.{kept_released}
 use Rattle.vault_checkout.specs.Seen.{vault_of}
-use Rattle.vault_checkout.specs.Typed.{granted}
+use Rattle.check_outs.specs.Typed.{granted}
 use Rattle.vault_checkout.proofs.Agreeing.{agrees_released, saved_granted}
 use Rattle.vault_checkout.proofs.book.Book.drop_hold.Goals as goal
 

@@ -3,7 +3,7 @@ use Rattle.vault_model.specs.declared.ids.ClaimId.TheVariants.{Long}
 use Rattle.vault_model.specs.Claims.{put_first}
 use Rattle.vault_model.specs.Vault.{IsDraft}
 use Rattle.vault_model.specs.After.{drafts_held}
-use Rattle.vault_checkout.specs.Typed.{saved}
+use Rattle.check_outs.specs.Typed.{saved}
 use Rattle.vault_checkout.proofs.book.Book.each_stays_held.Given as goal
 
 -- what is left decides

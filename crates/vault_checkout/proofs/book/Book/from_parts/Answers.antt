@@ -3,10 +3,10 @@ use Rattle.std.specs.Prelude.{map}
 use Rattle.vault_model.specs.Tree.{IsTree}
 use Rattle.long_locks.specs.Lines.{LineSeen, IsGrownFrom}
 use Rattle.long_locks.proofs.Grown.{grown_itself}
-use Rattle.vault_checkout.specs.Typed.{granted}
-use Rattle.vault_checkout.specs.Parts.{AreFit, opened_all}
+use Rattle.check_outs.specs.Typed.{granted}
+use Rattle.check_outs.specs.Parts.{AreFit, opened_all}
 use Rattle.vault_checkout.proofs.Agreeing.{saved_granted}
-use Rattle.vault_checkout.proofs.PutIn.{match_length}
+use Rattle.check_outs.proofs.PutIn.{match_length}
 use Rattle.vault_checkout.proofs.PartsMade.{match_of, all_rising, all_long, agrees_made, made, vault_made}
 use Rattle.vault_checkout.proofs.PartsOf.{parts_long, parts_fit, one_vault}
 use Rattle.vault_checkout.proofs.book.Book.from_parts.Goals as goal

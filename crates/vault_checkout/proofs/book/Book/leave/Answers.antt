@@ -3,7 +3,7 @@ use Rattle.std.specs.Prelude.{map}
 use Rattle.vault_model.specs.Claims.{without_session}
 use Rattle.vault_model.proofs.Kept.{kept_gone, counts_left}
 use Rattle.vault_checkout.specs.Seen.{vault_of}
-use Rattle.vault_checkout.specs.Typed.{granted}
+use Rattle.check_outs.specs.Typed.{granted}
 use Rattle.vault_checkout.proofs.Agreeing.{agrees_gone, saved_granted}
 use Rattle.vault_checkout.proofs.book.Book.leave.Goals as goal
 

@@ -4,7 +4,7 @@ use Rattle.vault_model.specs.Claims.{in_way_of}
 use Rattle.long_locks.specs.Lines.{extended_by}
 use Rattle.long_locks.proofs.Grown.{grown_itself}
 use Rattle.vault_checkout.specs.Seen.{vault_of}
-use Rattle.vault_checkout.specs.Typed.{granted}
+use Rattle.check_outs.specs.Typed.{granted}
 use Rattle.vault_checkout.proofs.Agreeing.{saved_granted}
 use Rattle.vault_checkout.proofs.Extended.{kept_extended, agrees_extended}
 use Rattle.vault_checkout.proofs.book.Book.move_first.Goals as goal

@@ -4,7 +4,7 @@ use Rattle.vault_model.specs.declared.ids.ClaimId.TheVariants.{Long}
 use Rattle.vault_model.specs.Claims.{put_first}
 use Rattle.long_locks.proofs.Grown.{grown_itself}
 use Rattle.vault_checkout.specs.Seen.{vault_of}
-use Rattle.vault_checkout.specs.Typed.{granted, recalled}
+use Rattle.check_outs.specs.Typed.{granted, recalled}
 use Rattle.vault_checkout.proofs.Agreeing.{saved_granted, saved_recalled}
 use Rattle.vault_checkout.proofs.Extended.{kept_put, agrees_put}
 use Rattle.vault_checkout.proofs.book.Book.put_first.Goals as goal

@@ -3,10 +3,10 @@ use Rattle.std.proofs.Common.{◌≡◌, true, refl}
 use Rattle.vault_model.specs.Drafts.{SavedDraft, new_draft}
 use Rattle.vault_model.proofs.Kept.{kept_saved}
 use Rattle.vault_checkout.specs.Seen.{vault_of}
-use Rattle.vault_checkout.specs.Typed.{is_open}
-use Rattle.vault_checkout.proofs.AllDrafts.{saved_is}
+use Rattle.check_outs.specs.Typed.{is_open}
+use Rattle.check_outs.proofs.AllDrafts.{saved_is}
 use Rattle.vault_checkout.proofs.Agreeing.{open_held, agrees_saved}
-use Rattle.vault_checkout.proofs.Weighing.{May, may_is}
+use Rattle.check_outs.proofs.Weighing.{May, may_is}
 use Rattle.vault_checkout.proofs.book.Book.save_draft.Goals as goal
 
 pub save_at-requires : goal.save_at-requires

@@ -5,7 +5,7 @@ use Rattle.vault_model.specs.Shelf.{Draft}
 use Rattle.vault_model.specs.Claims.{claim_of}
 use Rattle.vault_model.specs.Vault.{IsClaim, IsDraft}
 use Rattle.vault_model.proofs.Stays.{claim_there}
-use Rattle.vault_checkout.specs.Typed.{number_of, own_drafts, marked}
+use Rattle.check_outs.specs.Typed.{number_of, own_drafts, marked}
 use Rattle.vault_checkout.proofs.Recalls.{itself_stays, other_stays, none_stays}
 use Rattle.vault_checkout.proofs.book.Book.stays_held.Goals as goal
 

@@ -4,8 +4,8 @@ use Rattle.vault_model.specs.declared.ids.ClaimId.TheVariants.{Long}
 use Rattle.vault_model.specs.Claims.{without}
 use Rattle.vault_model.proofs.Kept.{kept_without}
 use Rattle.vault_checkout.specs.Seen.{vault_of}
-use Rattle.vault_checkout.specs.Typed.{granted, without_check_out}
-use Rattle.vault_checkout.proofs.AllDrafts.{others_are}
+use Rattle.check_outs.specs.Typed.{granted, without_check_out}
+use Rattle.check_outs.proofs.AllDrafts.{others_are}
 use Rattle.vault_checkout.proofs.Agreeing.{agrees_without, saved_granted}
 use Rattle.vault_checkout.proofs.book.Book.withdraw.Goals as goal
 

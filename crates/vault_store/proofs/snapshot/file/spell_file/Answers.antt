@@ -1,7 +1,7 @@
 use Rattle.std.proofs.Common.{◌≡◌, ◌-◌, ◌<◌, ◌^◌, length, arith}
 use Rattle.vault_model.specs.Vault.{durable}
-use Rattle.vault_store.specs.Snapshot.{snapshot_of}
-use Rattle.vault_store.proofs.Short.{spelled_short}
+use Rattle.vault_format.specs.Snapshot.{snapshot_of}
+use Rattle.vault_format.proofs.Short.{spelled_short}
 use Rattle.vault_store.proofs.Sized.{unsized_length, sized}
 use Rattle.vault_store.proofs.snapshot.file.spell_file.Goals as goal
 

@@ -1,5 +1,5 @@
 use Rattle.std.proofs.Common.{arith}
-use Rattle.vault_store.proofs.Adding.{long_counted}
+use Rattle.vault_format.proofs.Adding.{long_counted}
 use Rattle.vault_store.proofs.snapshot.spelling.long_count.Goals as goal
 
 pub loop-position-preserved : goal.loop-position-preserved

@@ -1,7 +1,7 @@
 use Rattle.std.proofs.Common.{◌≤◌, All, length, sym, subst}
 use Rattle.vault_model.specs.Limits.{longest_content}
 use Rattle.vault_model.specs.Shelf.{Draft}
-use Rattle.vault_store.proofs.Adding.{drafts_short}
+use Rattle.vault_format.proofs.Adding.{drafts_short}
 use Rattle.vault_store.proofs.snapshot.spelling.put_claim.Goals as goal
 
 pub put_drafts-requires-clause-short : goal.put_drafts-requires-clause-short

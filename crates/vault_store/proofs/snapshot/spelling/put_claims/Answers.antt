@@ -1,4 +1,4 @@
-use Rattle.vault_store.proofs.Adding.{long_more}
+use Rattle.vault_format.proofs.Adding.{long_more}
 use Rattle.vault_store.proofs.snapshot.spelling.put_claims.Goals as goal
 
 pub loop-position-preserved : goal.loop-position-preserved

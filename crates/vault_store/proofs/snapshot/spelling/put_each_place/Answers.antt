@@ -1,7 +1,7 @@
 use Rattle.std.proofs.Common.{◌<◌, List, length, ap, sym, subst, arith}
 use Rattle.vault_model.specs.Limits.{most_places}
 use Rattle.vault_model.specs.declared.place.Place.{Place}
-use Rattle.vault_store.proofs.Adding.{places_next}
+use Rattle.vault_format.proofs.Adding.{places_next}
 use Rattle.vault_store.proofs.snapshot.spelling.put_each_place.Goals as goal
 
 pub overflow_cast-number : goal.overflow_cast-number

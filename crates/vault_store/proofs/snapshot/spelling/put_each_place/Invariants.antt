@@ -1,5 +1,5 @@
 use Rattle.std.proofs.Common.{◌≡◌, ◌-◌, ◌++◌, take}
-use Rattle.vault_store.specs.Snapshot.{current_version, places_bytes}
+use Rattle.vault_format.specs.Snapshot.{current_version, places_bytes}
 use Rattle.vault_store.proofs.snapshot.spelling.put_each_place.Given as goal
 
 abbrev pub invariant-loop-number : goal.invariant-loop-number

@@ -8,7 +8,7 @@ use Rattle.vault_store.specs.Sound.{IsSoundStore}
 use Rattle.vault_store.proofs.New.{new_sound, new_kept}
 use Rattle.vault_store.proofs.Creating.{stops_in_creation}
 use Rattle.vault_store.proofs.store.Store.create.Goals as goal
-use Rattle.vault_store.specs.Snapshot.{current_version}
+use Rattle.vault_format.specs.Snapshot.{current_version}
 
 pub invariant_of-result : goal.invariant_of-result
 invariant_of-result g c =

@@ -10,7 +10,7 @@ use Rattle.vault_store.proofs.Renewed.{head_unsettled}
 use Rattle.vault_store.proofs.Exchanged.{exchanged_sound, head_settled}
 use Rattle.vault_store.proofs.Failed.{failed_by}
 use Rattle.vault_store.proofs.store.Store.settle_head.Goals as goal
-use Rattle.vault_store.specs.Snapshot.{current_version}
+use Rattle.vault_format.specs.Snapshot.{current_version}
 
 pub invariant_of-self : goal.invariant_of-self
 invariant_of-self g c =

@@ -1,7 +1,7 @@
 use Rattle.std.proofs.Common.{rules, ◌≡◌, ◌+◌, ◌<◌, ◌^◌, List, ℕ, sym, subst}
 use Rattle.vault_model.specs.Vault.{durable}
 use Rattle.vault_store.specs.declared.phase.Phase.TheVariants.{Idle, Start}
-use Rattle.vault_store.specs.Files.{behind_gate}
+use Rattle.vault_format.specs.Files.{behind_gate}
 use Rattle.vault_store.specs.View.{seen_of}
 use Rattle.vault_store.specs.Sound.{IsSoundStore}
 use Rattle.vault_store.proofs.Exchanged.{started_sound}

@@ -1,0 +1,11 @@
+use Rattle.std.specs.Prelude.{◌≡◌, ◌+◌, ◌≤◌, drop}
+use Rattle.vault_model.specs.Shelf.{drafts_weight}
+use Rattle.check_outs.specs.CheckOuts.{beside}
+use Rattle.check_outs.proofs.weights.weight_beside.Given as goal
+
+-- the sum so far, with what is left
+abbrev pub invariant-loop-draft : goal.invariant-loop-draft
+invariant-loop-draft g l = record {
+  sum : l.sum + drafts_weight (beside (drop l.draft-index l.drafts) l.place) ≡ drafts_weight (beside l.drafts l.place);
+  bound : l.sum + drafts_weight (drop l.draft-index l.drafts) ≤ drafts_weight l.drafts;
+}

@@ -1,0 +1,4 @@
+pub mod CheckOuts
+pub mod Typed
+pub mod Closed
+pub mod Parts

@@ -1,0 +1,37 @@
+//! Check-outs: long claims in their designers' hands, typed as they stand, with the drafts saved under them.
+//!
+//! Promises: a draft is saved under a held check-out alone, in place of one of the same part (`CheckOut<Held>::save`). A list of
+//! check-outs changes as its definition says: one is put last, withdrawn, saved in or closed, whose drafts become versions all or none
+//! (`close_at`). One more draft may be saved exactly where its limits hold (`may_save`). Want of memory changes nothing.
+//! Stands on: vault_model, design_tree, part_versions. Must not know: how a claim stands, the line, sessions, commands.
+//!
+//! Invariant, of `Held`: drafts stand by rising place, one of a part.
+//!
+//! Only tested: that memory is asked for only where a draft needs it.
+//! Start at: check_out.rt says why a draft can't be saved under a check-out that waits; any.rt has the list.
+#![tactic(auto)]
+
+mod any;
+mod check_out;
+mod closing;
+mod copy;
+mod opening;
+mod owners;
+mod parts;
+mod places;
+mod stop;
+mod weights;
+
+pub use any::{
+    AnyCheckOut, check_out_at, drafts_at, grant_one, index_of, put_last, recall_one, save_at,
+    withdraw_at,
+};
+pub use check_out::{CheckOut, Held, Waiting};
+pub use closing::close_at;
+pub use copy::copy_check_outs;
+pub use opening::{number_in, opened, put_in};
+pub use owners::{is_designer, is_owned_by};
+pub use parts::{are_light, are_of_parts, are_rising, may_be};
+pub use places::{are_there, is_changed_by, joined, may_change, places_of};
+pub use stop::Stop;
+pub use weights::may_save;

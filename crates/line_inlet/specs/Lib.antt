@@ -1,0 +1,2 @@
+pub mod Inflow
+pub mod Incoming

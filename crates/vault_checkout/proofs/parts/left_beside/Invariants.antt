@@ -1,7 +1,0 @@
-use Rattle.std.specs.Prelude.{◌≡◌, ◌+◌, drop}
-use Rattle.vault_model.specs.Shelf.{drafts_weight}
-use Rattle.vault_checkout.proofs.parts.left_beside.Given as goal
-
--- what is left, with the drafts that are left
-abbrev pub invariant-loop-draft : goal.invariant-loop-draft
-invariant-loop-draft g l = l.left + drafts_weight l.drafts ≡ l.room + drafts_weight (drop l.draft-index l.drafts)

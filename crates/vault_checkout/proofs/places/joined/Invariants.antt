@@ -1,6 +1,0 @@
-use Rattle.std.proofs.Common.{◌≡◌, ◌++◌, take}
-use Rattle.vault_checkout.proofs.places.joined.Given as goal
-
--- those so far are behind the first ones
-abbrev pub invariant-loop-item : goal.invariant-loop-item
-invariant-loop-item l = l.joined ≡ l.fn.items ++ take l.item-index l.item-items

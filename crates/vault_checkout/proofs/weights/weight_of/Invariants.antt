@@ -1,7 +1,0 @@
-use Rattle.std.specs.Prelude.{◌≡◌, ◌+◌, drop}
-use Rattle.vault_model.specs.Shelf.{drafts_weight}
-use Rattle.vault_checkout.proofs.weights.weight_of.Given as goal
-
--- the sum so far, with what is left
-abbrev pub invariant-loop-draft : goal.invariant-loop-draft
-invariant-loop-draft g l = l.sum + drafts_weight (drop l.draft-index l.drafts) ≡ drafts_weight l.drafts

@@ -1,0 +1,10 @@
+-- Why parts make no book. This project's own.
+use Rattle.vault_model.specs.Vault.{Vault}
+use Rattle.check_outs.specs.Parts.{Parts, IsVaultOf}
+use Rattle.vault_checkout.specs.declared.from_parts.FromPartsError.{FromPartsError}
+use Rattle.vault_checkout.specs.declared.from_parts.FromPartsError.TheVariants.{NotWellFormed, NoMemory}
+
+-- what an error says of the parts: the first that no such vault has them, want of memory that one does
+abbrev pub IsRefusalOf : Parts → FromPartsError → Type 0
+IsRefusalOf parts NotWellFormed = (v : Vault) → IsVaultOf parts v → ⊥
+IsRefusalOf parts NoMemory = (v : Vault) × IsVaultOf parts v

@@ -1,0 +1,18 @@
+-- What is promised of the spellings of a vault. This project's own.
+use Rattle.std.specs.Prelude.{◌≡◌, ◌<◌, ◌^◌, length}
+use Rattle.vault_model.specs.Vault.{Vault}
+use Rattle.vault_format.specs.declared.version.FileVersion.{FileVersion}
+use Rattle.vault_format.specs.Snapshot.{current_version, snapshot_of, spelling_of, HasSnapshot, HasSpelling}
+
+-- four bytes can count a spelling
+abbrev pub SnapshotsAreShort : Type 0
+SnapshotsAreShort = (v : Vault) → HasSnapshot v → length (snapshot_of v) < 2 ^ 32
+
+-- a spelling in a version is of one vault
+abbrev pub OneSpelling : Type 0
+OneSpelling = (version : FileVersion) (v w : Vault) → HasSpelling version v → HasSpelling version w
+    → spelling_of version v ≡ spelling_of version w → v ≡ w
+
+-- each vault that has a snapshot has a spelling in today's version
+abbrev pub AllAreSpelled : Type 0
+AllAreSpelled = (v : Vault) → HasSnapshot v → HasSpelling current_version v

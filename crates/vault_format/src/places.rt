@@ -1,0 +1,221 @@
+//! The places of a snapshot, with the versions of parts.
+ghost use Rattle.std.specs.Prelude.{◌≡◌, ◌+◌, ◌≤◌, [], Err, IfOk, length};
+ghost use Rattle.vault_model.specs.Shelf.{IsShelf};
+ghost use Rattle.vault_model.specs.Tree.{IsTree};
+ghost use Rattle.vault_model.specs.Vault.{AreVersions};
+ghost use Rattle.vault_format.specs.declared.error.SnapshotError.TheVariants.{NotWellFormed};
+ghost use Rattle.vault_format.specs.Places.{told_of, ArePlacesAt, BeginsWithNoPlaces, IsVersionRead, BeginsWithNoVersion, AreVersionsRead, BeginsWithNoVersions, no_part_under, kind_before, IsPlaceAdded, BeginsWithNoName, IsPlaceRead, BeginsWithNoPlace};
+ghost use Rattle.vault_journal.specs.Reading.{Reads};
+
+use crate::error::SnapshotError;
+use crate::fields::kind_byte;
+use crate::version::FileVersion;
+use design_tree::{AddError, Tree};
+use part_versions::{NotAppended, Shelf};
+use std::alloc::Allocator;
+use vault_journal::{content_at, name_at, u8_at, u16_at, u32_at};
+use vault_model::{Draft, Kind, Listing, PlaceId};
+
+/// The places of a snapshot, the versions of their parts, and the bytes behind them.
+#[derive(Drop)]
+pub struct Places<'a, A: Allocator> {
+    pub tree: Tree<A>,
+    pub shelf: Shelf<A>,
+    pub rest: &'a [u8],
+}
+
+impl From<AddError> for SnapshotError {
+    ghost from_gives = { λ error told. told ≡ told_of error };
+
+    fn from(error: AddError) -> SnapshotError {
+        match error {
+            AddError::WrongKind | AddError::Exists | AddError::Limit => {
+                SnapshotError::NotWellFormed
+            }
+            AddError::NoMemory => SnapshotError::NoMemory,
+        }
+    }
+}
+
+// The places of a snapshot, one field behind another:
+//
+//   bytes
+//       4  how many places there are; the library counts
+//          then of each place from number 1 on:
+//       4  its parent, which has a smaller number
+//   1 + n  its name: n, 1 to 32, and n bytes
+//       1  its kind: 1 of a part, and 0 of another: a project right under the library, an assembly elsewhere; not in version 1
+//          and of a part:
+//       2  how many versions it has
+//   2 + n  each version: n, at most 1,024, and n bytes
+
+// Reads one version of a part onto the shelf, and answers the bytes behind it.
+fn read_version<'a, A: Allocator + Copy>(
+    alloc: A,
+    part: PlaceId,
+    shelf: &mut Shelf<A>,
+    bytes: &'a [u8],
+) -> Result<&'a [u8], SnapshotError>
+    ensures read { IfOk result (λ rest. IsVersionRead part shelf.old shelf.new bytes.now rest.now) }
+    ensures shelf { IfOk result (λ rest. IsShelf shelf.new) }
+    ensures refused { result ≡ Err NotWellFormed → BeginsWithNoVersion part shelf.old bytes.now }
+{
+    let Some((content, rest)) = content_at(bytes) else {
+        return Err(SnapshotError::NotWellFormed);
+    };
+    let content = Listing::from_vec(Vec::from_slice(alloc, content)?);
+    let mut drafts = Vec::new(alloc);
+    drafts.push(Draft {
+        place: part,
+        content,
+    })?;
+    match shelf.append_all(Listing::from_vec(drafts)) {
+        Ok(()) => Ok(rest),
+        Err(NotAppended::Limit(_)) => Err(SnapshotError::NotWellFormed),
+        Err(NotAppended::NoMemory(_)) => Err(SnapshotError::NoMemory),
+    }
+}
+
+// Reads the versions of a part onto the shelf, and answers the bytes behind them.
+fn read_versions<'a, A: Allocator + Copy>(
+    alloc: A,
+    part: PlaceId,
+    shelf: &mut Shelf<A>,
+    bytes: &'a [u8],
+) -> Result<&'a [u8], SnapshotError>
+    requires { IsShelf shelf.old }
+    ensures read { IfOk result (λ rest. AreVersionsRead part shelf.old shelf.new bytes.now rest.now) }
+    ensures refused { result ≡ Err NotWellFormed → BeginsWithNoVersions part shelf.old bytes.now }
+{
+    let Some((count, after)) = u16_at(bytes) else {
+        return Err(SnapshotError::NotWellFormed);
+    };
+    let mut rest = after;
+    for _ in 0..count {
+        rest = read_version(alloc, part, shelf, rest)?;
+    }
+    Ok(rest)
+}
+
+// What stands under a place of this kind and is no part.
+fn no_part_under(kind: Kind) -> Kind
+    ensures { result ≡ no_part_under kind }
+{
+    match kind {
+        Kind::Library => Kind::Project,
+        Kind::Project | Kind::Assembly | Kind::Part => Kind::Assembly,
+    }
+}
+
+// The kind in front, of a place under this parent, and what stands behind it. In version 1 it follows from how deep the place stands.
+fn kind_before<'a, A: Allocator>(
+    version: FileVersion,
+    tree: &Tree<A>,
+    parent: PlaceId,
+    bytes: &'a [u8],
+) -> Option<(Kind, &'a [u8])>
+    requires { parent ≤ length tree.now }
+    ensures { Reads (λ x. (x.0, x.1.now)) result (kind_before version tree.now parent bytes.now) }
+{
+    if version == FileVersion::One {
+        return Some((tree.kind_under(parent), bytes));
+    }
+    let (byte, rest) = u8_at(bytes)?;
+    if byte == kind_byte(true) {
+        return Some((Kind::Part, rest));
+    }
+    if byte == kind_byte(false) {
+        return Some((no_part_under(tree.kind(parent)), rest));
+    }
+    None
+}
+
+// Reads the parent, the name and the kind of a place, makes it in the tree, and answers the bytes behind them.
+fn read_name<'a, A: Allocator + Copy>(
+    version: FileVersion,
+    tree: &mut Tree<A>,
+    bytes: &'a [u8],
+) -> Result<&'a [u8], SnapshotError>
+    ensures read { IfOk result (λ rest. IsPlaceAdded version tree.old tree.new bytes.now rest.now) }
+    ensures refused { result ≡ Err NotWellFormed → BeginsWithNoName version tree.old bytes.now }
+{
+    let Some((parent, rest)) = u32_at(bytes) else {
+        return Err(SnapshotError::NotWellFormed);
+    };
+    let Some(named) = name_at(rest) else {
+        return Err(SnapshotError::NotWellFormed);
+    };
+    if tree.len() <= parent as usize {
+        return Err(SnapshotError::NotWellFormed);
+    }
+    let Some(kind) = kind_before(version, tree, PlaceId(parent), named.1) else {
+        return Err(SnapshotError::NotWellFormed);
+    };
+    tree.add(PlaceId(parent), named.0, kind.0)?;
+    Ok(kind.1)
+}
+
+// Reads the place of this number, with its versions where it is a part, and answers the bytes behind it.
+fn read_place<'a, A: Allocator + Copy>(
+    alloc: A,
+    version: FileVersion,
+    place: PlaceId,
+    tree: &mut Tree<A>,
+    shelf: &mut Shelf<A>,
+    bytes: &'a [u8],
+) -> Result<&'a [u8], SnapshotError>
+    requires next { place ≡ length tree.old + 1 }
+    requires versions { AreVersions tree.old shelf.old }
+    ensures read { IfOk result (λ rest. IsPlaceRead version tree.old shelf.old tree.new shelf.new bytes.now rest.now) }
+    ensures refused { result ≡ Err NotWellFormed → BeginsWithNoPlace version tree.old shelf.old bytes.now }
+{
+    let rest = read_name(version, tree, bytes)?;
+    if !tree.is_part(place) {
+        return Ok(rest);
+    }
+    read_versions(alloc, place, shelf, rest)
+}
+
+// Reads how many places there are and each of them, and answers the bytes behind them.
+fn read_each_place<'a, A: Allocator + Copy>(
+    alloc: A,
+    version: FileVersion,
+    tree: &mut Tree<A>,
+    shelf: &mut Shelf<A>,
+    bytes: &'a [u8],
+) -> Result<&'a [u8], SnapshotError>
+    requires tree { tree.old ≡ [] }
+    requires shelf { shelf.old ≡ [] }
+    ensures read { IfOk result (λ rest. ArePlacesAt version bytes.now tree.new shelf.new rest.now) }
+    ensures refused { result ≡ Err NotWellFormed → BeginsWithNoPlaces version bytes.now }
+{
+    let Some((count, after)) = u32_at(bytes) else {
+        return Err(SnapshotError::NotWellFormed);
+    };
+    if count == 0 {
+        return Err(SnapshotError::NotWellFormed);
+    }
+    let mut rest = after;
+    for number in 1..count {
+        rest = read_place(alloc, version, PlaceId(number), tree, shelf, rest)?;
+    }
+    Ok(rest)
+}
+
+/// The places whose spelling in this version stands at the front of the bytes, with the versions of their parts.
+///
+/// The work grows with the bytes that are read and, for each place, with the number of its siblings. Beside the tree and the
+/// shelf it takes memory for one version at a time.
+pub fn read_places<'a, A: Allocator + Copy>(
+    alloc: A,
+    version: FileVersion,
+    bytes: &'a [u8],
+) -> Result<Places<'a, A>, SnapshotError>
+    ensures read { IfOk result (λ places. ArePlacesAt version bytes.now places.tree places.shelf places.rest.now) }
+    ensures refused { result ≡ Err NotWellFormed → BeginsWithNoPlaces version bytes.now }
+{
+    let mut tree = Tree::new(alloc)?;
+    let mut shelf = Shelf::new(alloc);
+    let rest = read_each_place(alloc, version, &mut tree, &mut shelf, bytes)?;
+    Ok(Places { tree, shelf, rest })
+}

@@ -1,0 +1,231 @@
+//! What the program is asked to do.
+
+use clap::error::ErrorKind;
+use clap::{Arg, ArgMatches, Command, Error, value_parser};
+use std::alloc::{AllocError, Global};
+use std::convert::AsStr;
+use vault_protocol::SCRIPT_HELP;
+
+/// What `--version` says behind the program's name.
+const VERSION: &str = "0.8.0";
+
+/// What `create` does, below its help.
+const CREATED: &str = "\
+A file that isn't there is made; one that is there has to be empty. A file that isn't empty is left as it is, and the
+program ends with status 1 and the line 'vault exists'.
+Example:
+  vaultd create vault.a vault.b";
+
+/// What `inspect` prints, below its help.
+const INSPECTED: &str = "\
+The files are only read. Stop their server first, or copy both files and inspect the copy: what is read while a server
+writes may be of no one moment, and 'vault in use' is said on standard error then. No server starts while they are read.
+A line for each file says whether it is closed, open, older than the other or damaged at an
+offset; then come the vault's counts and a line for each standing claim, or 'no vault'.
+Example:
+  vaultd inspect vault.a vault.b
+prints for a new vault:
+  file a: open, generation 1, frames 0, tail 34
+  file b: closed
+  places 1, versions 0, claims 0, drafts 0";
+
+/// What a client says and is told, below the help of `serve`.
+const SERVED: &str = "\
+Prints 'listening' once it accepts connections, and runs until it is stopped: by any signal, at any time. What a client
+was told is on disk then. A client sends lines as those of a script without '@K ', and is told one line for each.
+There are no passwords: the name in 'hello' is believed, so bind an address that only trusted people reach.
+Example:
+  vaultd create vault.a vault.b
+  vaultd serve vault.a vault.b 127.0.0.1:7070 --workers 16 &
+  printf 'hello anna\\nmake /engine\\nquit\\n' | nc 127.0.0.1 7070
+prints
+  OK session 1
+  OK place 1
+  OK left";
+
+/// An example, below the help of the program.
+const EXAMPLE: &str = "\
+Example:
+  printf '@1 hello anna\\n@1 make /engine\\n@1 checkout w:/engine\\n' | vaultd script
+'vaultd script --help' lists what a script may say.";
+
+/// What is served, where, and by how many workers.
+#[derive(Clone, Copy)]
+pub struct Serving<'a> {
+    /// The paths of the vault's files.
+    pub first: &'a str,
+    pub second: &'a str,
+    /// What is handed to bind.
+    pub address: &'a str,
+    /// 1 to 64.
+    pub workers: u32,
+    /// After how many connections the program ends.
+    pub connections: Option<u32>,
+    /// After how many seconds a silent connection is ended.
+    pub idle: Option<u32>,
+}
+
+/// What the program is asked to do.
+#[derive(Clone, Copy)]
+pub enum Task<'a> {
+    Script,
+    /// Makes a vault in the files of these paths.
+    Create(&'a str, &'a str),
+    /// Reports on the files of these paths.
+    Inspect(&'a str, &'a str),
+    /// Serves a vault.
+    Serve(Serving<'a>),
+}
+
+/// An argument that has to be there.
+fn needed<'a>(alloc: Global, id: &'a str, help: &'a str) -> Arg<'a> {
+    Arg::new(alloc, id).required(true).help(help)
+}
+
+/// An option that takes a value.
+fn option<'a>(alloc: Global, name: &'a str, value: &'a str, help: &'a str) -> Arg<'a> {
+    Arg::new(alloc, name)
+        .long(name)
+        .value_name(value)
+        .help(help)
+}
+
+/// A subcommand over two files.
+fn over_files<'a>(alloc: Global, name: &'a str) -> Result<Command<'a>, AllocError> {
+    let command = Command::new(alloc, name);
+    let first = "The path of the vault's first file";
+    let command = command.arg(needed(alloc, "A", first))?;
+    let second = "The path of the vault's second file, another one";
+    command.arg(needed(alloc, "B", second))
+}
+
+/// The subcommand that runs a script.
+fn script<'a>(alloc: Global) -> Command<'a> {
+    Command::new(alloc, "script")
+        .about("Runs a script from standard input over a new vault, replies to standard output")
+        .after_help(SCRIPT_HELP)
+}
+
+/// The subcommand that makes a vault.
+fn create<'a>(alloc: Global) -> Result<Command<'a>, AllocError> {
+    let about =
+        "Makes two files where they are missing and a new vault in them, and prints 'created'";
+    Ok(
+        over_files(alloc, "create")?
+            .about(about)
+            .after_help(CREATED),
+    )
+}
+
+/// The subcommand that reports.
+fn inspect<'a>(alloc: Global) -> Result<Command<'a>, AllocError> {
+    Ok(
+        over_files(alloc, "inspect")?
+            .about("Prints a report on the two files of a vault, and changes neither")
+            .after_help(INSPECTED),
+    )
+}
+
+/// How many connections are served at a time.
+fn workers<'a>(alloc: Global) -> Arg<'a> {
+    let help = "How many connections are served at a time, 1 to 64";
+    option(alloc, "workers", "N", help)
+        .default_value("4")
+        .value_parser(value_parser!(u32).range(1..=64))
+}
+
+/// After how many connections the server ends.
+fn connections<'a>(alloc: Global) -> Arg<'a> {
+    let help = "Ends after so many connections; without it the program serves on";
+    option(alloc, "connections", "M", help).value_parser(value_parser!(u32).range(1..))
+}
+
+/// After how long a silent connection is ended.
+fn idle<'a>(alloc: Global) -> Arg<'a> {
+    let help = "Ends a connection that sends nothing for so long; without it, it may be silent";
+    option(alloc, "idle", "SECONDS", help).value_parser(value_parser!(u32).range(1..))
+}
+
+/// The subcommand that serves.
+fn serve<'a>(alloc: Global) -> Result<Command<'a>, AllocError> {
+    let command = over_files(alloc, "serve")?
+        .about("Serves the vault in two files over TCP")
+        .after_help(SERVED);
+    let address = "Where to listen, as 127.0.0.1:7070";
+    let command = command.arg(needed(alloc, "ADDR", address))?;
+    let command = command.arg(workers(alloc))?;
+    let command = command.arg(connections(alloc))?;
+    command.arg(idle(alloc))
+}
+
+/// One subcommand more, where there was memory for it.
+fn with<'a>(
+    command: Command<'a>,
+    more: Result<Command<'a>, AllocError>,
+) -> Result<Command<'a>, AllocError> {
+    match more {
+        Ok(more) => command.subcommand(more),
+        Err(error) => Err(error),
+    }
+}
+
+/// The command line. A command is long to drop, so one at a time is alive here.
+fn command_line<'a>(alloc: Global) -> Result<Command<'a>, AllocError> {
+    let command = Command::new(alloc, "vaultd")
+        .version(VERSION)
+        .about("The server of an engineering design library")
+        .after_help(EXAMPLE)
+        .subcommand_required(true)
+        .arg_required_else_help(true);
+    let command = command.subcommand(script(alloc))?;
+    let command = with(command, create(alloc))?;
+    let command = with(command, inspect(alloc))?;
+    with(command, serve(alloc))
+}
+
+/// A word on the command line, which has it.
+fn path<'a>(matches: &ArgMatches<'a>, id: &str) -> &'a str {
+    matches.get_str(id).unwrap_or("")
+}
+
+/// What `serve` is asked to do.
+fn serving_of<'a>(matches: &ArgMatches<'a>) -> Serving<'a> {
+    Serving {
+        first: path(matches, "A"),
+        second: path(matches, "B"),
+        address: path(matches, "ADDR"),
+        workers: matches.get_one::<u32>("workers").unwrap_or(4),
+        connections: matches.get_one::<u32>("connections"),
+        idle: matches.get_one::<u32>("idle"),
+    }
+}
+
+/// What was matched, if it is one of the subcommands.
+fn task_in<'a>(matches: &ArgMatches<'a>) -> Option<Task<'a>> {
+    match matches.subcommand() {
+        Some(("script", _)) => Some(Task::Script),
+        Some(("create", files)) => Some(Task::Create(path(files, "A"), path(files, "B"))),
+        Some(("inspect", files)) => Some(Task::Inspect(path(files, "A"), path(files, "B"))),
+        Some(("serve", words)) => Some(Task::Serve(serving_of(words))),
+        Some(_) | None => None,
+    }
+}
+
+/// The error of a command line without a subcommand.
+fn lacks_subcommand(alloc: Global) -> Result<Error, AllocError> {
+    let mut command = command_line(alloc)?;
+    let error = command.error(ErrorKind::MissingSubcommand, "a subcommand is needed");
+    drop(command);
+    error
+}
+
+/// What the words ask for, the program's own name first. Its error is what clap says of them, or the help that they ask for.
+pub fn task_of<'a, S: AsStr>(alloc: Global, words: &'a [S]) -> Result<Task<'a>, Error> {
+    let matches = command_line(alloc)?.try_get_matches_from(words)?;
+    let task = task_in(&matches);
+    drop(matches);
+    match task {
+        Some(task) => Ok(task),
+        None => Err(lacks_subcommand(alloc)?),
+    }
+}

@@ -1,0 +1,73 @@
+//! Why the program ends with status 1.
+
+use std::alloc::AllocError;
+use thiserror::Error;
+use vault_inspector::{InspectError, PrintError};
+use vault_protocol::ScriptError;
+use vault_store::{CreateError, File, OpenError};
+
+/// What went wrong, as it is said in one line.
+#[derive(Clone, Copy, Debug, Error)]
+pub enum Failure {
+    #[error(transparent)]
+    Script(#[from] ScriptError),
+    #[error(transparent)]
+    Create(#[from] CreateError),
+    #[error(transparent)]
+    Inspect(#[from] InspectError),
+    #[error(transparent)]
+    Print(#[from] PrintError),
+    /// Another program has a file of the vault, or one file was given twice.
+    #[error("vault in use")]
+    InUse,
+    /// Neither file is open.
+    #[error("no vault")]
+    NoVault,
+    /// The first fault stands in the first file, at this offset.
+    #[error("file a damaged at {0}")]
+    FirstDamaged(u64),
+    /// The first fault stands in the second file, at this offset.
+    #[error("file b damaged at {0}")]
+    SecondDamaged(u64),
+    /// A file can't be opened, made, read or written.
+    #[error("device fault")]
+    Device,
+    /// The system lets the program have fewer descriptors than its workers need.
+    #[error("want of descriptors: {needed} are needed, and the limit is {limit}")]
+    Descriptors { needed: u64, limit: u64 },
+    #[error("want of memory")]
+    NoMemory,
+    /// The address can't be bound.
+    #[error("read fault")]
+    Bind,
+    /// Connections can't be accepted for good.
+    #[error("read fault")]
+    Accept,
+    /// Standard output failed.
+    #[error("write fault")]
+    Write,
+}
+
+impl From<AllocError> for Failure {
+    fn from(_error: AllocError) -> Failure {
+        Failure::NoMemory
+    }
+}
+
+impl From<OpenError> for Failure {
+    fn from(error: OpenError) -> Failure {
+        match error {
+            OpenError::NoVault => Failure::NoVault,
+            OpenError::Damaged {
+                file: File::First,
+                offset,
+            } => Failure::FirstDamaged(offset),
+            OpenError::Damaged {
+                file: File::Second,
+                offset,
+            } => Failure::SecondDamaged(offset),
+            OpenError::Device => Failure::Device,
+            OpenError::NoMemory => Failure::NoMemory,
+        }
+    }
+}
