@@ -1,4 +1,4 @@
-ghost use Rattle.std.specs.Prelude.{◌↔◌, IsTrue};
+ghost use Rattle.std.specs.Prelude.{◌↔◌, ◌≤◌, IsTrue, length};
 ghost use Rattle.vault_model.specs.Vault.{AreThere};
 
 use Kind::{Assembly, Part, Project};
@@ -75,11 +75,24 @@ pub(crate) fn are_there<A: Allocator>(tree: &Tree<A>, items: &[Item]) -> bool
 /// The places that items look at, and those that they change, a bit each. What is changed is looked at, too.
 pub(crate) type Reach = (u32, u32);
 
+// Whether the way up from a place leads to another, parent by parent.
+fn leads_to<A: Allocator>(tree: &Tree<A>, place: PlaceId, top: PlaceId) -> bool
+    requires { place ≤ length tree.now }
+{
+    if place == top {
+        return true;
+    }
+    match tree.parent(place) {
+        Some(parent) => leads_to(tree, parent, top),
+        None => false,
+    }
+}
+
 // The places at or under one, a bit each.
 fn places_under<A: Allocator>(tree: &Tree<A>, top: PlaceId) -> u32 {
     let mut places = 0;
     for number in 0..32u32 {
-        if (number as usize) < tree.len() && tree.is_under(PlaceId(number), top) {
+        if (number as usize) < tree.len() && leads_to(tree, PlaceId(number), top) {
             places |= 1 << number;
         }
     }
