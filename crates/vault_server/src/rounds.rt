@@ -141,15 +141,19 @@ impl<D: Device, S: Tally, T: Tally, A: Allocator + Copy, G: Gate, H: Wait + Cloc
             Tried::Early(left) if left < Duration::from_micros(SHORTEST_WAIT) => return Rest::Blink,
             Tried::Early(_) => return Rest::Moment,
             // Who wants room tries again soon: another's ticket is still out.
-            Tried::InVain => rest = Rest::Moment,
-            Tried::Settled => {}
+            Tried::InVain => {
+                ring_others(self.bells, self.number);
+                rest = Rest::Moment;
+            }
+            Tried::Settled => ring_others(self.bells, self.number),
+            // The others are woken before a line is heard: who hears it may be held up.
             Tried::Committed(settled, commit) => {
+                ring_others(self.bells, self.number);
                 self.look(poll, events, slots, Rest::Nothing);
                 let _ = self.turn(slots, self.now());
                 committer.expect(settled, commit);
             }
         }
-        ring_others(self.bells, self.number);
         for slot in slots.as_mut_slice() {
             slot.look_again();
         }
