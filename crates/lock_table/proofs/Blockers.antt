@@ -15,7 +15,8 @@ use Rattle.lock_table.specs.declared.entry.Entry.{Entry}
 use Rattle.lock_table.specs.declared.again.Again.TheVariants.{Behind}
 use Rattle.lock_table.specs.Locks.{mode_at, AreApart, conflict}
 use Rattle.lock_table.specs.Tables.{entry_of, entries_before, entries_without, is_held_in}
-use Rattle.lock_table.specs.Queues.{CellSeen, IsWeighing, seats_at, seats_by, blocker_at, blockers_of, is_taken}
+use Rattle.lock_queue.specs.Queue.{CellSeen}
+use Rattle.lock_table.specs.Queues.{IsWeighing, seats_at, seats_by, blocker_at, blockers_of, is_taken}
 use Rattle.lock_table.proofs.Leaving.{is_id, before_its, before_other, still_waits, all_stay}
 use Rattle.lock_table.proofs.LockConflicts.{lock_from, lock_to}
 use Rattle.std.proofs.lemmas.Option.{same_Some}

@@ -15,7 +15,8 @@ use Rattle.lock_table.specs.declared.locks.Lock.{Lock}
 use Rattle.lock_table.specs.declared.entry.Entry.{Entry}
 use Rattle.lock_table.specs.Locks.{mode_at, AreApart}
 use Rattle.lock_table.specs.Tables.{IsTable, is_held_in, locks_cover, held_over_in}
-use Rattle.lock_table.specs.Queues.{CellSeen, AreQueues, seats_at, first_of, place_of, is_cover, earlier}
+use Rattle.lock_queue.specs.Queue.{CellSeen, first_of, is_cover}
+use Rattle.lock_table.specs.Queues.{AreQueues, seats_at, place_of, earlier}
 use Rattle.lock_table.proofs.Climb.{is_beneath, is_under-beneath}
 use Rattle.lock_table.proofs.JoinedAt.{places}
 use Rattle.lock_table.proofs.Putting.{none_there}

@@ -11,7 +11,7 @@ use Rattle.vault_model.proofs.Distinct.{IsDistinct-filter}
 use Rattle.vault_model.proofs.Stays.{same_id_is}
 use Rattle.lock_modes.specs.declared.mode.Mode.{Mode}
 use Rattle.lock_table.specs.declared.entry.Entry.{Entry}
-use Rattle.lock_table.specs.declared.cell.Seat.{Seat}
+use Rattle.lock_queue.specs.declared.cell.Seat.{Seat}
 use Rattle.lock_table.specs.Locks.{mode_at, conflict}
 use Rattle.lock_table.specs.Tables.{IsTable, first_in_way, entries_before}
 use Rattle.lock_table.specs.Queues.{seats_by, seat_of, blocker_at, waits_for}

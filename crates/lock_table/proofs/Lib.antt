@@ -10,7 +10,6 @@ pub mod TablesKept
 pub mod Covers
 pub mod Lines
 pub mod Sends
-pub mod Counts
 pub mod Positions
 pub mod Putting
 pub mod Weighing
@@ -22,5 +21,3 @@ pub mod Shorts
 pub mod Stale
 pub mod Blockers
 pub mod Waiting
-mod Taken
-mod Ends

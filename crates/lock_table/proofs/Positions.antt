@@ -12,9 +12,10 @@ use Rattle.vault_model.proofs.Stays.{same_id_itself}
 use Rattle.lock_modes.specs.declared.mode.Mode.{Mode}
 use Rattle.lock_table.specs.declared.locks.Lock.{Lock}
 use Rattle.lock_table.specs.declared.entry.Entry.{Entry}
-use Rattle.lock_table.specs.declared.cell.Seat.{Seat}
+use Rattle.lock_queue.specs.declared.cell.Seat.{Seat}
 use Rattle.lock_table.specs.Locks.{mode_at}
-use Rattle.lock_table.specs.Queues.{CellSeen, seat_of, seats_at, seats_by, earlier, first_of, place_of, earliest, is_in_way, is_held_in_way}
+use Rattle.lock_queue.specs.Queue.{CellSeen, first_of, is_in_way, is_held_in_way}
+use Rattle.lock_table.specs.Queues.{seat_of, seats_at, seats_by, earlier, place_of, earliest}
 use Rattle.lock_table.proofs.Removals.{ids}
 
 -- where the first entry that passes stands, counted from a number on

@@ -8,9 +8,10 @@ use Rattle.std.proofs.lemmas.List.Elements.{All-head, All-tail}
 use Rattle.vault_model.specs.declared.ids.ClaimId.{ClaimId}
 use Rattle.lock_modes.specs.declared.mode.Mode.{Mode}
 use Rattle.lock_table.specs.declared.locks.Lock.{Lock}
-use Rattle.lock_table.specs.declared.cell.Seat.{Seat}
+use Rattle.lock_queue.specs.declared.cell.Seat.{Seat}
 use Rattle.lock_table.specs.Locks.{mode_at, AreApart}
-use Rattle.lock_table.specs.Queues.{CellSeen, seats_of, room_of, seats_at, room_at, HaveRoom, by_lock, seat_of}
+use Rattle.lock_queue.specs.Queue.{CellSeen, by_lock}
+use Rattle.lock_table.specs.Queues.{seats_of, room_of, seats_at, room_at, HaveRoom, seat_of}
 use Rattle.lock_table.proofs.Positions.{drop_is}
 use Rattle.lock_table.proofs.JoinedAt.{places}
 

@@ -17,11 +17,12 @@ use Rattle.lock_table.specs.declared.locks.Lock.{Lock}
 use Rattle.lock_table.specs.declared.entry.Entry.{Entry}
 use Rattle.lock_table.specs.Locks.{mode_at, AreApart, conflict}
 use Rattle.lock_table.specs.Tables.{IsTable, first_in_way, entry_of, entries_before, entries_without, is_held_in, held_in_way, put_first}
-use Rattle.lock_table.specs.Queues.{CellSeen, AreQueues, seat_modes, held_seats, seats_at, room_at, HaveRoom, seat_of, seats_by, seats_from, modes_by, modes_in, first_of, place_of, is_held_in_way, seat_in_way, held_seat_in_way, blocker_at, blockers_of}
+use Rattle.lock_queue.specs.Queue.{CellSeen, seat_modes, held_seats, first_of, is_held_in_way}
+use Rattle.lock_table.specs.Queues.{AreQueues, seats_at, room_at, HaveRoom, seat_of, seats_by, seats_from, modes_by, modes_in, place_of, seat_in_way, held_seat_in_way, blocker_at, blockers_of}
 use Rattle.lock_table.proofs.Putting.{mode_listed}
 use Rattle.lock_table.proofs.Positions.{first_from, queue_first, any_first, earliest_same, first_same, id_found, first_taken, if_lower}
 use Rattle.lock_table.proofs.Weighing.{FindFirst, all_push, length_from, seats_from-push, queue_law, way_law}
-use Rattle.lock_table.proofs.Counts.{length_modes}
+use Rattle.lock_queue.proofs.Counts.{length_modes}
 use Rattle.lock_table.proofs.Leaving.{is_id}
 use Rattle.lock_table.proofs.TablesKept.{table_extended}
 use Rattle.lock_table.proofs.Removals.{ids, is_its, own_index, others_stay, turned}

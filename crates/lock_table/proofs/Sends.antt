@@ -9,16 +9,13 @@ use Rattle.arrayvec.specs.contracts.cells.Cells as Cells
 use Rattle.arrayvec.specs.contracts.array_vec.ArrayVec as ArrayVec
 use Rattle.arrayvec.specs.contracts.array_vec.ArrayVec.TheInside as ArrayVecInside
 use Rattle.vault_model.proofs.Sends.{fields, claim_id_send}
+use Rattle.lock_queue.proofs.Sends.{cell_send}
 use Rattle.lock_table.specs.declared.locks.TheConstants.{MOST_LOCKS}
 use Rattle.lock_table.specs.contracts.locks.Lock as Lock
 use Rattle.lock_table.specs.contracts.locks.LockSet as LockSet
 use Rattle.lock_table.specs.contracts.locks.LockSet.TheInside as LockSetInside
 use Rattle.lock_table.specs.contracts.entry.Kept as Kept
 use Rattle.lock_table.specs.contracts.entry.Kept.TheInside as KeptInside
-use Rattle.lock_modes.specs.contracts.group.Group as Group
-use Rattle.lock_table.specs.contracts.cell.Seat as Seat
-use Rattle.lock_table.specs.contracts.cell.Cell as Cell
-use Rattle.lock_table.specs.contracts.cell.Cell.TheInside as CellInside
 use Rattle.lock_table.specs.contracts.table.Table as Table
 use Rattle.lock_table.specs.contracts.table.Table.TheInside as TableInside
 
@@ -39,20 +36,7 @@ lock_set_send =
     let l = array_vec_send _ (number MOST_LOCKS) unit-field.row lock_send (search fields) in
     view_send _ _ _ _ _ (recorded_send _ _ _ T.to_one (struct_send (shape T) (search fields depth 20)))
 
-group_send : IsSend Group.the_row
-group_send = search fields depth 20 fits 20000
-
-seat_send : IsSend Seat.the_row
-seat_send = let i = claim_id_send in search fields depth 20 fits 20000
-
 module _ (A : RattleType) (g : Ghosts A.Denot) (s : IsSend A) (f : Frees g g.dealloc_token) where
-  cell_send : IsSend (Cell.the_field A g).row
-  cell_send =
-      let T = CellInside.the_type A g in
-      let x = seat_send in
-      let h = group_send in
-      view_send _ _ _ _ _ (recorded_send _ _ _ T.to_one (struct_send (shape T) (search fields depth 20)))
-
   kept_send : IsSend (Kept.the_field A g).row
   kept_send =
       let T = KeptInside.the_type A g in
@@ -65,5 +49,5 @@ module _ (A : RattleType) (g : Ghosts A.Denot) (s : IsSend A) (f : Frees g g.dea
       let T = TableInside.the_type A g in
       let e = kept_send in
       let i = claim_id_send in
-      let c = cell_send in
+      let c = cell_send A g s f in
       view_send _ _ _ _ _ (recorded_send _ _ _ T.to_one (struct_send (shape T) (search fields depth 20)))

@@ -9,7 +9,8 @@ use Rattle.vault_model.specs.Claims.{is_short}
 use Rattle.lock_table.specs.declared.entry.Entry.{Entry}
 use Rattle.lock_table.specs.declared.again.Again.TheVariants.{BehindShort}
 use Rattle.lock_table.specs.Tables.{is_held_in, long_entries}
-use Rattle.lock_table.specs.Queues.{CellSeen, AreStale, seats_at, room_at, long_seats, queue_of, blocker_at, is_taken}
+use Rattle.lock_queue.specs.Queue.{CellSeen, long_seats}
+use Rattle.lock_table.specs.Queues.{AreStale, seats_at, room_at, queue_of, blocker_at, is_taken}
 use Rattle.lock_table.proofs.Leaving.{kept_by, still_waits, all_stay}
 
 -- the places so far have the seats of long claims alone, and those behind them what they had

@@ -11,7 +11,8 @@ use Rattle.vault_model.proofs.Stays.{same_id_itself}
 use Rattle.lock_table.specs.declared.entry.Entry.{Entry}
 use Rattle.lock_table.specs.declared.again.Again.{Again}
 use Rattle.lock_table.specs.Tables.{first_in_way, entries_before, is_held_in}
-use Rattle.lock_table.specs.Queues.{CellSeen, AreStale, IsWeighing, seats_at, seats_by, queue_of, held_by, blocker_at, blockers_of, is_taken}
+use Rattle.lock_queue.specs.Queue.{CellSeen}
+use Rattle.lock_table.specs.Queues.{AreStale, IsWeighing, seats_at, seats_by, queue_of, held_by, blocker_at, blockers_of, is_taken}
 use Rattle.lock_table.proofs.Positions.{drop_is}
 use Rattle.lock_table.proofs.Removals.{ids}
 use Rattle.lock_table.proofs.Others.{rest_apart}

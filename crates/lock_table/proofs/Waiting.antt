@@ -11,15 +11,17 @@ use Rattle.vault_model.proofs.Stays.{same_id_itself, same_id_turned}
 use Rattle.lock_modes.specs.declared.mode.Mode.{Mode}
 use Rattle.lock_modes.specs.Modes.{compatible, incompatible}
 use Rattle.lock_table.specs.declared.locks.Lock.{Lock}
-use Rattle.lock_table.specs.declared.cell.Seat.{Seat}
+use Rattle.lock_queue.specs.declared.cell.Seat.{Seat}
 use Rattle.lock_table.specs.declared.entry.Entry.{Entry}
 use Rattle.lock_table.specs.declared.again.Again.{Again}
 use Rattle.lock_table.specs.declared.again.Again.TheVariants.{Behind, Everyone}
 use Rattle.lock_table.specs.Locks.{mode_at, AreApart, conflict}
 use Rattle.lock_table.specs.Tables.{first_in_way, entry_of, entries_without, is_held_in, held_in_way, put_first}
-use Rattle.lock_table.specs.Queues.{CellSeen, AreStale, seats_at, seats_by, seat_of, first_of, is_in_way, blocker_at, is_taken, is_queued_at, is_queued_in, is_queued_against, waits_where, waits_behind}
+use Rattle.lock_queue.specs.Queue.{CellSeen, first_of, is_in_way}
+use Rattle.lock_table.specs.Queues.{AreStale, seats_at, seats_by, seat_of, blocker_at, is_taken, is_queued_at, is_queued_in, is_queued_against, waits_where, waits_behind}
 use Rattle.lock_table.proofs.Removals.{ids, is_its, own_index, index_read, none_its}
-use Rattle.lock_table.proofs.Others.{NoSeat, none_seated, rest_apart}
+use Rattle.lock_queue.proofs.Groups.{NoSeat}
+use Rattle.lock_table.proofs.Others.{none_seated, rest_apart}
 use Rattle.lock_table.proofs.Queuing.{located, not_located}
 use Rattle.lock_table.proofs.Seats.{seats_same}
 use Rattle.lock_table.proofs.Stale.{all_of, all_map, all_both, map_same, listed, now_waits}

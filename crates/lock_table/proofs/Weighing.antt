@@ -15,10 +15,11 @@ use Rattle.lock_modes.proofs.Tables.{compatible_symmetric}
 use Rattle.lock_modes.proofs.GroupModes.{list_all-group_of}
 use Rattle.lock_table.specs.declared.locks.Lock.{Lock}
 use Rattle.lock_table.specs.declared.entry.Entry.{Entry}
-use Rattle.lock_table.specs.declared.cell.Seat.{Seat}
+use Rattle.lock_queue.specs.declared.cell.Seat.{Seat}
 use Rattle.lock_table.specs.Locks.{mode_at, conflict}
 use Rattle.lock_table.specs.Tables.{first_in_way, entries_before, is_held_in}
-use Rattle.lock_table.specs.Queues.{CellSeen, seat_modes, seats_at, room_at, HaveRoom, seat_of, seats_by, queue_of, seats_from, first_of, place_of, is_in_way, earlier, earliest, seat_in_way, blocker_at, blockers_of}
+use Rattle.lock_queue.specs.Queue.{CellSeen, seat_modes, first_of, is_in_way}
+use Rattle.lock_table.specs.Queues.{seats_at, room_at, HaveRoom, seat_of, seats_by, queue_of, seats_from, place_of, earlier, earliest, seat_in_way, blocker_at, blockers_of}
 use Rattle.lock_table.proofs.Positions.{first_from, any_first, earliest_same, none_first, place_found, queue_found}
 use Rattle.lock_table.proofs.Removals.{ids}
 

@@ -2,7 +2,7 @@
 ghost use Rattle.std.specs.Prelude.{◌≡◌};
 ghost use Rattle.lock_table.specs.Queues.{is_taken};
 
-use crate::cell::{is_same, is_short};
+use lock_queue::{is_same, is_short};
 use vault_model::ClaimId;
 
 /// Those that waited for one claim, for any short one, or all.

@@ -8,12 +8,13 @@ ghost use Rattle.lock_table.specs.declared.entry.Entry.{Entry};
 ghost use Rattle.lock_modes.specs.Modes.{compatible};
 ghost use Rattle.lock_modes.specs.Groups.{group_of, members};
 ghost use Rattle.lock_table.specs.Locks.{mode_at, AreApart};
-ghost use Rattle.lock_table.specs.Queues.{seat_modes, held_seats, first_of, is_in_way, is_held_in_way, is_cover, IsOwn, seats_at, room_at, HaveRoom, HasSeat, seats_without, long_seats, restood, by_lock, seat_of, earlier, place_of, seat_in_way, held_seat_in_way};
+ghost use Rattle.lock_queue.specs.Queue.{seat_modes, held_seats, first_of, is_in_way, is_held_in_way, is_cover, IsOwn, HasSeat, seats_without, long_seats, restood, by_lock};
+ghost use Rattle.lock_table.specs.Queues.{seats_at, room_at, HaveRoom, seat_of, earlier, place_of, seat_in_way, held_seat_in_way};
 
-use crate::cell::{Cell, Seat, is_same};
 use crate::entry::Kept;
 use crate::{Lock, LockSet};
 use lock_modes::{Group, Mode};
+use lock_queue::{Cell, Seat, is_same};
 use std::alloc::{AllocError, Allocator};
 use vault_model::{ClaimId, PlaceId};
 

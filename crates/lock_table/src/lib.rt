@@ -3,14 +3,14 @@
 //! Promises: `lock_set` gives the mode of a claim at each place. Two lock sets conflict exactly where the claims overlap. A
 //! table answers as the model's line does, and a new place changes no standing (`laws`). At each place it tells the group of all
 //! claims' modes and that of the held ones' (`group_at`, `held_at`). All short claims leave at once (`release_short`).
-//! Stands on: vault_model, design_tree, lock_modes. Must not know: owners, kinds of claims, drafts.
+//! Stands on: vault_model, design_tree, lock_modes, lock_queue. Must not know: owners, kinds of claims, drafts.
 //!
 //! Invariants:
 //! 1. `LockSet`: no place has two locks.
 //! 2. `Table`: no claim has two entries.
 //! 3. `Table`: it has at most 256 entries.
-//! 4. `Table`: at each place stands the queue of the claims that have a mode there, with room for it, and two groups count
-//!    exactly these and the held ones.
+//! 4. `Table`: at each place stands the queue of the claims that have a mode there, with room for it; lock_queue's type keeps two groups
+//!    beside it, of exactly these and of the held ones.
 //! 5. `Table`: beside each entry stands what it waits for.
 //!
 //! Only measured: how long a call takes (docs/MAP.md, "Speed").
@@ -18,7 +18,6 @@
 #![tactic(auto)]
 
 mod again;
-mod cell;
 mod cells;
 mod entry;
 pub mod laws;

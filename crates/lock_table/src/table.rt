@@ -4,13 +4,12 @@ ghost use Rattle.std.specs.List.{remove};
 ghost use Rattle.std.specs.Option.{option_map};
 ghost use Rattle.vault_model.specs.Claims.{same_id, is_short, standing_by};
 ghost use Rattle.vault_model.specs.Limits.{most_claims};
-ghost use Rattle.lock_table.specs.declared.cell.Seat.{Seat};
+ghost use Rattle.lock_queue.specs.declared.cell.Seat.{Seat};
 ghost use Rattle.lock_table.specs.declared.entry.Entry.{Entry};
 ghost use Rattle.lock_table.specs.Queues.{AreQueues, is_taken, blocker_at, blockers_of, seats_at, room_at, seats_by, queue_of, group_in, held_group_in, waits_behind};
 ghost use Rattle.lock_table.specs.Tables.{IsTable, first_in_way, entry_of, entries_before, entries_without, long_entries, blocker_in, standing_in, is_held_in, held_in_way, extension_by, put_first, extended_by, held_over_in};
 
 use crate::again::Again;
-use crate::cell::{Cell, is_short};
 use crate::cells::{
     admit, cover_at, earlier_of, group_at, held_at, held_in_way, index_of, place_of, put_last,
     reserve, take_out, take_short_out,
@@ -20,6 +19,7 @@ use crate::waits::{first_behind, id_at, wait_behind, weigh_again};
 use crate::{Extension, LockSet, cells};
 use design_tree::Tree;
 use lock_modes::Group;
+use lock_queue::{Cell, is_short};
 use std::alloc::{Allocator, Global};
 use std::marker::Model;
 use vault_model::{ClaimId, MOST_CLAIMS, NoMemory, PlaceId, Standing};

@@ -3,17 +3,17 @@ ghost use Rattle.std.specs.Prelude.{◌≡◌, ℕ, ◌+◌, ◌<◌, ◌≤◌,
 ghost use Rattle.std.specs.List.{IsDistinct};
 ghost use Rattle.std.specs.Option.{option_map, option_and_then};
 ghost use Rattle.vault_model.specs.Claims.{same_id};
-ghost use Rattle.lock_table.specs.declared.cell.Seat.{Seat};
+ghost use Rattle.lock_queue.specs.declared.cell.Seat.{Seat};
 ghost use Rattle.lock_table.specs.declared.entry.Entry.{Entry};
 ghost use Rattle.lock_table.specs.Queues.{AreSeated, IsWeighing, IsHeldAs, held_by, is_taken, blockers_of, seats_at, room_at, seats_by, queue_of, is_queued_at, is_queued_in, is_queued_against, waits_where};
 ghost use Rattle.lock_table.specs.Tables.{IsTable, first_in_way};
 
 use crate::again::Again;
-use crate::cell::{Cell, Seat};
 use crate::cells::{admit, in_way, in_way_at, index_of, queue_at, stand};
 use crate::entry::Kept;
 use crate::{Lock, LockSet};
 use lock_modes::Mode;
+use lock_queue::{Cell, Seat};
 use std::alloc::Allocator;
 use vault_model::ClaimId;
 

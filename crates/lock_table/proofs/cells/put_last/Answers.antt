@@ -3,9 +3,10 @@ use Rattle.std.proofs.Common.{ap, sym, ◌∙◌, subst}
 use Rattle.vault_model.specs.Limits.{most_claims}
 use Rattle.lock_modes.specs.declared.mode.Mode.{Mode}
 use Rattle.lock_table.specs.declared.locks.Lock.{Lock}
-use Rattle.lock_table.specs.declared.cell.Seat.{Seat}
+use Rattle.lock_queue.specs.declared.cell.Seat.{Seat}
 use Rattle.lock_table.specs.Locks.{mode_at, AreApart}
-use Rattle.lock_table.specs.Queues.{seats_at, HaveRoom, by_lock}
+use Rattle.lock_queue.specs.Queue.{by_lock}
+use Rattle.lock_table.specs.Queues.{seats_at, HaveRoom}
 use Rattle.lock_table.proofs.Putting.{turn_start, turn_room, turn_few, turn_next, turn_done, last_lock}
 use Rattle.lock_table.proofs.cells.put_last.Goals as goal
 

@@ -1,6 +1,6 @@
 use Rattle.std.specs.Prelude.{List, ◌++◌, ◌∷◌, [], drop}
 use Rattle.lock_modes.specs.declared.mode.Mode.{Mode}
-use Rattle.lock_table.specs.declared.cell.Seat.{Seat}
+use Rattle.lock_queue.specs.declared.cell.Seat.{Seat}
 use Rattle.lock_table.proofs.Putting.{IsTurning}
 use Rattle.lock_table.proofs.cells.put_last.Given as goal
 

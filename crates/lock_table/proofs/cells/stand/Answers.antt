@@ -3,7 +3,8 @@ use Rattle.std.proofs.Common.{ap, sym, ◌∙◌, subst, arith}
 use Rattle.lock_modes.specs.declared.mode.Mode.{Mode}
 use Rattle.lock_table.specs.declared.locks.Lock.{Lock}
 use Rattle.lock_table.specs.Locks.{mode_at, AreApart}
-use Rattle.lock_table.specs.Queues.{seats_at, restood, by_lock}
+use Rattle.lock_queue.specs.Queue.{restood, by_lock}
+use Rattle.lock_table.specs.Queues.{seats_at}
 use Rattle.lock_table.proofs.Putting.{turn_start, turn_seats, turn_next, turn_done}
 use Rattle.lock_table.proofs.cells.stand.Goals as goal
 

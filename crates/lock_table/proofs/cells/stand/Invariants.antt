@@ -1,6 +1,6 @@
 use Rattle.std.specs.Prelude.{drop}
 use Rattle.lock_modes.specs.declared.mode.Mode.{Mode}
-use Rattle.lock_table.specs.Queues.{restood}
+use Rattle.lock_queue.specs.Queue.{restood}
 use Rattle.lock_table.proofs.Putting.{IsTurning}
 use Rattle.lock_table.proofs.cells.stand.Given as goal
 

@@ -2,9 +2,10 @@ use Rattle.std.specs.Prelude.{List}
 use Rattle.std.proofs.Common.{ap, sym, ◌∙◌, subst}
 use Rattle.lock_modes.specs.declared.mode.Mode.{Mode}
 use Rattle.lock_table.specs.declared.locks.Lock.{Lock}
-use Rattle.lock_table.specs.declared.cell.Seat.{Seat}
+use Rattle.lock_queue.specs.declared.cell.Seat.{Seat}
 use Rattle.lock_table.specs.Locks.{mode_at, AreApart}
-use Rattle.lock_table.specs.Queues.{seats_at, HasSeat, seats_without, by_lock}
+use Rattle.lock_queue.specs.Queue.{HasSeat, seats_without, by_lock}
+use Rattle.lock_table.specs.Queues.{seats_at}
 use Rattle.lock_table.proofs.Putting.{turn_start, turn_seats, turn_mode_at, turn_next, turn_done}
 use Rattle.lock_table.proofs.cells.take_out.Goals as goal
 

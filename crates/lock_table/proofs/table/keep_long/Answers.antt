@@ -1,6 +1,6 @@
 use Rattle.std.specs.Prelude.{◌≡◌, ◌<◌, ◌-◌, ℕ, suc, length}
 use Rattle.std.proofs.Common.{subst, arith}
-use Rattle.lock_table.proofs.Ends.{item_at}
+use Rattle.lock_queue.proofs.Ends.{item_at}
 use Rattle.lock_table.proofs.Shorts.{IsThinning, thin_step, thin_done}
 use Rattle.lock_table.proofs.table.keep_long.Goals as goal
 

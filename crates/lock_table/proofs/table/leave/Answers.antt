@@ -2,11 +2,12 @@ use Rattle.std.specs.Prelude.{◌≡◌, List, Some, slice_get, is_none}
 use Rattle.std.proofs.Common.{sym, ap, subst, ◌∙◌}
 use Rattle.std.proofs.lemmas.Option.{same_Some}
 use Rattle.lock_table.specs.declared.entry.Entry.{Entry}
-use Rattle.lock_table.specs.declared.cell.Seat.{Seat}
+use Rattle.lock_queue.specs.declared.cell.Seat.{Seat}
 use Rattle.lock_table.specs.declared.locks.Lock.{Lock}
 use Rattle.lock_table.specs.Locks.{mode_at}
 use Rattle.lock_table.specs.Tables.{entries_without, is_held_in}
-use Rattle.lock_table.specs.Queues.{HasSeat, seats_at, seats_by, queue_of, by_lock, seats_without, blocker_at}
+use Rattle.lock_queue.specs.Queue.{HasSeat, by_lock, seats_without}
+use Rattle.lock_table.specs.Queues.{seats_at, seats_by, queue_of, blocker_at}
 use Rattle.lock_table.proofs.Putting.{read_at}
 use Rattle.lock_table.proofs.Others.{has_seat}
 use Rattle.lock_table.proofs.Seats.{none_flag, found_own, left_by}

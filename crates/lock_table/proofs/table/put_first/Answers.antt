@@ -6,7 +6,8 @@ use Rattle.vault_model.specs.Claims.{same_id}
 use Rattle.lock_table.specs.declared.entry.Entry.{Entry}
 use Rattle.lock_table.specs.Locks.{mode_at}
 use Rattle.lock_table.specs.Tables.{IsTable, put_first, entries_without, is_held_in}
-use Rattle.lock_table.specs.Queues.{CellSeen, AreQueues, IsWeighing, is_queued_against, waits_where, seats_at, room_at, seat_of, queue_of, blockers_of, blocker_at}
+use Rattle.lock_queue.specs.Queue.{CellSeen}
+use Rattle.lock_table.specs.Queues.{AreQueues, IsWeighing, is_queued_against, waits_where, seats_at, room_at, seat_of, queue_of, blockers_of, blocker_at}
 use Rattle.lock_table.proofs.Leaving.{is_id}
 use Rattle.lock_table.proofs.Removals.{own_index, index_read}
 use Rattle.lock_table.proofs.Blockers.{leave_law, taken_beside}

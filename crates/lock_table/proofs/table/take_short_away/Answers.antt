@@ -6,7 +6,8 @@ use Rattle.lock_table.specs.declared.entry.Entry.{Entry}
 use Rattle.lock_table.specs.declared.again.Again.TheVariants.{BehindShort}
 use Rattle.lock_table.specs.Locks.{AreApart}
 use Rattle.lock_table.specs.Tables.{IsTable, is_held_in, long_entries}
-use Rattle.lock_table.specs.Queues.{AreQueues, IsWeighing, long_seats, queue_of, blocker_at}
+use Rattle.lock_queue.specs.Queue.{long_seats}
+use Rattle.lock_table.specs.Queues.{AreQueues, IsWeighing, queue_of, blocker_at}
 use Rattle.lock_table.proofs.Queuing.{seats_bound, seats_fewer}
 use Rattle.lock_table.proofs.Leaving.{table_kept}
 use Rattle.lock_table.proofs.Shorts.{stale_long}

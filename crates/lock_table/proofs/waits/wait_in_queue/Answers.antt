@@ -3,7 +3,7 @@ use Rattle.std.proofs.Common.{ap, subst, get_or}
 use Rattle.std.proofs.lemmas.List.{drop_all, drop_more}
 use Rattle.vault_model.specs.declared.ids.ClaimId.TheVariants.{Long}
 use Rattle.lock_modes.specs.declared.mode.Mode.TheVariants.{IS}
-use Rattle.lock_table.specs.declared.cell.Seat.{Seat}
+use Rattle.lock_queue.specs.declared.cell.Seat.{Seat}
 use Rattle.lock_table.specs.Queues.{is_queued_at, is_queued_in, waits_where}
 use Rattle.lock_table.proofs.Waiting.{IsWaiting, wait_start, wait_step, wait_done}
 use Rattle.lock_table.proofs.waits.wait_in_queue.Goals as goal

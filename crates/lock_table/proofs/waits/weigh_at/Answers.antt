@@ -3,11 +3,12 @@ use Rattle.std.proofs.Common.{sym, ap, ◌∙◌, arith, rules}
 use Rattle.std.specs.Option.{option_map}
 use Rattle.std.proofs.lemmas.Option.{same_Some}
 use Rattle.lock_table.specs.declared.entry.Entry.{Entry}
-use Rattle.lock_table.specs.declared.cell.Seat.{Seat}
+use Rattle.lock_queue.specs.declared.cell.Seat.{Seat}
 use Rattle.lock_table.specs.declared.locks.Lock.{Lock}
 use Rattle.lock_table.specs.Locks.{mode_at}
 use Rattle.lock_table.specs.Tables.{first_in_way}
-use Rattle.lock_table.specs.Queues.{seats_at, seats_by, held_by, by_lock, restood}
+use Rattle.lock_queue.specs.Queue.{by_lock, restood}
+use Rattle.lock_table.specs.Queues.{seats_at, seats_by, held_by}
 use Rattle.lock_table.proofs.Putting.{read_at}
 use Rattle.lock_table.proofs.Seats.{none_flag, found_own, held_kept, stood_by}
 use Rattle.lock_table.proofs.Queuing.{seats_bound}

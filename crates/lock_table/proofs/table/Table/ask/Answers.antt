@@ -5,7 +5,8 @@ use Rattle.vault_model.specs.Limits.{most_claims}
 use Rattle.vault_model.specs.Claims.{same_id, standing_by}
 use Rattle.lock_table.specs.declared.entry.Entry.{Entry}
 use Rattle.lock_table.specs.Tables.{IsTable, first_in_way, is_held_in}
-use Rattle.lock_table.specs.Queues.{CellSeen, seats_at, seats_by, blockers_of}
+use Rattle.lock_queue.specs.Queue.{CellSeen}
+use Rattle.lock_table.specs.Queues.{seats_at, seats_by, blockers_of}
 use Rattle.lock_table.proofs.TablesKept.{table_asked}
 use Rattle.lock_table.proofs.Weighing.{blockers_asked}
 use Rattle.lock_table.proofs.Seats.{none_flag}

@@ -4,11 +4,12 @@ use Rattle.std.proofs.lemmas.List.{take_all}
 use Rattle.std.proofs.lemmas.List.Elements.{same_from_all_zip}
 use Rattle.vault_model.specs.Limits.{most_claims}
 use Rattle.lock_table.specs.declared.entry.Entry.{Entry}
-use Rattle.lock_table.specs.declared.cell.Seat.{Seat}
+use Rattle.lock_queue.specs.declared.cell.Seat.{Seat}
 use Rattle.lock_table.specs.declared.locks.Lock.{Lock}
 use Rattle.lock_table.specs.Locks.{mode_at}
 use Rattle.lock_table.specs.Tables.{IsTable, first_in_way}
-use Rattle.lock_table.specs.Queues.{CellSeen, AreQueues, seats_at, seats_from, seat_of, blockers_of}
+use Rattle.lock_queue.specs.Queue.{CellSeen}
+use Rattle.lock_table.specs.Queues.{AreQueues, seats_at, seats_from, seat_of, blockers_of}
 use Rattle.lock_table.proofs.Weighing.{found_from, seat_few, seat_step, admit_law}
 use Rattle.lock_table.proofs.Queuing.{put_room_kept, queues_seated}
 use Rattle.lock_table.proofs.table.Table.copy.Goals as goal

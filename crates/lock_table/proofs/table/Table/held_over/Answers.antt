@@ -4,7 +4,8 @@ use Rattle.std.specs.Option.{option_map, option_and_then}
 use Rattle.vault_model.specs.Tree.{parent_of}
 use Rattle.lock_table.specs.declared.entry.Entry.{Entry}
 use Rattle.lock_table.specs.Tables.{IsTable}
-use Rattle.lock_table.specs.Queues.{CellSeen, AreQueues, seats_at, first_of, place_of, is_cover, earlier}
+use Rattle.lock_queue.specs.Queue.{CellSeen, first_of, is_cover}
+use Rattle.lock_table.specs.Queues.{AreQueues, seats_at, place_of, earlier}
 use Rattle.lock_table.proofs.Positions.{earlier_associative, earlier_none}
 use Rattle.lock_table.proofs.Covering.{cover_of, cover_above, cover_step, over_id}
 use Rattle.lock_table.proofs.table.Table.held_over.Goals as goal

@@ -4,7 +4,8 @@ use Rattle.std.specs.Option.{option_map, option_and_then}
 use Rattle.lock_table.specs.declared.locks.Lock.{Lock}
 use Rattle.lock_table.specs.declared.entry.Entry.{Entry}
 use Rattle.lock_table.specs.Tables.{standing_in, held_in_way}
-use Rattle.lock_table.specs.Queues.{CellSeen, seats_at, IsOwn}
+use Rattle.lock_queue.specs.Queue.{CellSeen, IsOwn}
+use Rattle.lock_table.specs.Queues.{seats_at}
 use Rattle.lock_table.specs.Locks.{mode_at}
 use Rattle.vault_model.specs.declared.claims.Standing.TheVariants.{Held}
 use Rattle.lock_table.proofs.Removals.{own_index, index_read}

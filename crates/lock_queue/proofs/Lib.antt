@@ -1,0 +1,6 @@
+pub mod Counts
+mod Taken
+pub mod Ends
+pub mod Groups
+pub mod Seated
+pub mod Sends
