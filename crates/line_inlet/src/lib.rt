@@ -1,8 +1,8 @@
 //! Lines from a reader, within bounds.
 //!
-//! Promises: a line comes as the reader's bytes spell it, up to its line feed, however they come; one with too many bytes is told as such
-//! once its line feed came. That the reader ended, failed, gave too much or has nothing for now is said only where it is so, and nothing
-//! that came is lost (`Inlet::next_line`, `Inlet::next_byte`).
+//! Promises: a line comes as the reader's bytes spell it, up to its line feed, however they come. One with too many bytes is told as such
+//! once its line feed came. That the reader ended, or gave too much, is said only where it is so. Where it has nothing for now, nothing
+//! that came is lost (`Inlet::next_line`, `Inlet::next_byte`). No clause says when a fault is told.
 //! Stands on: vault_lines, for how long a line may be. Must not know: what a line says, conversations, the vault.
 //!
 //! Invariant, of `Inlet`: what waits lies within the chunk, and no more bytes and reads were taken than may be.
