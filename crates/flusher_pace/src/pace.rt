@@ -1,5 +1,5 @@
 //! When the flusher sleeps, and for how many it waits.
-ghost use Rattle.std.specs.Prelude.{◌≡◌, ◌+◌, ◌<◌, ◌==◌, ◌&&◌, ◌||◌, nat_lt, not, ℕ, true, false, if◌then◌else◌, None, Some, Ok};
+ghost use Rattle.std.specs.Prelude.{◌≡◌, ◌+◌, ◌-◌, ◌^◌, ◌<◌, ◌==◌, ◌&&◌, ◌||◌, nat_lt, not, ℕ, true, false, if◌then◌else◌, None, Some, Ok};
 ghost use Rattle.vault_store.specs.declared.phase.Advanced.TheVariants as Advanced;
 ghost use Rattle.vault_store.specs.declared.starting.Started.TheVariants as Started;
 ghost use Rattle.flusher_pace.specs.declared.pace.UnderWay.TheVariants as UnderWay;
@@ -125,9 +125,9 @@ impl Pace {
 
     /// A ticket was forgotten. The last number stays.
     pub fn forgets(&mut self)
-        ensures counted { self.old.forgotten < 18446744073709551615
+        ensures counted { self.old.forgotten < 2 ^ 64 - 1
             → self.new ≡ record self.old { forgotten = self.old.forgotten + 1 } }
-        ensures last { self.old.forgotten ≡ 18446744073709551615 → self.new ≡ self.old }
+        ensures last { self.old.forgotten ≡ 2 ^ 64 - 1 → self.new ≡ self.old }
     {
         if self.forgotten < u64::MAX {
             self.forgotten += 1;

@@ -5,6 +5,51 @@ use test_memory::{Refusing, Tried, requests};
 use vault_lines::{LineError, outside_text, read_line_of, text_of};
 use vault_model::{ClaimId, Command, CommandIn, Listing, Name, NoMemory, Outside, Reply};
 
+/// A reply.
+#[derive(Clone, Copy)]
+enum Told {
+    Queued(ClaimId, ClaimId),
+    /// Three places of this name.
+    Children(&'static [u8]),
+    Content(&'static [u8]),
+}
+
+/// What is tried, and what has to come of it.
+#[derive(Clone, Copy)]
+enum Call {
+    /// A line is read, which has so many items or bytes.
+    Reads(&'static [u8], usize),
+    /// A reply's text is made.
+    Tells(Told, &'static [u8]),
+    /// The text of an outside refusal is made.
+    Refuses(Outside, &'static [u8]),
+}
+
+/// The calls, and how many requests each makes.
+static ROWS: [(Call, u64); 9] = [
+    (Call::Reads(b"checkout r:/e w:/", 2), 2),
+    (Call::Reads(b"hold r:/e w:/", 2), 2),
+    (Call::Reads(b"extend c1 r:/e w:/", 2), 2),
+    (Call::Reads(b"save c1 /e 6162", 2), 2),
+    (Call::Reads(b"quit", 0), 1),
+    (
+        Call::Tells(
+            Told::Queued(ClaimId::Long(2), ClaimId::Long(1)),
+            b"OK queued c2 behind c1\n",
+        ),
+        5,
+    ),
+    (
+        Call::Tells(
+            Told::Children(b"aaaaaaaaaaaaaaaaaaaaaaaaaaaaaaaa"),
+            b"OK list 3 aaaaaaaaaaaaaaaaaaaaaaaaaaaaaaaa aaaaaaaaaaaaaaaaaaaaaaaaaaaaaaaa aaaaaaaaaaaaaaaaaaaaaaaaaaaaaaaa\n",
+        ),
+        5,
+    ),
+    (Call::Tells(Told::Content(b"ab"), b"OK content 6162\n"), 3),
+    (Call::Refuses(Outside::Busy, b"ERR 80\n"), 1),
+];
+
 /// How many items a command asks for, or bytes it saves.
 fn length_of<A: Allocator>(command: &CommandIn<A>) -> usize {
     match command {
@@ -16,72 +61,75 @@ fn length_of<A: Allocator>(command: &CommandIn<A>) -> usize {
     }
 }
 
-/// Tries to read a line, of two items or bytes or none.
-fn reads(memory: &Refusing<Global>, line: &[u8], length: usize, number: u64) -> Tried {
-    memory.refuse(number);
-    let read = match read_line_of(memory, line) {
+/// Whether a line is read as a command of so many items or bytes. None where memory is wanted for it.
+fn is_read(memory: &Refusing<Global>, line: &[u8], length: usize) -> Option<bool> {
+    match read_line_of(memory, line) {
         Ok(command) => {
-            let count = length_of(&command);
+            let is_right = length_of(&command) == length;
             drop(command);
-            Ok(count)
+            Some(is_right)
         }
-        Err(error) => Err(error),
+        Err(LineError::NoMemory) => None,
+        Err(LineError::BadLine) => Some(false),
+    }
+}
+
+/// Whether a text is this one. None where memory was wanted for it.
+fn is_text<A: Allocator>(text: Result<Vec<u8, A>, NoMemory>, want: &[u8]) -> Option<bool> {
+    let Ok(text) = text else {
+        return None;
     };
-    memory.judge(read, LineError::NoMemory, |count| *count == length)
+    let is_right = text.as_slice() == want;
+    drop(text);
+    Some(is_right)
 }
 
-#[test]
-fn each_request_of_a_line_is_refused(rt: HostRuntime) {
-    let memory = Refusing::new(rt.alloc());
-    let rows: [(&str, &[u8], usize, u64); 5] = [
-        ("read_line_of, checkout", b"checkout r:/e w:/", 2, 2),
-        ("read_line_of, hold", b"hold r:/e w:/", 2, 2),
-        ("read_line_of, extend", b"extend c1 r:/e w:/", 2, 2),
-        ("read_line_of, save", b"save c1 /e 6162", 2, 2),
-        ("read_line_of, quit", b"quit", 0, 1),
-    ];
-    for (call, line, length, wanted) in rows {
-        let made = requests(|number| reads(&memory, line, length, number));
-        assert_eq!(rt; made, Some(wanted), "{call}");
+/// The reply, in ample memory.
+fn reply_of(global: Global, told: Told) -> Option<Reply> {
+    match told {
+        Told::Queued(claim, other) => Some(Reply::Queued(claim, other)),
+        Told::Children(name) => {
+            let name = Name::read(name)?;
+            let names = Vec::from_slice(global, &[name; 3]).ok()?;
+            Some(Reply::Children(Listing::from_vec(names)))
+        }
+        Told::Content(bytes) => {
+            let bytes = Vec::from_slice(global, bytes).ok()?;
+            Some(Reply::Content(Listing::from_vec(bytes)))
+        }
     }
 }
 
-/// Tries to make a reply's text.
-fn tells(memory: &Refusing<Global>, reply: &Reply, want: &[u8], number: u64) -> Tried {
-    memory.refuse(number);
-    let text = text_of(memory, reply);
-    memory.judge(text, NoMemory, |text| text.as_slice() == want)
+/// Whether a reply is told as this text. None where memory was wanted for it.
+fn is_told(memory: &Refusing<Global>, global: Global, told: Told, want: &[u8]) -> Option<bool> {
+    let Some(reply) = reply_of(global, told) else {
+        return Some(false);
+    };
+    let is_right = is_text(text_of(memory, &reply), want);
+    drop(reply);
+    is_right
 }
 
-/// Tries to make an outside refusal's text.
-fn refuses(memory: &Refusing<Global>, outside: Outside, want: &[u8], number: u64) -> Tried {
+/// Tries a call, with its request of this number refused.
+fn tries(memory: &Refusing<Global>, global: Global, call: Call, number: u64) -> Tried {
     memory.refuse(number);
-    let text = outside_text(memory, outside);
-    memory.judge(text, NoMemory, |text| text.as_slice() == want)
+    let is_right = match call {
+        Call::Reads(line, length) => is_read(memory, line, length),
+        Call::Tells(told, want) => is_told(memory, global, told, want),
+        Call::Refuses(outside, want) => is_text(outside_text(memory, outside), want),
+    };
+    let has_refused = memory.has_refused();
+    match is_right {
+        Some(is_right) => Tried::done(is_right && !has_refused),
+        None => Tried::refused(has_refused),
+    }
 }
 
 #[test]
-fn each_request_of_a_text_is_refused(rt: HostRuntime) {
+fn each_request_is_refused(rt: HostRuntime) {
     let memory = Refusing::new(rt.alloc());
-    let names = [Name::read(b"aaaaaaaaaaaaaaaaaaaaaaaaaaaaaaaa").expect(&rt, "a name"); 3];
-    let names = Listing::from_vec(Vec::from_slice(rt.alloc(), &names).expect(&rt, "memory"));
-    let content = Listing::from_vec(Vec::from_slice(rt.alloc(), b"ab").expect(&rt, "memory"));
-    let rows: [(&str, Reply, u64); 3] = [
-        (
-            "text_of, Queued",
-            Reply::Queued(ClaimId::Long(2), ClaimId::Long(1)),
-            5,
-        ),
-        ("text_of, Children", Reply::Children(names), 5),
-        ("text_of, Content", Reply::Content(content), 3),
-    ];
-    for (call, reply, wanted) in &rows {
-        let want = text_of(rt.alloc(), reply).expect(&rt, "memory");
-        let made = requests(|number| tells(&memory, reply, &want, number));
-        assert_eq!(rt; made, Some(*wanted), "{call}");
-        drop(want);
+    for (index, (call, wanted)) in ROWS.iter().enumerate() {
+        let made = requests(|number| tries(&memory, rt.alloc(), *call, number));
+        assert_eq!(rt; made, Some(*wanted), "row {index}");
     }
-    drop(rows);
-    let made = requests(|number| refuses(&memory, Outside::Busy, b"ERR 80\n", number));
-    assert_eq!(rt; made, Some(1), "outside_text");
 }

@@ -76,7 +76,7 @@ impl<'a, D: Device, S: Tally, T: Tally, A: Allocator + Copy, G: Gate, H: Wait + 
         let has_room = self.flusher.retire();
         let commit = self.flusher.settle();
         if let Some(commit) = commit {
-            self.flusher.expects(before, commit);
+            self.flusher.expects(before, commit, 0);
         }
         drop(seat);
         if !has_room && self.flusher.settled() == Some(before) {
@@ -106,8 +106,8 @@ impl<'a, D: Device, S: Tally, T: Tally, A: Allocator + Copy, G: Gate, H: Wait + 
         has_begun
     }
 
-    /// What came while it committed has been staged: for those the next commit waits, too, beside whom this one told.
-    pub fn expect(&self, settled: u64, commit: Commit) {
-        self.flusher.expects(settled, commit);
+    /// So many lines came while it committed, and aren't heard yet: for those the next commit waits, too, beside whom this one tells.
+    pub fn expect(&self, settled: u64, commit: Commit, coming: u64) {
+        self.flusher.expects(settled, commit, coming);
     }
 }

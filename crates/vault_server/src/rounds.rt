@@ -146,12 +146,13 @@ impl<D: Device, S: Tally, T: Tally, A: Allocator + Copy, G: Gate, H: Wait + Cloc
                 rest = Rest::Moment;
             }
             Tried::Settled => ring_others(self.bells, self.number),
-            // The others are woken before a line is heard: who hears it may be held up.
+            // What came meanwhile is counted before anybody is told: who is told comes back, and would be counted twice. The others are
+            // woken before a line is heard: who hears it may be held up.
             Tried::Committed(settled, commit) => {
-                ring_others(self.bells, self.number);
                 self.look(poll, events, slots, Rest::Nothing);
+                committer.expect(settled, commit, lines_of(slots));
+                ring_others(self.bells, self.number);
                 let _ = self.turn(slots, self.now());
-                committer.expect(settled, commit);
             }
         }
         for slot in slots.as_mut_slice() {
@@ -271,6 +272,17 @@ impl<D: Device, S: Tally, T: Tally, A: Allocator + Copy, G: Gate, H: Wait + Cloc
         }
         all
     }
+}
+
+// How many connections have something that isn't heard.
+fn lines_of<S: Tally, T: Tally, A: Allocator + Copy>(slots: &Vec<Slot<S, T, A>, A>) -> u64 {
+    let mut count: u64 = 0;
+    for slot in slots {
+        if slot.has_news() {
+            count = count.saturating_add(1);
+        }
+    }
+    count
 }
 
 // A free place for each share, unless there is no memory for them.

@@ -124,6 +124,14 @@ impl<S: Tally, T: Tally, A: Allocator + Copy> Slot<S, T, A> {
         }
     }
 
+    /// Whether its client sent something that isn't heard.
+    pub fn has_news(&self) -> bool {
+        match self {
+            Slot::Served(served) => served.is_ready && matches!(served.turn, Turn::Hear),
+            Slot::Free(_) | Slot::Drained(_, _) | Slot::Open => false,
+        }
+    }
+
     /// Entries are settled.
     pub fn look_again(&mut self) {
         if let Slot::Served(served) = self {

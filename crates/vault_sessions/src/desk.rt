@@ -283,13 +283,14 @@ impl<D: Device, S: Tally, T: Tally, A: Allocator + Copy> Desk<D, S, T, A> {
         }
     }
 
-    // A commit ended so, before which so many entries were settled. The next one waits for as many as there are now behind those.
-    pub(crate) fn expects(&mut self, settled: u64, commit: Commit)
+    // A commit ended so, before which so many entries were settled. The next one waits for as many as there are now behind those, and
+    // for so many more.
+    pub(crate) fn expects(&mut self, settled: u64, commit: Commit, coming: u64)
         ensures { self.new ≡ self.old }
     {
         self.last = commit;
         let group = self.vault.len().saturating_sub(settled);
-        self.pace.expects(group);
+        self.pace.expects(group.saturating_add(coming));
     }
 
     // Does the next step of a commit or of a snapshot, and keeps how many entries waited.

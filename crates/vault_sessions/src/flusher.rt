@@ -161,9 +161,10 @@ impl<'a, D: Device, S: Tally, T: Tally, A: Allocator + Copy, G: Gate, H: Wait + 
     }
 
     /// A commit ended so, before which so many entries were settled. Before the next one it is waited for as many as there are now
-    /// behind those: whom it told, and who came since it began.
-    pub fn expects(&self, settled: u64, commit: Commit) {
+    /// behind those, whom it settled and who came since it began, and for so many more, whose lines are there and not heard yet. So it is
+    /// to be called before anybody is told, who then comes back.
+    pub fn expects(&self, settled: u64, commit: Commit, coming: u64) {
         let shared = self.shared;
-        shared.desk.lock(self.rt).expects(settled, commit);
+        shared.desk.lock(self.rt).expects(settled, commit, coming);
     }
 }
