@@ -6,7 +6,7 @@ use std::process::Abort;
 use test_memory::{Refusing, Tried, requests};
 use vault_checkout::Book;
 use vault_device::{Device, MemDevice};
-use vault_model::{ClaimId, NoMemory, Note, PlaceId, Standing};
+use vault_model::{ClaimId, NoMemory, PlaceId, Standing};
 use vault_store::{
     Body, BodyError, CreateError, OpenError, Phase, Started, Store, laws, read_body,
 };
@@ -46,7 +46,21 @@ fn creates_without(
         }
         Err(refused) => {
             let is_told = memory.has_refused() && refused.why == CreateError::NoMemory;
-            Tried::refused(Store::create(memory, refused.first, refused.second).is_ok() && is_told)
+            Tried::refused(is_created(memory, refused.first, refused.second) && is_told)
+        }
+    }
+}
+
+// Whether two devices are made a vault.
+fn is_created<A: Allocator + Copy>(memory: A, first: MemDevice, second: MemDevice) -> bool {
+    match Store::create(memory, first, second) {
+        Ok(store) => {
+            drop(store);
+            true
+        }
+        Err(refused) => {
+            drop(refused);
+            false
         }
     }
 }
@@ -109,14 +123,30 @@ fn starts_without(rt: &impl Abort, memory: &Refusing<Global>, alloc: Global, num
     }
 }
 
+// The note of a check-out, if it is there.
+fn note_of<A: Allocator + Copy>(book: &Book<A>, number: u32) -> Option<&[u8]> {
+    match book.line().get(ClaimId::Long(number)) {
+        Some(claim) => Some(claim.note.as_bytes()),
+        None => None,
+    }
+}
+
+// Whether a book is what `LINE` spells.
 fn is_line<A: Allocator + Copy>(book: &Book<A>) -> bool {
     let line = book.line();
+    let [draft] = book.drafts(3) else {
+        return false;
+    };
+    let standings = (
+        line.standing(ClaimId::Long(3)),
+        line.standing(ClaimId::Long(2)),
+    );
+    let behind = Some(Standing::Queued(ClaimId::Long(3)));
     line.last_long() == 3
-        && matches!(line.at(0), Some(claim) if claim.id == ClaimId::Long(3) && claim.note.as_bytes() == b"ab".as_slice())
-        && matches!(line.at(1), Some(claim) if claim.id == ClaimId::Long(2) && claim.note == Note::new())
-        && line.standing(ClaimId::Long(2)) == Some(Standing::Queued(ClaimId::Long(3)))
-        && matches!(book.shelf().fetch(PlaceId(3), 1), Some(b"text"))
-        && matches!(book.drafts(3), [draft] if draft.content.as_slice() == b"x".as_slice())
+        && standings == (Some(Standing::Held), behind)
+        && (note_of(book, 3), note_of(book, 2)) == (Some(b"ab"), Some(b""))
+        && book.shelf().fetch(PlaceId(3), 1) == Some(b"text")
+        && draft.content.as_slice() == b"x".as_slice()
 }
 
 // Tries to read what stands behind the head of a file.
@@ -129,23 +159,57 @@ fn reads_without(rt: &impl Abort, memory: &Refusing<Global>, alloc: Global, numb
         Ok(Body::Whole(book, frames, end)) => {
             let is_so = (frames, end) == (0, 105) && is_line(&book);
             drop(book);
-            Ok(is_so)
+            Some(is_so)
         }
-        Ok(Body::Damaged(_)) => Ok(false),
-        Err(error) => Err(error),
+        Ok(Body::Damaged(_)) => Some(false),
+        Err(BodyError::NoMemory) => None,
+        Err(_) => Some(false),
     };
-    memory.judge(told, BodyError::NoMemory, |is_so| *is_so)
+    let has_refused = memory.has_refused();
+    match told {
+        Some(is_so) => Tried::done(is_so && !has_refused),
+        None => Tried::refused(has_refused),
+    }
 }
+
+// What is tried.
+#[derive(Clone, Copy)]
+enum Call {
+    Create,
+    Open,
+    Start,
+    Read,
+}
+
+// Tries a call, with its request of this number refused.
+fn tries(
+    rt: &impl Abort,
+    memory: &Refusing<Global>,
+    alloc: Global,
+    call: Call,
+    number: u64,
+) -> Tried {
+    match call {
+        Call::Create => creates_without(rt, memory, alloc, number),
+        Call::Open => opens_without(rt, memory, alloc, number),
+        Call::Start => starts_without(rt, memory, alloc, number),
+        Call::Read => reads_without(rt, memory, alloc, number),
+    }
+}
+
+// The calls, and how many requests each makes.
+static ROWS: [(&str, Call, u64); 4] = [
+    ("Store::create", Call::Create, 1),
+    ("Store::open", Call::Open, 7),
+    ("Store::start_snapshot", Call::Start, 1),
+    ("read_body", Call::Read, 31),
+];
 
 #[test]
 fn each_request_of_a_store_is_refused(rt: HostRuntime) {
     let memory = Refusing::new(rt.alloc());
-    let made = requests(|number| creates_without(&rt, &memory, rt.alloc(), number));
-    assert_eq!(rt; made, Some(1), "Store::create");
-    let made = requests(|number| opens_without(&rt, &memory, rt.alloc(), number));
-    assert_eq!(rt; made, Some(7), "Store::open");
-    let made = requests(|number| starts_without(&rt, &memory, rt.alloc(), number));
-    assert_eq!(rt; made, Some(1), "Store::start_snapshot");
-    let made = requests(|number| reads_without(&rt, &memory, rt.alloc(), number));
-    assert_eq!(rt; made, Some(31), "read_body");
+    for (name, call, wanted) in &ROWS {
+        let made = requests(|number| tries(&rt, &memory, rt.alloc(), *call, number));
+        assert_eq!(rt; made, Some(*wanted), "{name}");
+    }
 }
