@@ -25,14 +25,23 @@ enum Call {
     Refuses(Outside, &'static [u8]),
 }
 
-/// The calls, and how many requests each makes.
-static ROWS: [(Call, u64); 9] = [
-    (Call::Reads(b"checkout r:/e w:/", 2), 2),
-    (Call::Reads(b"hold r:/e w:/", 2), 2),
-    (Call::Reads(b"extend c1 r:/e w:/", 2), 2),
-    (Call::Reads(b"save c1 /e 6162", 2), 2),
-    (Call::Reads(b"quit", 0), 1),
+/// The calls by their names, and how many requests each makes.
+static ROWS: [(&str, Call, u64); 9] = [
     (
+        "read_line_of, checkout",
+        Call::Reads(b"checkout r:/e w:/", 2),
+        2,
+    ),
+    ("read_line_of, hold", Call::Reads(b"hold r:/e w:/", 2), 2),
+    (
+        "read_line_of, extend",
+        Call::Reads(b"extend c1 r:/e w:/", 2),
+        2,
+    ),
+    ("read_line_of, save", Call::Reads(b"save c1 /e 6162", 2), 2),
+    ("read_line_of, quit", Call::Reads(b"quit", 0), 1),
+    (
+        "text_of, Queued",
         Call::Tells(
             Told::Queued(ClaimId::Long(2), ClaimId::Long(1)),
             b"OK queued c2 behind c1\n",
@@ -40,14 +49,19 @@ static ROWS: [(Call, u64); 9] = [
         5,
     ),
     (
+        "text_of, Children",
         Call::Tells(
             Told::Children(b"aaaaaaaaaaaaaaaaaaaaaaaaaaaaaaaa"),
             b"OK list 3 aaaaaaaaaaaaaaaaaaaaaaaaaaaaaaaa aaaaaaaaaaaaaaaaaaaaaaaaaaaaaaaa aaaaaaaaaaaaaaaaaaaaaaaaaaaaaaaa\n",
         ),
         5,
     ),
-    (Call::Tells(Told::Content(b"ab"), b"OK content 6162\n"), 3),
-    (Call::Refuses(Outside::Busy, b"ERR 80\n"), 1),
+    (
+        "text_of, Content",
+        Call::Tells(Told::Content(b"ab"), b"OK content 6162\n"),
+        3,
+    ),
+    ("outside_text", Call::Refuses(Outside::Busy, b"ERR 80\n"), 1),
 ];
 
 /// How many items a command asks for, or bytes it saves.
@@ -128,8 +142,8 @@ fn tries(memory: &Refusing<Global>, global: Global, call: Call, number: u64) -> 
 #[test]
 fn each_request_is_refused(rt: HostRuntime) {
     let memory = Refusing::new(rt.alloc());
-    for (index, (call, wanted)) in ROWS.iter().enumerate() {
+    for (name, call, wanted) in &ROWS {
         let made = requests(|number| tries(&memory, rt.alloc(), *call, number));
-        assert_eq!(rt; made, Some(*wanted), "row {index}");
+        assert_eq!(rt; made, Some(*wanted), "{name}");
     }
 }

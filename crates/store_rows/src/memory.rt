@@ -123,11 +123,11 @@ fn starts_without(rt: &impl Abort, memory: &Refusing<Global>, alloc: Global, num
     }
 }
 
-// The note of a check-out, if it is there.
-fn note_of<A: Allocator + Copy>(book: &Book<A>, number: u32) -> Option<&[u8]> {
-    match book.line().get(ClaimId::Long(number)) {
-        Some(claim) => Some(claim.note.as_bytes()),
-        None => None,
+// Whether this claim stands at a position of the line, with this note.
+fn stands<A: Allocator + Copy>(book: &Book<A>, position: usize, id: ClaimId, note: &[u8]) -> bool {
+    match book.line().at(position) {
+        Some(claim) => claim.id == id && claim.note.as_bytes() == note,
+        None => false,
     }
 }
 
@@ -144,7 +144,8 @@ fn is_line<A: Allocator + Copy>(book: &Book<A>) -> bool {
     let behind = Some(Standing::Queued(ClaimId::Long(3)));
     line.last_long() == 3
         && standings == (Some(Standing::Held), behind)
-        && (note_of(book, 3), note_of(book, 2)) == (Some(b"ab"), Some(b""))
+        && stands(book, 0, ClaimId::Long(3), b"ab")
+        && stands(book, 1, ClaimId::Long(2), b"")
         && book.shelf().fetch(PlaceId(3), 1) == Some(b"text")
         && draft.content.as_slice() == b"x".as_slice()
 }
