@@ -276,13 +276,7 @@ impl<D: Device, S: Tally, T: Tally, A: Allocator + Copy, G: Gate, H: Wait + Cloc
 
 // How many connections have something that isn't heard.
 fn lines_of<S: Tally, T: Tally, A: Allocator + Copy>(slots: &Vec<Slot<S, T, A>, A>) -> u64 {
-    let mut count: u64 = 0;
-    for slot in slots {
-        if slot.has_news() {
-            count = count.saturating_add(1);
-        }
-    }
-    count
+    slots.iter().filter(|slot| slot.has_news()).count() as u64
 }
 
 // A free place for each share, unless there is no memory for them.
