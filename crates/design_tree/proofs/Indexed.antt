@@ -11,6 +11,7 @@ use Rattle.std.proofs.Math.Seq.{map-set_same}
 use Rattle.std.proofs.lemmas.List.{map-append, map-set, get_or-map}
 use Rattle.vault_model.specs.Tree.{may_have, child, is_full, children_of}
 use Rattle.vault_model.proofs.Depths.{had}
+use Rattle.vault_model.proofs.Kept.{tree_new}
 use Rattle.vault_model.proofs.Walks.{Rises}
 use Rattle.vault_model.proofs.Growth.{slice_get-push_old, slice_get-push_new, IsTree-push}
 use Rattle.design_tree.specs.Index.{IsIndexed, IsSoundTree, with_child}
@@ -87,3 +88,11 @@ with_child-map f xs i place old grown fresh inside is grows none =
 -- the lists stay where one holder was put back with the list that it had
 pub map-put_back : {X : Type 0} (f : X → List ℕ) (xs : List X) (i : ℕ) (old back : X) → old ≡ slice_index_or xs i old → f back ≡ f old → map f (slice_set xs i back) ≡ map f xs
 map-put_back f xs i old back is same = map-set_same f xs i back old (same ∙ ap f is)
+
+-- the tree of the library alone
+new_indexed : (p : ℕ) → p ≤ 0 → slice_get ([] ∷ []) p ≡ Some (children_of [] p)
+new_indexed zero h = refl
+new_indexed (suc p) h = absurd (omega arith)
+
+pub IsSoundTree-new : (tree : List Place) (lists : List (List ℕ)) → tree ≡ [] → lists ≡ [] ∷ [] → IsSoundTree tree lists
+IsSoundTree-new tree lists none one = rw (none, one) (record { tree_is = tree_new; indexed = record { whole = refl; each = new_indexed } })

@@ -132,11 +132,7 @@ fn tries(memory: &Refusing<Global>, global: Global, call: Call, number: u64) -> 
         Call::Tells(told, want) => is_told(memory, global, told, want),
         Call::Refuses(outside, want) => is_text(outside_text(memory, outside), want),
     };
-    let has_refused = memory.has_refused();
-    match is_right {
-        Some(is_right) => Tried::done(is_right && !has_refused),
-        None => Tried::refused(has_refused),
-    }
+    memory.outcome(is_right)
 }
 
 #[test]

@@ -23,6 +23,17 @@ abbrev pub first_from : (Entry → Bool) → ℕ → List Entry → Option ℕ
 first_from test n [] = None
 first_from test n (e ∷ es) = cond (test e) (Some n) (first_from test (suc n) es)
 
+-- the id of the entry at a position that was looked up
+pub id_there : (es : List Entry) (i : ℕ) (e : Entry) → true ≡ nat_lt i (length es) → e ≡ get_or es i e → option_map (λ (x : Entry). x.id) (slice_get es i) ≡ Some e.id
+id_there [] i e h is = absurd (grind (arith, nat_tests, h))
+id_there (x ∷ es) zero e h is = ap (λ (y : Entry). Some y.id) (sym is)
+id_there (x ∷ es) (suc i) e h is = id_there es i e (grind (arith, nat_tests, h)) is
+
+pub id_past : (es : List Entry) (i : ℕ) → false ≡ nat_lt i (length es) → option_map (λ (x : Entry). x.id) (slice_get es i) ≡ None
+id_past [] i h = refl
+id_past (x ∷ es) zero h = absurd (grind (arith, nat_tests, h))
+id_past (x ∷ es) (suc i) h = id_past es i (grind (arith, nat_tests, h))
+
 -- a position as std has it
 position_from : (t : Entry → Bool) (n : ℕ) (es : List Entry) → cond (nat_lt (position_or_len t es) (length es)) (Some (n + position_or_len t es)) None ≡ first_from t n es
 position_from t n [] = refl

@@ -1,8 +1,8 @@
 -- Cells in a list: one changed, one more, and those at the places of some locks changed one after another.
-use Rattle.std.specs.Prelude.{◌≡◌, ◌≢◌, ◌⊎◌, ℕ, zero, suc, ◌+◌, ◌<◌, ◌≤◌, Bool, true, false, ◌==◌, nat_eq, List, [], ◌∷◌, ◌++◌, length, slice_get, drop, Option, None, Some, is_some, All, refl}
+use Rattle.std.specs.Prelude.{◌≡◌, ◌≢◌, ◌⊎◌, ℕ, zero, suc, ◌+◌, ◌<◌, ◌≤◌, Bool, true, false, ◌==◌, nat_eq, nat_lt, List, [], ◌∷◌, ◌++◌, length, slice_get, drop, Option, None, Some, is_some, All, refl}
 use Rattle.std.proofs.Common.{sym, ap, subst, ◌∙◌, arith, get_or, set, inl, inr, eqb, append-nil}
 use Rattle.std.specs.List.{IsDistinct, AllByRecursion}
-use Rattle.std.proofs.lemmas.Bool.Decides.{eqb_tells}
+use Rattle.std.proofs.lemmas.Bool.Decides.{eqb_tells, nat_tests}
 use Rattle.std.proofs.lemmas.List.{drop_all}
 use Rattle.std.proofs.lemmas.List.Elements.{All-head, All-tail}
 use Rattle.vault_model.specs.declared.ids.ClaimId.{ClaimId}
@@ -36,6 +36,10 @@ pub there_at : (cells : List CellSeen) (q : ℕ) → 0 < room_at cells q → q <
 there_at [] q h = absurd (omega (arith, h))
 there_at (x ∷ xs) zero h = omega arith
 there_at (x ∷ xs) (suc q) h = let rest = there_at xs q h in omega (arith, rest)
+
+-- a place with room has a cell, at its number
+pub roomy_there : (cells : List CellSeen) (q p few : ℕ) → q ≡ p → few < room_at cells p → q < length cells
+roomy_there cells q p few same h = subst (λ k. k < length cells) (sym same) (there_at cells p (omega (arith, h)))
 
 -- one cell is another now, with no less room
 pub record IsChanged (cells new : List CellSeen) (q : ℕ) (seats : List Seat) : Type 0 where
@@ -71,6 +75,18 @@ seats_set cells q c' inside = ap seats_of (at_set_same cells q c' inside)
 pub room_set : (cells : List CellSeen) (q : ℕ) (c' : CellSeen) → q < length cells → room_at (set cells q c') q ≡ c'.room
 room_set cells q c' inside = ap room_of (at_set_same cells q c' inside)
 
+pub seats_past : (cells : List CellSeen) (p : ℕ) → length cells ≤ p → seats_at cells p ≡ []
+seats_past [] p h = refl
+seats_past (x ∷ xs) zero h = absurd (omega (arith, h))
+seats_past (x ∷ xs) (suc p) h = seats_past xs p (omega (arith, h))
+
+-- a place behind the cells, where nothing changes
+pub past_there : (cells : List CellSeen) (q p : ℕ) → q ≡ p → length cells ≤ q → seats_at cells p ≡ []
+past_there cells q p same past = ap (seats_at cells) (sym same) ∙ seats_past cells q past
+
+pub no_less : (a b : ℕ) → b ≡ a → a ≤ b
+no_less a b e = omega (arith, e)
+
 -- a cell changed in its room alone
 pub same_seats : (cells new : List CellSeen) (q : ℕ) (seats : List Seat) → IsChanged cells new q seats → seats ≡ seats_at cells q → (p : ℕ) → seats_at new p ≡ seats_at cells p
 same_seats cells new q seats change same p = by_place (eqb_tells p q)
@@ -98,10 +114,24 @@ room_grown [] c (suc p) = omega arith
 room_grown (x ∷ xs) c zero = omega arith
 room_grown (x ∷ xs) c (suc p) = room_grown xs c p
 
-pub seats_past : (cells : List CellSeen) (p : ℕ) → length cells ≤ p → seats_at cells p ≡ []
-seats_past [] p h = refl
-seats_past (x ∷ xs) zero h = absurd (omega (arith, h))
-seats_past (x ∷ xs) (suc p) h = seats_past xs p (omega (arith, h))
+-- the cell at a place, read by the place's number, and then another one there
+module _ (cells : List CellSeen) (q p : ℕ) (old : CellSeen) (same : q ≡ p) (inside : q < length cells) (is : old ≡ get_or cells q old) where
+  pub cell_is : slice_get cells p ≡ Some old
+  cell_is = ap (slice_get cells) (sym same) ∙ read_at cells q old inside is
+
+  pub cell_turned : (f : List Seat → List Seat) (new : CellSeen) → new.seats ≡ f old.seats → old.room ≤ new.room → IsChanged cells (set cells q new) p (f (seats_at cells p))
+  cell_turned f new seats more = subst (λ xs. IsChanged cells (set cells q new) p xs) (seats ∙ ap (λ o. f (seats_of o)) (sym cell_is))
+      (subst (λ k. IsChanged cells (set cells q new) k new.seats) same (changed cells (set cells q new) q old new inside refl is more))
+
+  pub cell_seats_turned : (f : List Seat → List Seat) (new : CellSeen) → new ≡ record old { seats = f old.seats } → IsChanged cells (set cells q new) p (f (seats_at cells p))
+  cell_seats_turned f new e = cell_turned f new (ap (λ (x : CellSeen). x.seats) e) (no_less old.room new.room (ap (λ (x : CellSeen). x.room) e))
+
+-- the seats at a place whose cell was looked up
+pub seats_seen : (cells : List CellSeen) (q p : ℕ) (c : CellSeen) → q ≡ p → true ≡ nat_lt q (length cells) → c ≡ get_or cells q c → seats_at cells p ≡ c.seats
+seats_seen cells q p c same inside is = ap (seats_at cells) (sym same) ∙ seats_read cells q c (grind (arith, nat_tests, inside)) is
+
+pub seats_unseen : (cells : List CellSeen) (q p : ℕ) → q ≡ p → false ≡ nat_lt q (length cells) → seats_at cells p ≡ []
+seats_unseen cells q p same past = past_there cells q p same (grind (arith, nat_tests, past))
 
 -- a place that no lock of a list has
 pub none_there : (p : ℕ) (ls : List Lock) → AllByRecursion (λ y. nat_eq p y ≡ false) (places ls) → mode_at ls p ≡ None

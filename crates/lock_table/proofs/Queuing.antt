@@ -1,5 +1,5 @@
 -- What a table keeps of its queues, through each change, and what it reads from them.
-use Rattle.std.specs.Prelude.{◌≡◌, ℕ, zero, suc, ◌<◌, ◌≤◌, Bool, true, false, not, ◌&&◌, ◌||◌, nat_lt, List, [], ◌∷◌, ◌++◌, length, map, filter, find, take, position, slice_get, Option, None, Some, is_some, is_none, All, Result, Ok, Err, OnErr, refl}
+use Rattle.std.specs.Prelude.{◌≡◌, ℕ, zero, suc, ◌<◌, ◌≤◌, Bool, true, false, not, ◌&&◌, ◌||◌, nat_lt, List, [], ◌∷◌, ◌++◌, length, map, filter, find, take, position, slice_get, Option, None, Some, is_some, is_none, All, Result, Ok, Err, is_ok, OnErr, refl}
 use Rattle.std.proofs.Common.{sym, ap, subst, ◌∙◌, cond, arith, get_or, length-append}
 use Rattle.std.specs.List.{list_any, position_or_len, IsDistinct, AllByRecursion}
 use Rattle.std.specs.Option.{option_map, option_and_then}
@@ -26,6 +26,10 @@ use Rattle.lock_queue.proofs.Counts.{length_modes}
 use Rattle.lock_table.proofs.Leaving.{is_id}
 use Rattle.lock_table.proofs.TablesKept.{table_extended}
 use Rattle.lock_table.proofs.Removals.{ids, is_its, own_index, others_stay, turned}
+
+-- an item pushed, where memory was there
+pub pushed : {X Y E : Type 0} (r : Result Y E) (y : Y) (new old : List X) (x : X) → r ≡ Ok y → new ≡ cond (is_ok r) (old ++ x ∷ []) old → new ≡ old ++ x ∷ []
+pushed r y new old x e h = rw e at h
 
 -- the queues of a table, weighed one after another
 pub from_queues : (table : List Entry) (cells : List CellSeen) → IsTable table → AreQueues table cells → (p : ℕ) → seats_at cells p ≡ seats_from [] table p

@@ -1,7 +1,9 @@
 -- All short claims taken out together.
-use Rattle.std.specs.Prelude.{◌≡◌, ℕ, zero, suc, ◌<◌, ◌≤◌, Bool, true, false, not, List, [], ◌∷◌, length, map, drop, slice_get, Option, Some, All, refl}
-use Rattle.std.proofs.Common.{sym, ap, subst, ◌∙◌, cond, arith}
+use Rattle.std.specs.Prelude.{◌≡◌, ◌≢◌, ◌⊎◌, ℕ, zero, suc, ◌+◌, ◌<◌, ◌≤◌, Bool, true, false, not, List, [], ◌∷◌, length, map, drop, slice_get, Option, Some, All, refl}
+use Rattle.std.proofs.Common.{sym, ap, subst, ◌∙◌, cond, arith, inl, inr, eqb}
 use Rattle.std.specs.List.{remove}
+use Rattle.std.proofs.lemmas.Bool.{cases_lt}
+use Rattle.std.proofs.lemmas.Bool.Decides.{eqb_tells}
 use Rattle.std.proofs.lemmas.List.Elements.{All-nil, All-cons, All-head, All-tail}
 use Rattle.std.proofs.lemmas.Option.{same_Some}
 use Rattle.vault_model.specs.declared.ids.ClaimId.{ClaimId}
@@ -11,6 +13,7 @@ use Rattle.lock_table.specs.declared.again.Again.TheVariants.{BehindShort}
 use Rattle.lock_table.specs.Tables.{is_held_in, long_entries}
 use Rattle.lock_queue.specs.Queue.{CellSeen, long_seats}
 use Rattle.lock_table.specs.Queues.{AreStale, seats_at, room_at, queue_of, blocker_at, is_taken}
+use Rattle.lock_table.proofs.Putting.{seats_past}
 use Rattle.lock_table.proofs.Leaving.{kept_by, still_waits, all_stay}
 
 -- the places so far have the seats of long claims alone, and those behind them what they had
@@ -18,6 +21,27 @@ pub record IsEmptying (start cells : List CellSeen) (i : ℕ) : Type 0 where
   pub done : (p : ℕ) → p < i → seats_at cells p ≡ long_seats (seats_at start p)
   pub left : (p : ℕ) → i ≤ p → seats_at cells p ≡ seats_at start p
   pub room : (p : ℕ) → room_at start p ≤ room_at cells p
+
+pub emptied_next : (start cells new : List CellSeen) (i : ℕ) → IsEmptying start cells i → seats_at new i ≡ long_seats (seats_at cells i) → ((p : ℕ) → p ≢ i → seats_at new p ≡ seats_at cells p)
+    → ((p : ℕ) → room_at cells p ≤ room_at new p) → IsEmptying start new (i + 1)
+emptied_next start cells new i so here elsewhere more = record {
+  done = λ p h. by_place p h (eqb_tells p i);
+  left = λ p h. elsewhere p (λ e. absurd (omega (arith, h, e))) ∙ so.left p (omega (arith, h));
+  room = λ p. let before = so.room p in let after = more p in omega (arith, before, after);
+}
+  where
+    by_place : (p : ℕ) → p < i + 1 → ((eqb p i ≡ true) × (p ≡ i)) ⊎ ((eqb p i ≡ false) × (p ≢ i)) → seats_at new p ≡ long_seats (seats_at start p)
+    by_place p h (inl same) = subst (λ k. seats_at new k ≡ long_seats (seats_at start k)) (sym same.1) (here ∙ ap long_seats (so.left i (omega arith)))
+    by_place p h (inr other) = elsewhere p other.1 ∙ so.done p (let differ = other.1 in omega (arith, h, differ))
+
+pub emptied_all : (start cells : List CellSeen) (i : ℕ) → IsEmptying start cells i → length start ≤ i → (p : ℕ) → seats_at cells p ≡ long_seats (seats_at start p)
+emptied_all start cells i so end p = by_order (cases_lt p i)
+  where
+    by_order : (p < i) ⊎ (i ≤ p) → seats_at cells p ≡ long_seats (seats_at start p)
+    by_order (inl before) = so.done p before
+    by_order (inr behind) =
+        let none = seats_past start p (omega (arith, end, behind)) in
+        so.left p behind ∙ (none ∙ ap long_seats (sym none))
 
 -- when all short claims leave, those that didn't wait for one stay right
 pub stale_long : (table : List Entry) (blockers : List (Option ClaimId)) (cells : List CellSeen) → blockers ≡ map (blocker_at table) (long_entries table)

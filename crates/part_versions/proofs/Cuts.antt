@@ -1,7 +1,7 @@
 -- Contents one behind another: how many, how long, one more and one less.
 use Rattle.std.specs.Prelude.{◌≡◌, ℕ, zero, suc, ◌+◌, ◌-◌, ◌<◌, ◌≤◌, List, [], ◌∷◌, ◌++◌, length, map, take, Some, None, slice_get, slice_range}
 use Rattle.std.specs.List.{range_with_len}
-use Rattle.std.proofs.Common.{arith, ap, sym, refl, ◌∙◌, subst, inl, inr, drop, get_or, length-append, length-take, length-drop}
+use Rattle.std.proofs.Common.{arith, ap, sym, refl, ◌∙◌, subst, inl, inr, drop, get_or, length-append, length-take, length-take-le, length-drop}
 use Rattle.std.proofs.lemmas.Bool.{cases_lt}
 use Rattle.std.proofs.lemmas.List.{length_push, get_or_push, get_or_append_left, get_or-take, drop-append-le, take-append-le, drop_at, take_all, take-take, drop-take}
 use Rattle.std.proofs.lemmas.List.FromFn.{length-map-range_with_len, get_or-map-range_with_len, sum_by-map-range_with_len_more, fill_by_all}
@@ -165,3 +165,18 @@ contents_of-front ends bytes n cut h =
         ∙ ap (λ e. slice_range (take e bytes) (end_of ends k) (end_of ends (suc k))) (sym last)
         ∙ ap (λ a. slice_range (take (end_of (take n ends) n) bytes) a (end_of ends (suc k))) (sym here)
         ∙ ap (λ b. slice_range (take (end_of (take n ends) n) bytes) (end_of (take n ends) k) b) (sym next)
+
+pub cut-front : (ends bytes : List ℕ) (n : ℕ) → IsCut ends bytes → n ≤ length ends → IsCut (take n ends) (take (end_of (take n ends) n) bytes)
+cut-front ends bytes n cut h =
+    let long : length (take n ends) ≡ n = length-take-le n ends h in
+    let last = end_of-take ends n n (omega arith) in
+    let within = end_of-within ends bytes cut n h in
+    record {
+      rising = λ i g.
+          let front : i < n = omega (arith, g, long) in
+          let here = end_of-take ends n i (omega arith) in
+          let next = end_of-take ends n (suc i) (omega arith) in
+          let rises = cut.rising i (omega arith) in
+          omega (arith, here, next, rises);
+      whole = ap (end_of (take n ends)) long ∙ sym (length-take-le (end_of (take n ends) n) bytes (omega (arith, last, within)));
+    }

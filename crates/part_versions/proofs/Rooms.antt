@@ -1,13 +1,15 @@
 -- What drafts need, draft by draft.
-use Rattle.std.specs.Prelude.{◌≡◌, ℕ, ◌+◌, ◌-◌, ◌≤◌, Bool, true, false, ◌&&◌, ◌==◌, nat_le, List, length, Some, None}
-use Rattle.std.proofs.Common.{arith, ap, sym, refl, subst, ◌∙◌, cond}
-use Rattle.std.proofs.lemmas.List.Sums.{count_by-le-length}
+use Rattle.std.specs.Prelude.{◌≡◌, ℕ, ◌+◌, ◌-◌, ◌<◌, ◌≤◌, Bool, true, false, ◌&&◌, ◌==◌, nat_le, List, length, take, Some, None, All}
+use Rattle.std.proofs.Common.{arith, ap, sym, refl, subst, ◌∙◌, cond, get_or}
+use Rattle.std.proofs.lemmas.Bool.{lt-leb}
+use Rattle.std.proofs.lemmas.List.Folds.{list_all_more, list_all_at}
+use Rattle.std.proofs.lemmas.List.Sums.{count_by-le-length, sum_by_more, sum_by_more_le}
 use Rattle.std.proofs.lemmas.Bool.Decides.{nat_tests}
-use Rattle.vault_model.specs.Shelf.{Draft, shelved_all, drafts_weight, weight, is_shelvable}
+use Rattle.vault_model.specs.Shelf.{Draft, versions_of, shelved_all, content_weight, drafts_weight, weight, is_shelvable}
 use Rattle.vault_model.proofs.Overlaps.{and_both}
-use Rattle.vault_model.proofs.Shelves.{are_short, have_room, shelvable-is, shelf_stays, weight-shelved_all}
+use Rattle.vault_model.proofs.Shelves.{are_short, few_at, have_room, le_true, shelvable-is, shelf_stays, weight-shelved_all}
 use Rattle.part_versions.specs.Kept.{IsSoundShelf}
-use Rattle.vault_model.specs.Limits.{most_versions, most_weight}
+use Rattle.vault_model.specs.Limits.{longest_content, most_versions, most_weight}
 use Rattle.vault_model.proofs.Lists.{and_never}
 use Rattle.part_versions.specs.Rooms.{weight_with, count_of}
 
@@ -66,3 +68,39 @@ kept_after shelf after drafts given known sum kept e room same is =
       shelf_is = shelf_stays shelf drafts kept.shelf_is fits.0;
       weighed = fits.1 ∙ sym (weight-shelved_all shelf drafts);
     })
+
+-- one draft more weighs what its content does
+pub weight_more : (drafts : List Draft) (i : ℕ) (d : Draft) (content : List ℕ) → i < length drafts → content ≡ d.content → d ≡ get_or drafts i d
+    → drafts_weight (take (i + 1) drafts) ≡ drafts_weight (take i drafts) + content_weight content
+weight_more drafts i d content h e read =
+    sum_by_more (λ (draft : Draft). content_weight draft.content) drafts i d h
+    ∙ ap (λ (draft : Draft). drafts_weight (take i drafts) + content_weight draft.content) (sym read) ∙ ap (λ c. drafts_weight (take i drafts) + content_weight c) (sym e)
+
+-- and is short where that is
+pub short_more : (drafts : List Draft) (i : ℕ) (d : Draft) (content : List ℕ) → i < length drafts → content ≡ d.content → d ≡ get_or drafts i d
+    → are_short (take i drafts) ≡ true → length content ≤ longest_content → are_short (take (i + 1) drafts) ≡ true
+short_more drafts i d content h e read short fits =
+    list_all_more (λ (draft : Draft). nat_le (length draft.content) longest_content) drafts i d h
+    ∙ ap (λ t. t && nat_le (length (get_or drafts i d).content) longest_content) short
+    ∙ ap (λ (draft : Draft). nat_le (length draft.content) longest_content) (sym read) ∙ ap (λ c. nat_le (length c) longest_content) (sym e) ∙ le_true _ _ fits
+
+-- a place's count is not over the limit
+pub few_counted : (shelf now : List (List (List ℕ))) (place count : ℕ) → All (λ versions. length versions ≤ most_versions) shelf → now ≡ shelf → count ≡ length (versions_of now place) → count ≤ most_versions
+few_counted shelf now place count few same is = let P : ℕ → Type 0 = λ n. n ≤ most_versions in subst P (sym (is ∙ ap (λ s. length (versions_of s place)) same)) (few_at shelf place few)
+
+-- no weight where one draft's content is too long
+pub none_by_length : (known : ℕ) (drafts : List Draft) (i : ℕ) (d : Draft) (content : List ℕ) → i < length drafts → content ≡ d.content → d ≡ get_or drafts i d
+    → longest_content < length content → None ≡ weight_with known drafts
+none_by_length known drafts i d content h e read long =
+    let test = ap (λ (draft : Draft). nat_le (length draft.content) longest_content) (sym read) ∙ ap (λ c. nat_le (length c) longest_content) (sym e) ∙ lt-leb (length content) longest_content long in
+    ap (λ t. cond (t && nat_le (known + drafts_weight drafts) most_weight) (Some (known + drafts_weight drafts)) None)
+    (sym (list_all_at (λ (draft : Draft). nat_le (length draft.content) longest_content) drafts i d h test))
+
+-- nor where the first of them are too heavy
+pub none_by_weight : (known : ℕ) (drafts : List Draft) (i : ℕ) (d : Draft) (content : List ℕ) (sum : ℕ) → i < length drafts → content ≡ d.content → d ≡ get_or drafts i d
+    → sum ≡ known + drafts_weight (take i drafts) → most_weight < sum + content_weight content → None ≡ weight_with known drafts
+none_by_weight known drafts i d content sum h e read is heavy =
+    let more = sum_by_more_le (λ (draft : Draft). content_weight draft.content) drafts i d h in
+    let same = ap content_weight e ∙ ap (λ (draft : Draft). content_weight draft.content) read in
+    let test = lt-leb (known + drafts_weight drafts) most_weight (omega (arith, more, same, is, heavy)) in
+    ap (λ t. cond t (Some (known + drafts_weight drafts)) None) (sym (ap (λ t. are_short drafts && t) test ∙ and_never (are_short drafts)))

@@ -1,12 +1,14 @@
 -- Parts in a list: one more version, many more, and all of them taken back.
-use Rattle.std.specs.Prelude.{◌≡◌, ◌≢◌, ◌⊎◌, ℕ, zero, suc, ◌+◌, ◌-◌, ◌<◌, ◌≤◌, true, false, List, [], ◌∷◌, ◌++◌, length, take, slice_set, replicate, All}
+use Rattle.std.specs.Prelude.{◌≡◌, ◌≢◌, ◌⊎◌, ℕ, zero, suc, ◌+◌, ◌-◌, ◌<◌, ◌≤◌, true, false, List, [], ◌∷◌, ◌++◌, length, take, drop, slice_set, replicate, All}
 use Rattle.std.proofs.Common.{arith, ap, sym, refl, ◌∙◌, subst, inl, inr, eqb, get_or, set, length-set, length-take-le, length-append}
 use Rattle.std.proofs.lemmas.Bool.{cases_lt}
 use Rattle.std.proofs.lemmas.Bool.Decides.{eqb_tells}
 use Rattle.std.proofs.lemmas.List.{get_or-set_same, get_or-set_other, get_or_past, set_past, take_at, get_or-take, ext_get_or, take_more, length_push, append_assoc, replicate_more, get_or_read}
+use Rattle.std.proofs.Math.Seq.{drop-cons}
 use Rattle.std.proofs.lemmas.List.Elements.{All-nil, All-cons}
 use Rattle.std.proofs.lemmas.List.Sums.{sum_by_more_le}
-use Rattle.vault_model.specs.Shelf.{Draft, versions_of, shelved, shelved_all, content_weight, drafts_weight, weight}
+use Rattle.vault_model.specs.Shelf.{Draft, versions_of, shelved, shelved_all, content_weight, drafts_weight, versions_weight, weight}
+use Rattle.vault_model.specs.Limits.{most_weight}
 use Rattle.vault_model.proofs.Shelves.{versions_of-shelved, versions_of-shelved_other, length-shelved, weight-shelved_all}
 use Rattle.part_versions.specs.Taken.{but_last, taken, taken_all}
 
@@ -103,6 +105,16 @@ taken_back shelf drafts =
     ext_get_or [] (take (length shelf) (taken_all (shelved_all shelf drafts) drafts)) shelf whole
     (λ i h. get_or-take (length shelf) (taken_all (shelved_all shelf drafts) drafts) i [] (omega (arith, h, whole)) ∙ undone shelf drafts i)
 
+-- one version more taken back, before those of the later drafts
+pub taken_all-more : (shelf parts : List (List (List ℕ))) (drafts : List Draft) (i left place : ℕ) (d : Draft) (now new : List (List ℕ)) → i < length drafts → suc i ≡ left
+    → parts ≡ taken_all shelf (drop left drafts) → place ≡ (get_or drafts i d).place → place < length parts → now ≡ get_or parts place now → new ≡ but_last now
+    → slice_set parts place new ≡ taken_all shelf (drop i drafts)
+taken_all-more shelf parts drafts i left place d now new h next rest is inside read less =
+    ap (slice_set parts place) (less ∙ ap but_last (get_or_read parts place now inside read []))
+    ∙ ap (λ s. taken s place) (rest ∙ ap (λ n. taken_all shelf (drop n drafts)) (sym next))
+    ∙ ap (taken (taken_all shelf (drop (suc i) drafts))) is
+    ∙ sym (ap (taken_all shelf) (drop-cons drafts i d h))
+
 -- one place more without versions, behind those that were put there
 pub padded : (shelf longer longest : List (List (List ℕ))) (versions : List (List ℕ)) → longer ≡ shelf ++ replicate (length longer - length shelf) [] → longest ≡ longer ++ versions ∷ [] → versions ≡ []
     → longest ≡ shelf ++ replicate (length longest - length shelf) []
@@ -127,3 +139,10 @@ pub put_past : (shelf longer last : List (List (List ℕ))) (at place : ℕ) (ve
 put_past shelf longer last at place versions content e h pad one pushed =
     let P : ℕ → Type 0 = λ p. last ≡ shelved shelf p content in
     subst P e (pushed ∙ ap (λ s. s ++ versions ∷ []) pad ∙ ap (λ v. (shelf ++ replicate (at - length shelf) []) ++ v ∷ []) one ∙ sym (shelved-past shelf at content h))
+
+-- the versions of one place weigh no more than all
+pub light_at : (shelf : List (List (List ℕ))) (at : ℕ) (now : List (List ℕ)) (more : ℕ) → at < length shelf → now ≡ get_or shelf at now → weight shelf + more ≤ most_weight → versions_weight now + more ≤ most_weight
+light_at shelf at now more inside read h =
+    let within = sum_by_more_le versions_weight shelf at now inside in
+    let same = ap versions_weight read in
+    omega (arith, within, same, h)

@@ -166,11 +166,7 @@ fn reads_without(rt: &impl Abort, memory: &Refusing<Global>, alloc: Global, numb
         Err(BodyError::NoMemory) => None,
         Err(_) => Some(false),
     };
-    let has_refused = memory.has_refused();
-    match told {
-        Some(is_so) => Tried::done(is_so && !has_refused),
-        None => Tried::refused(has_refused),
-    }
+    memory.outcome(told)
 }
 
 // What is tried.

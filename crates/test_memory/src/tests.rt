@@ -44,11 +44,26 @@ fn one_byte(memory: &Refusing<Global>, number: u64, byte: u8) -> Tried {
     memory.judge(told, AllocError, |bytes| bytes.as_slice() == [1].as_slice())
 }
 
+// What a call is judged that looked at itself, where its request was refused or not.
+fn looked_at(memory: &Refusing<Global>, is_refused: bool, is_right: Option<bool>) -> Tried {
+    memory.refuse(if is_refused { 0 } else { 1 });
+    memory.outcome(is_right)
+}
+
 #[test]
 fn what_a_call_told_is_judged(rt: HostRuntime) {
     let memory = Refusing::new(rt.alloc());
     assert_eq!(rt; requests(|number| one_byte(&memory, number, 1)), Some(1));
     assert_eq!(rt; requests(|number| one_byte(&memory, number, 2)), None);
+    for (is_refused, is_right, tried) in [
+        (false, Some(true), Tried::Done),
+        (false, Some(false), Tried::Wrong),
+        (false, None, Tried::Wrong),
+        (true, None, Tried::Refused),
+        (true, Some(true), Tried::Wrong),
+    ] {
+        assert_eq!(rt; looked_at(&memory, is_refused, is_right), tried);
+    }
     assert_eq!(rt; Tried::Done.and(true), Tried::Done);
     assert_eq!(rt; Tried::Refused.and(false), Tried::Wrong);
 }

@@ -1,9 +1,11 @@
 -- Bytes that are added piece by piece.
-use Rattle.std.proofs.Common.{◌≡◌, ℕ, zero, suc, ◌+◌, ◌-◌, ◌<◌, ◌≤◌, ◌==◌, not, All, filter, List, [], ◌∷◌, ◌++◌, sym, ap, ◌∙◌, subst, arith, append_assoc, append-nil, length-append, length, get_or, take}
+use Rattle.std.proofs.Common.{◌≡◌, ℕ, zero, suc, ◌+◌, ◌-◌, ◌<◌, ◌≤◌, ◌==◌, not, All, filter, List, [], ◌∷◌, ◌++◌, sym, ap, ◌∙◌, subst, arith, append_assoc, append-nil, length-append, length, get_or, take, false, true}
 use Rattle.std.specs.Prelude.{Result, Ok, Err, Some, slice_get}
 use Rattle.std.specs.List.{flat_map}
+use Rattle.std.specs.Option.{is_some}
+use Rattle.std.specs.Result.{IsErr}
 use Rattle.std.proofs.lemmas.Grind.{flat_map-append}
-use Rattle.std.proofs.lemmas.List.{take_more}
+use Rattle.std.proofs.lemmas.List.{take_more, take_all}
 use Rattle.std.proofs.lemmas.List.Concat.{flat_map-cons}
 use Rattle.std.proofs.lemmas.Option.{get_or_from_slice_get, slice_get_within, slice_get-get_or}
 use Rattle.std.proofs.lemmas.List.Elements.{All-get_or, All-map, All-filter, All-weaker, filter-append}
@@ -24,6 +26,11 @@ pub adds_after : {E : Type 0} (a b c text more : List ℕ) (result : Result (Uni
 adds_after a b c text more (Ok x) first next = next ∙ ap (λ (l : List ℕ). l ++ more) first ∙ append_assoc a text more
 adds_after a b c text more (Err e) first next = tt
 
+-- an error promises no bytes
+pub adds_nothing : {E : Type 0} (a c text : List ℕ) (result : Result (Unit {0}) E) → IsErr result → Adds a c text result
+adds_nothing a c text (Ok x) h = let no : false ≡ true = h in cc
+adds_nothing a c text (Err e) h = tt
+
 -- those of the first things, and the next
 pub adds_more : {X : Type 0} (f : X → List ℕ) (xs : List X) (i : ℕ) (x : X) (a b c : List ℕ)
     → i < length xs → get_or xs i x ≡ x → b ≡ a ++ flat_map f (take i xs) → c ≡ b ++ f x → c ≡ a ++ flat_map f (take (i + 1) xs)
@@ -32,6 +39,16 @@ adds_more f xs i x a b c within is first next =
     let one = flat_map-cons f x [] ∙ append-nil (f x) in
     let split = ap (flat_map f) cut ∙ flat_map-append f (take i xs) (x ∷ []) ∙ ap (λ (l : List ℕ). flat_map f (take i xs) ++ l) one in
     next ∙ ap (λ (l : List ℕ). l ++ f x) first ∙ append_assoc a (flat_map f (take i xs)) (f x) ∙ ap (λ (l : List ℕ). a ++ l) (sym split)
+
+-- those of all things, where none is left
+pub adds_all : {X : Type 0} (f : X → List ℕ) (xs : List X) (i : ℕ) (a b : List ℕ) → length xs ≤ i → b ≡ a ++ flat_map f (take i xs) → b ≡ a ++ flat_map f xs
+adds_all f xs i a b none_left first = first ∙ ap (λ (ys : List _). a ++ flat_map f ys) (take_all i xs none_left)
+
+-- there is a version of the next number
+pub numbered_there : (versions : List (List ℕ)) (i : ℕ) → i < length versions → is_some (numbered versions (i + 1)) ≡ true
+numbered_there versions i within =
+    let next : suc i ≡ i + 1 = omega arith in
+    subst (λ (n : ℕ). is_some (numbered versions n) ≡ true) next (ap is_some (slice_get-get_or versions i [] within))
 
 -- the version of the next number
 pub numbered_next : (versions : List (List ℕ)) (i : ℕ) (content : List ℕ) → numbered versions (i + 1) ≡ Some content → slice_get versions i ≡ Some content

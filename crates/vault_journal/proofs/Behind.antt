@@ -1,11 +1,12 @@
 -- One field written behind another.
-use Rattle.std.proofs.Common.{◌≡◌, ℕ, ◌+◌, ◌<◌, List, [], ◌∷◌, ◌++◌, length, get_or, take, sym, ◌∙◌, ap, arith, length-append}
+use Rattle.std.proofs.Common.{◌≡◌, ℕ, ◌+◌, ◌<◌, List, [], ◌∷◌, ◌++◌, length, get_or, take, sym, ◌∙◌, ap, subst, arith, length-append}
 use Rattle.std.specs.List.{flat_map}
 use Rattle.std.proofs.lemmas.List.{flat_map_more, take_more}
 use Rattle.vault_device.specs.Disk.{overwritten}
 use Rattle.vault_device.proofs.Torn.{overwritten_twice}
+use Rattle.vault_model.specs.Said.{Effect}
 use Rattle.vault_model.specs.declared.claims.Item.{Item}
-use Rattle.vault_journal.specs.Spelling.{item_bytes}
+use Rattle.vault_journal.specs.Spelling.{item_bytes, record_of}
 use Rattle.vault_journal.specs.Written.{IsWritten}
 
 -- one write behind another is one write
@@ -29,3 +30,7 @@ items_more at next end i n items d old mid new below so_far one =
     let more : (n ∷ flat_map item_bytes (take i items)) ++ item_bytes (get_or items i d) ≡ n ∷ flat_map item_bytes (take (i + 1) items) =
     flat_map_more item_bytes (n ∷ []) (take i items) (get_or items i d) ∙ ap (λ (l : List Item). n ∷ flat_map item_bytes l) (sym (take_more items i d below)) in
     rw (← more) joined
+
+-- the record of what an effect is, is the effect's
+pub record_is : (at next : ℕ) (effect is : Effect) (old new : List ℕ) → effect ≡ is → IsWritten at (record_of is) next old new → IsWritten at (record_of effect) next old new
+record_is at next effect is old new same one = subst (λ (e : Effect). IsWritten at (record_of e) next old new) (sym same) one

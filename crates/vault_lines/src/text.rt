@@ -113,17 +113,17 @@ fn reply_text_of<A: Allocator + Copy, B: Allocator>(
             ClaimText(*claim)
         )?.into_bytes()),
         Reply::Queued(claim, before) => text_of_queued(alloc, *claim, *before),
-        Reply::Saved => Ok(format!(in alloc; "OK saved\n")?.into_bytes()),
+        Reply::Saved => Vec::from_slice(alloc, b"OK saved\n"),
         Reply::CheckedIn(count) => Ok(format!(in alloc; "OK checked in {count}\n")?.into_bytes()),
-        Reply::Abandoned => Ok(format!(in alloc; "OK abandoned\n")?.into_bytes()),
-        Reply::Released => Ok(format!(in alloc; "OK released\n")?.into_bytes()),
+        Reply::Abandoned => Vec::from_slice(alloc, b"OK abandoned\n"),
+        Reply::Released => Vec::from_slice(alloc, b"OK released\n"),
         Reply::Children(names) => text_of_children(alloc, names.as_slice()),
         Reply::Content(content) => text_of_content(alloc, content.as_slice()),
         Reply::Versions(count) => Ok(format!(in alloc; "OK versions {count}\n")?.into_bytes()),
-        Reply::Given => Ok(format!(in alloc; "OK given\n")?.into_bytes()),
-        Reply::Noted => Ok(format!(in alloc; "OK noted\n")?.into_bytes()),
+        Reply::Given => Vec::from_slice(alloc, b"OK given\n"),
+        Reply::Noted => Vec::from_slice(alloc, b"OK noted\n"),
         Reply::NoteIs(note) => text_of_note(alloc, note.as_bytes()),
-        Reply::Left => Ok(format!(in alloc; "OK left\n")?.into_bytes()),
+        Reply::Left => Vec::from_slice(alloc, b"OK left\n"),
         Reply::Refused(refusal) => {
             Ok(format!(in alloc; "{}\n", RefusalText(*refusal))?.into_bytes())
         }

@@ -99,14 +99,6 @@ fn does_from<A: Allocator + Copy>(
     tried.and(is_like)
 }
 
-/// What a call told, and whether a request was refused then.
-fn judged(told: Option<bool>, has_refused: bool) -> Tried {
-    match told {
-        Some(is_right) => Tried::done(is_right && !has_refused),
-        None => Tried::refused(has_refused),
-    }
-}
-
 /// Whether a book is like another, if it is there.
 fn is_like<A: Allocator + Copy>(book: Result<Book<A>, NoMemory>, other: &Book<A>) -> Option<bool> {
     let Ok(book) = book else {
@@ -177,7 +169,7 @@ fn tries(
         Call::Copy => makes(memory, aside, memory, (Anna, false), number),
         Call::FromParts => is_remade(rt, memory, aside, number),
     };
-    judged(told, memory.has_refused())
+    memory.outcome(told)
 }
 
 #[test]

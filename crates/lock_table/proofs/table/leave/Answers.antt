@@ -1,5 +1,6 @@
-use Rattle.std.specs.Prelude.{◌≡◌, List, Some, slice_get, is_none}
+use Rattle.std.specs.Prelude.{◌≡◌, ◌<◌, List, Some, length, slice_get, is_none}
 use Rattle.std.proofs.Common.{sym, ap, subst, ◌∙◌}
+use Rattle.std.proofs.lemmas.List.{length-map}
 use Rattle.std.proofs.lemmas.Option.{same_Some}
 use Rattle.lock_table.specs.declared.entry.Entry.{Entry}
 use Rattle.lock_queue.specs.declared.cell.Seat.{Seat}
@@ -38,3 +39,11 @@ returns-clause-seats g c = λ e there p.
     ∙ (ap (λ (xs : List Seat). by_lock (λ m. seats_without x.id) (mode_at x.locks p) xs) (c.requires.queues p)
     ∙ left_by x.id (is_held_in table) table p x c.requires.table.distinct (found_own table c.args.index x c.requires.table.distinct mine)))) in
     subst (λ (y : Entry). seats_at c.take_out.new.cells.items p ≡ seats_by (is_held_in table) (entries_without table y.id) p) same left
+
+pub bounds-blockers-index : goal.bounds-blockers-index
+bounds-blockers-index g c =
+    let table = c.args.entries.now in
+    subst (λ n. c.args.index < n) (sym (ap length c.requires.blockers ∙ length-map table (blocker_at table))) c.requires.there
+
+pub returns-clause-room : goal.returns-clause-room
+returns-clause-room g c = c.take_out.ensures.room

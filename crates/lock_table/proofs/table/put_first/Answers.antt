@@ -1,5 +1,5 @@
 use Rattle.std.specs.Prelude.{◌≡◌, ◌≤◌, ℕ, List, ◌∷◌, ◌++◌, None, map, length, true}
-use Rattle.std.proofs.Common.{refl, ap, sym, subst, ◌∙◌, arith, rules}
+use Rattle.std.proofs.Common.{refl, ap, sym, subst, ◌∙◌, arith}
 use Rattle.std.proofs.lemmas.List.{length-map}
 use Rattle.std.specs.List.{IsDistinct}
 use Rattle.vault_model.specs.Claims.{same_id}
@@ -72,13 +72,13 @@ move_first-requires-2 g c =
 pub weigh_again-requires-clause-table : goal.weigh_again-requires-clause-table
 weigh_again-requires-clause-table g c =
     let table = c.args.entries.now.items in
-    let done = moved table c.deref.result.now c.args.id c.args.locks c.unwrap-index.result c.requires.table.distinct c.deref.ensures.value (sym c.index_of.ensures ∙ c.unwrap-index.ensures) c.move_first.new.items.items c.in_ok-kept.kept (search rules) c.move_first.ensures in
+    let done = moved table c.deref.result.now c.args.id c.args.locks c.unwrap-index.result c.requires.table.distinct c.deref.ensures.value (sym c.index_of.ensures ∙ c.unwrap-index.ensures) c.move_first.new.items.items c.in_ok-kept.kept c.in_ok-kept.ensures c.move_first.ensures in
     subst (λ (t : List Entry). IsTable t) (sym (c.deref-6.ensures.value ∙ done)) (first_kept table c.args.id c.args.locks c.requires.table c.requires.there)
 
 pub wait_behind-requires-clause-distinct : goal.wait_behind-requires-clause-distinct
 wait_behind-requires-clause-distinct g c =
     let table = c.args.entries.now.items in
-    let done = moved table c.deref.result.now c.args.id c.args.locks c.unwrap-index.result c.requires.table.distinct c.deref.ensures.value (sym c.index_of.ensures ∙ c.unwrap-index.ensures) c.move_first.new.items.items c.in_ok-kept.kept (search rules) c.move_first.ensures in
+    let done = moved table c.deref.result.now c.args.id c.args.locks c.unwrap-index.result c.requires.table.distinct c.deref.ensures.value (sym c.index_of.ensures ∙ c.unwrap-index.ensures) c.move_first.new.items.items c.in_ok-kept.kept c.in_ok-kept.ensures c.move_first.ensures in
     let kept = first_kept table c.args.id c.args.locks c.requires.table c.requires.there in
     subst (λ (t : List Entry). IsDistinct same_id (map (λ (e : Entry). e.id) t)) (sym (c.deref-4.ensures.value ∙ done)) kept.distinct
 
@@ -86,7 +86,7 @@ pub wait_behind-requires-clause-many : goal.wait_behind-requires-clause-many
 wait_behind-requires-clause-many g c =
     let table = c.args.entries.now.items in
     let at = index_read c.args.id table c.deref.result.now _ c.deref.ensures.value (sym c.index_of.ensures ∙ c.unwrap-index.ensures) in
-    let done = moved table c.deref.result.now c.args.id c.args.locks c.unwrap-index.result c.requires.table.distinct c.deref.ensures.value (sym c.index_of.ensures ∙ c.unwrap-index.ensures) c.move_first.new.items.items c.in_ok-kept.kept (search rules) c.move_first.ensures in
+    let done = moved table c.deref.result.now c.args.id c.args.locks c.unwrap-index.result c.requires.table.distinct c.deref.ensures.value (sym c.index_of.ensures ∙ c.unwrap-index.ensures) c.move_first.new.items.items c.in_ok-kept.kept c.in_ok-kept.ensures c.move_first.ensures in
     let beside = c.move_first-2.ensures ∙ ap (λ xs. None ∷ xs) (taken_beside table c.args.blockers.now.items c.args.id c.unwrap-index.result c.requires.table.distinct at c.requires.blockers) in
     ap length (were_first table c.args.id c.args.locks c.move_first-2.new.items.items beside) ∙ (length-map (put_first table c.args.id c.args.locks) (was_first table c.args.id c.args.locks) ∙ ap length (sym (c.deref-4.ensures.value ∙ done)))
 
@@ -94,7 +94,7 @@ pub weigh_again-requires-clause-weighing : goal.weigh_again-requires-clause-weig
 weigh_again-requires-clause-weighing g c =
     let table = c.args.entries.now.items in
     let at = index_read c.args.id table c.deref.result.now _ c.deref.ensures.value (sym c.index_of.ensures ∙ c.unwrap-index.ensures) in
-    let done = moved table c.deref.result.now c.args.id c.args.locks c.unwrap-index.result c.requires.table.distinct c.deref.ensures.value (sym c.index_of.ensures ∙ c.unwrap-index.ensures) c.move_first.new.items.items c.in_ok-kept.kept (search rules) c.move_first.ensures in
+    let done = moved table c.deref.result.now c.args.id c.args.locks c.unwrap-index.result c.requires.table.distinct c.deref.ensures.value (sym c.index_of.ensures ∙ c.unwrap-index.ensures) c.move_first.new.items.items c.in_ok-kept.kept c.in_ok-kept.ensures c.move_first.ensures in
     let kept = first_kept table c.args.id c.args.locks c.requires.table c.requires.there in
     let now = put_first table c.args.id c.args.locks in
     let cells = c.put_first.new.cells.items in
@@ -112,7 +112,7 @@ weigh_again-requires-clause-weighing g c =
 pub returns-clause-done : goal.returns-clause-done
 returns-clause-done g c =
     let table = c.args.entries.now.items in
-    moved table c.deref.result.now c.args.id c.args.locks c.unwrap-index.result c.requires.table.distinct c.deref.ensures.value (sym c.index_of.ensures ∙ c.unwrap-index.ensures) c.move_first.new.items.items c.in_ok-kept.kept (search rules) c.move_first.ensures
+    moved table c.deref.result.now c.args.id c.args.locks c.unwrap-index.result c.requires.table.distinct c.deref.ensures.value (sym c.index_of.ensures ∙ c.unwrap-index.ensures) c.move_first.new.items.items c.in_ok-kept.kept c.in_ok-kept.ensures c.move_first.ensures
 
 pub returns-clause-table : goal.returns-clause-table
 returns-clause-table g c = subst (λ (t : List Entry). IsTable t) (sym (returns-clause-done g c)) (first_kept c.args.entries.now.items c.args.id c.args.locks c.requires.table c.requires.there)

@@ -1,5 +1,5 @@
-use Rattle.std.specs.Prelude.{◌≡◌, ◌<◌, List, Some, slice_get, is_none, take, length}
-use Rattle.std.proofs.Common.{sym, ap, ◌∙◌, arith, rules}
+use Rattle.std.specs.Prelude.{◌≡◌, ◌<◌, List, Some, slice_get, is_none, take, length, set}
+use Rattle.std.proofs.Common.{sym, ap, subst, ◌∙◌, arith, rules}
 use Rattle.std.specs.Option.{option_map}
 use Rattle.std.proofs.lemmas.Option.{same_Some}
 use Rattle.lock_table.specs.declared.entry.Entry.{Entry}
@@ -8,11 +8,21 @@ use Rattle.lock_table.specs.declared.locks.Lock.{Lock}
 use Rattle.lock_table.specs.Locks.{mode_at}
 use Rattle.lock_table.specs.Tables.{first_in_way}
 use Rattle.lock_queue.specs.Queue.{by_lock, restood}
-use Rattle.lock_table.specs.Queues.{seats_at, seats_by, held_by}
+use Rattle.lock_table.specs.Queues.{AreSeated, seats_at, seats_by, held_by}
 use Rattle.lock_table.proofs.Putting.{read_at}
 use Rattle.lock_table.proofs.Seats.{none_flag, found_own, held_kept, stood_by}
 use Rattle.lock_table.proofs.Queuing.{seats_bound}
 use Rattle.lock_table.proofs.waits.weigh_at.Goals as goal
+
+pub blocker_of-blocker-requires : goal.blocker_of-blocker-requires
+blocker_of-blocker-requires g c = record {
+  there = c.requires.there;
+  distinct = c.requires.table.distinct;
+  seated = subst (AreSeated c.args.entries.now) (sym c.deref.ensures.value) c.requires.seated;
+}
+
+pub returns-then-is_none-was_held-clause-blockers : goal.returns-then-is_none-was_held-clause-blockers
+returns-then-is_none-was_held-clause-blockers g c = λ e there. ap (set c.args.blockers.now.items c.args.index) (c.blocker_of-blocker.ensures e there)
 
 pub returns-then-is_none-was_held-clause-seats : goal.returns-then-is_none-was_held-clause-seats
 returns-then-is_none-was_held-clause-seats g c = λ held e there standing seats p.
@@ -32,6 +42,12 @@ stand-requires g c = λ p.
     let bound = seats_bound c.requires.seated.held c.args.entries.now p in
     let few = c.requires.table.few in
     omega (arith, seats, bound, few)
+
+pub returns-clause-blockers : goal.returns-clause-blockers
+returns-clause-blockers g c = λ e there. ap (set c.args.blockers.now.items c.args.index) (c.blocker_of-blocker.ensures e there)
+
+pub returns-clause-room : goal.returns-clause-room
+returns-clause-room g c = c.stand.ensures.room
 
 pub returns-clause-seats : goal.returns-clause-seats
 returns-clause-seats g c = λ held e there standing seats p.

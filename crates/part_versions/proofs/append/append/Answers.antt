@@ -1,6 +1,7 @@
-use Rattle.std.proofs.Common.{◌≡◌, ◌-◌, ◌<◌, ◌≤◌, [], ◌∷◌, ◌++◌, length, replicate, rules}
+use Rattle.std.proofs.Common.{◌≡◌, ◌-◌, ◌<◌, ◌≤◌, [], ◌∷◌, ◌++◌, length, replicate, rules, arith}
 use Rattle.std.proofs.lemmas.Result.{on_ok_weaker}
-use Rattle.part_versions.proofs.Shelving.{put_inside, put_past}
+use Rattle.vault_model.specs.Shelf.{content_weight}
+use Rattle.part_versions.proofs.Shelving.{put_inside, put_past, light_at}
 use Rattle.part_versions.proofs.append.append.Goals as goal
 
 pub returns-then-index-len-clause-ok : goal.returns-then-index-len-clause-ok
@@ -15,3 +16,9 @@ returns-clause-ok g c =
     let one : c.push-2.new.self ≡ c.args.content.now ∷ [] = search rules in
     let pushed : c.push-3.new.self.items ≡ c.pad.new.parts.items ++ c.push-2.new.self ∷ [] = search rules in
     put_past c.args.parts.now.items c.pad.new.parts.items c.push-3.new.self.items c.number-index.result c.args.place c.push-2.new.self c.args.content.now c.number-index.ensures past longer one pushed
+
+pub push-requires : goal.push-requires
+push-requires g c = light_at c.args.parts.now.items _ c.index_mut.result.now (content_weight c.args.content.now) (search rules) c.index_mut.ensures.value c.requires
+
+pub push-requires-2 : goal.push-requires-2
+push-requires-2 g c = rw c.new-part.ensures (omega (arith, c.requires))

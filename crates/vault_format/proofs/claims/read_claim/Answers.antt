@@ -1,5 +1,5 @@
 use Rattle.std.proofs.Common.{arith}
-use Rattle.vault_format.proofs.Refusals.{passed}
+use Rattle.vault_format.proofs.Refusals.{none_refused, passed}
 use Rattle.vault_format.proofs.ClaimsRead.{no_owner, no_note, no_items, no_own_drafts, claim_read}
 use Rattle.vault_format.proofs.claims.read_claim.Goals as goal
 
@@ -27,3 +27,6 @@ returns-clause-read g c =
     c.in-Some-note_before.noted.0 c.in-Some-note_before.noted.1.now c.in-Some-note_before.ensures c.in-Some-items_at.held.0 c.in-Some-items_at.held.1.now c.in-Some-items_at.ensures
     (λ i. omega (arith, c.type_inv.bytes i)) c.read_drafts.new.drafts.items c.from_vec.result c.in_ok-after.after.now c.in_ok-after.ensures.read c.from_vec.ensures
     c.args.claims.now.items c.push.new.self.items c.args.drafts.now.items c.push-2.new.self.items c.in_ok-push.ensures.items c.in_ok-push-2.ensures.items
+
+pub returns-clause-refused : goal.returns-clause-refused
+returns-clause-refused g c = none_refused _ _

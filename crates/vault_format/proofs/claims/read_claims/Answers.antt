@@ -1,6 +1,6 @@
 use Rattle.std.proofs.Common.{◌≡◌, ◌≤◌, ℕ, subst, arith}
 use Rattle.vault_model.specs.Limits.{most_claims}
-use Rattle.vault_format.proofs.Refusals.{passed}
+use Rattle.vault_format.proofs.Refusals.{none_refused, passed}
 use Rattle.vault_format.proofs.ClaimsRead.{AreClaimsSoFar, no_claims_yet, one_claim_more, all_claims, not_all_claims}
 use Rattle.vault_format.proofs.claims.read_claims.Goals as goal
 
@@ -22,3 +22,6 @@ returns-clause-read g c =
     let few : c.in-Some.count ≤ most_claims = omega arith in
     all_claims c.args.version c.args.bytes.now c.in-Some.count c.in-Some.after.now c.in-Some.ensures (λ i. omega (arith, c.type_inv.bytes i)) c.loop.claims.items c.loop.drafts.items c.loop.rest.now few
     (subst (λ (n : ℕ). AreClaimsSoFar c.args.version n c.loop.claims.items c.loop.drafts.items c.in-Some.after.now c.loop.rest.now) all c.loop.invariant)
+
+pub returns-clause-refused : goal.returns-clause-refused
+returns-clause-refused g c = none_refused _ _

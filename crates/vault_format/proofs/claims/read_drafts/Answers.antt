@@ -1,6 +1,6 @@
 use Rattle.std.proofs.Common.{◌≡◌, ◌≤◌, ℕ, subst, arith}
 use Rattle.vault_model.specs.Limits.{most_drafts}
-use Rattle.vault_format.proofs.Refusals.{passed}
+use Rattle.vault_format.proofs.Refusals.{none_refused, passed}
 use Rattle.vault_format.proofs.DraftsRead.{AreDraftsSoFar, no_drafts_yet, one_draft_more, all_drafts, not_all_drafts}
 use Rattle.vault_format.proofs.claims.read_drafts.Goals as goal
 
@@ -21,3 +21,6 @@ returns-clause-read g c =
     let few : c.in-Some.count ≤ most_drafts = omega arith in
     all_drafts c.args.bytes.now c.in-Some.count c.in-Some.after.now c.in-Some.ensures c.loop.drafts.items c.loop.rest.now few
     (subst (λ (n : ℕ). AreDraftsSoFar n c.loop.drafts.items c.in-Some.after.now c.loop.rest.now) all c.loop.invariant)
+
+pub returns-clause-refused : goal.returns-clause-refused
+returns-clause-refused g c = none_refused _ _

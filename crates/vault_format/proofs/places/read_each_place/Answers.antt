@@ -1,6 +1,6 @@
 use Rattle.std.proofs.Common.{length, ap, arith}
 use Rattle.std.proofs.lemmas.List.{length_push}
-use Rattle.vault_format.proofs.Refusals.{passed}
+use Rattle.vault_format.proofs.Refusals.{none_refused, passed}
 use Rattle.vault_format.proofs.PlacesRead.{one_place_more, all_places, not_all_places}
 use Rattle.vault_format.proofs.places.read_each_place.Goals as goal
 
@@ -22,3 +22,6 @@ pub returns-clause-read : goal.returns-clause-read
 returns-clause-read g c =
     all_places c.args.version c.args.bytes.now (λ i. omega (arith, c.type_inv.bytes i)) c.in-Some.count c.in-Some.after.now c.in-Some.ensures c.loop-number.tree c.loop-number.shelf c.loop-number.rest.now
     (omega (arith, c.loop-number.invariant.size, c.loop-number-test.false, c.loop-number.auto.number-end, c.if-count-eq0.false)) c.loop-number.invariant.so
+
+pub returns-clause-refused : goal.returns-clause-refused
+returns-clause-refused g c = none_refused _ _

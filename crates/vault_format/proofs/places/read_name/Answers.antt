@@ -1,7 +1,7 @@
 use Rattle.std.proofs.Common.{arith}
 use Rattle.vault_format.specs.declared.error.SnapshotError.TheVariants.{NotWellFormed}
 use Rattle.vault_format.specs.Places.{told_of}
-use Rattle.vault_format.proofs.Refusals.{same_error}
+use Rattle.vault_format.proofs.Refusals.{none_refused, same_error}
 use Rattle.vault_format.proofs.PlaceRead.{no_name, no_place_above, no_kind, no_addition, place_added}
 use Rattle.vault_format.proofs.places.read_name.Goals as goal
 
@@ -29,3 +29,6 @@ returns-clause-read g c =
     place_added c.args.version c.args.tree.now c.args.bytes.now (λ i. omega (arith, c.type_inv.bytes i)) c.in-Some.parent c.in-Some.rest.now c.in-Some.ensures c.in-Some-name_at.named.0 c.in-Some-name_at.named.1.now c.in-Some-name_at.ensures
     c.in-Some-kind_before.kind.0 c.in-Some-kind_before.kind.1.now c.in-Some-kind_before.ensures
     c.add.new.self c.in_ok-add.ensures.ok c.in_ok-add.ensures.tree
+
+pub returns-clause-refused : goal.returns-clause-refused
+returns-clause-refused g c = none_refused _ _

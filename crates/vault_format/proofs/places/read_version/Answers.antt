@@ -1,5 +1,6 @@
 use Rattle.std.proofs.Common.{◌∙◌, arith}
 use Rattle.vault_format.proofs.VersionsRead.{no_content, no_shelving, version_read, one_draft}
+use Rattle.vault_format.proofs.Refusals.{none_refused}
 use Rattle.vault_format.proofs.places.read_version.Goals as goal
 
 pub returns-in_default-clause-refused : goal.returns-in_default-clause-refused
@@ -21,3 +22,6 @@ returns-in-Err-Limit-clause-refused g c =
     let refused = rw c.in-Err-Limit.field-0-is at c.in-Err-Limit.ensures.refused in
     λ same. no_shelving c.args.part c.args.shelf.now c.args.bytes.now (λ i. omega (arith, c.type_inv.bytes i)) c.in-Some.content.now c.in-Some.rest.now c.in-Some.ensures
     c.from_vec.result drafts refused.0
+
+pub returns-in-Ok-clause-refused : goal.returns-in-Ok-clause-refused
+returns-in-Ok-clause-refused g c = none_refused _ _

@@ -1,5 +1,5 @@
 use Rattle.std.proofs.Common.{◌≡◌, ℕ, subst, arith}
-use Rattle.vault_format.proofs.Refusals.{passed}
+use Rattle.vault_format.proofs.Refusals.{none_refused, passed}
 use Rattle.vault_format.proofs.VersionsRead.{AreReadSo, one_more_read, all_read, not_all_read}
 use Rattle.vault_format.proofs.places.read_versions.Goals as goal
 
@@ -17,3 +17,6 @@ returns-clause-read g c =
     let all : c.loop.counter ≡ c.in-Some.count = omega (arith, c.loop-test.false) in
     all_read c.args.part c.args.shelf.now c.args.bytes.now c.loop.shelf c.in-Some.after.now c.loop.rest.now c.in-Some.count (λ i. omega (arith, c.type_inv.bytes i)) c.in-Some.ensures
     (subst (λ (n : ℕ). AreReadSo n c.args.part c.args.shelf.now c.loop.shelf c.in-Some.after.now c.loop.rest.now) all c.loop.invariant)
+
+pub returns-clause-refused : goal.returns-clause-refused
+returns-clause-refused g c = none_refused _ _

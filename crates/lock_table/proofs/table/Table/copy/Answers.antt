@@ -1,5 +1,6 @@
-use Rattle.std.specs.Prelude.{◌≡◌, ◌<◌, ◌≤◌, ◌++◌, List, [], length, take, is_none}
+use Rattle.std.specs.Prelude.{◌≡◌, ◌<◌, ◌≤◌, ◌++◌, List, [], length, take, is_none, refl}
 use Rattle.std.proofs.Common.{ap, sym, subst, ◌∙◌, arith, rules}
+use Rattle.std.proofs.Math.Nat.{le_refl}
 use Rattle.std.proofs.lemmas.List.{take_all}
 use Rattle.std.proofs.lemmas.List.Elements.{same_from_all_zip}
 use Rattle.vault_model.specs.Limits.{most_claims}
@@ -13,6 +14,12 @@ use Rattle.lock_table.specs.Queues.{AreQueues, seats_at, seats_from, seat_of, bl
 use Rattle.lock_table.proofs.Weighing.{found_from, seat_few, seat_step, admit_law}
 use Rattle.lock_table.proofs.Queuing.{put_room_kept, queues_seated}
 use Rattle.lock_table.proofs.table.Table.copy.Goals as goal
+
+pub loop-index-init : goal.loop-index-init
+loop-index-init g c = rw c.new-cells.ensures.items (record { seats = λ p. refl; room = λ p. le_refl 0 })
+
+pub put_last-requires-clause-room : goal.put_last-requires-clause-room
+put_last-requires-clause-room g c = c.in_ok-reserve.ensures.there
 
 pub put_last-requires-clause-few : goal.put_last-requires-clause-few
 put_last-requires-clause-few g c = λ p.

@@ -1,8 +1,13 @@
 use Rattle.std.proofs.Common.{ℕ, ◌+◌, List, [], ◌∷◌, ◌++◌, ap, subst, sym, ◌∙◌}
 use Rattle.vault_model.specs.Claims.{new_hold}
 use Rattle.long_locks.specs.Lines.{LineSeen, IsGrownFrom}
-use Rattle.long_locks.proofs.LinesKept.{weighed_grown, new_short, line_short}
+use Rattle.long_locks.proofs.LinesKept.{there_grown, weighed_grown, new_short, line_short}
 use Rattle.long_locks.proofs.line.Line.ask_short.Goals as goal
+
+pub put_last-requires-clause-claims : goal.put_last-requires-clause-claims
+put_last-requires-clause-claims g c =
+    let grown = subst (λ (l : LineSeen). IsGrownFrom l.tree c.args.tree.now) (sym c.self.view_is) c.requires.grown in
+    there_grown _ c.self.inside.table c.self.invariant c.args.tree.now grown
 
 pub put_last-requires-clause-table : goal.put_last-requires-clause-table
 put_last-requires-clause-table g c =

@@ -1,5 +1,8 @@
-use Rattle.std.proofs.Common.{◌≡◌, true, false, Some, None, ap, sym, ◌∙◌, refl, rules, arith}
-use Rattle.vault_model.specs.Shelf.{drafts_weight, is_shelvable}
+use Rattle.std.proofs.Common.{◌≡◌, true, false, Some, None, ap, sym, ◌∙◌, refl, subst, rules, arith, ℕ, ◌≤◌, List, length}
+use Rattle.std.specs.Prelude.{All}
+use Rattle.vault_model.specs.Limits.{most_versions}
+use Rattle.vault_model.specs.Shelf.{drafts_weight, shelved_all, is_shelvable, IsShelf}
+use Rattle.part_versions.specs.Kept.{IsSoundShelf}
 use Rattle.part_versions.specs.Rooms.{weight_with, have_room}
 use Rattle.part_versions.proofs.Rooms.{refused_by_weight, refused_by_room, allowed, not_too_heavy, kept_after}
 use Rattle.part_versions.proofs.shelf.Shelf.append_all.Goals as goal
@@ -43,3 +46,30 @@ returns-in-Err-clause-refused g c =
     let some : Some c.in-Some.weight ≡ weight_with c.self.inside.weight c.args.drafts = sym c.in-Some.is ∙ c.weight_with.ensures ∙ ap (weight_with c.self.inside.weight) c.as_slice.ensures in
     let room : have_room c.self.inside.parts.items c.args.drafts ≡ true = search rules in
     (ap (λ s. is_shelvable s c.args.drafts) (sym c.self.view_is) ∙ (allowed c.self.inside.parts.items c.args.drafts c.self.inside.weight c.in-Some.weight c.self.invariant some room).0, refl)
+
+pub returns-in_default-clause-shelf : goal.returns-in_default-clause-shelf
+returns-in_default-clause-shelf g c = subst IsShelf c.self.view_is c.self.invariant.shelf_is
+
+pub returns-then-not-have_room-clause-shelf : goal.returns-then-not-have_room-clause-shelf
+returns-then-not-have_room-clause-shelf g c = subst IsShelf c.self.view_is c.self.invariant.shelf_is
+
+pub returns-in-Ok-clause-appended : goal.returns-in-Ok-clause-appended
+returns-in-Ok-clause-appended g c =
+    c.in-Ok.ensures.ok ∙ ap (shelved_all c.self.inside.parts.items) c.as_slice-3.ensures ∙ ap (λ s. shelved_all s c.args.drafts) c.self.view_is
+
+pub returns-in-Err-clause-shelf : goal.returns-in-Err-clause-shelf
+returns-in-Err-clause-shelf g c = subst IsShelf (sym c.in-Err.ensures.err) c.self.invariant.shelf_is
+
+pub returns-in-Err-clause-unchanged : goal.returns-in-Err-clause-unchanged
+returns-in-Err-clause-unchanged g c = c.in-Err.ensures.err ∙ c.self.view_is
+
+pub invariant_of-self-in-Err : goal.invariant_of-self-in-Err
+invariant_of-self-in-Err g c =
+    subst (λ (s : List (List (List ℕ))). IsSoundShelf s c.self.inside.weight) (sym c.in-Err.ensures.err) c.self.invariant
+
+pub weight_with-requires : goal.weight_with-requires
+weight_with-requires g c = omega (arith, c.self.invariant.weighed, c.self.invariant.shelf_is.light)
+
+pub have_room-requires : goal.have_room-requires
+have_room-requires g c =
+    subst (λ (s : List (List (List ℕ))). All (λ versions. length versions ≤ most_versions) s) (sym c.deref.ensures.value) c.self.invariant.shelf_is.few
