@@ -1,7 +1,7 @@
 //! Whether parts are those of a durable vault.
-ghost use Rattle.std.specs.Prelude.{[], ◌↔◌, IsTrue};
+ghost use Rattle.std.specs.Prelude.{[], ◌↔◌, All, IsTrue};
 ghost use Rattle.vault_model.specs.Vault.{AreThere};
-ghost use Rattle.check_outs.specs.Parts.{AreAllThere, OverlapsNone, MayHave, EachMayHave, AreFit};
+ghost use Rattle.check_outs.specs.Parts.{AreAllThere, OverlapsNone, MayBe, MayHave, EachMayHave, AreFit};
 
 use crate::changes::overlaps;
 use check_outs::{are_light, are_of_parts, are_rising, are_there, may_be};
@@ -14,6 +14,18 @@ fn has_places<A: Allocator>(tree: &Tree<A>, claim: &Claim) -> bool
     ensures { IsTrue result ↔ AreThere tree.now claim.now.items }
 {
     are_there(tree, claim.items.as_slice())
+}
+
+fn have_places<A: Allocator>(tree: &Tree<A>, claims: &[Claim]) -> bool
+    ensures { IsTrue result ↔ AreAllThere tree.now claims.now }
+{
+    claims.iter().all(|claim| has_places(tree, claim))
+}
+
+fn may_all_be<A: Allocator>(tree: &Tree<A>, items: &Items, drafts: &[DraftIn<A>]) -> bool
+    ensures { IsTrue result ↔ All (MayBe tree.now items.now) drafts.now }
+{
+    drafts.iter().all(|draft| may_be(tree, items, draft))
 }
 
 fn is_apart<A: Allocator>(tree: &Tree<A>, claims: &[Claim], items: &Items) -> bool
@@ -45,7 +57,7 @@ fn may_have<A: Allocator>(
     if drafts.len() > MOST_DRAFTS || !are_rising(drafts) {
         return false;
     }
-    drafts.iter().all(|draft| may_be(tree, items, draft)) && is_apart(tree, before, items)
+    may_all_be(tree, items, drafts) && is_apart(tree, before, items)
 }
 
 fn each_may_have<A: Allocator>(tree: &Tree<A>, claims: &[Claim], drafts: &[Drafts<A>]) -> bool
@@ -73,7 +85,7 @@ pub(crate) fn are_fit<A: Allocator>(
 ) -> bool
     ensures { IsTrue result ↔ AreFit tree.now shelf.now claims.now drafts.now }
 {
-    if !claims.iter().all(|claim| has_places(tree, claim)) {
+    if !have_places(tree, claims) {
         return false;
     }
     if !are_of_parts(tree, shelf) || !each_may_have(tree, claims, drafts) {

@@ -2,6 +2,7 @@ use Rattle.std.proofs.Common.{◌≡◌, ◌∙◌, ◌+◌, ◌-◌, ◌<◌, a
 use Rattle.std.specs.Prelude.{slice_get}
 use Rattle.check_outs.specs.Parts.{number_in, opened, put_in}
 use Rattle.check_outs.proofs.PutIn.{opened_step, rest_taken}
+use Rattle.vault_checkout.proofs.Fitting.{last_rising}
 use Rattle.vault_checkout.proofs.from_parts.opened_all.Goals as goal
 
 pub loop-own-preserved : goal.loop-own-preserved
@@ -20,3 +21,10 @@ loop-own-preserved g c =
           ∙ opened_step g.row.A.Denot c.args.line.now.claims c.args.drafts.items c.loop-own.rest.items (vec_len c.pop.new.self) (vec_len c.loop-own.rest) c.in-Some.own c.in-Some-at.claim.now next c.loop-own.invariant.within c.requires.same c.loop-own.invariant.rest own_is got;
       room = omega arith;
     }
+
+pub opened-requires : goal.opened-requires
+opened-requires g c =
+    let positive : 0 < vec_len c.loop-own.rest = omega (arith, c.in-Some.ensures.cases) in
+    let last = c.in-Some.ensures.value c.in-Some.own positive in
+    let own_is : c.in-Some.own ≡ get_or c.loop-own.rest.items (vec_len c.loop-own.rest - 1) c.in-Some.own = cc in
+    last_rising c.args.drafts.items c.loop-own.rest.items (vec_len c.loop-own.rest) c.in-Some.own c.requires.rising c.loop-own.invariant.rest c.loop-own.rest.ok.0 positive own_is
