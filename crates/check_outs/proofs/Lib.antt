@@ -1,3 +1,4 @@
+pub mod Steps
 pub mod AllDrafts
 pub mod OwnDrafts
 pub mod Saved

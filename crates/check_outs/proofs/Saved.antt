@@ -1,5 +1,5 @@
 -- Check-outs found by their number, and the drafts of all of them.
-use Rattle.std.specs.Prelude.{◌≡◌, ℕ, zero, suc, ◌+◌, ◌<◌, ◌==◌, nat_lt, Bool, true, false, not, List, [], ◌∷◌, length, position, slice_get, slice_set, slice_index_or, insert, remove, Option, None, Some, Result, Ok, Err, OnOk, refl}
+use Rattle.std.specs.Prelude.{◌≡◌, ℕ, zero, suc, ◌+◌, ◌<◌, ◌==◌, nat_lt, Bool, true, false, not, List, [], ◌∷◌, length, position, slice_get, slice_set, slice_index_or, insert, remove, Option, None, Some, Result, Ok, Err, OnOk, OnErr, refl}
 use Rattle.std.specs.List.{AllByRecursion, position_or_len}
 use Rattle.std.specs.Option.{option_map_or, IfSome}
 use Rattle.std.proofs.Common.{arith, ap, sym, subst, cond, ◌∙◌}
@@ -99,6 +99,16 @@ module _ {A : Type 0} (n : ℕ) where
       → OnOk result (new ≡ record { number = held.number; state = with_own held.state draft }) → OnOk result (slice_set xs i (Held new) ≡ with_saved xs n draft)
   saved_ok xs i held new draft (Ok done) got at e = ap (λ h. slice_set xs i (Held h)) e ∙ set_at xs i (Held held) draft (found_at xs i at).0 got
   saved_ok xs i held new draft (Err failed) got at e = tt
+
+  set_same : (xs : List (AnyCheckOut A)) (i : ℕ) (c : AnyCheckOut A) → slice_get xs i ≡ Some c → slice_set xs i c ≡ xs
+  set_same [] i c got = cc
+  set_same (x ∷ xs) zero c got = let same : x ≡ c = cc in ap (λ y. y ∷ xs) (sym same)
+  set_same (x ∷ xs) (suc i) c got = ap (λ ys. x ∷ ys) (set_same xs i c got)
+
+  pub saved_err : {E : Type 0} (xs : List (AnyCheckOut A)) (i : ℕ) (held new : CheckOutSeen (List Draft)) (result : Result (Unit {0}) E) → slice_get xs i ≡ Some (Held held)
+      → OnErr result (new ≡ held) → OnErr result (slice_set xs i (Held new) ≡ xs)
+  saved_err xs i held new (Ok done) got e = tt
+  saved_err xs i held new (Err failed) got e = ap (λ h. slice_set xs i (Held h)) e ∙ set_same xs i (Held held) got
 
   pub own_number : (xs : List (AnyCheckOut A)) (c : AnyCheckOut A) → check_out_of xs n ≡ Some c → number_of c ≡ n
   own_number [] c e = cc

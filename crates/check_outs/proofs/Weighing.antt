@@ -1,7 +1,8 @@
 -- What drafts weigh, with one more and without.
-use Rattle.std.specs.Prelude.{◌≡◌, ℕ, suc, ◌+◌, ◌-◌, ◌<◌, ◌≤◌, ◌==◌, ◌&&◌, nat_lt, nat_le, Bool, true, false, not, List, [], ◌∷◌, ◌++◌, length, map, filter, Some, count_by, refl}
+use Rattle.std.specs.Prelude.{◌≡◌, ℕ, suc, ◌+◌, ◌-◌, ◌<◌, ◌≤◌, ◌==◌, ◌&&◌, nat_lt, nat_le, Bool, true, false, not, List, [], ◌∷◌, ◌++◌, length, map, filter, drop, Some, count_by, sum_by, refl}
 use Rattle.std.specs.Option.{option_map_or}
-use Rattle.std.proofs.Common.{arith, ap, sym, cond, ◌∙◌, length-append}
+use Rattle.std.proofs.Common.{arith, ap, sym, cond, ◌∙◌, length-append, get_or, Fits, w64}
+use Rattle.std.proofs.lemmas.List.{at_drop_all, at_drop_more}
 use Rattle.std.proofs.lemmas.List.Sums.{sum_by-cons, length-filter}
 use Rattle.std.proofs.lemmas.Bool.Decides.{nat_tests}
 use Rattle.vault_model.specs.Shelf.{Draft, content_weight, drafts_weight, weight, draft_at}
@@ -15,6 +16,8 @@ use Rattle.check_outs.specs.CheckOuts.{with_own, beside}
 use Rattle.check_outs.specs.declared.any.AnyCheckOut.{AnyCheckOut}
 use Rattle.check_outs.specs.declared.any.AnyCheckOut.TheVariants.{Waiting, Held}
 use Rattle.check_outs.specs.Typed.{number_of, is_granted, own_drafts, marked, saved, check_out_of, saving, with_saved, is_open, drafts_at, IsAscending}
+use Rattle.check_outs.specs.Parts.{AreLight}
+use Rattle.check_outs.proofs.Steps.{one_taken}
 use Rattle.check_outs.proofs.AllDrafts.{saved_is, drafts_are, ascending_saved, at_saved}
 
 pub weight-cons : (x : Draft) (xs : List Draft) → drafts_weight (x ∷ xs) ≡ content_weight x.content + drafts_weight xs
@@ -23,6 +26,53 @@ weight-cons x xs = sum_by-cons (λ (d : Draft). content_weight d.content) x xs
 pub weight-append : (xs ys : List Draft) → drafts_weight (xs ++ ys) ≡ drafts_weight xs + drafts_weight ys
 weight-append [] ys = omega arith
 weight-append (x ∷ xs) ys = let e = weight-cons x (xs ++ ys) in let f = weight-cons x xs in let g = weight-append xs ys in omega arith
+
+-- drafts weighed one by one
+module _ (xs : List Draft) (i : ℕ) where
+  weight_taken : (x : Draft) → i < length xs → x ≡ get_or xs i x → drafts_weight (drop i xs) ≡ content_weight x.content + drafts_weight (drop (i + 1) xs)
+  weight_taken = one_taken drafts_weight (λ (d : Draft). content_weight d.content) weight-cons xs i
+
+  module _ (sum all : ℕ) (so_far : sum + drafts_weight (drop i xs) ≡ all) where
+    pub weighed_all : length xs ≤ i → sum ≡ all
+    weighed_all past = let none = at_drop_all drafts_weight xs i past in omega arith
+
+    module _ (x : Draft) (content : List ℕ) (inside : i < length xs) (is : x ≡ get_or xs i x) (same : content ≡ x.content) where
+      pub weighed_next : sum + (length content + 8) + drafts_weight (drop (i + 1) xs) ≡ all
+      weighed_next = let taken = weight_taken x inside is in let size = ap length same in omega arith
+
+      pub weighed_fits : all ≤ most_weight → Fits w64 (sum + (length content + 8))
+      weighed_fits light = let next = weighed_next in omega arith
+
+  -- what is left of a room beside them
+  module _ (room left : ℕ) (so_far : left + drafts_weight xs ≡ room + drafts_weight (drop i xs)) where
+    pub left_all : length xs ≤ i → left + drafts_weight xs ≡ room
+    left_all past = let none = at_drop_all drafts_weight xs i past in omega arith
+
+    module _ (x : Draft) (inside : i < length xs) (is : x ≡ get_or xs i x) where
+      pub left_short : (8 ≤ left → ⊥) → room < drafts_weight xs
+      left_short short = let taken = weight_taken x inside is in omega arith
+
+      module _ (less : ℕ) (content : List ℕ) (first : (8 ≤ left) × (less ≡ left - 8)) (same : content ≡ x.content) where
+        pub left_shorter : (length content ≤ less → ⊥) → room < drafts_weight xs
+        left_shorter short = let taken = weight_taken x inside is in let size = ap length same in omega arith
+
+        pub left_next : (new : ℕ) → (length content ≤ less) × (new ≡ less - length content) → new + drafts_weight xs ≡ room + drafts_weight (drop (i + 1) xs)
+        left_next new second = let taken = weight_taken x inside is in let size = ap length same in omega arith
+
+-- the same of the drafts of all check-outs beside a shelf
+module _ (shelf : List (List (List ℕ))) (xs : List (List Draft)) (i room : ℕ) (so_far : room + weight shelf + sum_by drafts_weight xs ≡ most_weight + sum_by drafts_weight (drop i xs)) where
+  pub light_all : length xs ≤ i → AreLight shelf xs
+  light_all past = let none = at_drop_all (sum_by drafts_weight) xs i past in omega arith
+
+  module _ (x own : List Draft) (inside : i < length xs) (is : x ≡ get_or xs i x) (same : own ≡ x) where
+    own_taken : sum_by drafts_weight (drop i xs) ≡ drafts_weight own + sum_by drafts_weight (drop (i + 1) xs)
+    own_taken = one_taken (sum_by drafts_weight) drafts_weight (sum_by-cons drafts_weight) xs i x inside is ∙ ap (λ ys. drafts_weight ys + sum_by drafts_weight (drop (i + 1) xs)) (sym same)
+
+    pub light_next : (left : ℕ) → left + drafts_weight own ≡ room → left + weight shelf + sum_by drafts_weight xs ≡ most_weight + sum_by drafts_weight (drop (i + 1) xs)
+    light_next left e = let taken = own_taken in omega arith
+
+    pub too_heavy : room < drafts_weight own → AreLight shelf xs → ⊥
+    too_heavy short light = let taken = own_taken in omega arith
 
 module _ (place : ℕ) where
   abbrev low : Draft → Bool
@@ -63,6 +113,29 @@ module _ (place : ℕ) where
       by_test true h = let a = weight-cons x (filter other xs) in let b = weight-cons x xs in omega arith
       by_test false h = let b = weight-cons x xs in omega arith
 
+-- the drafts of other places weighed one by one
+module _ (xs : List Draft) (i place sum part all : ℕ) (x : Draft) (inside : i < length xs) (is : x ≡ get_or xs i x)
+    (so_far : sum + drafts_weight (beside (drop i xs) place) ≡ part) (bound : sum + drafts_weight (drop i xs) ≤ all) where
+  beside_is : drafts_weight (beside (drop i xs) place) ≡ drafts_weight (beside (x ∷ drop (i + 1) xs) place)
+  beside_is = at_drop_more (λ ys. drafts_weight (beside ys place)) xs i x inside ∙ ap (λ (y : Draft). drafts_weight (beside (y ∷ drop (i + 1) xs) place)) (sym is)
+
+  pub beside_next : (new : ℕ) (content : List ℕ) → not (x.place == place) ≡ true → content ≡ x.content → new ≡ sum + (length content + 8)
+      → record { sum : new + drafts_weight (beside (drop (i + 1) xs) place) ≡ part; bound : new + drafts_weight (drop (i + 1) xs) ≤ all }
+  beside_next new content other same e =
+      let one : drafts_weight (beside (x ∷ drop (i + 1) xs) place) ≡ content_weight x.content + drafts_weight (beside (drop (i + 1) xs) place) = rw other (weight-cons x (beside (drop (i + 1) xs) place)) in
+      let rest = beside_is in
+      let taken = weight_taken xs i x inside is in
+      let size = ap length same in
+      record { sum = omega arith; bound = omega arith }
+
+  pub beside_same : (new : ℕ) → not (x.place == place) ≡ false → new ≡ sum
+      → record { sum : new + drafts_weight (beside (drop (i + 1) xs) place) ≡ part; bound : new + drafts_weight (drop (i + 1) xs) ≤ all }
+  beside_same new own e =
+      let one : drafts_weight (beside (x ∷ drop (i + 1) xs) place) ≡ drafts_weight (beside (drop (i + 1) xs) place) = rw own refl in
+      let rest = beside_is in
+      let taken = weight_taken xs i x inside is in
+      record { sum = omega arith; bound = omega arith }
+
 -- one more than the drafts of other places, and its weight with theirs
 pub length-with_own : (own : List Draft) (new : Draft) → length (with_own own new) ≡ suc (length (beside own new.place))
 length-with_own own new =
@@ -88,6 +161,26 @@ unmarked-append m (x ∷ own) rest =
 module _ {A : Type 0} where
   pub saved_weight-cons : (c : AnyCheckOut A) (xs : List (AnyCheckOut A)) → saved_weight (saved (c ∷ xs)) ≡ drafts_weight (own_drafts c) + saved_weight (saved xs)
   saved_weight-cons c xs = unmarked-append (number_of c) (own_drafts c) (saved xs)
+
+  -- check-outs weighed one by one
+  module _ (xs : List (AnyCheckOut A)) (i sum all : ℕ) (so_far : sum + saved_weight (saved (drop i xs)) ≡ all) where
+    pub saved_all : length xs ≤ i → sum ≡ all
+    saved_all past = let none = at_drop_all (λ ys. saved_weight (saved ys)) xs i past in omega arith
+
+    module _ (x : AnyCheckOut A) (own : List Draft) (inside : i < length xs) (is : x ≡ get_or xs i x) (same : own ≡ own_drafts x) where
+      saved_taken : saved_weight (saved (drop i xs)) ≡ drafts_weight own + saved_weight (saved (drop (i + 1) xs))
+      saved_taken =
+          one_taken (λ ys. saved_weight (saved ys)) (λ y. drafts_weight (own_drafts y)) saved_weight-cons xs i x inside is
+          ∙ ap (λ ys. drafts_weight ys + saved_weight (saved (drop (i + 1) xs))) (sym same)
+
+      pub own_within : all ≤ most_weight → drafts_weight own ≤ most_weight
+      own_within light = let taken = saved_taken in omega arith
+
+      pub saved_next : (w : ℕ) → w ≡ drafts_weight own → sum + w + saved_weight (saved (drop (i + 1) xs)) ≡ all
+      saved_next w e = let taken = saved_taken in omega arith
+
+      pub saved_fits : (w : ℕ) → w ≡ drafts_weight own → all ≤ most_weight → Fits w64 (sum + w)
+      saved_fits w e light = let next = saved_next w e in omega arith
 
   -- a check-out's drafts weigh no more than all
   pub own_lighter : (xs : List (AnyCheckOut A)) (n : ℕ) → drafts_weight (drafts_at xs n) ≤ saved_weight (saved xs)
