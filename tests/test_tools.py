@@ -1,6 +1,7 @@
-"""The tools around the files: backup, salvage and board, on real vaults."""
+"""The tools around the files, backup, salvage and board, on real vaults; and what a check took."""
 
 import hashlib
+import os
 import random
 import subprocess
 import sys
@@ -278,6 +279,36 @@ class Board(WithVault):
     def test_an_empty_line(self) -> None:
         self.anna.abandon("c1")
         self.assertIn("Nobody has anything checked out.", self.tool("board"))
+
+
+class ProofTimes(unittest.TestCase):
+    """What a check of a crate took, by the times of its files."""
+
+    def setUp(self) -> None:
+        folder = tempfile.TemporaryDirectory(prefix="vault-test-")
+        self.addCleanup(folder.cleanup)
+        self.folder = Path(folder.name)
+
+    def said(self, *words: str, status: int = 0) -> str:
+        done = subprocess.run([sys.executable, str(TOP / "tools" / "proof-times"), *words], cwd=self.folder, capture_output=True, text=True,
+                              timeout=60, check=False)
+        self.assertEqual(done.returncode, status, done.stdout + done.stderr)
+        return done.stdout if status == 0 else done.stderr
+
+    def test_three_modules(self) -> None:
+        kept = self.folder / "crates" / "small" / "out" / "incremental" / "checked"
+        kept.mkdir(parents=True)
+        for name, written in (("specs.contracts.f", 100), ("proofs.f.Proof.decls", 107.5), ("proofs.f.Lts", 103)):
+            file = kept / f"Rattle-small-{name}.oantt"
+            file.touch()
+            os.utime(file, (written, written))
+        self.assertEqual(self.said("small", "1"), "    4.5 s  small-proofs.f.Proof.decls\n    7.5 s  all; Proof 4, Lts 3\n")
+        self.assertEqual(len(self.said("small").splitlines()), 3)
+
+    def test_nothing_to_say(self) -> None:
+        self.assertIn("run rt check --jobs 1", self.said("small", status=1))
+        self.assertIn("usage", self.said(status=1))
+        self.assertIn("usage", self.said("small", "most", status=1))
 
 
 if __name__ == "__main__":
