@@ -27,5 +27,6 @@ pub mod Wholes
 mod Bodies
 mod Opened
 mod HandedOn
+mod Looked
 mod SnapshotRead
 pub mod Sends

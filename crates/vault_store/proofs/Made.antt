@@ -1,5 +1,10 @@
 -- Why effects were not made.
-use Rattle.std.proofs.Common.{◌≡◌, List, ℕ, Result, Ok, Err, IfErr, None, refl, sym, ◌∙◌, ap}
+use Rattle.std.proofs.Common.{◌≡◌, ◌+◌, ◌<◌, List, ◌∷◌, length, get_or, drop, ℕ, Option, Some, None, Result, Ok, Err, IfErr, refl, sym, ◌∙◌, ap}
+use Rattle.std.specs.Option.{option_and_then}
+use Rattle.std.specs.Result.{IsErrAnd}
+use Rattle.std.proofs.lemmas.List.{drop_more}
+use Rattle.vault_model.specs.After.{after}
+use Rattle.vault_checkout.specs.Applied.{Applies}
 use Rattle.vault_model.specs.Said.{Effect}
 use Rattle.vault_model.specs.Vault.{Vault}
 use Rattle.vault_journal.specs.Rows.{AreRecordsOf}
@@ -15,3 +20,17 @@ none_made bytes old effects (Err NotApplicable) records none = λ others next ar
     let same = one_row effects others bytes records are in
     let is_none : applied old others ≡ None = ap (λ (es : List Effect). applied old es) (sym same) ∙ none refl in cc
 none_made bytes old effects (Err NoMemory) records none = tt
+
+-- effects that are made one after the other
+module _ (start v w : Vault) (effects : List Effect) (i : ℕ) (effect : Effect) (here : i < length effects) (is : effect ≡ get_or effects i effect) where
+  next_made : applied v (drop i effects) ≡ option_and_then (λ (next : Vault). applied next (drop (i + 1) effects)) (after v effect)
+  next_made = ap (λ (es : List Effect). applied v es) (drop_more effects i effect here) ∙ ap (λ (e : Effect). applied v (e ∷ drop (i + 1) effects)) (sym is)
+
+  pub one_made : after v effect ≡ Some w → applied start effects ≡ applied v (drop i effects) → applied start effects ≡ applied w (drop (i + 1) effects)
+  one_made leads so_far = so_far ∙ next_made ∙ ap (λ (o : Option Vault). option_and_then (λ (next : Vault). applied next (drop (i + 1) effects)) o) leads
+
+  pub one_unmade : applied start effects ≡ applied v (drop i effects) → (result : Result (Unit {0}) ApplyError) (why : ApplyError) → Applies v (Err why) w (after v effect) → IsErrAnd result (λ (e : ApplyError). e ≡ why) → result ≡ Err NotApplicable
+      → applied start effects ≡ None
+  one_unmade so_far result NotApplicable none told same = so_far ∙ next_made ∙ ap (λ (o : Option Vault). option_and_then (λ (next : Vault). applied next (drop (i + 1) effects)) o) none.0
+  one_unmade so_far (Ok done) NoMemory none told same = absurd told
+  one_unmade so_far (Err e) NoMemory none told same = cc

@@ -44,7 +44,7 @@ read_placed First first second r holds spare = inl (holds, spare)
 read_placed Second first second r holds spare = inr (holds, spare)
 
 -- what is said of each file, said of the active one
-placed : {D : Type 0} (P : D → D → Type 0) (which : File) (first second one two : D) → P first one → P second two → P (of_file which first second) (of_file which one two)
+pub placed : {D : Type 0} (P : D → D → Type 0) (which : File) (first second one two : D) → P first one → P second two → P (of_file which first second) (of_file which one two)
 placed P First first second one two h k = h
 placed P Second first second one two h k = k
 
@@ -91,7 +91,7 @@ second_wrong first second one two new result why generation same same_two shown 
     by_why Device wrong = tt
     by_why NoMemory wrong = tt
 
-settled_each : {D : Type 0} (disk : D → Disk) (which : File) (active spare : D) → (IsTrue (disk active).honest → IsSettled (disk active)) → (IsTrue (disk spare).honest → IsSettled (disk spare))
+pub settled_each : {D : Type 0} (disk : D → Disk) (which : File) (active spare : D) → (IsTrue (disk active).honest → IsSettled (disk active)) → (IsTrue (disk spare).honest → IsSettled (disk spare))
     → AreSettled (disk (of_file which active spare)) (disk (of_file which spare active))
 settled_each disk First active spare h k = λ one two. (h one, k two)
 settled_each disk Second active spare h k = λ one two. (k one, h two)
