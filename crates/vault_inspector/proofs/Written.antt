@@ -9,7 +9,13 @@ use Rattle.std.proofs.Math.Seq.{split_at}
 use Rattle.std.proofs.lemmas.Grind.{flat_map-append}
 use Rattle.std.proofs.lemmas.List.{take_more}
 use Rattle.std.proofs.lemmas.List.Concat.{flat_map-cons}
+use Rattle.vault_model.specs.declared.claims.Item.{Item}
+use Rattle.vault_model.specs.declared.ids.Intent.{Intent}
+use Rattle.vault_model.specs.declared.place.Place.{Place}
+use Rattle.vault_model.specs.Path.{path_text}
+use Rattle.vault_model.specs.Tree.{path_of}
 use Rattle.vault_inspector.specs.Output.{GetsPart, Writes}
+use Rattle.vault_inspector.specs.Texts.{intent_text, item_text}
 
 -- a first part of a piece, of the piece with another behind it
 pub part_then : (a b : Option (List ℕ)) (text more : List ℕ) → GetsPart a b text → GetsPart a b (text ++ more)
@@ -70,3 +76,9 @@ whole_of a b text (Err e) w = tt
 pub part_of : {T E : Type 0} (a b : Option (List ℕ)) (text : List ℕ) (result : Result T E) → Writes a b text result → OnErr result (GetsPart a b text)
 part_of a b text (Ok x) w = tt
 part_of a b text (Err e) w = w
+
+-- a first part of an item's text, where the writer failed at what the item asks for
+pub item_part : {T E : Type 0} (a b : Option (List ℕ)) (tree : List Place) (item : Item) (intent : Intent) (result : Result T E)
+    → item.intent ≡ intent → IsErr result → GetsPart a b (intent_text intent) → Writes a b (item_text tree item) result
+item_part a b tree item intent result is failed part =
+    writes_part a b _ result failed (part_then a b (intent_text item.intent) (path_text (path_of tree item.place)) (subst (λ i. GetsPart a b (intent_text i)) (sym is) part))

@@ -1,5 +1,5 @@
 -- The first of the lines that the program keeps.
-use Rattle.std.proofs.Common.{◌≡◌, ℕ, ◌<◌, true, false, List, [], ◌∷◌, length, ◌++◌, refl, sym, ap, ◌∙◌, arith, slice_index_or}
+use Rattle.std.proofs.Common.{◌≡◌, ℕ, suc, ◌<◌, ◌≤◌, true, false, List, [], ◌∷◌, length, ◌++◌, refl, sym, ap, ◌∙◌, arith, slice_index_or}
 use Rattle.std.proofs.lemmas.List.{append-nil}
 use Rattle.vault_protocol.specs.declared.waiting.Waiting.{Waiting}
 use Rattle.vault_protocol.specs.declared.waiting.Waiting.TheVariants as waiting
@@ -24,3 +24,11 @@ pub known_first : {A : Type 0} (first : Waiting A) (rest : List (Waiting A))
     → known_texts (lines_of (first ∷ rest)) ≡ known_texts (line_of first ∷ []) ++ known_texts (lines_of rest)
 known_first (waiting.Known text) rest = ap (λ front. front ++ known_texts (lines_of rest)) (sym (append-nil text))
 known_first (waiting.Awaited connection ticket) rest = refl
+
+-- where no line is left, all known texts are printed
+pub all_known : {A : Type 0} (items : List (Waiting A)) (out all : List ℕ) (n : ℕ) → length items ≡ n → n ≡ 0 → out ++ known_texts (lines_of items) ≡ all → out ≡ all
+all_known [] out all n many none is = sym (append-nil out) ∙ is
+all_known (x ∷ rest) out all n many none is = absurd (omega arith)
+
+pub one_fewer : {A : Type 0} (items rest : List A) (first : A) → items ≡ first ∷ rest → suc (length rest) ≤ length items
+one_fewer items rest first is = let size : length items ≡ suc (length rest) = ap length is in omega (arith, size)

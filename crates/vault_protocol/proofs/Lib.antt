@@ -1,4 +1,6 @@
 pub mod Written
+pub mod Hearing
+pub mod ReadWhole
 pub mod LineByLine
 pub mod Connections
 pub mod Saying

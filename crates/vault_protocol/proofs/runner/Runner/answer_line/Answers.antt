@@ -1,19 +1,12 @@
-use Rattle.std.proofs.Common.{◌∙◌, ◌++◌, ap}
-use Rattle.vault_protocol.specs.Talk.{Talk, said, with_text}
-use Rattle.vault_protocol.specs.Script.{heard_of}
-use Rattle.vault_protocol.proofs.Written.{on_ok_then}
+use Rattle.vault_protocol.proofs.Hearing.{no_line_talk, no_line_text}
 use Rattle.vault_protocol.proofs.runner.Runner.answer_line.Goals as goal
 
 pub returns-in_ok-push_text-in-None-clause-state : goal.returns-in_ok-push_text-in-None-clause-state
 returns-in_ok-push_text-in-None-clause-state g c =
-    on_ok_then c.say.result
-    (λ e. e ∙ ap (λ (t : Talk). (said t).talk) (c.in_ok-push_text-in-None.ensures ∙ ap (with_text c.args.self.now) c.in_ok-from_slice-in-None.ensures.items)
-    ∙ ap (λ o. (heard_of c.args.self.now o).talk) c.in-None.ensures)
-    c.say.ensures.state
+    no_line_talk c.say.result c.args.self.now c.push_text.new.self c.in_ok-from_slice-in-None.field-0.items _ c.in_ok-push_text-in-None.ensures c.in_ok-from_slice-in-None.ensures.items c.in-None.ensures
+    c.say.new.self c.say.ensures.state
 
 pub returns-in_ok-push_text-in-None-clause-text : goal.returns-in_ok-push_text-in-None-clause-text
 returns-in_ok-push_text-in-None-clause-text g c =
-    on_ok_then c.say.result
-    (λ e. e ∙ ap (λ (t : Talk). c.args.out.now.items ++ (said t).text) (c.in_ok-push_text-in-None.ensures ∙ ap (with_text c.args.self.now) c.in_ok-from_slice-in-None.ensures.items)
-    ∙ ap (λ o. c.args.out.now.items ++ (heard_of c.args.self.now o).text) c.in-None.ensures)
-    c.say.ensures.text
+    no_line_text c.say.result c.args.self.now c.push_text.new.self c.in_ok-from_slice-in-None.field-0.items _ c.in_ok-push_text-in-None.ensures c.in_ok-from_slice-in-None.ensures.items c.in-None.ensures
+    c.args.out.now.items c.say.new.out.items c.say.ensures.text
