@@ -16,6 +16,7 @@ pub mod States
 pub mod SoundViews
 pub mod HasRecords
 pub mod Closed
+pub mod WindowReads
 pub mod Tickets
 pub mod Staged
 pub mod Starts
