@@ -1,24 +1,29 @@
 -- What each call of the vault leaves of the two lengths that the tallies count.
-use Rattle.std.proofs.Common.{◌≡◌, ◌∙◌, ap, ◌+◌, ◌≤◌, ℕ, length, Bool, true, false, arith, refl}
+use Rattle.std.proofs.Common.{◌≡◌, ◌∙◌, ap, ◌+◌, ◌<◌, ◌≤◌, ◌^◌, ℕ, [], ◌∷◌, length, length-append, Bool, true, false, arith, refl, Fits, w64}
 use Rattle.std.specs.Prelude.{Result, Ok, Err, OnErr}
+use Rattle.vault_model.specs.Said.{Command}
 use Rattle.vault_device.specs.declared.device.Fault.{Fault as DeviceFault}
 use Rattle.vault_store.specs.declared.phase.Advanced.{Advanced as Pumped}
 use Rattle.vault_store.specs.declared.starting.Started.{Started}
 use Rattle.vault_store.specs.declared.starting.Started.TheVariants as starts
 use Rattle.group_commit.specs.declared.mark.Mark.{Mark}
 use Rattle.group_commit.specs.declared.mark.Mark.TheVariants as marks
+use Rattle.group_commit.specs.declared.answers.Redeemed.{Redeemed}
 use Rattle.group_commit.specs.declared.answers.Redeemed.TheVariants as redeemed
 use Rattle.group_commit.specs.declared.answers.Forgotten.{Forgotten}
 use Rattle.group_commit.specs.declared.answers.Forgotten.TheVariants as forgotten
-use Rattle.group_commit.specs.Entries.{with_mark}
-use Rattle.group_commit.specs.World.{StartSnapshot}
-use Rattle.group_commit.specs.View.{View, length_of, view_acted}
+use Rattle.group_commit.specs.Entries.{opened, with_mark}
+use Rattle.group_commit.specs.History.{entry_of}
+use Rattle.group_commit.specs.World.{Stage, StartSnapshot}
+use Rattle.group_commit.specs.View.{View, length_of, book_of, view_acted}
 use Rattle.group_commit.specs.Seen.{VaultSeen, snapshot_length}
 use Rattle.group_commit.specs.Ticket.{TicketSeen, Told}
 use Rattle.group_commit.specs.Calls.{IsRedeemed, IsForgotten}
 use Rattle.group_commit.proofs.Marks.{length-with_mark}
-use Rattle.vault_sessions.specs.Tallies.{IsReceiptFor}
+use Rattle.vault_sessions.specs.declared.tally.Totals.{Totals}
+use Rattle.vault_sessions.specs.Tallies.{IsReceiptFor, IsOfTicket, CountsRedeem}
 use Rattle.vault_sessions.specs.Pumping.{IsPumped}
+use Rattle.vault_sessions.specs.AtDesk.{AtDesk}
 
 length_marked : (mark : Mark) (v : View) (position : ℕ) → v.retired + length (with_mark mark v.kept position) ≡ length_of v
 length_marked mark v position = ap (λ n. v.retired + n) (length-with_mark mark v.kept position)
@@ -55,3 +60,40 @@ least_staged e f h k = omega arith
 
 pub least_told : {inside shown other opening total counted : ℕ} → inside ≡ shown → other ≡ opening → shown + other ≤ total → total + 1 ≡ counted → inside + 1 + opening ≤ counted
 least_told e f h k = omega arith
+
+-- staging makes the history longer by one entry
+pub stage_counts : {D : Type 0} (old new : VaultSeen D) (session : ℕ) (command : Command) → new.view ≡ view_acted snapshot_length old.view (Stage session command)
+    → (length_of new.view ≡ length_of old.view + 1) × (new.view.told ≡ old.view.told)
+stage_counts old new session command made =
+    let v = old.view in
+    let longer = length-append v.kept (opened (entry_of (book_of v) session command) ∷ []) in
+    (omega (arith, ap length_of made, longer), ap (λ (v : View). v.told) made)
+
+-- nothing changes where no receipt comes
+pub redeem_keeps : {D A : Type 0} (old new : VaultSeen D) (claim : TicketSeen) (result : Redeemed A) → IsRedeemed old new claim result
+    → ((receipt : Told) → result ≡ redeemed.Told receipt → ⊥) → (new ≡ old) × IsOfTicket claim result × ((a b : Totals) → b ≡ a → CountsRedeem a result b)
+redeem_keeps old new claim (redeemed.Told receipt) h other = absurd (other receipt refl)
+redeem_keeps old new claim (redeemed.NotYet back) h other = (h.1, h.0, λ a b same. same)
+redeem_keeps old new claim (redeemed.Stranger back) h other = (h.1, h.0, λ a b same. same)
+redeem_keeps old new claim (redeemed.Unknown back) h other = (h.1, h.0, λ a b same. same)
+redeem_keeps old new claim (redeemed.NoMemory back) h other = (h.1, h.0, λ a b same. same)
+
+-- a vault that stays is shown as before
+pub same_desk : {D : Type 0} (old new : VaultSeen D) (closed : Bool) (shown : AtDesk D) → new ≡ old → record { vault = old; closed = closed } ≡ shown
+    → record { vault = new; closed = closed } ≡ shown
+same_desk {D} old new closed shown same is =
+    let P : VaultSeen D → AtDesk D = λ vault. record { vault = vault; closed = closed } in
+    ap P same ∙ is
+
+-- and the lengths stay
+pub same_lengths : {D : Type 0} (old new : VaultSeen D) → new ≡ old → (length_of new.view ≡ length_of old.view) × (new.view.told ≡ old.view.told)
+same_lengths {D} old new same = (ap (λ (s : VaultSeen D). length_of s.view) same, ap (λ (s : VaultSeen D). s.view.told) same)
+
+-- what a share counts fits, as it lies within a length that fits
+pub counted_fits : (counted more total length : ℕ) → counted + more ≤ total → length ≡ total → length < 2 ^ 64 → Fits w64 counted
+counted_fits counted more total length least same fits = omega arith
+
+pub same_on_error : {D A E : Type 0} (result : Result A E) (old new : VaultSeen D) (closed : Bool) (shown : AtDesk D) → OnErr result (new ≡ old)
+    → record { vault = old; closed = closed } ≡ shown → OnErr result (record { vault = new; closed = closed } ≡ shown)
+same_on_error (Ok answer) old new closed shown same is = tt
+same_on_error (Err error) old new closed shown same is = same_desk old new closed shown same is

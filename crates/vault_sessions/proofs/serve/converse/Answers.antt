@@ -9,3 +9,9 @@ loop-preserved-in-Wait g c = c.settle.ensures _ _ _ _ _ (rw c.in-Wait.is at c.lo
 
 pub loop-preserved : goal.loop-preserved
 loop-preserved g c = told_on c.in-Tell.telling c.tell_whole.result _ _ _ _ _ _ _ _ _ _ _ _ c.tell_whole.ensures (rw c.in-Tell.is at c.loop.invariant)
+
+pub loop-init : goal.loop-init
+loop-init g c = c.requires
+
+pub returns-in-Over : goal.returns-in-Over
+returns-in-Over g c = rw c.in-Over.is at c.loop.invariant

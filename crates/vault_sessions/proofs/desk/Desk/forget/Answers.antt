@@ -1,4 +1,7 @@
-use Rattle.std.proofs.Common.{◌∙◌, sym}
+use Rattle.std.proofs.Common.{◌∙◌, sym, subst}
+use Rattle.group_commit.specs.Calls.{IsForgotten}
+use Rattle.group_commit.specs.Pasts.{IsNext}
+use Rattle.vault_sessions.specs.AtDesk.{AtDesk}
 use Rattle.vault_sessions.proofs.Desks.{forget_keeps}
 use Rattle.vault_sessions.proofs.desk.Desk.forget.Goals as goal
 
@@ -6,3 +9,10 @@ pub invariant_of-self : goal.invariant_of-self
 invariant_of-self g c =
     let k = forget_keeps c.self.inside.vault c.forget.new.self c.args.ticket c.forget.result c.forget.ensures.closed in
     (c.self.invariant.0 ∙ sym k.0, c.self.invariant.1 ∙ sym k.1, c.self.invariant.2, c.self.invariant.3)
+
+pub returns-clause-closed : goal.returns-clause-closed
+returns-clause-closed g c =
+    subst (λ (s : AtDesk g.row.D.Denot). IsForgotten s.vault c.forget.new.self c.args.ticket c.forget.result) c.self.view_is c.forget.ensures.closed
+
+pub returns-clause-next : goal.returns-clause-next
+returns-clause-next g c = subst (λ (s : AtDesk g.row.D.Denot). IsNext g.D.Device.disk s.vault c.forget.new.self) c.self.view_is c.forget.ensures.next
