@@ -1,4 +1,4 @@
-"""The tools around the files, backup, salvage and board, on real vaults; and what a check took."""
+"""The tools around the files, backup, salvage and board, on real vaults; and those around a check."""
 
 import hashlib
 import os
@@ -309,6 +309,24 @@ class ProofTimes(unittest.TestCase):
         self.assertIn("run rt check --jobs 1", self.said("small", status=1))
         self.assertIn("usage", self.said(status=1))
         self.assertIn("usage", self.said("small", "most", status=1))
+
+
+class CheckOver(unittest.TestCase):
+    """What is refused before any check begins."""
+
+    def said(self, *words: str, status: int) -> str:
+        done = subprocess.run([sys.executable, str(TOP / "tools" / "check-over"), *words], cwd=TOP, capture_output=True, text=True, timeout=60,
+                              check=False)
+        self.assertEqual((done.returncode, done.stdout), (status, ""), done.stderr)
+        return done.stderr
+
+    def test_libraries_that_are_missing(self) -> None:
+        with tempfile.TemporaryDirectory(prefix="vault-test-") as folder:
+            self.assertIn("no library of vault_model, lock_modes: run rt ci", self.said(folder, "lock_queue", status=2))
+
+    def test_other_words(self) -> None:
+        self.assertIn("names no crate nothing", self.said("clone", "nothing", status=1))
+        self.assertIn("usage", self.said("clone", status=1))
 
 
 if __name__ == "__main__":
