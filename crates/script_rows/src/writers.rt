@@ -5,7 +5,7 @@ use std::alloc::Global;
 use std::io::{self, Read, Write};
 use std::sync::atomic::{AtomicBool, Ordering};
 use vault_device::MemDevice;
-use vault_inspector::print;
+use vault_inspector::{Report, print};
 use vault_protocol::run_script;
 
 // Takes one byte a call.
@@ -49,16 +49,26 @@ fn script_to_a_writer_of_single_bytes(rt: HostRuntime) {
     drop(held);
 }
 
+// What is printed of a report to such a writer.
+fn printed(alloc: Global, report: &Report) -> Option<Vec<u8>> {
+    let mut writer = Dripping {
+        held: Vec::new(alloc),
+    };
+    print(report, &mut writer).ok()?;
+    Some(writer.held)
+}
+
 // What is printed of two empty files to such a writer.
 fn reported(alloc: Global) -> Option<Vec<u8>> {
     let mut a = MemDevice::new(alloc).ok()?;
     let mut b = MemDevice::new(alloc).ok()?;
-    let report = vault_inspector::inspect(alloc, &mut a, &mut b).ok()?;
-    let mut writer = Dripping {
-        held: Vec::new(alloc),
-    };
-    print(&report, &mut writer).ok()?;
-    Some(writer.held)
+    let found = vault_inspector::inspect(alloc, &mut a, &mut b);
+    drop(a);
+    drop(b);
+    let report = found.ok()?;
+    let text = printed(alloc, &report);
+    drop(report);
+    text
 }
 
 #[test]

@@ -223,6 +223,23 @@ fn converse_over<
     }
 }
 
+// What comes back, since one of two shares alone isn't gathered.
+fn not_gathered<S: Tally, T: Tally, D: Device + Drop, A: Allocator + Copy>(
+    rt: &impl Abort,
+    shared: Shared<D, S, T, A>,
+    shares: Vec<Share<S, T>, A>,
+) -> (Shared<D, S, T, A>, Vec<Share<S, T>, A>)
+    requires { (S.all ≡ S.parts) × (T.all ≡ T.parts) }
+{
+    match gather(shared, shares) {
+        Err(back) => back,
+        Ok(gathered) => {
+            drop(gathered);
+            panic!(rt; "one of two shares was enough")
+        }
+    }
+}
+
 // The vault, with what all counted. One of two shares alone isn't gathered, and comes back.
 fn gathered<S: Tally, T: Tally, D: Device + Drop, A: Allocator + Copy>(
     rt: &impl Abort,
@@ -232,14 +249,15 @@ fn gathered<S: Tally, T: Tally, D: Device + Drop, A: Allocator + Copy>(
 ) -> (Vault<D, A>, Totals)
     requires { (S.all ≡ S.parts) × (T.all ≡ T.parts) }
 {
-    let Err((shared, mut shares)) = gather(shared, shares) else {
-        panic!(rt; "one of two shares was enough");
-    };
+    let (shared, mut shares) = not_gathered(rt, shared, shares);
     shares.push(share).expect(rt, "memory");
-    let Ok(gathered) = gather(shared, shares) else {
-        panic!(rt; "both shares were too few");
-    };
-    gathered
+    match gather(shared, shares) {
+        Ok(gathered) => gathered,
+        Err(back) => {
+            drop(back);
+            panic!(rt; "both shares were too few")
+        }
+    }
 }
 
 // What a conversation over a vault comes to, while this request for memory is refused. None where there is no memory for a share.

@@ -37,6 +37,7 @@ pub(crate) fn reopened<A: Allocator + Copy>(
     ensures cause { IfErr result (λ e. e ≡ ScriptError.NoMemory) }
 {
     if vault.is_broken() {
+        drop(vault);
         return Err(ScriptError::NoMemory);
     }
     a_vault_keeps_its_history(&vault);
@@ -48,6 +49,9 @@ pub(crate) fn reopened<A: Allocator + Copy>(
     second.crash(pick);
     match Vault::open(alloc, first, second, life) {
         Ok(vault) => Ok(vault),
-        Err(_) => Err(ScriptError::NoMemory),
+        Err(refused) => {
+            drop(refused);
+            Err(ScriptError::NoMemory)
+        }
     }
 }

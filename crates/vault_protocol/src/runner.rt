@@ -4,7 +4,7 @@ ghost use Rattle.std.specs.Prelude.{◌≡◌, ◌++◌, ◌↔◌, IsTrue, IfEr
 ghost use Rattle.vault_model.specs.Said.{Command};
 ghost use Rattle.vault_protocol.specs.Limits.{last_connection};
 ghost use Rattle.vault_lines.specs.Grammar.{command_of};
-ghost use Rattle.vault_lines.specs.Texts.{outside_text};
+ghost use Rattle.vault_lines.specs.Texts.{outside_text, reply_text};
 ghost use Rattle.vault_protocol.specs.Talk.{new_talk, connection_text, sessions_after, with_text, said_now, said, pumped, pumps_needed, committed, started, crashed, told, told_text, reply_at, is_awaited};
 ghost use Rattle.vault_protocol.specs.Script.{answered, connection_line, heard, heard_of, with_refusal, ready, said_by, said_for};
 ghost use Rattle.vault_protocol.specs.Saying.{is_sayable, said_first};
@@ -82,6 +82,22 @@ fn prefixed<A: Allocator>(
     Ok(whole)
 }
 
+/// Appends the line that tells a connection a reply.
+fn put_reply<A: Allocator + Copy>(
+    alloc: A,
+    connection: Connection,
+    reply: &ReplyIn<A>,
+    out: &mut Vec<u8, A>,
+) -> Result<(), AllocError>
+    ensures { OnOk result (out.new.items ≡ out.old.items ++ connection_text connection (reply_text reply.now)) }
+{
+    let Ok(text) = text_of(alloc, reply) else {
+        return Err(AllocError);
+    };
+    let text = prefixed(alloc, connection, &text)?;
+    out.extend_from_slice(&text)
+}
+
 /// Whether all is settled, and neither a commit nor a snapshot is under way.
 fn is_at_rest<D: Device, A: Allocator + Copy>(vault: &Vault<D, A>) -> bool
     ensures { IsTrue result ↔ (pumps_needed vault.now.view ≡ 0) }
@@ -98,16 +114,19 @@ impl<A: Allocator + Copy> Runner<A> {
     {
         let first = MemDevice::new(alloc)?;
         let second = MemDevice::new(alloc)?;
-        let Ok(vault) = Vault::create(alloc, first, second, 1) else {
-            return Err(ScriptError::NoMemory);
-        };
-        Ok(Runner {
-            vault,
-            life: 1,
-            sessions: [0; LAST_CONNECTION as usize],
-            asked: [0; LAST_CONNECTION as usize],
-            lines: VecDeque::new(alloc),
-        })
+        match Vault::create(alloc, first, second, 1) {
+            Ok(vault) => Ok(Runner {
+                vault,
+                life: 1,
+                sessions: [0; LAST_CONNECTION as usize],
+                asked: [0; LAST_CONNECTION as usize],
+                lines: VecDeque::new(alloc),
+            }),
+            Err(refused) => {
+                drop(refused);
+                Err(ScriptError::NoMemory)
+            }
+        }
     }
 
     /// Ends, whatever is still waiting.
@@ -120,6 +139,7 @@ impl<A: Allocator + Copy> Runner<A> {
             lines,
         } = self;
         give_up(&mut vault, lines);
+        drop(vault);
     }
 
     // One more line of this text.
@@ -166,8 +186,13 @@ impl<A: Allocator + Copy> Runner<A> {
                     .push_back_reserved(Waiting::Awaited(connection, ticket));
                 Ok(())
             }
-            Err((Outside::Busy, _)) => self.refuse(alloc, connection, Outside::Busy),
-            Err(_) => Err(ScriptError::NoMemory),
+            Err((why, back)) => {
+                drop(back);
+                match why {
+                    Outside::Busy => self.refuse(alloc, connection, Outside::Busy),
+                    _ => Err(ScriptError::NoMemory),
+                }
+            }
         }
     }
 
@@ -238,9 +263,9 @@ impl<A: Allocator + Copy> Runner<A> {
         match self.vault.redeem(ticket) {
             Redeemed::Told(receipt) => {
                 speak_for(&mut self.sessions, connection, receipt.reply());
-                let text = text_of(alloc, receipt.reply())?;
-                let text = prefixed(alloc, connection, &text)?;
-                Ok(out.extend_from_slice(&text)?)
+                let put = put_reply(alloc, connection, receipt.reply(), out);
+                drop(receipt);
+                Ok(put?)
             }
             Redeemed::NotYet(ticket)
             | Redeemed::Stranger(ticket)
@@ -402,6 +427,7 @@ impl<A: Allocator + Copy> Runner<A> {
             lines,
         } = self;
         let Ok(()) = lose(&mut vault, lines, out) else {
+            drop(vault);
             return Err(ScriptError::NoMemory);
         };
         let life = life.wrapping_add(1);

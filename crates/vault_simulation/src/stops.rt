@@ -204,7 +204,7 @@ fn push_stop(verdict: &mut Verdict, alloc: Global, stops: &mut Vec<Stop>, cut: C
     match stopped(verdict, alloc, cut, pick) {
         Some(stop) => {
             if stop.made {
-                let _ = stops.push(stop);
+                drop(stops.push(stop));
                 return;
             }
             drop(stop);

@@ -34,13 +34,20 @@ fn read_files(rt: &HostRuntime, first: &str, second: &str) -> Result<Inspection,
     Ok(Inspection { report, in_use })
 }
 
+/// Prints a report on standard output.
+fn print_out(rt: &HostRuntime, report: &Report) -> Result<(), Failure> {
+    let mut writer = BufWriter::new(rt.alloc(), io::writer(rt)).or(Err(Failure::NoMemory))?;
+    print(report, &mut writer)?;
+    writer.flush().or(Err(Failure::Write))
+}
+
 /// Prints a report on the files of these two paths on standard output. Where a server has them, it says so on standard error.
 pub fn inspect(rt: &HostRuntime, first: &str, second: &str) -> Result<(), Failure> {
-    let Inspection { report, in_use } = read_files(rt, first, second)?;
-    if in_use {
+    let inspection = read_files(rt, first, second)?;
+    if inspection.in_use {
         let _ = eprintln!(rt; "vault in use: a server may have written while the files were read");
     }
-    let mut writer = BufWriter::new(rt.alloc(), io::writer(rt)).or(Err(Failure::NoMemory))?;
-    print(&report, &mut writer)?;
-    writer.flush().or(Err(Failure::Write))
+    let printed = print_out(rt, &inspection.report);
+    drop(inspection);
+    printed
 }
