@@ -1,6 +1,10 @@
 #!/usr/bin/env python3
 """What a snapshot of a full vault costs a server: how long it takes, how long commands wait meanwhile, the memory, and the opening behind it.
 
+Memory is told in two ways: what is resident, and the part of it that is the server's own, where a page that other programs have, too, counts
+in parts (`Pss`), looked at each half millisecond. The first reply behind a kill counts from the start of the program, with its allocator
+left as it is.
+
 The files are written by this program, by docs/FORMAT.md: a snapshot with 4,096 places, 256 check-outs of 8 items and 16 MiB of contents, and
 frames of almost 1 MiB behind it. A few saves over TCP then make the server begin a snapshot, into the empty second file. Each connection
 saves 1,024 bytes again and again, each save told before the next is sent. A run has one snapshot, so each row is of several runs.
@@ -76,6 +80,20 @@ def full_file(weight):
     return b"".join(out) + b"\x00"
 
 
+class Share(threading.Thread):
+    """The greatest memory of a process in kilobytes, a page that it shares counted in parts."""
+
+    def __init__(self, pid, stop):
+        super().__init__()
+        self.path, self.stop, self.most = f"/proc/{pid}/smaps_rollup", stop, 0
+
+    def run(self):
+        while not self.stop.is_set():
+            with open(self.path, encoding="ascii") as file:
+                self.most = max(self.most, int(re.search(r"^Pss:\s+(\d+)", file.read(), re.M).group(1)))
+            time.sleep(0.0005)
+
+
 class Client(threading.Thread):
     """One connection, which saves until it is told to stop. Each wait is kept with its beginning."""
 
@@ -125,7 +143,7 @@ def traced_by(tracer):
 
 
 def one_run(program, files, content, options, connections, before=()):
-    """How long a snapshot took, the waits of the commands that were under way in it, and the server's greatest memory."""
+    """How long a snapshot took, the waits of the commands that were under way in it, and the server's greatest memory, in two ways."""
     with open(files[0], "wb") as file:
         file.write(content)
     open(files[1], "wb").close()
@@ -135,19 +153,40 @@ def one_run(program, files, content, options, connections, before=()):
             raise SystemExit("the server didn't start")
         stop = threading.Event()
         clients = [Client(options.port, number_of, stop) for number_of in range(1, connections + 1)]
-        for client in clients:
-            client.start()
+        share = Share(server.pid, stop)
+        for thread in [share, *clients]:
+            thread.start()
         began, ended = written(files[1])
         time.sleep(0.05)
         stop.set()
+        share.join()
         for client in clients:
             client.join()
             client.socket.close()
-        memory = status_of(server.pid)[0] if not before else None
+        memory = (status_of(server.pid)[0], share.most) if not before else None
         os.kill(traced_by(server.pid) if before else server.pid, signal.SIGTERM)
         server.wait()
     waits = [end - begin for client in clients for begin, end in client.waits if begin < ended and end > began]
     return ended - began, waits, memory
+
+
+def first_reply(program, files, options):
+    """How long it is from the start of the program to its first reply over these files. It is killed then."""
+    began = time.monotonic()
+    with subprocess.Popen([program, "serve", *files, f"127.0.0.1:{options.port}", "--workers", str(WORKERS)], stdout=subprocess.DEVNULL) as server:
+        while True:
+            try:
+                with socket.create_connection(("127.0.0.1", options.port), 5) as link:
+                    link.sendall(b"hello z\n")
+                    told = link.recv(100)
+                break
+            except OSError:
+                time.sleep(0.0002)
+        took = time.monotonic() - began
+        server.kill()
+    if not told.startswith(b"OK"):
+        raise SystemExit(f"the first reply was {told.decode()}")
+    return took
 
 
 def start_by_strace(program, files, content, options, folder):
@@ -194,17 +233,18 @@ def main():
         for connections in map(int, options.connections.split(",")):
             done = [one_run(program, files, content, options, connections) for _ in range(runs)]
             waits = sorted(wait for _, each, _ in done for wait in each)
-            memory = max(each for _, _, each in done)
+            resident, own = (max(each[way] for _, _, each in done) for way in (0, 1))
             yield (str(connections), middle([took for took, _, _ in done]), f"{len(waits):,}",
-                   f"{waits[-1] * 1000:.1f} and {waits[int(len(waits) * 0.99)] * 1000:.1f} ms", megabytes(memory),
-                   f"{memory * 1024 / WEIGHT:.2f}")
+                   f"{waits[-1] * 1000:.1f} and {waits[int(len(waits) * 0.99)] * 1000:.1f} ms",
+                   f"{megabytes(resident)}, {resident * 1024 / WEIGHT:.2f}", f"{megabytes(own)}, {own * 1024 / WEIGHT:.2f}")
 
     table(("Connections", "Whole snapshot, least and median", "Commands that waited for it", "Longest wait and 99th percentile",
-           "Resident memory, at most", "Of the greatest weight"), rows())
+           "Resident memory at most, and of the greatest weight", "The server's own, and of the greatest weight"), rows())
     if options.start:
         starts = [start_by_strace(program, files, content, options, folder) for _ in range(runs)]
         table(("The start of a snapshot, under the lock", "Least and median"), [("by strace, one connection", middle(starts))])
     one_run(program, files, content, options, 1)
+    first = [first_reply(program, files, options) for _ in range(runs)]
     opened = [run_once(program, ["inspect", *files]) for _ in range(runs)]
     for path, bytes_of_file in zip(files, (file_of([])[0], b"")):
         with open(path, "wb") as file:
@@ -212,6 +252,7 @@ def main():
     empty = [run_once(program, ["inspect", *files]) for _ in range(runs)]
     table(("Reading it behind the snapshot, as the opening does", "Least and median", "Resident memory"),
           [("16 MiB of contents", middle([wall for wall, _, _ in opened]), megabytes(opened[-1][1])),
+           ("the same, to the first reply of a server behind a kill", middle(first), ""),
            ("a new vault", middle([wall for wall, _, _ in empty]), megabytes(empty[-1][1]))])
 
 
