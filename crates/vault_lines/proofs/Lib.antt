@@ -4,5 +4,6 @@ pub mod Arguments
 pub mod Children
 pub mod Steps
 pub mod Contents
+pub mod DigitPairs
 pub mod WordsFound
 pub mod WordsAgain

@@ -8,6 +8,7 @@
 //! Start at: docs/PROTOCOL.md, specs/Grammar.antt and reading.rt.
 #![tactic(auto)]
 
+mod digits;
 mod error;
 mod keyword;
 pub mod laws;

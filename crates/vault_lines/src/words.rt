@@ -5,8 +5,8 @@ ghost use Rattle.vault_lines.specs.Words.{claim_in, content_in, long_in, number_
 ghost use Rattle.vault_lines.specs.Items.{item_in, items_in};
 ghost use Rattle.vault_lines.specs.Reading.{Gives};
 
+use crate::digits::write_bytes;
 use crate::error::LineError;
-use hex::FromHexError;
 use itoa::Buffer;
 use std::alloc::Allocator;
 use vault_model::{ClaimId, Intent, Listing, Path, PathItem};
@@ -109,12 +109,14 @@ pub(crate) fn read_content<A: Allocator>(alloc: A, word: &[u8]) -> Result<Listin
     if word == b"-".as_slice() {
         return Ok(Listing::from_vec(Vec::new(alloc)));
     }
-    if word.is_empty() {
+    if word.is_empty() || word.len() % 2 != 0 {
         return Err(LineError::BadLine);
     }
-    match hex::decode(alloc, word) {
-        Ok(bytes) => Ok(Listing::from_vec(bytes)),
-        Err(FromHexError::OutOfMemory) => Err(LineError::NoMemory),
-        Err(_) => Err(LineError::BadLine),
+    let mut bytes = vec![in alloc; 0; word.len() / 2]?;
+    if write_bytes(word, bytes.as_mut_slice()) {
+        Ok(Listing::from_vec(bytes))
+    } else {
+        drop(bytes);
+        Err(LineError::BadLine)
     }
 }

@@ -4,12 +4,14 @@ ghost use Rattle.std.specs.Option.{option_copied};
 ghost use Rattle.std.specs.List.{slice_split};
 ghost use Rattle.vault_model.specs.Splits.{parts_behind};
 
+use memchr::memchr;
+
 /// Where the separator stands first.
 fn place_of(text: &[u8], separator: u8) -> Option<usize>
     ensures place { result ≡ position (λ b. b == separator) text.now }
     ensures within { IfSome result (λ at. at < length text.now) }
 {
-    text.iter().position(|byte| *byte == separator)
+    memchr(separator, text)
 }
 
 /// The part before the first separator, and what stands behind that separator, where there is one.
