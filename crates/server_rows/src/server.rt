@@ -12,7 +12,7 @@ use std::thread::{self, Threads};
 use std::time::{Clock, Duration};
 use test_memory::Refusing;
 use vault_device::{Device, MemDevice, Pick};
-use vault_server::{ServerError, Terms, run_server_on};
+use vault_server::{ServerError, Terms, run_server, run_server_on};
 use vault_sessions::Totals;
 
 /// How long a server waits for a client that says nothing more, or a client before it comes, in milliseconds.
@@ -33,6 +33,8 @@ pub struct Serving {
     /// Which device call behind the vault's creation fails.
     pub failing: u64,
     pub has_two_workers: bool,
+    /// Whether one thread serves both.
+    pub has_one_thread: bool,
     pub connections: Option<u32>,
     /// Whether it ends a connection that is idle.
     pub is_impatient: bool,
@@ -77,6 +79,7 @@ pub const PLAIN: Serving = Serving {
     name: "",
     failing: 0,
     has_two_workers: false,
+    has_one_thread: false,
     connections: Some(1),
     is_impatient: false,
     is_hasty: false,
@@ -155,6 +158,7 @@ fn comes_to<H: Net + Threads + Wait + Clock + Sync + Abort>(
     let vault = begun(rt, global, memory, Start::New(serving.failing));
     let terms = Terms {
         workers: if serving.has_two_workers { 2 } else { 1 },
+        threads: if serving.has_one_thread { 1 } else { 2 },
         connections: serving.connections,
         idle: if serving.is_impatient {
             Some(Duration::from_millis(WAIT))
@@ -163,7 +167,12 @@ fn comes_to<H: Net + Threads + Wait + Clock + Sync + Abort>(
         },
     };
     memory.refuse(request);
-    match run_server_on(rt, memory, listener, vault, &terms, gate) {
+    let served = if serving.has_two_workers || serving.is_impatient {
+        run_server_on(rt, memory, listener, vault, &terms, gate)
+    } else {
+        run_server(rt, memory, listener, vault, 1, serving.connections, gate)
+    };
+    match served {
         Ok((vault, totals)) => left(rt, vault, totals, serving),
         Err(error) => Outcome {
             error: Some(error),

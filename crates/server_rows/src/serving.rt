@@ -137,7 +137,7 @@ const SHARED_TWICE: &[&[Piece]] = &[
     )],
 ];
 
-static SERVINGS: [Serving; 12] = [
+static SERVINGS: [Serving; 13] = [
     Serving {
         name: "a round over tcp",
         has_two_workers: true,
@@ -312,6 +312,33 @@ static SERVINGS: [Serving; 12] = [
         hears: &[&[(b"OK session 1\nOK held h1\nend\n", 1)]],
         came: Outcome {
             totals: Totals { staged: 3, told: 2 },
+            ..ENDED
+        },
+        ..PLAIN
+    },
+    // What one holds the other waits for, so it is served while that one stays.
+    Serving {
+        name: "one thread serves one beside another that is silent",
+        has_two_workers: true,
+        has_one_thread: true,
+        connections: Some(2),
+        is_impatient: true,
+        clients: &[
+            Client {
+                says: &[(b"hello anna\nhold w:/\n", 1)],
+                may_say_more: true,
+            },
+            Client {
+                says: &[(b"hello ben\nhold w:/\nquit\n", 1)],
+                may_say_more: false,
+            },
+        ],
+        hears: &[&[(
+            b"OK session 1\nOK held h1\nend\nOK session 2\nOK queued h2 behind h1\nOK left\nend\n",
+            1,
+        )]],
+        came: Outcome {
+            totals: Totals { staged: 6, told: 5 },
             ..ENDED
         },
         ..PLAIN

@@ -1,4 +1,4 @@
-//! A server over TCP: two threads that serve all connections by the steps of their conversations, and commit what these staged.
+//! A server over TCP: few threads serve all connections by the steps of their conversations, and commit what these staged.
 //!
 //! Promises: where a server ends well, its history grew by exactly the commands that its workers staged, and it told as many as they say
 //! (`run_server`). Of all else here safety alone is proved: that the threads hand each step of a conversation the turn that the last one

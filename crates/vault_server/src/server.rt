@@ -29,9 +29,6 @@ const MOST_FAULTS: u32 = 20;
 
 const REST: u64 = 50;
 
-// How many threads serve connections at most. The first has them until its places are full.
-const MOST_THREADS: usize = 2;
-
 // The system's numbers of a want of memory, of descriptors of all programs, of descriptors of this one, and of buffers.
 const WANTS: [i32; 4] = [libc::ENOMEM, 23, libc::EMFILE, 105];
 
@@ -51,6 +48,9 @@ pub enum ServerError {
 pub struct Terms {
     /// How many connections are served at a time: 1 to 64.
     pub workers: usize,
+    /// By how many threads at most, each with a like part of the places: one at least, and no more than `workers`. The first has
+    /// connections until its places are full.
+    pub threads: usize,
     /// After how many connections it ends. None: it serves on.
     pub connections: Option<u32>,
     /// After how long a connection is ended, as by a reader's or a writer's fault, whose client sends nothing, or takes nothing of a
@@ -65,10 +65,10 @@ pub(crate) struct Connection {
     pub stream: TcpStream,
 }
 
-/// Serves so many connections at a time by two threads at most, which have ended when it returns. They commit what their connections
-/// staged, one of them at a time. Where a number of connections is given, it ends once these were served, with the vault and what was
-/// counted. Connections count from 1, and wrap. At an error the connections that were handed to threads are served to their end first.
-/// With a broken vault it goes on, and every command is answered `Broken`.
+/// Serves so many connections at a time by one thread, which has ended when it returns, and which commits what they staged. Where a
+/// number of connections is given, it ends once these were served, with the vault and what was counted. Connections count from 1, and
+/// wrap. At an error the connections that were handed to the thread are served to their end first. With a broken vault it goes on, and
+/// every command is answered `Broken`.
 pub fn run_server<
     D: Device + Drop + Send,
     A: Allocator + Copy + Send + Sync,
@@ -89,13 +89,14 @@ pub fn run_server<
 {
     let terms = Terms {
         workers,
+        threads: 1,
         connections,
         idle: None,
     };
     run_server_on(rt, alloc, listener, vault, &terms, gate)
 }
 
-/// The same, on these terms.
+/// The same, on these terms. Of several threads one commits at a time, for all.
 pub fn run_server_on<
     D: Device + Drop + Send,
     A: Allocator + Copy + Send + Sync,
@@ -145,7 +146,7 @@ fn run<
     ensures grown { IfOk result (λ served. HasGrown vault.view served.0.view served.1) }
 {
     let workers = terms.workers;
-    let (polls, bells) = match polls_of(rt, alloc, workers.min(MOST_THREADS)) {
+    let (polls, bells) = match polls_of(rt, alloc, workers.min(terms.threads).max(1)) {
         Ok(made) => made,
         Err(error) => {
             drop(vault);
@@ -271,7 +272,7 @@ impl<
             drop(shares);
             return Err(ServerError::NoMemory);
         }
-        let most_said = count.saturating_add(MOST_THREADS);
+        let most_said = count.saturating_add(polls.len());
         let Ok((freed, free)) = bounded::<Option<usize>, A>(self.alloc, most_said) else {
             drop(returned);
             drop(polls);

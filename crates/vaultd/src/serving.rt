@@ -54,6 +54,7 @@ fn terms_of(serving: &Serving<'_>) -> Terms
 {
     Terms {
         workers: serving.workers.clamp(1, 64) as usize,
+        threads: serving.threads as usize,
         connections: serving.connections,
         idle: serving
             .idle

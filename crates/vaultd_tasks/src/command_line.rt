@@ -49,7 +49,7 @@ Example:
   printf '@1 hello anna\\n@1 make /engine\\n@1 checkout w:/engine\\n' | vaultd script
 'vaultd script --help' lists what a script may say.";
 
-/// What is served, where, and by how many workers.
+/// What is served, where, and how.
 #[derive(Clone, Copy)]
 pub struct Serving<'a> {
     /// The paths of the vault's files.
@@ -59,6 +59,8 @@ pub struct Serving<'a> {
     pub address: &'a str,
     /// 1 to 64.
     pub workers: u32,
+    /// By how many threads: 1 or 2.
+    pub threads: u32,
     /// After how many connections the program ends.
     pub connections: Option<u32>,
     /// After how many seconds a silent connection is ended.
@@ -134,6 +136,14 @@ fn workers<'a>(alloc: Global) -> Arg<'a> {
         .value_parser(value_parser!(u32).range(1..=64))
 }
 
+/// By how many threads they are served.
+fn threads<'a>(alloc: Global) -> Arg<'a> {
+    let help = "By how many threads they are served, 1 or 2";
+    option(alloc, "threads", "N", help)
+        .default_value("1")
+        .value_parser(value_parser!(u32).range(1..=2))
+}
+
 /// After how many connections the server ends.
 fn connections<'a>(alloc: Global) -> Arg<'a> {
     let help = "Ends after so many connections; without it the program serves on";
@@ -154,6 +164,7 @@ fn serve<'a>(alloc: Global) -> Result<Command<'a>, AllocError> {
     let address = "Where to listen, as 127.0.0.1:7070";
     let command = command.arg(needed(alloc, "ADDR", address))?;
     let command = command.arg(workers(alloc))?;
+    let command = command.arg(threads(alloc))?;
     let command = command.arg(connections(alloc))?;
     command.arg(idle(alloc))
 }
@@ -195,6 +206,7 @@ fn serving_of<'a>(matches: &ArgMatches<'a>) -> Serving<'a> {
         second: path(matches, "B"),
         address: path(matches, "ADDR"),
         workers: matches.get_one::<u32>("workers").unwrap_or(4),
+        threads: matches.get_one::<u32>("threads").unwrap_or(1),
         connections: matches.get_one::<u32>("connections"),
         idle: matches.get_one::<u32>("idle"),
     }
