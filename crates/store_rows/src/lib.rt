@@ -2,11 +2,13 @@
 //! stands as rows in vault_scripts/data.
 //!
 //! Promises: nothing; it has no public function.
-//! Only tested: each request for memory refused, and a vault in two real files.
+//! Only tested: each request for memory refused, a vault in two real files, and snapshots of more than one piece.
 //! Stands on: vault_store, and what it stands on.
 //! Start at: memory.rt.
 #![tactic(auto)]
 
+#[cfg(test)]
+mod long;
 #[cfg(test)]
 mod memory;
 #[cfg(test)]

@@ -17,7 +17,7 @@ use Rattle.vault_journal.specs.Spelling.{in_two, in_four}
 use Rattle.vault_journal.proofs.OneSpelling.{fields_are_spelled}
 use Rattle.vault_format.specs.declared.version.FileVersion.{FileVersion}
 use Rattle.vault_format.specs.Snapshot.{kind_bytes, place_bytes, places_bytes, claim_bytes, spelling_of, AreKindsIn, HasSpelling}
-use Rattle.vault_format.specs.Places.{vault_with, places_of, ArePlaces, ArePlacesAt, BeginsWithNoPlaces, IsPlaceRead, BeginsWithNoPlace}
+use Rattle.vault_format.specs.Places.{vault_with, places_of, ArePlaces, ArePlacesAt, AreReadTo, BeginsWithNoPlaces, IsPlaceRead, BeginsWithNoPlace}
 use Rattle.vault_format.proofs.OneReading.{one_number}
 use Rattle.vault_format.proofs.SpelledPlaces.{AreTold, places_tell, one_shelf, part_same}
 use Rattle.vault_format.proofs.Spelled.{places_have, contents_of, snapshot_split}
@@ -56,11 +56,6 @@ places_append version v n m (x ∷ xs) ys to =
     ∙ sym (append_assoc (place_bytes version v n x) (places_bytes version v (suc n) xs) (places_bytes version v m ys))
 
 -- ---- the loop
-
--- these places were read
-pub record AreReadTo (version : FileVersion) (tree : List Place) (shelf : List (List (List ℕ))) (bytes rest : List ℕ) : Type 0 where
-  pub are : ArePlaces version tree shelf
-  pub spelled : bytes ≡ places_bytes version (vault_with tree shelf) 1 tree ++ rest
 
 pub nothing_read : (version : FileVersion) (bytes : List ℕ) → AreReadTo version [] [] bytes bytes
 nothing_read version bytes = record {

@@ -43,6 +43,16 @@ abbrev pub BeginsWithNoPlaces : FileVersion → List ℕ → Type 0
 BeginsWithNoPlaces version bytes = (tree : List Place) (shelf : List (List (List ℕ))) (rest : List ℕ)
     → ArePlaces version tree shelf → bytes ≢ places_of version tree shelf ++ rest
 
+-- these places were read from the front of bytes, and the rest stands behind them
+pub record AreReadTo (version : FileVersion) (tree : List Place) (shelf : List (List (List ℕ))) (bytes rest : List ℕ) : Type 0 where
+  pub are : ArePlaces version tree shelf
+  pub spelled : bytes ≡ places_bytes version (vault_with tree shelf) 1 tree ++ rest
+
+-- places were read on from the front of bytes, behind those that were there
+abbrev pub AreReadOn : FileVersion → List Place → List (List (List ℕ)) → List Place → List (List (List ℕ)) → List ℕ → List ℕ → Type 0
+AreReadOn version tree shelf tree_new shelf_new bytes rest =
+    AreReadTo version tree_new shelf_new (places_bytes version (vault_with tree shelf) 1 tree ++ bytes) rest
+
 -- the versions of each place are the first of those in the whole shelf
 abbrev pub IsFrontOf : List (List (List ℕ)) → List (List (List ℕ)) → Type 0
 IsFrontOf shelf whole = (place : ℕ) → (more : List (List ℕ)) × (versions_of whole place ≡ versions_of shelf place ++ more)

@@ -4,7 +4,7 @@ ghost use Rattle.vault_model.specs.Shelf.{IsShelf};
 ghost use Rattle.vault_model.specs.Tree.{IsTree};
 ghost use Rattle.vault_model.specs.Vault.{AreVersions};
 ghost use Rattle.vault_format.specs.declared.error.SnapshotError.TheVariants.{NotWellFormed};
-ghost use Rattle.vault_format.specs.Places.{told_of, ArePlacesAt, BeginsWithNoPlaces, IsVersionRead, BeginsWithNoVersion, AreVersionsRead, BeginsWithNoVersions, no_part_under, kind_before, IsPlaceAdded, BeginsWithNoName, IsPlaceRead, BeginsWithNoPlace};
+ghost use Rattle.vault_format.specs.Places.{told_of, ArePlacesAt, BeginsWithNoPlaces, AreReadOn, ArePlaces, IsVersionRead, BeginsWithNoVersion, AreVersionsRead, BeginsWithNoVersions, no_part_under, kind_before, IsPlaceAdded, BeginsWithNoName, IsPlaceRead, BeginsWithNoPlace};
 ghost use Rattle.vault_journal.specs.Reading.{Reads};
 
 use crate::error::SnapshotError;
@@ -174,6 +174,59 @@ fn read_place<'a, A: Allocator + Copy>(
         return Ok(rest);
     }
     read_versions(alloc, place, shelf, rest)
+}
+
+// What stands behind so many versions in front, where all of them are there.
+fn behind_versions(count: u16, bytes: &[u8]) -> Option<&[u8]> {
+    let mut rest = bytes;
+    for _ in 0..usize::from(count) {
+        let Some((_, behind)) = content_at(rest) else {
+            return None;
+        };
+        rest = behind;
+    }
+    Some(rest)
+}
+
+// What stands behind the place in front, in the spelling of today's version, where all of it is there.
+fn behind_place(bytes: &[u8]) -> Option<&[u8]> {
+    let (_, rest) = u32_at(bytes)?;
+    let Some(named) = name_at(rest) else {
+        return None;
+    };
+    let (kind, rest) = u8_at(named.1)?;
+    if kind != kind_byte(true) {
+        return Some(rest);
+    }
+    let (count, rest) = u16_at(rest)?;
+    behind_versions(count, rest)
+}
+
+/// Reads places on, behind those that are there, until there are so many with the library, or the bytes end within the next one. Answers
+/// the bytes behind them.
+///
+/// Where the next one ends is looked for in the spelling of today's version. The work grows with the bytes that are read, the bytes of
+/// one place more and, for each place, with the number of its siblings. Beside the tree and the shelf it takes memory for one version at a
+/// time. Of a refusal the contract says nothing: `read_places` judges all bytes.
+pub fn read_places_on<'a, A: Allocator + Copy>(
+    alloc: A,
+    version: FileVersion,
+    count: u32,
+    tree: &mut Tree<A>,
+    shelf: &mut Shelf<A>,
+    bytes: &'a [u8],
+) -> Result<&'a [u8], SnapshotError>
+    requires { ArePlaces version tree.old shelf.old }
+    ensures { IfOk result (λ rest. AreReadOn version tree.old shelf.old tree.new shelf.new bytes.now rest.now) }
+{
+    let mut rest = bytes;
+    for number in tree.len() as u32..count {
+        if behind_place(rest).is_none() {
+            return Ok(rest);
+        }
+        rest = read_place(alloc, version, PlaceId(number), tree, shelf, rest)?;
+    }
+    Ok(rest)
 }
 
 // Reads how many places there are and each of them, and answers the bytes behind them.

@@ -29,4 +29,5 @@ mod Opened
 mod HandedOn
 mod Looked
 mod SnapshotRead
+mod InPieces
 pub mod Sends

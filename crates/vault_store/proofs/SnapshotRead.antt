@@ -14,7 +14,6 @@ use Rattle.vault_model.specs.Shelf.{Draft}
 use Rattle.vault_model.specs.Drafts.{SavedDraft, drafts_of}
 use Rattle.vault_model.specs.Vault.{Vault}
 use Rattle.check_outs.specs.Parts.{Parts, drafts_under, parts_of, IsVaultOf}
-use Rattle.vault_journal.specs.Laws.{AreBytes}
 use Rattle.vault_journal.specs.Reading.{u16_at, u32_at}
 use Rattle.vault_journal.specs.Spelling.{in_two, in_four}
 use Rattle.vault_journal.proofs.OneSpelling.{fields_are_spelled}
@@ -161,8 +160,8 @@ module _ (version : FileVersion) (bytes : List ℕ) where
               told_again version v.drafts read.told read.each (ap (λ (l : List Claim). map (λ (c : Claim). drafts_under v.drafts c.id) l) (sym lines) ∙ owns)
               ∙ ap (λ (l : List Claim). map (drafted v.drafts) l) (sym lines)
 
-          pub has_spelling : AreBytes bytes → HasSpelling version v
-          has_spelling are = record {
+          pub has_spelling : HasSpelling version v
+          has_spelling = record {
             has = record {
               well_formed = is.well_formed;
               durable = is.durable;
@@ -175,9 +174,9 @@ module _ (version : FileVersion) (bytes : List ℕ) where
                 (All-map (λ (c : Claim). IsNoteIn version c.note) (λ (x : Drafted). x.0) read.told (All-weaker (HasOwn version) (λ (x : Drafted). IsNoteIn version x.0.note) (λ x own. own.claim.note) read.told read.each));
           }
 
-          pub is_snapshot : AreBytes bytes → end ≡ [] → bytes ≡ spelling_of version v
-          is_snapshot are empty =
-              (fields_are_spelled.in_four.spelled bytes last_long after are got).0
+          pub is_snapshot : bytes ≡ in_four last_long ++ after → end ≡ [] → bytes ≡ spelling_of version v
+          is_snapshot here empty =
+              here
               ∙ ap (λ (l : List ℕ). in_four last_long ++ l) (places.spelled ∙ ap (λ (l : List ℕ). places_of version tree shelf ++ l) (read.spelled ∙ ap (λ (l : List ℕ). claims_bytes version read.told ++ l) empty))
               ∙ ap (λ (n : ℕ). whole version n tree shelf read.told) (sym numbers)
               ∙ ap (λ (t : List Place). whole version v.last_long t shelf read.told) (sym trees)

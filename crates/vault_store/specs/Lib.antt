@@ -11,5 +11,6 @@ pub mod Create
 pub mod Opening
 pub mod Parts
 pub mod Read
+pub mod Front
 pub mod Laws
 pub mod Rows

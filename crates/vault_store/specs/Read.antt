@@ -17,7 +17,7 @@ use Rattle.vault_store.specs.declared.body.ReadError.{ReadError}
 use Rattle.vault_store.specs.declared.body.ReadError.TheVariants as errors
 use Rattle.vault_format.specs.Snapshot.{spelling_of, HasSpelling}
 use Rattle.vault_format.specs.Files.{header, head_length, most_records, frame_extra, snapshot_bytes, frame_of, frames_bytes, IsFrame, applied, after_frames, IsClosedFile, HasHead, HasRightHead}
-use Rattle.vault_format.specs.Faults.{version_in, IsVersion, IsNoVersion, IsSnapshotFault, IsBodyFault}
+use Rattle.vault_format.specs.Faults.{version_in, IsVersion, IsSnapshotFault, IsBodyFault}
 use Rattle.vault_store.specs.Opening.{IsNewer}
 use Rattle.vault_store.specs.Seen.{of_file}
 use Rattle.vault_store.specs.Calls.{HasCause, IsCalled, IsQuiet}

@@ -8,13 +8,13 @@ ghost use Rattle.vault_format.specs.Files.{header, HasHead};
 ghost use Rattle.vault_store.specs.Parts.{IsBody};
 ghost use Rattle.vault_store.specs.Read.{AreReads, IsWhy, IsBaseRead, IsBaseFault, AreContents, IsFaultBehindHead};
 
-use crate::journal::{number_in, read_bytes, read_frames};
-use crate::snapshot::read_snapshot;
+use crate::journal::{number_in, read_frames};
+use crate::snapshot::read_book;
 use std::alloc::Allocator;
 use thiserror::Error;
 use vault_checkout::Book;
 use vault_device::{Device, Fault};
-use vault_format::{FileVersion, HEADER, SnapshotError, version_of};
+use vault_format::{FileVersion, HEADER, version_of};
 
 /// What stands behind the head of a file.
 #[derive(Drop)]
@@ -88,15 +88,13 @@ fn read_base<D: Device, A: Allocator + Copy>(
     if len - HEADER <= u64::from(length) {
         return Err(ReadError::Damaged(20));
     }
-    let snapshot = read_bytes(alloc, device, HEADER, length)?;
-    match read_snapshot(alloc, version, &snapshot) {
-        Ok(book) => Ok(Base {
+    match read_book(alloc, version, device, length)? {
+        Some(book) => Ok(Base {
             version,
             book,
             end: HEADER + u64::from(length),
         }),
-        Err(SnapshotError::NotWellFormed) => Err(ReadError::Damaged(HEADER)),
-        Err(SnapshotError::NoMemory) => Err(ReadError::NoMemory),
+        None => Err(ReadError::Damaged(HEADER)),
     }
 }
 
@@ -149,8 +147,9 @@ pub fn read_contents<D: Device, A: Allocator + Copy>(
 
 /// Reads a file behind its head, which has to be right: of any other the answer is not said. It makes reads only.
 ///
-/// Each byte is read once, up to the tail gate, with two device calls, one for the snapshot and three for a frame. Beside the book it
-/// takes memory for the bytes of the snapshot, and for the bytes and the effects of one frame at a time.
+/// Up to the tail gate it makes two device calls, one for the snapshot and three for a frame. For a snapshot of more than 2 MiB it makes one
+/// for each piece, and two more; where that can't be read so, it reads it once more. Beside the book it takes memory for the bytes of the
+/// snapshot, or of a piece and of the check-outs, and for the bytes and the effects of one frame at a time.
 pub fn read_body<D: Device, A: Allocator + Copy>(
     alloc: A,
     device: &mut D,

@@ -233,9 +233,10 @@ impl<D: Device, A: Allocator + Copy> Store<D, A> {
     /// Opens the vault that two files hold, and answers its book with the store. A refusal hands the devices back. It begins
     /// with a sync of each device and writes nothing.
     ///
-    /// Of each file the head is read, and its first byte once more; of the one of the greater generation each byte is read once, up
-    /// to its tail gate, with three device calls a frame. Beside the book it takes memory for the bytes of the snapshot, for the bytes
-    /// and the effects of one frame at a time, and for the frame that is filled.
+    /// Of each file the head is read, and its first byte once more; of the one of the greater generation all bytes up to its tail gate,
+    /// with three device calls a frame. A snapshot of more than 2 MiB is read piece by piece, and the first part of a place at the end of
+    /// a piece once more. Beside the book it takes memory for the bytes of the snapshot, or of a piece and of the check-outs, for the
+    /// bytes and the effects of one frame at a time, and for the frame that is filled.
     pub fn open(
         alloc: A,
         first: D,

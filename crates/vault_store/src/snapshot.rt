@@ -1,25 +1,34 @@
 //! The snapshot of a vault, read.
-ghost use Rattle.std.specs.Prelude.{◌≡◌, ◌≢◌, Err, IfOk};
+ghost use Rattle.std.specs.Prelude.{◌≡◌, ◌≢◌, ◌+◌, ◌≤◌, Err, IfOk, IfErr, IsTrue, length, OnOk};
 ghost use Rattle.vault_model.specs.Vault.{Vault};
 ghost use Rattle.vault_format.specs.declared.error.SnapshotError.TheVariants as errors;
+ghost use Rattle.vault_format.specs.Files.{header};
 ghost use Rattle.vault_format.specs.Snapshot.{spelling_of, HasSpelling};
+ghost use Rattle.vault_store.specs.Calls.{IsQuiet};
+ghost use Rattle.vault_store.specs.Front.{IsSnapshotOrNone};
+ghost use Rattle.vault_store.specs.Read.{AreReads, IsWhy};
 
 mod file;
+mod pieces;
 mod spelling;
 
+use crate::body::ReadError;
+use crate::journal::read_bytes;
 pub use file::spell_file;
+use pieces::{PIECE, read_in_pieces};
 use std::alloc::Allocator;
 use vault_checkout::{Book, FromPartsError};
-use vault_format::{FileVersion, SnapshotError, read_claims, read_places};
+use vault_device::Device;
+use vault_format::{FileVersion, HEADER, SnapshotError, read_claims, read_places};
 use vault_journal::u32_at;
 
 // A snapshot: the last number given to a check-out in 4 bytes, the places and the check-outs, as vault_format has them, and no byte more.
 
-/// The book whose snapshot these bytes are, in the spelling of this version.
-///
-/// The work grows with the bytes that are read. Beside the book it takes memory for the list of claims, and for one version or draft
-/// at a time.
-pub(crate) fn read_snapshot<A: Allocator + Copy>(
+// The book whose snapshot these bytes are, in the spelling of this version.
+//
+// The work grows with the bytes that are read. Beside the book it takes memory for the list of claims, and for one version or draft
+// at a time.
+fn read_snapshot<A: Allocator + Copy>(
     alloc: A,
     version: FileVersion,
     bytes: &[u8],
@@ -41,5 +50,52 @@ pub(crate) fn read_snapshot<A: Allocator + Copy>(
         Ok(book) => Ok(book),
         Err(FromPartsError::NotWellFormed) => Err(SnapshotError::NotWellFormed),
         Err(FromPartsError::NoMemory) => Err(SnapshotError::NoMemory),
+    }
+}
+
+// Reads a snapshot of so many bytes whole, and makes its book. None: no vault is spelled so.
+fn read_whole<D: Device, A: Allocator + Copy>(
+    alloc: A,
+    version: FileVersion,
+    device: &mut D,
+    count: u32,
+) -> Result<Option<Book<A>>, ReadError>
+    requires { IsTrue (D.disk device.old).honest → header + count ≤ length (D.disk device.old).shown }
+    ensures reads { AreReads (D.disk device.old) (D.disk device.new) }
+    ensures book { IfOk result (λ found. IsSnapshotOrNone (D.disk device.old) version (header + count) found) }
+    ensures refused { IfErr result (λ why. IsWhy (D.disk device.old) (D.disk device.new) (λ offset. ⊥) why) }
+    ensures quiet { OnOk result (IsQuiet (D.disk device.old) (D.disk device.new)) }
+{
+    let bytes = read_bytes(alloc, device, HEADER, count)?;
+    match read_snapshot(alloc, version, &bytes) {
+        Ok(book) => Ok(Some(book)),
+        Err(SnapshotError::NotWellFormed) => Ok(None),
+        Err(SnapshotError::NoMemory) => Err(ReadError::NoMemory),
+    }
+}
+
+/// The book of the snapshot of so many bytes that stands behind a file's header. None: no vault is spelled so.
+///
+/// A long one is read piece by piece. One that can't be read so is read whole, and that judges it. The work grows with the bytes that are
+/// read. Beside the book it takes memory for the list of claims, for one version or draft at a time, and for a piece and the bytes of the
+/// check-outs, or for the bytes of the whole.
+pub(crate) fn read_book<D: Device, A: Allocator + Copy>(
+    alloc: A,
+    version: FileVersion,
+    device: &mut D,
+    count: u32,
+) -> Result<Option<Book<A>>, ReadError>
+    requires { IsTrue (D.disk device.old).honest → header + count ≤ length (D.disk device.old).shown }
+    ensures reads { AreReads (D.disk device.old) (D.disk device.new) }
+    ensures book { IfOk result (λ found. IsSnapshotOrNone (D.disk device.old) version (header + count) found) }
+    ensures refused { IfErr result (λ why. IsWhy (D.disk device.old) (D.disk device.new) (λ offset. ⊥) why) }
+    ensures quiet { OnOk result (IsQuiet (D.disk device.old) (D.disk device.new)) }
+{
+    if count <= PIECE {
+        return read_whole(alloc, version, device, count);
+    }
+    match read_in_pieces(alloc, version, device, HEADER + u64::from(count))? {
+        Some(book) => Ok(Some(book)),
+        None => read_whole(alloc, version, device, count),
     }
 }

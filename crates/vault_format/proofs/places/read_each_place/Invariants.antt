@@ -1,5 +1,5 @@
 use Rattle.std.proofs.Common.{◌≡◌, ◌+◌, length}
-use Rattle.vault_format.proofs.PlacesRead.{AreReadTo}
+use Rattle.vault_format.specs.Places.{AreReadTo}
 use Rattle.vault_format.proofs.places.read_each_place.Given as goal
 
 abbrev pub invariant-loop-number : goal.invariant-loop-number

@@ -1,0 +1,16 @@
+use Rattle.std.proofs.Common.{◌-◌, ◌≤◌}
+use Rattle.vault_store.specs.Calls.{IsQuiet}
+use Rattle.vault_store.specs.Read.{AreReads}
+use Rattle.vault_store.specs.Front.{IsFrontRead}
+use Rattle.vault_store.proofs.snapshot.pieces.read_front.Given as goal
+
+abbrev pub invariant-loop-alloc : goal.invariant-loop-alloc
+invariant-loop-alloc g l = record {
+  reads : AreReads (g.D.Device.disk l.fn.device) (g.D.Device.disk l.device);
+  quiet : IsQuiet (g.D.Device.disk l.fn.device) (g.D.Device.disk l.device);
+  front : IsFrontRead (g.D.Device.disk l.fn.device) l.extent.version l.from l.front.tree l.front.shelf l.front.at;
+  within : l.front.at ≤ l.extent.end;
+}
+
+abbrev pub decreases-loop-alloc : goal.decreases-loop-alloc
+decreases-loop-alloc g l = l.extent.end - l.front.at

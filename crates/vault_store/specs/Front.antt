@@ -1,0 +1,48 @@
+-- A snapshot that is read piece by piece. This project's own.
+use Rattle.std.specs.Prelude.{◌≡◌, ℕ, ◌+◌, ◌<◌, ◌≤◌, IsTrue, List, ◌++◌, length, slice_range, Option, None, Some}
+use Rattle.vault_model.specs.declared.place.Place.{Place}
+use Rattle.vault_model.specs.Vault.{Vault}
+use Rattle.vault_device.specs.Disk.{Disk}
+use Rattle.vault_journal.specs.Spelling.{in_four}
+use Rattle.vault_format.specs.declared.version.FileVersion.{FileVersion}
+use Rattle.vault_format.specs.Snapshot.{places_bytes, spelling_of, HasSpelling}
+use Rattle.vault_format.specs.Places.{vault_with, places_of, ArePlaces}
+use Rattle.vault_format.specs.Files.{header}
+
+-- these places stand between two offsets
+pub record IsFrontRead (disk : Disk) (version : FileVersion) (from : ℕ) (tree : List Place) (shelf : List (List (List ℕ))) (at : ℕ)
+    : Type 0 where
+  pub are : ArePlaces version tree shelf
+  pub size : at ≡ from + length (places_bytes version (vault_with tree shelf) 1 tree)
+  pub bytes : IsTrue disk.honest → slice_range disk.shown from at ≡ places_bytes version (vault_with tree shelf) 1 tree
+
+-- a piece that ends before `end` was read from `at` on, and places in it, one at least, up to the next offset
+pub record IsReadOn (disk : Disk) (version : FileVersion) (end at : ℕ) (tree : List Place) (shelf : List (List (List ℕ)))
+    (tree_new : List Place) (shelf_new : List (List (List ℕ))) (next : ℕ) : Type 0 where
+  pub after : at < next
+  pub within : next ≤ end
+  pub front : (from : ℕ) → IsFrontRead disk version from tree shelf at → IsFrontRead disk version from tree_new shelf_new next
+
+-- behind the places stand the check-outs of this vault, up to an offset, and the whole is its spelling
+pub record IsBackRead (disk : Disk) (version : FileVersion) (last_long : ℕ) (tree : List Place) (shelf : List (List (List ℕ)))
+    (at end : ℕ) (base : Vault) : Type 0 where
+  pub rest : List ℕ
+  pub size : at + length rest ≡ end
+  pub bytes : IsTrue disk.honest → slice_range disk.shown at end ≡ rest
+  pub spelled : HasSpelling version base
+  pub whole : in_four last_long ++ (places_of version tree shelf ++ rest) ≡ spelling_of version base
+
+-- the snapshot of this vault stands behind the header, up to an offset
+pub record IsSnapshotRead (disk : Disk) (version : FileVersion) (base : Vault) (end : ℕ) : Type 0 where
+  pub spelled : HasSpelling version base
+  pub size : end ≡ header + length (spelling_of version base)
+  pub bytes : IsTrue disk.honest → slice_range disk.shown header end ≡ spelling_of version base
+
+-- no snapshot of a vault stands there
+abbrev pub IsNoSnapshotRead : Disk → FileVersion → ℕ → Type 0
+IsNoSnapshotRead disk version end = IsTrue disk.honest → (v : Vault) → HasSpelling version v → slice_range disk.shown header end ≡ spelling_of version v → ⊥
+
+-- the vault of the snapshot, or nothing where there is none
+abbrev pub IsSnapshotOrNone : Disk → FileVersion → ℕ → Option Vault → Type 0
+IsSnapshotOrNone disk version end (Some base) = IsSnapshotRead disk version base end
+IsSnapshotOrNone disk version end None = IsNoSnapshotRead disk version end

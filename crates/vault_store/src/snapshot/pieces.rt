@@ -1,0 +1,218 @@
+//! A long snapshot, read piece by piece.
+ghost use Rattle.std.specs.Prelude.{◌≡◌, ◌++◌, ◌+◌, ◌^◌, ◌<◌, ◌≤◌, IfOk, IfErr, IfSome, IsTrue, true, length, slice_range, OnOk};
+ghost use Rattle.vault_format.specs.Files.{header};
+ghost use Rattle.vault_format.specs.Places.{ArePlaces};
+ghost use Rattle.vault_journal.specs.Spelling.{in_four};
+ghost use Rattle.vault_store.specs.Calls.{IsQuiet};
+ghost use Rattle.vault_store.specs.Front.{IsFrontRead, IsReadOn, IsBackRead, IsSnapshotRead};
+ghost use Rattle.vault_store.specs.Read.{AreReads, IsWhy};
+
+use crate::body::ReadError;
+use crate::journal::read_bytes;
+use design_tree::Tree;
+use part_versions::Shelf;
+use std::alloc::Allocator;
+use vault_checkout::{Book, FromPartsError};
+use vault_device::Device;
+use vault_format::{FileVersion, HEADER, SnapshotError, read_claims, read_places_on};
+use vault_journal::u32_at;
+
+/// How many bytes a piece has at most. A place that has more isn't read so.
+pub(crate) const PIECE: u32 = 1 << 21;
+
+// Reads so many bytes in the place of those that are there.
+fn read_over<D: Device, A: Allocator>(
+    device: &mut D,
+    at: u64,
+    count: u32,
+    bytes: &mut Vec<u8, A>,
+) -> Result<(), ReadError>
+    requires { IsTrue (D.disk device.old).honest → at + count ≤ length (D.disk device.old).shown }
+    ensures reads { AreReads (D.disk device.old) (D.disk device.new) }
+    ensures size { OnOk result (length bytes.new.items ≡ count) }
+    ensures bytes { IsTrue (D.disk device.old).honest
+        → OnOk result (bytes.new.items ≡ slice_range (D.disk device.old).shown at (at + count)) }
+    ensures refused { IfErr result (λ why. IsWhy (D.disk device.old) (D.disk device.new) (λ offset. ⊥) why) }
+    ensures quiet { OnOk result (IsQuiet (D.disk device.old) (D.disk device.new)) }
+{
+    bytes
+        .resize(count as usize, 0)
+        .map_err(|_| ReadError::NoMemory)?;
+    device.read_at(at, bytes)?;
+    Ok(())
+}
+
+// A snapshot: its version, how many places it has, with the library, and where it ends.
+#[derive(Clone, Copy)]
+struct Extent {
+    version: FileVersion,
+    count: u32,
+    end: u64,
+}
+
+// The places of a snapshot as far as they were read, and where the next one stands.
+#[derive(Drop)]
+struct Front<A: Allocator> {
+    tree: Tree<A>,
+    shelf: Shelf<A>,
+    at: u64,
+}
+
+// Reads a piece, and the places in it behind those that are there. Whether there was one.
+fn read_on<D: Device, A: Allocator + Copy>(
+    alloc: A,
+    device: &mut D,
+    extent: Extent,
+    piece: &mut Vec<u8, A>,
+    front: &mut Front<A>,
+) -> Result<bool, ReadError>
+    requires within { front.old.at ≤ extent.end }
+    requires are { ArePlaces extent.version front.old.tree front.old.shelf }
+    requires len { IsTrue (D.disk device.old).honest → extent.end ≤ length (D.disk device.old).shown }
+    ensures reads { AreReads (D.disk device.old) (D.disk device.new) }
+    ensures on { IfOk result (λ has_read. has_read ≡ true → IsReadOn (D.disk device.old) extent.version extent.end front.old.at
+        front.old.tree front.old.shelf front.new.tree front.new.shelf front.new.at) }
+    ensures refused { IfErr result (λ why. IsWhy (D.disk device.old) (D.disk device.new) (λ offset. ⊥) why) }
+    ensures quiet { OnOk result (IsQuiet (D.disk device.old) (D.disk device.new)) }
+{
+    let count = (extent.end - front.at).min(u64::from(PIECE)) as u32;
+    read_over(device, front.at, count, piece)?;
+    let rest = match read_places_on(
+        alloc,
+        extent.version,
+        extent.count,
+        &mut front.tree,
+        &mut front.shelf,
+        piece,
+    ) {
+        Ok(rest) => rest.len(),
+        Err(SnapshotError::NotWellFormed) => return Ok(false),
+        Err(SnapshotError::NoMemory) => return Err(ReadError::NoMemory),
+    };
+    match (count as usize).checked_sub(rest) {
+        Some(taken) if taken > 0 => {
+            front.at += taken as u64;
+            Ok(true)
+        }
+        _ => Ok(false),
+    }
+}
+
+// Reads all places, from an offset on. None: they can't be read piece by piece.
+fn read_front<D: Device, A: Allocator + Copy>(
+    alloc: A,
+    device: &mut D,
+    extent: Extent,
+    from: u64,
+) -> Result<Option<Front<A>>, ReadError>
+    requires within { from ≤ extent.end }
+    requires len { IsTrue (D.disk device.old).honest → extent.end ≤ length (D.disk device.old).shown }
+    ensures reads { AreReads (D.disk device.old) (D.disk device.new) }
+    ensures front { IfOk result (λ found. IfSome found
+        (λ front. IsFrontRead (D.disk device.old) extent.version from front.tree front.shelf front.at)) }
+    ensures count { IfOk result (λ found. IfSome found (λ front. length front.tree + 1 ≡ extent.count)) }
+    ensures within { IfOk result (λ found. IfSome found (λ front. front.at ≤ extent.end)) }
+    ensures refused { IfErr result (λ why. IsWhy (D.disk device.old) (D.disk device.new) (λ offset. ⊥) why) }
+    ensures quiet { OnOk result (IsQuiet (D.disk device.old) (D.disk device.new)) }
+{
+    let mut front = Front {
+        tree: Tree::new(alloc).or(Err(ReadError::NoMemory))?,
+        shelf: Shelf::new(alloc),
+        at: from,
+    };
+    let mut piece = Vec::new(alloc);
+    while front.tree.len() < extent.count as usize {
+        if !read_on(alloc, device, extent, &mut piece, &mut front)? {
+            return Ok(None);
+        }
+    }
+    if front.tree.len() != extent.count as usize {
+        return Ok(None);
+    }
+    Ok(Some(front))
+}
+
+// Reads the check-outs of a snapshot that ends here, and makes its book. None: it can't be read so.
+fn read_back<D: Device, A: Allocator + Copy>(
+    alloc: A,
+    version: FileVersion,
+    last_long: u32,
+    device: &mut D,
+    front: Front<A>,
+    end: u64,
+) -> Result<Option<Book<A>>, ReadError>
+    requires are { ArePlaces version front.tree front.shelf }
+    requires within { front.at ≤ end }
+    requires short { end < front.at + 2 ^ 32 }
+    requires len { IsTrue (D.disk device.old).honest → end ≤ length (D.disk device.old).shown }
+    ensures reads { AreReads (D.disk device.old) (D.disk device.new) }
+    ensures book { IfOk result (λ found. IfSome found
+        (λ book. IsBackRead (D.disk device.old) version last_long front.tree front.shelf front.at end book)) }
+    ensures refused { IfErr result (λ why. IsWhy (D.disk device.old) (D.disk device.new) (λ offset. ⊥) why) }
+    ensures quiet { OnOk result (IsQuiet (D.disk device.old) (D.disk device.new)) }
+{
+    let Front { tree, shelf, at } = front;
+    let bytes = match read_bytes(alloc, device, at, (end - at) as u32) {
+        Ok(bytes) => bytes,
+        Err(why) => {
+            drop(tree);
+            drop(shelf);
+            return Err(why);
+        }
+    };
+    let mut claims = Vec::new(alloc);
+    let mut drafts = Vec::new(alloc);
+    match read_claims(alloc, version, &mut claims, &mut drafts, &bytes) {
+        Ok(rest) if rest.is_empty() => {}
+        Ok(_) | Err(SnapshotError::NotWellFormed) => return Ok(None),
+        Err(SnapshotError::NoMemory) => return Err(ReadError::NoMemory),
+    }
+    match Book::from_parts(tree, shelf, last_long, claims, drafts) {
+        Ok(book) => Ok(Some(book)),
+        Err(FromPartsError::NotWellFormed) => Ok(None),
+        Err(FromPartsError::NoMemory) => Err(ReadError::NoMemory),
+    }
+}
+
+// The two numbers of which these are the bytes.
+fn two_numbers(bytes: &[u8]) -> Option<(u32, u32)>
+    requires { length bytes.now ≡ 8 }
+    ensures { IfSome result (λ numbers. bytes.now ≡ in_four numbers.0 ++ in_four numbers.1) }
+{
+    let (first, rest) = u32_at(bytes)?;
+    let (second, _) = u32_at(rest)?;
+    Some((first, second))
+}
+
+/// The book of a snapshot that ends here, read piece by piece. None: it can't be read so.
+///
+/// Beside the book it takes memory for one piece, for the bytes of the check-outs, and for their list.
+pub(crate) fn read_in_pieces<D: Device, A: Allocator + Copy>(
+    alloc: A,
+    version: FileVersion,
+    device: &mut D,
+    end: u64,
+) -> Result<Option<Book<A>>, ReadError>
+    requires long { header + 8 ≤ end }
+    requires short { end < header + 2 ^ 32 }
+    requires len { IsTrue (D.disk device.old).honest → end ≤ length (D.disk device.old).shown }
+    ensures reads { AreReads (D.disk device.old) (D.disk device.new) }
+    ensures book { IfOk result (λ found. IfSome found (λ book. IsSnapshotRead (D.disk device.old) version book end)) }
+    ensures refused { IfErr result (λ why. IsWhy (D.disk device.old) (D.disk device.new) (λ offset. ⊥) why) }
+    ensures quiet { OnOk result (IsQuiet (D.disk device.old) (D.disk device.new)) }
+{
+    let mut numbers = [0; 8];
+    device.read_at(HEADER, &mut numbers)?;
+    let Some((last_long, count)) = two_numbers(&numbers) else {
+        return Ok(None);
+    };
+    let extent = Extent {
+        version,
+        count,
+        end,
+    };
+    let Some(front) = read_front(alloc, device, extent, HEADER + 8)? else {
+        return Ok(None);
+    };
+    read_back(alloc, version, last_long, device, front, end)
+}
