@@ -64,7 +64,8 @@ def started(program, folder, options):
         if os.path.exists(path):
             os.remove(path)
     subprocess.run([program, "create", *files], check=True, stdout=subprocess.DEVNULL)
-    slow = {"LD_PRELOAD": f"{folder}/slow_sync", "SLOW_SYNC_MS": str(options.slow)} if options.slow else {}
+    preload = [*getattr(options, "preload", ()), *([f"{folder}/slow_sync"] if options.slow else [])]
+    slow = {"LD_PRELOAD": ":".join(preload), "SLOW_SYNC_MS": str(options.slow)} if preload else {}
     words = [program, "serve", *files, f"127.0.0.1:{options.port}", "--workers", str(PARTS)]
     return subprocess.Popen(words, stdout=subprocess.PIPE, env=os.environ | slow)
 
