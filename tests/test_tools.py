@@ -3,6 +3,7 @@
 import hashlib
 import os
 import random
+import shutil
 import subprocess
 import sys
 import tempfile
@@ -312,17 +313,31 @@ class ProofTimes(unittest.TestCase):
 
 
 class CheckOver(unittest.TestCase):
-    """What is refused before any check begins."""
+    """What is refused before any check begins, in a tree without libraries."""
+
+    def setUp(self) -> None:
+        folder = tempfile.TemporaryDirectory(prefix="vault-test-")
+        self.addCleanup(folder.cleanup)
+        self.folder = Path(folder.name)
+        shutil.copy(TOP / "crates.txt", self.folder)
+        (self.folder / "crates" / "lock_queue").mkdir(parents=True)
 
     def said(self, *words: str, status: int) -> str:
-        done = subprocess.run([sys.executable, str(TOP / "tools" / "check-over"), *words], cwd=TOP, capture_output=True, text=True, timeout=60,
-                              check=False)
+        done = subprocess.run([sys.executable, str(TOP / "tools" / "check-over"), *words], cwd=self.folder, capture_output=True, text=True,
+                              timeout=60, check=False)
         self.assertEqual((done.returncode, done.stdout), (status, ""), done.stderr)
         return done.stderr
 
     def test_libraries_that_are_missing(self) -> None:
-        with tempfile.TemporaryDirectory(prefix="vault-test-") as folder:
-            self.assertIn("no library of vault_model, lock_modes: run rt ci", self.said(folder, "lock_queue", status=2))
+        self.assertIn("clone has no library of vault_model, lock_modes: run rt ci", self.said("clone", "lock_queue", status=2))
+
+    def test_a_library_of_this_tree(self) -> None:
+        library = self.folder / "crates" / "lock_modes" / "out" / "rlib" / "lock_modes.rlib"
+        library.parent.mkdir(parents=True)
+        library.touch()
+        said = self.said("clone", "lock_queue", status=2)
+        self.assertIn("of this tree: lock_modes\n", said)
+        self.assertIn("clone has no library of vault_model: run rt ci", said)
 
     def test_other_words(self) -> None:
         self.assertIn("names no crate nothing", self.said("clone", "nothing", status=1))
