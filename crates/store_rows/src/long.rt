@@ -115,8 +115,8 @@ fn is_right<A: Allocator + Copy>(body: &Body<A>, long: &Long) -> bool {
     }
 }
 
-// Reads a row's file with a request of this number refused, where it makes so many. Whether it came to what the row says, or told want of memory
-// exactly where it was refused some.
+// Reads a row's file with a request of this number refused, where it makes so many. Whether it came to what the row says, or told want of
+// memory exactly where it was refused some.
 fn reads_without(
     rt: &impl Abort,
     memory: &Refusing<Global>,

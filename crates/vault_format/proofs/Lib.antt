@@ -9,6 +9,7 @@ pub mod TreeFronts
 pub mod ShelfFronts
 pub mod VersionsRead
 pub mod PlaceRead
+pub mod Ahead
 pub mod PlacesRead
 pub mod DraftsRead
 pub mod ClaimsRead

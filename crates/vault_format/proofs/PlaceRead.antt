@@ -85,7 +85,7 @@ module _ (version : FileVersion) (tree : List Place) (bytes : List ℕ) where
       there : (after ≡ name_bytes name ++ behind) × IsName name
       there = fields_are_spelled.name.spelled after name behind after_fits read_name
 
-      names : (place : Place) (rest : List ℕ) → IsTree (tree ++ place ∷ []) → IsName place.name → bytes ≡ head_bytes version place ++ rest → (name ≡ place.name) × (behind ≡ behind_name place rest)
+      pub names : (place : Place) (rest : List ℕ) → IsTree (tree ++ place ∷ []) → IsName place.name → bytes ≡ head_bytes version place ++ rest → (name ≡ place.name) × (behind ≡ behind_name place rest)
       names place rest is named same = name_tells name place.name behind (behind_name place rest) there.1 named (sym there.0 ∙ (both place rest is same).1)
 
       -- the kind of a place that stands there is read
@@ -139,10 +139,10 @@ module _ (version : FileVersion) (tree : List Place) (shelf : List (List (List �
   module _ (place : Place) (more : List Place) (whole : List (List (List ℕ))) (rest : List ℕ) (is : ArePlaces version (tree ++ place ∷ more) whole)
       (same : bytes ≡ place_bytes version (vault_with (tree ++ place ∷ more) whole) (suc (length tree)) place ++ rest)
     where
-      alone : IsTree (tree ++ place ∷ [])
+      pub alone : IsTree (tree ++ place ∷ [])
       alone = tree_front (tree ++ place ∷ []) more (subst IsTree (sym (append_assoc tree (place ∷ []) more)) is.tree_is)
 
-      name_of_it : IsName place.name
+      pub name_of_it : IsName place.name
       name_of_it = all_next (λ (x : Place). IsName x.name) tree more place is.named
 
       kind_of_it : IsKindIn version place.kind (suc (depth tree place.parent))
@@ -150,14 +150,14 @@ module _ (version : FileVersion) (tree : List Place) (shelf : List (List (List �
           subst (λ (d : ℕ). IsKindIn version place.kind (suc d)) (depth_front tree (place ∷ more) is.tree_is.parents place.parent (last_parent tree place alone))
           (is.kinds (length tree) place (place_here tree place more))
 
-      part_of_it : is_part (tree ++ place ∷ more) (suc (length tree)) ≡ is_part_kind place.kind
+      pub part_of_it : is_part (tree ++ place ∷ more) (suc (length tree)) ≡ is_part_kind place.kind
       part_of_it = ap is_part_kind (kind_here (tree ++ place ∷ more) tree place more refl)
 
       -- what stands behind its head
-      abbrev behind_head : List ℕ
+      abbrev pub behind_head : List ℕ
       behind_head = versions_field (is_part (tree ++ place ∷ more) (suc (length tree))) (versions_of whole (suc (length tree))) ++ rest
 
-      headed : bytes ≡ head_bytes version place ++ behind_head
+      pub headed : bytes ≡ head_bytes version place ++ behind_head
       headed =
           same ∙ regroup_place (in_four place.parent) (name_bytes place.name) (kind_field version (is_part (tree ++ place ∷ more) (suc (length tree)))) (versions_field (is_part (tree ++ place ∷ more) (suc (length tree))) (versions_of whole (suc (length tree)))) rest
           ∙ ap (λ (b : Bool). (in_four place.parent ++ name_bytes place.name ++ kind_field version b) ++ behind_head) part_of_it

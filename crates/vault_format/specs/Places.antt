@@ -1,5 +1,6 @@
 -- The places of a snapshot, and what the functions that read them answer, part by part. This project's own.
 use Rattle.std.specs.Prelude.{◌≡◌, ◌≢◌, ℕ, suc, ◌+◌, ◌≤◌, ◌==◌, true, false, if◌then◌else◌, List, [], ◌∷◌, ◌++◌, length, Option, None, Some, All}
+use Rattle.std.specs.List.{flat_map}
 use Rattle.vault_model.specs.declared.place.Place.{Place}
 use Rattle.vault_model.specs.Limits.{longest_content}
 use Rattle.vault_model.specs.Name.{IsName}
@@ -74,6 +75,11 @@ abbrev pub BeginsWithNoVersion : ℕ → List (List (List ℕ)) → List ℕ →
 BeginsWithNoVersion part shelf bytes = (content : List ℕ) (whole : List (List (List ℕ))) (rest : List ℕ) → IsShelf whole
     → IsFrontOf (shelved shelf part content) whole → bytes ≢ content_bytes content ++ rest
 
+-- so many contents don't stand there
+abbrev pub BeginsWithFewerContents : ℕ → List ℕ → Type 0
+BeginsWithFewerContents count bytes = (contents : List (List ℕ)) (rest : List ℕ) → length contents ≡ count
+    → All (λ content. length content ≤ longest_content) contents → bytes ≢ flat_map content_bytes contents ++ rest
+
 -- all versions of a part were read
 pub record AreVersionsRead (part : ℕ) (old new : List (List (List ℕ))) (bytes rest : List ℕ) : Type 0 where
   pub contents : List (List ℕ)
@@ -147,3 +153,11 @@ BeginsWithNoPlace version tree shelf bytes =
     (place : Place) (more : List Place) (whole : List (List (List ℕ))) (rest : List ℕ) → ArePlaces version (tree ++ place ∷ more) whole
     → ((p : ℕ) → p ≤ length tree → versions_of whole p ≡ versions_of shelf p)
     → bytes ≢ place_bytes version (vault_with (tree ++ place ∷ more) whole) (suc (length tree)) place ++ rest
+
+-- places were read on as far as some stand there, and behind them stands none that may be the next one
+pub record AreNoneBehind (version : FileVersion) (tree : List Place) (shelf : List (List (List ℕ))) (bytes : List ℕ) : Type 0 where
+  pub tree_new : List Place
+  pub shelf_new : List (List (List ℕ))
+  pub rest : List ℕ
+  pub read : AreReadOn version tree shelf tree_new shelf_new bytes rest
+  pub none : BeginsWithNoPlace version tree_new shelf_new rest

@@ -2,10 +2,10 @@
 //! snapshot's fields.
 //!
 //! Promises: places, with the versions of parts, and claims, with their drafts, are read exactly from their spelling in a version of
-//! the files; want of memory aside, bytes that begin with none are refused as such (`read_places`, `read_claims`). Places that are
-//! read on from the middle are those that stand there; which bytes are refused isn't said there (`read_places_on`). Each writer adds the
-//! one spelling of its field (`fields`). Four bytes tell a version exactly where they are its number (`version_of`). Each durable vault has
-//! at most one spelling in each version of the files (`laws`).
+//! the files; want of memory aside, bytes that begin with none are refused as such (`read_places`, `read_claims`). Bytes that end within a
+//! place are read as far as whole places stand there (`read_places_on`). Each writer adds the one spelling of its field (`fields`). Four
+//! bytes tell a version exactly where they are its number (`version_of`). Each durable vault has at most one spelling in each version of
+//! the files (`laws`).
 //! Stands on: vault_model, vault_journal, design_tree, part_versions. Must not know: devices, books, commits, which file is active.
 //!
 //! Only tested: that memory is asked for only where a field needs it.

@@ -1,10 +1,12 @@
 //! The places of a snapshot, with the versions of parts.
-ghost use Rattle.std.specs.Prelude.{◌≡◌, ◌+◌, ◌≤◌, [], Err, IfOk, length};
+ghost use Rattle.std.specs.Prelude.{◌≡◌, ℕ, ◌+◌, ◌<◌, ◌≤◌, List, [], None, Err, IfOk, length};
+ghost use Rattle.vault_model.specs.declared.place.Place.{Place};
 ghost use Rattle.vault_model.specs.Shelf.{IsShelf};
 ghost use Rattle.vault_model.specs.Tree.{IsTree};
 ghost use Rattle.vault_model.specs.Vault.{AreVersions};
 ghost use Rattle.vault_format.specs.declared.error.SnapshotError.TheVariants.{NotWellFormed};
-ghost use Rattle.vault_format.specs.Places.{told_of, ArePlacesAt, BeginsWithNoPlaces, AreReadOn, ArePlaces, IsVersionRead, BeginsWithNoVersion, AreVersionsRead, BeginsWithNoVersions, no_part_under, kind_before, IsPlaceAdded, BeginsWithNoName, IsPlaceRead, BeginsWithNoPlace};
+ghost use Rattle.vault_format.specs.Snapshot.{current_version};
+ghost use Rattle.vault_format.specs.Places.{told_of, ArePlacesAt, BeginsWithNoPlaces, AreReadOn, ArePlaces, IsVersionRead, BeginsWithNoVersion, AreVersionsRead, BeginsWithNoVersions, no_part_under, kind_before, IsPlaceAdded, BeginsWithNoName, IsPlaceRead, BeginsWithNoPlace, AreNoneBehind, BeginsWithFewerContents};
 ghost use Rattle.vault_journal.specs.Reading.{Reads};
 
 use crate::error::SnapshotError;
@@ -177,7 +179,9 @@ fn read_place<'a, A: Allocator + Copy>(
 }
 
 // What stands behind so many versions in front, where all of them are there.
-fn behind_versions(count: u16, bytes: &[u8]) -> Option<&[u8]> {
+fn behind_versions(count: u16, bytes: &[u8]) -> Option<&[u8]>
+    ensures { result ≡ None → BeginsWithFewerContents count bytes.now }
+{
     let mut rest = bytes;
     for _ in 0..usize::from(count) {
         let Some((_, behind)) = content_at(rest) else {
@@ -189,7 +193,9 @@ fn behind_versions(count: u16, bytes: &[u8]) -> Option<&[u8]> {
 }
 
 // What stands behind the place in front, in the spelling of today's version, where all of it is there.
-fn behind_place(bytes: &[u8]) -> Option<&[u8]> {
+fn behind_place(bytes: &[u8]) -> Option<&[u8]>
+    ensures { result ≡ None → (tree : List Place) (shelf : List (List (List ℕ))) → AreVersions tree shelf → BeginsWithNoPlace current_version tree shelf bytes.now }
+{
     let (_, rest) = u32_at(bytes)?;
     let Some(named) = name_at(rest) else {
         return None;
@@ -205,26 +211,28 @@ fn behind_place(bytes: &[u8]) -> Option<&[u8]> {
 /// Reads places on, behind those that are there, until there are so many with the library, or the bytes end within the next one. Answers
 /// the bytes behind them.
 ///
-/// Where the next one ends is looked for in the spelling of today's version. The work grows with the bytes that are read, the bytes of
-/// one place more and, for each place, with the number of its siblings. Beside the tree and the shelf it takes memory for one version at a
-/// time. Of a refusal the contract says nothing: `read_places` judges all bytes.
+/// The places are spelled as in today's version. The work grows with the bytes that are read, the bytes of one place more and, for each
+/// place, with the number of its siblings. Beside the tree and the shelf it takes memory for one version at a time. After an error the tree
+/// and the shelf may have part of a place.
 pub fn read_places_on<'a, A: Allocator + Copy>(
     alloc: A,
-    version: FileVersion,
     count: u32,
     tree: &mut Tree<A>,
     shelf: &mut Shelf<A>,
     bytes: &'a [u8],
 ) -> Result<&'a [u8], SnapshotError>
-    requires { ArePlaces version tree.old shelf.old }
-    ensures { IfOk result (λ rest. AreReadOn version tree.old shelf.old tree.new shelf.new bytes.now rest.now) }
+    requires { ArePlaces current_version tree.old shelf.old }
+    ensures read { IfOk result (λ rest. AreReadOn current_version tree.old shelf.old tree.new shelf.new bytes.now rest.now) }
+    ensures few { IfOk result (λ rest. length tree.old < count → length tree.new < count) }
+    ensures all { IfOk result (λ rest. length tree.new + 1 < count → BeginsWithNoPlace current_version tree.new shelf.new rest.now) }
+    ensures refused { result ≡ Err NotWellFormed → AreNoneBehind current_version tree.old shelf.old bytes.now }
 {
     let mut rest = bytes;
     for number in tree.len() as u32..count {
         if behind_place(rest).is_none() {
             return Ok(rest);
         }
-        rest = read_place(alloc, version, PlaceId(number), tree, shelf, rest)?;
+        rest = read_place(alloc, FileVersion::Two, PlaceId(number), tree, shelf, rest)?;
     }
     Ok(rest)
 }

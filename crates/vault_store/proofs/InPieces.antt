@@ -1,8 +1,8 @@
 -- A snapshot, read piece by piece.
-use Rattle.std.proofs.Common.{◌≡◌, ℕ, ◌+◌, ◌-◌, ◌<◌, ◌≤◌, ◌^◌, IsTrue, List, [], ◌∷◌, Option, Some, None, Result, Ok, Err, ◌++◌, length, take, drop, refl, sym, ◌∙◌, ap, subst, arith, append_assoc, length-append}
+use Rattle.std.proofs.Common.{◌≡◌, ℕ, ◌+◌, ◌-◌, ◌<◌, ◌≤◌, ◌^◌, IsTrue, List, [], Option, Some, None, Result, Ok, Err, ◌++◌, length, take, drop, refl, sym, ◌∙◌, ap, subst, arith, append_assoc, length-append}
 use Rattle.std.specs.Prelude.{slice_range, IfOk, IfSome}
 use Rattle.std.proofs.Math.Seq.{take-add}
-use Rattle.std.proofs.lemmas.List.{drop-drop, take-take, take_at, append-nil}
+use Rattle.std.proofs.lemmas.List.{drop-drop, take-take, take_at, append-nil, nil_from_length}
 use Rattle.vault_model.specs.declared.place.Place.{Place}
 use Rattle.vault_model.specs.declared.claims.Claim.{Claim}
 use Rattle.vault_model.specs.Shelf.{Draft}
@@ -34,10 +34,6 @@ slice_split l a b c first second =
 
 slice_none : (l : List ℕ) (a : ℕ) → slice_range l a a ≡ []
 slice_none l a = ap (λ (n : ℕ). take n (drop a l)) (let e : a - a ≡ 0 = omega arith in e)
-
-nothing : (l : List ℕ) → length l ≡ 0 → l ≡ []
-nothing [] none = refl
-nothing (x ∷ l) none = absurd (omega (arith, none))
 
 -- before anything is read
 pub front_new : (disk : Disk) (version : FileVersion) (from : ℕ) → IsFrontRead disk version from [] [] from
@@ -125,7 +121,7 @@ pub numbers_read : (bytes : List ℕ) (first second : ℕ) (after behind : List 
 numbers_read bytes first second after behind are eight at_first at_second =
     let one = (fields_are_spelled.in_four.spelled bytes first after are at_first).0 in
     let two = (fields_are_spelled.in_four.spelled after second behind (subst AreBytes (ap (drop 4) one) (AreBytes-drop 4 bytes are)) at_second).0 in
-    let none = nothing behind (omega (arith, eight, ap length one, ap length two, length-append (in_four first) after, length-append (in_four second) behind)) in
+    let none = nil_from_length behind (omega (arith, eight, ap length one, ap length two, length-append (in_four first) after, length-append (in_four second) behind)) in
     one ∙ ap (λ (l : List ℕ). in_four first ++ l) (two ∙ ap (λ (l : List ℕ). in_four second ++ l) none ∙ append-nil (in_four second))
 
 -- a snapshot whose two first numbers, places and check-outs were read

@@ -76,9 +76,9 @@ fn read_whole<D: Device, A: Allocator + Copy>(
 
 /// The book of the snapshot of so many bytes that stands behind a file's header. None: no vault is spelled so.
 ///
-/// A long one is read piece by piece. One that can't be read so is read whole, and that judges it. The work grows with the bytes that are
-/// read. Beside the book it takes memory for the list of claims, for one version or draft at a time, and for a piece and the bytes of the
-/// check-outs, or for the bytes of the whole.
+/// A long one of today's version is read piece by piece. One that can't be read so is read whole, and that judges it. The work grows with
+/// the bytes that are read. Beside the book it takes memory for the list of claims, for one version or draft at a time, and for a piece and
+/// the bytes of the check-outs, or for the bytes of the whole.
 pub(crate) fn read_book<D: Device, A: Allocator + Copy>(
     alloc: A,
     version: FileVersion,
@@ -91,10 +91,11 @@ pub(crate) fn read_book<D: Device, A: Allocator + Copy>(
     ensures refused { IfErr result (λ why. IsWhy (D.disk device.old) (D.disk device.new) (λ offset. ⊥) why) }
     ensures quiet { OnOk result (IsQuiet (D.disk device.old) (D.disk device.new)) }
 {
-    if count <= PIECE {
-        return read_whole(alloc, version, device, count);
+    match version {
+        FileVersion::Two if count > PIECE => {}
+        FileVersion::One | FileVersion::Two => return read_whole(alloc, version, device, count),
     }
-    match read_in_pieces(alloc, version, device, HEADER + u64::from(count))? {
+    match read_in_pieces(alloc, device, HEADER + u64::from(count))? {
         Some(book) => Ok(Some(book)),
         None => read_whole(alloc, version, device, count),
     }

@@ -1,6 +1,7 @@
-//! A long snapshot, read piece by piece.
+//! A long snapshot in the spelling of today's version, read piece by piece.
 ghost use Rattle.std.specs.Prelude.{◌≡◌, ◌++◌, ◌+◌, ◌^◌, ◌<◌, ◌≤◌, IfOk, IfErr, IfSome, IsTrue, true, length, slice_range, OnOk};
 ghost use Rattle.vault_format.specs.Files.{header};
+ghost use Rattle.vault_format.specs.Snapshot.{current_version};
 ghost use Rattle.vault_format.specs.Places.{ArePlaces};
 ghost use Rattle.vault_journal.specs.Spelling.{in_four};
 ghost use Rattle.vault_store.specs.Calls.{IsQuiet};
@@ -42,10 +43,9 @@ fn read_over<D: Device, A: Allocator>(
     Ok(())
 }
 
-// A snapshot: its version, how many places it has, with the library, and where it ends.
+// A snapshot: how many places it has, with the library, and where it ends.
 #[derive(Clone, Copy)]
 struct Extent {
-    version: FileVersion,
     count: u32,
     end: u64,
 }
@@ -67,10 +67,10 @@ fn read_on<D: Device, A: Allocator + Copy>(
     front: &mut Front<A>,
 ) -> Result<bool, ReadError>
     requires within { front.old.at ≤ extent.end }
-    requires are { ArePlaces extent.version front.old.tree front.old.shelf }
+    requires are { ArePlaces current_version front.old.tree front.old.shelf }
     requires len { IsTrue (D.disk device.old).honest → extent.end ≤ length (D.disk device.old).shown }
     ensures reads { AreReads (D.disk device.old) (D.disk device.new) }
-    ensures on { IfOk result (λ has_read. has_read ≡ true → IsReadOn (D.disk device.old) extent.version extent.end front.old.at
+    ensures on { IfOk result (λ has_read. has_read ≡ true → IsReadOn (D.disk device.old) current_version extent.end front.old.at
         front.old.tree front.old.shelf front.new.tree front.new.shelf front.new.at) }
     ensures refused { IfErr result (λ why. IsWhy (D.disk device.old) (D.disk device.new) (λ offset. ⊥) why) }
     ensures quiet { OnOk result (IsQuiet (D.disk device.old) (D.disk device.new)) }
@@ -79,7 +79,6 @@ fn read_on<D: Device, A: Allocator + Copy>(
     read_over(device, front.at, count, piece)?;
     let rest = match read_places_on(
         alloc,
-        extent.version,
         extent.count,
         &mut front.tree,
         &mut front.shelf,
@@ -109,7 +108,7 @@ fn read_front<D: Device, A: Allocator + Copy>(
     requires len { IsTrue (D.disk device.old).honest → extent.end ≤ length (D.disk device.old).shown }
     ensures reads { AreReads (D.disk device.old) (D.disk device.new) }
     ensures front { IfOk result (λ found. IfSome found
-        (λ front. IsFrontRead (D.disk device.old) extent.version from front.tree front.shelf front.at)) }
+        (λ front. IsFrontRead (D.disk device.old) current_version from front.tree front.shelf front.at)) }
     ensures count { IfOk result (λ found. IfSome found (λ front. length front.tree + 1 ≡ extent.count)) }
     ensures within { IfOk result (λ found. IfSome found (λ front. front.at ≤ extent.end)) }
     ensures refused { IfErr result (λ why. IsWhy (D.disk device.old) (D.disk device.new) (λ offset. ⊥) why) }
@@ -135,19 +134,18 @@ fn read_front<D: Device, A: Allocator + Copy>(
 // Reads the check-outs of a snapshot that ends here, and makes its book. None: it can't be read so.
 fn read_back<D: Device, A: Allocator + Copy>(
     alloc: A,
-    version: FileVersion,
     last_long: u32,
     device: &mut D,
     front: Front<A>,
     end: u64,
 ) -> Result<Option<Book<A>>, ReadError>
-    requires are { ArePlaces version front.tree front.shelf }
+    requires are { ArePlaces current_version front.tree front.shelf }
     requires within { front.at ≤ end }
     requires short { end < front.at + 2 ^ 32 }
     requires len { IsTrue (D.disk device.old).honest → end ≤ length (D.disk device.old).shown }
     ensures reads { AreReads (D.disk device.old) (D.disk device.new) }
     ensures book { IfOk result (λ found. IfSome found
-        (λ book. IsBackRead (D.disk device.old) version last_long front.tree front.shelf front.at end book)) }
+        (λ book. IsBackRead (D.disk device.old) current_version last_long front.tree front.shelf front.at end book)) }
     ensures refused { IfErr result (λ why. IsWhy (D.disk device.old) (D.disk device.new) (λ offset. ⊥) why) }
     ensures quiet { OnOk result (IsQuiet (D.disk device.old) (D.disk device.new)) }
 {
@@ -162,7 +160,7 @@ fn read_back<D: Device, A: Allocator + Copy>(
     };
     let mut claims = Vec::new(alloc);
     let mut drafts = Vec::new(alloc);
-    match read_claims(alloc, version, &mut claims, &mut drafts, &bytes) {
+    match read_claims(alloc, FileVersion::Two, &mut claims, &mut drafts, &bytes) {
         Ok(rest) if rest.is_empty() => {}
         Ok(_) | Err(SnapshotError::NotWellFormed) => return Ok(None),
         Err(SnapshotError::NoMemory) => return Err(ReadError::NoMemory),
@@ -184,12 +182,11 @@ fn two_numbers(bytes: &[u8]) -> Option<(u32, u32)>
     Some((first, second))
 }
 
-/// The book of a snapshot that ends here, read piece by piece. None: it can't be read so.
+/// The book of a snapshot of today's version that ends here, read piece by piece. None: it can't be read so.
 ///
 /// Beside the book it takes memory for one piece, for the bytes of the check-outs, and for their list.
 pub(crate) fn read_in_pieces<D: Device, A: Allocator + Copy>(
     alloc: A,
-    version: FileVersion,
     device: &mut D,
     end: u64,
 ) -> Result<Option<Book<A>>, ReadError>
@@ -197,7 +194,7 @@ pub(crate) fn read_in_pieces<D: Device, A: Allocator + Copy>(
     requires short { end < header + 2 ^ 32 }
     requires len { IsTrue (D.disk device.old).honest → end ≤ length (D.disk device.old).shown }
     ensures reads { AreReads (D.disk device.old) (D.disk device.new) }
-    ensures book { IfOk result (λ found. IfSome found (λ book. IsSnapshotRead (D.disk device.old) version book end)) }
+    ensures book { IfOk result (λ found. IfSome found (λ book. IsSnapshotRead (D.disk device.old) current_version book end)) }
     ensures refused { IfErr result (λ why. IsWhy (D.disk device.old) (D.disk device.new) (λ offset. ⊥) why) }
     ensures quiet { OnOk result (IsQuiet (D.disk device.old) (D.disk device.new)) }
 {
@@ -206,13 +203,9 @@ pub(crate) fn read_in_pieces<D: Device, A: Allocator + Copy>(
     let Some((last_long, count)) = two_numbers(&numbers) else {
         return Ok(None);
     };
-    let extent = Extent {
-        version,
-        count,
-        end,
-    };
+    let extent = Extent { count, end };
     let Some(front) = read_front(alloc, device, extent, HEADER + 8)? else {
         return Ok(None);
     };
-    read_back(alloc, version, last_long, device, front, end)
+    read_back(alloc, last_long, device, front, end)
 }

@@ -1,4 +1,5 @@
 use Rattle.std.proofs.Common.{◌-◌, ◌≤◌}
+use Rattle.vault_format.specs.Snapshot.{current_version}
 use Rattle.vault_store.specs.Calls.{IsQuiet}
 use Rattle.vault_store.specs.Read.{AreReads}
 use Rattle.vault_store.specs.Front.{IsFrontRead}
@@ -8,7 +9,7 @@ abbrev pub invariant-loop-alloc : goal.invariant-loop-alloc
 invariant-loop-alloc g l = record {
   reads : AreReads (g.D.Device.disk l.fn.device) (g.D.Device.disk l.device);
   quiet : IsQuiet (g.D.Device.disk l.fn.device) (g.D.Device.disk l.device);
-  front : IsFrontRead (g.D.Device.disk l.fn.device) l.extent.version l.from l.front.tree l.front.shelf l.front.at;
+  front : IsFrontRead (g.D.Device.disk l.fn.device) current_version l.from l.front.tree l.front.shelf l.front.at;
   within : l.front.at ≤ l.extent.end;
 }
 

@@ -1,5 +1,6 @@
 use Rattle.std.proofs.Common.{ℕ}
 use Rattle.std.proofs.lemmas.Result.{IfErr-weaker}
+use Rattle.vault_format.specs.Snapshot.{current_version}
 use Rattle.vault_store.proofs.Behind.{and_reads, quiet_then, why_behind}
 use Rattle.vault_store.proofs.Bodies.{one_read}
 use Rattle.vault_store.proofs.InPieces.{front_back, back_moved, each_found, snapshot_read}
@@ -21,10 +22,10 @@ returns-clause-book g c =
     let front = c.in-Some-2.front in
     each_found c.read_back.result _ _
     (λ book back.
-    snapshot_read old c.args.version c.read_at.new.buffer c.in-Some.last_long c.in-Some.count c.in-Some.ensures (λ honest. c.in_ok-read_at.ensures.bytes honest) front.tree front.shelf front.at c.args.end
-    (front_back old mid c.args.version 32 front.tree front.shelf front.at reads (rw c.in-Some-2.is at c.in_ok-front.ensures.front))
+    snapshot_read old current_version c.read_at.new.buffer c.in-Some.last_long c.in-Some.count c.in-Some.ensures (λ honest. c.in_ok-read_at.ensures.bytes honest) front.tree front.shelf front.at c.args.end
+    (front_back old mid current_version 32 front.tree front.shelf front.at reads (rw c.in-Some-2.is at c.in_ok-front.ensures.front))
     (rw c.in-Some-2.is at c.in_ok-front.ensures.count) (rw c.in-Some-2.is at c.in_ok-front.ensures.within) book
-    (back_moved old (g.D.Device.disk c.read_front.new.device) c.args.version c.in-Some.last_long front.tree front.shelf front.at c.args.end book both back))
+    (back_moved old (g.D.Device.disk c.read_front.new.device) current_version c.in-Some.last_long front.tree front.shelf front.at c.args.end book both back))
     c.read_back.ensures.book
 
 pub returns-clause-refused : goal.returns-clause-refused
