@@ -322,9 +322,9 @@ class CheckOver(unittest.TestCase):
         shutil.copy(TOP / "crates.txt", self.folder)
         (self.folder / "crates" / "lock_queue").mkdir(parents=True)
 
-    def said(self, *words: str, status: int) -> str:
-        done = subprocess.run([sys.executable, str(TOP / "tools" / "check-over"), *words], cwd=self.folder, capture_output=True, text=True,
-                              timeout=60, check=False)
+    def said(self, *words: str, status: int, tool: str = "check-over") -> str:
+        done = subprocess.run([sys.executable, str(TOP / "tools" / tool), *words], cwd=self.folder, capture_output=True, text=True, timeout=60,
+                              check=False)
         self.assertEqual((done.returncode, done.stdout), (status, ""), done.stderr)
         return done.stderr
 
@@ -342,6 +342,12 @@ class CheckOver(unittest.TestCase):
     def test_other_words(self) -> None:
         self.assertIn("names no crate nothing", self.said("clone", "nothing", status=1))
         self.assertIn("usage", self.said("clone", status=1))
+
+    def test_plants(self) -> None:
+        (self.folder / "tools").mkdir()
+        shutil.copy(TOP / "tools" / "check-over", self.folder / "tools")
+        self.assertIn("clone has no library of vault_model, lock_modes", self.said("clone", "lock_queue", status=2, tool="plant-over"))
+        self.assertIn("usage", self.said("clone", status=1, tool="plant-over"))
 
 
 if __name__ == "__main__":

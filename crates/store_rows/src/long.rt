@@ -20,35 +20,47 @@ const MOST: usize = 3_000_000;
 // A snapshot.
 struct Long {
     name: &'static str,
+    version: u8,
     parts: u8,
     versions: u16,
     // The byte behind the last part, in the place of the number of check-outs, which is 0.
     behind: u8,
 }
 
-static ROWS: [Long; 4] = [
+static ROWS: [Long; 5] = [
     Long {
         name: "two pieces",
+        version: 2,
         parts: 2,
         versions: 1100,
         behind: 0,
     },
     Long {
         name: "two pieces, a check-out that isn't there",
+        version: 2,
         parts: 2,
         versions: 1100,
         behind: 1,
     },
     Long {
         name: "three pieces",
+        version: 2,
         parts: 9,
         versions: 300,
         behind: 0,
     },
     Long {
         name: "a part that is longer than a piece",
+        version: 2,
         parts: 1,
         versions: 2200,
+        behind: 0,
+    },
+    Long {
+        name: "two pieces, in version 1",
+        version: 1,
+        parts: 2,
+        versions: 1100,
         behind: 0,
     },
 ];
@@ -58,12 +70,19 @@ fn put(rt: &impl Abort, bytes: &mut Vec<u8>, more: &[u8]) {
     bytes.extend_from_slice(more).expect(rt, "memory");
 }
 
+// Adds a place but for its versions; in version 1 it has no kind.
+fn put_place(rt: &impl Abort, bytes: &mut Vec<u8>, long: &Long, parent: u8, letter: u8, kind: u8) {
+    put(rt, bytes, &[0, 0, 0, parent, 1, letter]);
+    if long.version != 1 {
+        put(rt, bytes, &[kind]);
+    }
+}
+
 // Adds a part with its versions, each of which has the part's letter throughout.
-fn put_part(rt: &impl Abort, bytes: &mut Vec<u8>, letter: u8, versions: u16) {
-    put(rt, bytes, b"\0\0\0\x02\x01");
-    put(rt, bytes, &[letter, 1]);
-    put(rt, bytes, &versions.to_be_bytes());
-    for _ in 0..versions {
+fn put_part(rt: &impl Abort, bytes: &mut Vec<u8>, long: &Long, letter: u8) {
+    put_place(rt, bytes, long, 2, letter, 1);
+    put(rt, bytes, &long.versions.to_be_bytes());
+    for _ in 0..long.versions {
         put(rt, bytes, &VERSION.to_be_bytes());
         put(rt, bytes, &[letter; VERSION as usize]);
     }
@@ -74,14 +93,16 @@ fn device_of(rt: &impl Abort, alloc: Global, long: &Long) -> MemDevice {
     let mut bytes = Vec::new(alloc);
     put(rt, &mut bytes, b"\0\0\0\0\0\0\0");
     put(rt, &mut bytes, &[long.parts.saturating_add(ABOVE)]);
-    put(rt, &mut bytes, b"\0\0\0\0\x01e\0\0\0\0\x01\x01b\0");
+    put_place(rt, &mut bytes, long, 0, b'e', 0);
+    put_place(rt, &mut bytes, long, 1, b'b', 0);
     for part in 0..long.parts {
-        put_part(rt, &mut bytes, b'a'.saturating_add(part), long.versions);
+        put_part(rt, &mut bytes, long, b'a'.saturating_add(part));
     }
     put(rt, &mut bytes, &[0, long.behind, 0]);
     assert!(rt; bytes.len() < MOST);
     let mut head = Vec::new(alloc);
-    put(rt, &mut head, b"\x01LLVAULT\0\0\0\x02\0\0\0\0\0\0\0\x01");
+    put(rt, &mut head, b"\x01LLVAULT\0\0\0");
+    put(rt, &mut head, &[long.version, 0, 0, 0, 0, 0, 0, 0, 1]);
     put(
         rt,
         &mut head,

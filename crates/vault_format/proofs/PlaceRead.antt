@@ -33,6 +33,10 @@ use Rattle.vault_format.proofs.ShelfFronts.{no_versions, versions_of-shelf_with,
 
 -- ---- the parent, the name and the kind
 
+pub bytes_behind : (a b : List ℕ) → AreBytes (a ++ b) → AreBytes b
+bytes_behind [] b fits = fits
+bytes_behind (x ∷ a) b fits = bytes_behind a b (λ k. fits (suc k))
+
 regroup : (p m k r : List ℕ) → ((p ++ m) ++ k) ++ r ≡ p ++ (m ++ (k ++ r))
 regroup p m k r = simp append_assoc
 
@@ -65,10 +69,6 @@ module _ (version : FileVersion) (tree : List Place) (bytes : List ℕ) where
 
     after_fits : AreBytes after
     after_fits i = bytes_behind (in_four parent) after (subst AreBytes here.0 are) i
-      where
-        bytes_behind : (a b : List ℕ) → AreBytes (a ++ b) → AreBytes b
-        bytes_behind [] b fits = fits
-        bytes_behind (x ∷ a) b fits = bytes_behind a b (λ k. fits (suc k))
 
     both : (place : Place) (rest : List ℕ) → IsTree (tree ++ place ∷ []) → bytes ≡ head_bytes version place ++ rest → (parent ≡ place.parent) × (after ≡ behind_parent place rest)
     both place rest is same = one_number parent place.parent after (behind_parent place rest) here.1 (parent_fits place is) (sym here.0 ∙ apart place rest same)

@@ -1,5 +1,5 @@
 -- All places, read one after another.
-use Rattle.std.proofs.Common.{◌≡◌, ℕ, zero, suc, ◌+◌, ◌<◌, ◌≤◌, ◌^◌, Bool, false, List, [], ◌∷◌, ◌++◌, length, Some, None, refl, sym, ◌∙◌, ap, subst, arith, append_assoc, All, inl, inr}
+use Rattle.std.proofs.Common.{◌≡◌, ◌≢◌, ℕ, zero, suc, ◌+◌, ◌<◌, ◌≤◌, ◌^◌, Bool, false, List, [], ◌∷◌, ◌++◌, length, Some, None, refl, sym, ◌∙◌, ap, subst, arith, append_assoc, length-append, All, inl, inr}
 use Rattle.std.specs.List.{flat_map}
 use Rattle.std.proofs.lemmas.Bool.{cases_lt, cases_Bool}
 use Rattle.std.proofs.lemmas.List.{append-nil}
@@ -17,7 +17,7 @@ use Rattle.vault_journal.specs.Spelling.{in_two, in_four}
 use Rattle.vault_journal.proofs.OneSpelling.{fields_are_spelled}
 use Rattle.vault_format.specs.declared.version.FileVersion.{FileVersion}
 use Rattle.vault_format.specs.Snapshot.{kind_bytes, place_bytes, places_bytes, claim_bytes, spelling_of, AreKindsIn, HasSpelling}
-use Rattle.vault_format.specs.Places.{vault_with, places_of, ArePlaces, ArePlacesAt, AreReadTo, BeginsWithNoPlaces, IsPlaceRead, BeginsWithNoPlace}
+use Rattle.vault_format.specs.Places.{vault_with, places_of, ArePlaces, ArePlacesAt, AreReadTo, AreReadOn, BeginsWithFewerPlaces, BeginsWithNoPlaces, IsPlaceRead, BeginsWithNoPlace}
 use Rattle.vault_format.proofs.OneReading.{one_number}
 use Rattle.vault_format.proofs.SpelledPlaces.{AreTold, places_tell, one_shelf, part_same}
 use Rattle.vault_format.proofs.Spelled.{places_have, contents_of, snapshot_split}
@@ -57,42 +57,65 @@ places_append version v n m (x ∷ xs) ys to =
 
 -- ---- the loop
 
-pub nothing_read : (version : FileVersion) (bytes : List ℕ) → AreReadTo version [] [] bytes bytes
-nothing_read version bytes = record {
-  are = record {
-    tree_is = tree_new;
-    kinds = λ i place at. absurd (cc);
-    named = All-nil (λ (place : Place). IsName place.name);
-    versions = record { shelf_is = none_shelved; parts = λ p some. absurd (some refl) };
-  };
-  spelled = refl;
+pub no_places : (version : FileVersion) → ArePlaces version [] []
+no_places version = record {
+  tree_is = tree_new;
+  kinds = λ i place at. absurd (cc);
+  named = All-nil (λ (place : Place). IsName place.name);
+  versions = record { shelf_is = none_shelved; parts = λ p some. absurd (some refl) };
 }
 
-pub one_place_more : (version : FileVersion) (tree : List Place) (shelf : List (List (List ℕ))) (new : List Place) (shelf_new : List (List (List ℕ))) (bytes rest after : List ℕ) → AreReadTo version tree shelf bytes rest → IsPlaceRead version tree shelf new shelf_new rest after
-    → AreReadTo version new shelf_new bytes after
-one_place_more version tree shelf new shelf_new bytes rest after so one = record {
+pub no_place_more : (version : FileVersion) (tree : List Place) (shelf : List (List (List ℕ))) (bytes : List ℕ) → ArePlaces version tree shelf → AreReadOn version tree shelf tree shelf bytes bytes
+no_place_more version tree shelf bytes are = record { more = []; are = are; grown = sym (append-nil tree); kept = λ p within. refl; spelled = refl }
+
+pub one_place_more : (version : FileVersion) (tree : List Place) (shelf : List (List (List ℕ))) (now : List Place) (shelf_now : List (List (List ℕ))) (new : List Place) (shelf_new : List (List (List ℕ))) (bytes rest after : List ℕ) → AreReadOn version tree shelf now shelf_now bytes rest → IsPlaceRead version now shelf_now new shelf_new rest after
+    → AreReadOn version tree shelf new shelf_new bytes after
+one_place_more version tree shelf now shelf_now new shelf_new bytes rest after so one = record {
+  more = so.more ++ one.place ∷ [];
   are = record {
     tree_is = one.tree_is;
-    kinds = subst (λ (t : List Place). AreKindsIn version t) (sym one.grown) (kinds_push version tree one.place so.are.tree_is.parents (last_parent tree one.place (subst IsTree one.grown one.tree_is)) so.are.kinds one.kind);
-    named = subst (λ (t : List Place). All (λ (place : Place). IsName place.name) t) (sym one.grown) (All-push (λ (place : Place). IsName place.name) tree one.place so.are.named one.named);
+    kinds = subst (λ (t : List Place). AreKindsIn version t) (sym one.grown) (kinds_push version now one.place so.are.tree_is.parents (last_parent now one.place (subst IsTree one.grown one.tree_is)) so.are.kinds one.kind);
+    named = subst (λ (t : List Place). All (λ (place : Place). IsName place.name) t) (sym one.grown) (All-push (λ (place : Place). IsName place.name) now one.place so.are.named one.named);
     versions = one.versions;
   };
-  spelled = so.spelled ∙ ap (λ (l : List ℕ). l ++ rest) front ∙ ap (λ (l : List ℕ). places_bytes version w 1 tree ++ l) one.spelled ∙ sym (append_assoc (places_bytes version w 1 tree) (place_bytes version w (suc (length tree)) one.place) after) ∙ ap (λ (l : List ℕ). l ++ after) (sym whole);
+  grown = one.grown ∙ ap (λ (t : List Place). t ++ one.place ∷ []) so.grown ∙ append_assoc tree so.more (one.place ∷ []);
+  kept = λ p within. one.kept p (omega (arith, within, longer)) ∙ so.kept p within;
+  spelled = so.spelled ∙ ap (λ (l : List ℕ). l ++ rest) before ∙ ap (λ (l : List ℕ). places_bytes version w (suc (length tree)) so.more ++ l) one.spelled ∙ sym (append_assoc (places_bytes version w (suc (length tree)) so.more) (place_bytes version w (suc (length now)) one.place) after) ∙ ap (λ (l : List ℕ). l ++ after) (sym whole);
+}
+  where
+    longer : length now ≡ length tree + length so.more
+    longer = ap length so.grown ∙ length-append tree so.more
+
+    w : Vault
+    w = vault_with new shelf_new
+
+    before : places_bytes version (vault_with now shelf_now) (suc (length tree)) so.more ≡ places_bytes version w (suc (length tree)) so.more
+    before =
+        places_same version (vault_with now shelf_now) w (suc (length tree)) (suc (length now)) so.more (omega (arith, longer))
+        (λ p above below. (sym (ap (λ (t : List Place). is_part t p) one.grown ∙ is_part-push now one.place p (omega (arith, below))), sym (one.kept p (omega (arith, below)))))
+
+    whole : places_bytes version w (suc (length tree)) (so.more ++ one.place ∷ []) ≡ places_bytes version w (suc (length tree)) so.more ++ place_bytes version w (suc (length now)) one.place
+    whole =
+        places_append version w (suc (length tree)) (suc (length now)) so.more (one.place ∷ []) (omega (arith, longer))
+        ∙ ap (λ (l : List ℕ). places_bytes version w (suc (length tree)) so.more ++ l) (append-nil (place_bytes version w (suc (length now)) one.place))
+
+-- so they were read from the front of all
+pub read_to : (version : FileVersion) (tree : List Place) (shelf : List (List (List ℕ))) (new : List Place) (shelf_new : List (List (List ℕ))) (bytes rest : List ℕ) → AreReadOn version tree shelf new shelf_new bytes rest
+    → AreReadTo version new shelf_new (places_bytes version (vault_with tree shelf) 1 tree ++ bytes) rest
+read_to version tree shelf new shelf_new bytes rest so = record {
+  are = so.are;
+  spelled =
+      ap (λ (l : List ℕ). l ++ bytes) before ∙ ap (λ (l : List ℕ). places_bytes version w 1 tree ++ l) so.spelled ∙ sym (append_assoc (places_bytes version w 1 tree) (places_bytes version w (suc (length tree)) so.more) rest)
+      ∙ ap (λ (l : List ℕ). l ++ rest) (sym (places_append version w 1 (suc (length tree)) tree so.more (omega arith)) ∙ ap (places_bytes version w 1) (sym so.grown));
 }
   where
     w : Vault
     w = vault_with new shelf_new
 
-    front : places_bytes version (vault_with tree shelf) 1 tree ≡ places_bytes version (vault_with new shelf_new) 1 tree
-    front =
-        places_same version (vault_with tree shelf) (vault_with new shelf_new) 1 (suc (length tree)) tree (omega arith)
-        (λ p above below. (sym (ap (λ (t : List Place). is_part t p) one.grown ∙ is_part-push tree one.place p (omega (arith, below))), sym (one.kept p (omega (arith, below)))))
-
-    whole : places_bytes version (vault_with new shelf_new) 1 new ≡ places_bytes version (vault_with new shelf_new) 1 tree ++ place_bytes version (vault_with new shelf_new) (suc (length tree)) one.place
-    whole =
-        ap (λ (t : List Place). places_bytes version (vault_with new shelf_new) 1 t) one.grown
-        ∙ places_append version (vault_with new shelf_new) 1 (suc (length tree)) tree (one.place ∷ []) (omega arith)
-        ∙ ap (λ (l : List ℕ). places_bytes version (vault_with new shelf_new) 1 tree ++ l) (append-nil (place_bytes version (vault_with new shelf_new) (suc (length tree)) one.place))
+    before : places_bytes version (vault_with tree shelf) 1 tree ≡ places_bytes version w 1 tree
+    before =
+        places_same version (vault_with tree shelf) w 1 (suc (length tree)) tree (omega arith)
+        (λ p above below. (sym (part_same new tree tree so.more [] p so.grown (sym (append-nil tree)) (omega (arith, below))), sym (so.kept p (omega (arith, below)))))
 
 -- places that were read are the first of any that stand there
 module _ (version : FileVersion) (tree : List Place) (shelf : List (List (List ℕ))) (bytes rest : List ℕ) (so : AreReadTo version tree shelf bytes rest) (front back : List Place) (whole : List (List (List ℕ))) (behind : List ℕ) (are : ArePlaces version (front ++ back) whole)
@@ -129,6 +152,49 @@ module _ (version : FileVersion) (tree : List Place) (shelf : List (List (List �
           no_versions whole (suc n) (λ some. let is = (are.versions.parts (suc n) some).1 in cc) ∙ sym (no_versions shelf (suc n) (λ some. let is = (so.are.versions.parts (suc n) some).1 in cc)))
     ]
 
+-- where there are more, the next one's spelling stands behind them
+pub record IsNextPlace (version : FileVersion) (tree : List Place) (shelf : List (List (List ℕ))) (rest : List ℕ) (all : List Place) (whole : List (List (List ℕ))) (behind : List ℕ) : Type 0 where
+  pub here : Place
+  pub others : List Place
+  pub parts : all ≡ tree ++ here ∷ others
+  pub kept : (p : ℕ) → p ≤ length tree → versions_of whole p ≡ versions_of shelf p
+  pub spelled : rest ≡ place_bytes version (vault_with (tree ++ here ∷ others) whole) (suc (length tree)) here ++ (places_bytes version (vault_with (tree ++ here ∷ others) whole) (suc (suc (length tree))) others ++ behind)
+
+pub next_place : (version : FileVersion) (tree : List Place) (shelf : List (List (List ℕ))) (bytes rest : List ℕ) → AreReadTo version tree shelf bytes rest → (all : List Place) (whole : List (List (List ℕ))) (behind : List ℕ) → ArePlaces version all whole → length tree < length all
+    → bytes ≡ places_bytes version (vault_with all whole) 1 all ++ behind → IsNextPlace version tree shelf rest all whole behind
+next_place version tree shelf bytes rest so all whole behind are within same =
+    let cut = cut_at all (length tree) within in
+    let are_cut = subst (λ (t : List Place). ArePlaces version t whole) cut.parts are in
+    let same_cut = same ∙ ap (λ (t : List Place). places_bytes version (vault_with t whole) 1 t ++ behind) cut.parts in
+    let tree_is = first_places version tree shelf bytes rest so cut.before (cut.here ∷ cut.behind) whole behind are_cut (sym cut.size) same_cut in
+    let rest_is = first_rest version tree shelf bytes rest so cut.before (cut.here ∷ cut.behind) whole behind are_cut (sym cut.size) same_cut in
+    let others = places_bytes version (vault_with (tree ++ cut.here ∷ cut.behind) whole) (suc (suc (length tree))) cut.behind in
+    record {
+      here = cut.here;
+      others = cut.behind;
+      parts = cut.parts ∙ ap (λ (t : List Place). t ++ cut.here ∷ cut.behind) (sym tree_is);
+      kept = first_versions version tree shelf bytes rest so cut.before (cut.here ∷ cut.behind) whole behind are_cut (sym cut.size) same_cut;
+      spelled =
+          subst (λ (t : List Place). rest ≡ places_bytes version (vault_with (t ++ cut.here ∷ cut.behind) whole) (suc (length t)) (cut.here ∷ cut.behind) ++ behind) (sym tree_is) rest_is
+          ∙ append_assoc (place_bytes version (vault_with (tree ++ cut.here ∷ cut.behind) whole) (suc (length tree)) cut.here) others behind;
+    }
+
+-- where none stands behind them, they are all
+pub no_other : (version : FileVersion) (tree : List Place) (shelf : List (List (List ℕ))) (bytes rest : List ℕ) → AreReadTo version tree shelf bytes rest → BeginsWithNoPlace version tree shelf rest
+    → (all : List Place) (whole : List (List (List ℕ))) (behind : List ℕ) → ArePlaces version all whole → length tree < length all → bytes ≢ places_bytes version (vault_with all whole) 1 all ++ behind
+no_other version tree shelf bytes rest so none all whole behind are within same =
+    let next = next_place version tree shelf bytes rest so all whole behind are within same in
+    none next.here next.others whole _ (subst (λ (t : List Place). ArePlaces version t whole) next.parts are) next.kept next.spelled
+
+-- so there are fewer than so many behind those that were there
+pub fewer_places : (version : FileVersion) (tree : List Place) (shelf : List (List (List ℕ))) (now : List Place) (shelf_now : List (List (List ℕ))) (bytes rest more : List ℕ) → AreReadOn version tree shelf now shelf_now bytes rest → BeginsWithNoPlace version now shelf_now (rest ++ more)
+    → (count : ℕ) → length now + 1 < count → BeginsWithFewerPlaces version count tree shelf (bytes ++ more)
+fewer_places version tree shelf now shelf_now bytes rest more so none count within all whole behind size are same =
+    let on : AreReadOn version tree shelf now shelf_now (bytes ++ more) (rest ++ more) =
+    record { more = so.more; are = so.are; grown = so.grown; kept = so.kept; spelled = ap (λ (l : List ℕ). l ++ more) so.spelled ∙ append_assoc (places_bytes version (vault_with now shelf_now) (suc (length tree)) so.more) rest more } in
+    no_other version now shelf_now (places_bytes version (vault_with tree shelf) 1 tree ++ (bytes ++ more)) (rest ++ more) (read_to version tree shelf now shelf_now (bytes ++ more) (rest ++ more) on) none
+    all whole behind are (omega (arith, within, size)) same
+
 -- ---- the number of places, and all of them
 
 module _ (version : FileVersion) (bytes : List ℕ) where
@@ -163,16 +229,7 @@ module _ (version : FileVersion) (bytes : List ℕ) where
     pub not_all_places : (tree : List Place) (shelf : List (List (List ℕ))) (rest : List ℕ) → length tree + 1 < count → AreReadTo version tree shelf after rest → BeginsWithNoPlace version tree shelf rest → BeginsWithNoPlaces version bytes
     not_all_places tree shelf rest within so none all whole behind are same =
         let next = counted all whole behind are same in
-        let cut = cut_at all (length tree) (omega (arith, within, next.0)) in
-        let are_cut = subst (λ (t : List Place). ArePlaces version t whole) cut.parts are in
-        let after_is = next.1 ∙ ap (λ (t : List Place). places_bytes version (vault_with t whole) 1 t ++ behind) cut.parts in
-        let tree_is = first_places version tree shelf after rest so cut.before (cut.here ∷ cut.behind) whole behind are_cut (sym cut.size) after_is in
-        let rest_is = first_rest version tree shelf after rest so cut.before (cut.here ∷ cut.behind) whole behind are_cut (sym cut.size) after_is in
-        let versions = first_versions version tree shelf after rest so cut.before (cut.here ∷ cut.behind) whole behind are_cut (sym cut.size) after_is in
-        let others = places_bytes version (vault_with (tree ++ cut.here ∷ cut.behind) whole) (suc (suc (length tree))) cut.behind in
-        none cut.here cut.behind whole (others ++ behind) (subst (λ (t : List Place). ArePlaces version (t ++ cut.here ∷ cut.behind) whole) (sym tree_is) are_cut) versions
-        (subst (λ (t : List Place). rest ≡ places_bytes version (vault_with (t ++ cut.here ∷ cut.behind) whole) (suc (length t)) (cut.here ∷ cut.behind) ++ behind) (sym tree_is) rest_is
-        ∙ append_assoc (place_bytes version (vault_with (tree ++ cut.here ∷ cut.behind) whole) (suc (length tree)) cut.here) others behind)
+        no_other version tree shelf after rest so none all whole behind are (omega (arith, within, next.0)) next.1
 
 -- ---- the places of a whole snapshot
 

@@ -1,5 +1,5 @@
 -- The places of a snapshot, and what the functions that read them answer, part by part. This project's own.
-use Rattle.std.specs.Prelude.{◌≡◌, ◌≢◌, ℕ, suc, ◌+◌, ◌≤◌, ◌==◌, true, false, if◌then◌else◌, List, [], ◌∷◌, ◌++◌, length, Option, None, Some, All}
+use Rattle.std.specs.Prelude.{◌≡◌, ◌≢◌, ℕ, suc, ◌+◌, ◌^◌, ◌<◌, ◌≤◌, ◌==◌, true, false, if◌then◌else◌, List, [], ◌∷◌, ◌++◌, length, Option, None, Some, All}
 use Rattle.std.specs.List.{flat_map}
 use Rattle.vault_model.specs.declared.place.Place.{Place}
 use Rattle.vault_model.specs.Limits.{longest_content}
@@ -16,7 +16,7 @@ use Rattle.vault_format.specs.declared.version.FileVersion.{FileVersion}
 use Rattle.vault_format.specs.declared.version.FileVersion.TheVariants.{One, Two}
 use Rattle.vault_format.specs.declared.error.SnapshotError.{SnapshotError}
 use Rattle.vault_format.specs.declared.error.SnapshotError.TheVariants.{NotWellFormed, NoMemory}
-use Rattle.vault_format.specs.Snapshot.{versions_bytes, kind_byte, kind_field, IsKindIn, AreKindsIn, place_bytes, places_bytes}
+use Rattle.vault_format.specs.Snapshot.{versions_bytes, versions_field, kind_byte, kind_field, IsKindIn, AreKindsIn, place_bytes, places_bytes}
 
 -- the vault of these places and versions, and of nothing else
 abbrev pub vault_with : List Place → List (List (List ℕ)) → Vault
@@ -50,9 +50,19 @@ pub record AreReadTo (version : FileVersion) (tree : List Place) (shelf : List (
   pub spelled : bytes ≡ places_bytes version (vault_with tree shelf) 1 tree ++ rest
 
 -- places were read on from the front of bytes, behind those that were there
-abbrev pub AreReadOn : FileVersion → List Place → List (List (List ℕ)) → List Place → List (List (List ℕ)) → List ℕ → List ℕ → Type 0
-AreReadOn version tree shelf tree_new shelf_new bytes rest =
-    AreReadTo version tree_new shelf_new (places_bytes version (vault_with tree shelf) 1 tree ++ bytes) rest
+pub record AreReadOn (version : FileVersion) (tree : List Place) (shelf : List (List (List ℕ))) (tree_new : List Place)
+    (shelf_new : List (List (List ℕ))) (bytes rest : List ℕ) : Type 0 where
+  pub more : List Place
+  pub are : ArePlaces version tree_new shelf_new
+  pub grown : tree_new ≡ tree ++ more
+  pub kept : (p : ℕ) → p ≤ length tree → versions_of shelf_new p ≡ versions_of shelf p
+  pub spelled : bytes ≡ places_bytes version (vault_with tree_new shelf_new) (suc (length tree)) more ++ rest
+
+-- no spelling of so many places, with the library, or of more, has those that are there in front, and then these bytes
+abbrev pub BeginsWithFewerPlaces : FileVersion → ℕ → List Place → List (List (List ℕ)) → List ℕ → Type 0
+BeginsWithFewerPlaces version count tree shelf bytes = (all : List Place) (whole : List (List (List ℕ))) (rest : List ℕ)
+    → count ≤ length all + 1 → ArePlaces version all whole
+    → places_bytes version (vault_with tree shelf) 1 tree ++ bytes ≢ places_bytes version (vault_with all whole) 1 all ++ rest
 
 -- the versions of each place are the first of those in the whole shelf
 abbrev pub IsFrontOf : List (List (List ℕ)) → List (List (List ℕ)) → Type 0
@@ -75,10 +85,16 @@ abbrev pub BeginsWithNoVersion : ℕ → List (List (List ℕ)) → List ℕ →
 BeginsWithNoVersion part shelf bytes = (content : List ℕ) (whole : List (List (List ℕ))) (rest : List ℕ) → IsShelf whole
     → IsFrontOf (shelved shelf part content) whole → bytes ≢ content_bytes content ++ rest
 
--- so many contents don't stand there
+-- so many contents stand there, and the rest behind them
+pub record AreContentsAt (count : ℕ) (bytes rest : List ℕ) : Type 0 where
+  pub contents : List (List ℕ)
+  pub size : length contents ≡ count
+  pub short : All (λ content. length content ≤ longest_content) contents
+  pub spelled : bytes ≡ flat_map content_bytes contents ++ rest
+
+-- so many don't
 abbrev pub BeginsWithFewerContents : ℕ → List ℕ → Type 0
-BeginsWithFewerContents count bytes = (contents : List (List ℕ)) (rest : List ℕ) → length contents ≡ count
-    → All (λ content. length content ≤ longest_content) contents → bytes ≢ flat_map content_bytes contents ++ rest
+BeginsWithFewerContents count bytes = (rest : List ℕ) → AreContentsAt count bytes rest → ⊥
 
 -- all versions of a part were read
 pub record AreVersionsRead (part : ℕ) (old new : List (List (List ℕ))) (bytes rest : List ℕ) : Type 0 where
@@ -154,10 +170,32 @@ BeginsWithNoPlace version tree shelf bytes =
     → ((p : ℕ) → p ≤ length tree → versions_of whole p ≡ versions_of shelf p)
     → bytes ≢ place_bytes version (vault_with (tree ++ place ∷ more) whole) (suc (length tree)) place ++ rest
 
--- places were read on as far as some stand there, and behind them stands none that may be the next one
-pub record AreNoneBehind (version : FileVersion) (tree : List Place) (shelf : List (List (List ℕ))) (bytes : List ℕ) : Type 0 where
-  pub tree_new : List Place
-  pub shelf_new : List (List (List ℕ))
-  pub rest : List ℕ
-  pub read : AreReadOn version tree shelf tree_new shelf_new bytes rest
-  pub none : BeginsWithNoPlace version tree_new shelf_new rest
+-- the fields of a place in today's version, whether or not a tree may have it: its parent, its name, the byte of its kind and, where that is
+-- a part's, its versions
+pub record PlaceFields : Type 0 where
+  pub parent : ℕ
+  pub name : List ℕ
+  pub kind : ℕ
+  pub contents : List (List ℕ)
+
+-- what each of them may be
+pub record AreFields (fields : PlaceFields) : Type 0 where
+  pub parent : fields.parent < 2 ^ 32
+  pub named : IsName fields.name
+  pub few : length fields.contents < 2 ^ 16
+  pub short : All (λ content. length content ≤ longest_content) fields.contents
+
+-- their spelling
+abbrev pub fields_bytes : PlaceFields → List ℕ
+fields_bytes fields =
+    in_four fields.parent ++ (name_bytes fields.name ++ fields.kind ∷ versions_field (fields.kind == kind_byte true) fields.contents)
+
+-- the fields of a place stand there, and the rest behind them
+pub record AreFieldsAt (bytes rest : List ℕ) : Type 0 where
+  pub fields : PlaceFields
+  pub are : AreFields fields
+  pub spelled : bytes ≡ fields_bytes fields ++ rest
+
+-- none do
+abbrev pub BeginsWithNoFields : List ℕ → Type 0
+BeginsWithNoFields bytes = (rest : List ℕ) → AreFieldsAt bytes rest → ⊥

@@ -1,12 +1,10 @@
 //! The places of a snapshot, with the versions of parts.
-ghost use Rattle.std.specs.Prelude.{◌≡◌, ℕ, ◌+◌, ◌<◌, ◌≤◌, List, [], None, Err, IfOk, length};
-ghost use Rattle.vault_model.specs.declared.place.Place.{Place};
+ghost use Rattle.std.specs.Prelude.{◌≡◌, ◌+◌, ◌<◌, ◌≤◌, ◌++◌, List, ℕ, [], None, Err, IfOk, IfSome, length};
 ghost use Rattle.vault_model.specs.Shelf.{IsShelf};
-ghost use Rattle.vault_model.specs.Tree.{IsTree};
 ghost use Rattle.vault_model.specs.Vault.{AreVersions};
 ghost use Rattle.vault_format.specs.declared.error.SnapshotError.TheVariants.{NotWellFormed};
 ghost use Rattle.vault_format.specs.Snapshot.{current_version};
-ghost use Rattle.vault_format.specs.Places.{told_of, ArePlacesAt, BeginsWithNoPlaces, AreReadOn, ArePlaces, IsVersionRead, BeginsWithNoVersion, AreVersionsRead, BeginsWithNoVersions, no_part_under, kind_before, IsPlaceAdded, BeginsWithNoName, IsPlaceRead, BeginsWithNoPlace, AreNoneBehind, BeginsWithFewerContents};
+ghost use Rattle.vault_format.specs.Places.{told_of, ArePlacesAt, BeginsWithNoPlaces, AreReadOn, ArePlaces, IsVersionRead, BeginsWithNoVersion, AreVersionsRead, BeginsWithNoVersions, no_part_under, kind_before, IsPlaceAdded, BeginsWithNoName, IsPlaceRead, BeginsWithNoPlace, AreContentsAt, BeginsWithFewerContents, AreFieldsAt, BeginsWithNoFields, BeginsWithFewerPlaces};
 ghost use Rattle.vault_journal.specs.Reading.{Reads};
 
 use crate::error::SnapshotError;
@@ -180,7 +178,8 @@ fn read_place<'a, A: Allocator + Copy>(
 
 // What stands behind so many versions in front, where all of them are there.
 fn behind_versions(count: u16, bytes: &[u8]) -> Option<&[u8]>
-    ensures { result ≡ None → BeginsWithFewerContents count bytes.now }
+    ensures there { IfSome result (λ rest. AreContentsAt count bytes.now rest.now) }
+    ensures none { result ≡ None → BeginsWithFewerContents count bytes.now }
 {
     let mut rest = bytes;
     for _ in 0..usize::from(count) {
@@ -194,7 +193,8 @@ fn behind_versions(count: u16, bytes: &[u8]) -> Option<&[u8]>
 
 // What stands behind the place in front, in the spelling of today's version, where all of it is there.
 fn behind_place(bytes: &[u8]) -> Option<&[u8]>
-    ensures { result ≡ None → (tree : List Place) (shelf : List (List (List ℕ))) → AreVersions tree shelf → BeginsWithNoPlace current_version tree shelf bytes.now }
+    ensures there { IfSome result (λ rest. AreFieldsAt bytes.now rest.now) }
+    ensures none { result ≡ None → BeginsWithNoFields bytes.now }
 {
     let (_, rest) = u32_at(bytes)?;
     let Some(named) = name_at(rest) else {
@@ -208,8 +208,8 @@ fn behind_place(bytes: &[u8]) -> Option<&[u8]>
     behind_versions(count, rest)
 }
 
-/// Reads places on, behind those that are there, until there are so many with the library, or the bytes end within the next one. Answers
-/// the bytes behind them.
+/// Reads places on, behind those that are there, until there are so many with the library, or the fields of the next one aren't all there.
+/// Answers the bytes behind them. `NotWellFormed`: so many places don't stand there, whatever follows these bytes.
 ///
 /// The places are spelled as in today's version. The work grows with the bytes that are read, the bytes of one place more and, for each
 /// place, with the number of its siblings. Beside the tree and the shelf it takes memory for one version at a time. After an error the tree
@@ -224,8 +224,9 @@ pub fn read_places_on<'a, A: Allocator + Copy>(
     requires { ArePlaces current_version tree.old shelf.old }
     ensures read { IfOk result (λ rest. AreReadOn current_version tree.old shelf.old tree.new shelf.new bytes.now rest.now) }
     ensures few { IfOk result (λ rest. length tree.old < count → length tree.new < count) }
-    ensures all { IfOk result (λ rest. length tree.new + 1 < count → BeginsWithNoPlace current_version tree.new shelf.new rest.now) }
-    ensures refused { result ≡ Err NotWellFormed → AreNoneBehind current_version tree.old shelf.old bytes.now }
+    ensures all { IfOk result (λ rest. length tree.new + 1 < count → BeginsWithNoFields rest.now) }
+    ensures refused { result ≡ Err NotWellFormed
+        → (more : List ℕ) → BeginsWithFewerPlaces current_version count tree.old shelf.old (bytes.now ++ more) }
 {
     let mut rest = bytes;
     for number in tree.len() as u32..count {

@@ -30,4 +30,5 @@ mod HandedOn
 mod Looked
 mod SnapshotRead
 mod InPieces
+mod NotInPieces
 pub mod Sends

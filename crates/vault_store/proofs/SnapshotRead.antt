@@ -99,7 +99,7 @@ module _ (version : FileVersion) (bytes : List ℕ) where
       none_read in_four (λ n. n < 2 ^ 32) u32_at fields_are_spelled.in_four bytes v.last_long (places_of version v.tree v.shelf ++ (claims_bytes version (told_of v) ++ [])) none (omega (arith, has.has.well_formed.numbers.long)) (same ∙ snapshot_whole version v)
 
   module _ (last_long : ℕ) (after : List ℕ) (got : u32_at bytes ≡ Some (last_long, after)) where
-    at_places : (v : Vault) → HasSpelling version v → bytes ≡ spelling_of version v → (last_long ≡ v.last_long) × (after ≡ places_of version v.tree v.shelf ++ (claims_bytes version (told_of v) ++ []))
+    pub at_places : (v : Vault) → HasSpelling version v → bytes ≡ spelling_of version v → (last_long ≡ v.last_long) × (after ≡ places_of version v.tree v.shelf ++ (claims_bytes version (told_of v) ++ []))
     at_places v has same =
         one_read in_four (λ n. n < 2 ^ 32) u32_at fields_are_spelled.in_four bytes last_long v.last_long after (places_of version v.tree v.shelf ++ (claims_bytes version (told_of v) ++ [])) got (omega (arith, has.has.well_formed.numbers.long)) (same ∙ snapshot_whole version v)
 

@@ -1,11 +1,11 @@
 -- A snapshot that is read piece by piece. This project's own.
-use Rattle.std.specs.Prelude.{◌≡◌, ℕ, ◌+◌, ◌<◌, ◌≤◌, IsTrue, List, ◌++◌, length, slice_range, Option, None, Some}
+use Rattle.std.specs.Prelude.{◌≡◌, ◌≢◌, ℕ, suc, ◌+◌, ◌^◌, ◌<◌, ◌≤◌, IsTrue, List, ◌∷◌, ◌++◌, length, slice_range, Option, None, Some}
 use Rattle.vault_model.specs.declared.place.Place.{Place}
 use Rattle.vault_model.specs.Vault.{Vault}
 use Rattle.vault_device.specs.Disk.{Disk}
 use Rattle.vault_journal.specs.Spelling.{in_four}
 use Rattle.vault_format.specs.declared.version.FileVersion.{FileVersion}
-use Rattle.vault_format.specs.Snapshot.{places_bytes, spelling_of, HasSpelling}
+use Rattle.vault_format.specs.Snapshot.{current_version, place_bytes, places_bytes, spelling_of, HasSpelling}
 use Rattle.vault_format.specs.Places.{vault_with, places_of, ArePlaces}
 use Rattle.vault_format.specs.Files.{header}
 
@@ -32,6 +32,32 @@ pub record IsBackRead (disk : Disk) (version : FileVersion) (last_long : ℕ) (t
   pub spelled : HasSpelling version base
   pub whole : in_four last_long ++ (places_of version tree shelf ++ rest) ≡ spelling_of version base
 
+-- how many bytes a piece has at most
+abbrev pub longest_piece : ℕ
+longest_piece = 2 ^ 21
+
+-- each place of this vault, with its versions, fits into a piece
+abbrev pub FitIntoPieces : Vault → Type 0
+FitIntoPieces v = (before : List Place) (place : Place) (behind : List Place) → v.tree ≡ before ++ place ∷ behind
+    → length (place_bytes current_version v (suc (length before)) place) ≤ longest_piece
+
+-- so many places that fit into pieces, with the library, don't stand behind these, up to an offset
+abbrev pub AreFewerInPieces : Disk → ℕ → ℕ → ℕ → List Place → List (List (List ℕ)) → Type 0
+AreFewerInPieces disk count end at tree shelf = IsTrue disk.honest → (all : List Place) (whole : List (List (List ℕ))) (rest : List ℕ)
+    → length all + 1 ≡ count → ArePlaces current_version all whole → FitIntoPieces (vault_with all whole)
+    → places_bytes current_version (vault_with tree shelf) 1 tree ++ slice_range disk.shown at end
+    ≢ places_bytes current_version (vault_with all whole) 1 all ++ rest
+
+-- no check-outs stand behind these places with which they are a vault's spelling
+abbrev pub IsNoBackRead : Disk → ℕ → List Place → List (List (List ℕ)) → ℕ → ℕ → Type 0
+IsNoBackRead disk last_long tree shelf at end = IsTrue disk.honest → (v : Vault) → HasSpelling current_version v
+    → in_four last_long ++ (places_of current_version tree shelf ++ slice_range disk.shown at end) ≢ spelling_of current_version v
+
+-- the snapshot of no vault whose places fit into pieces stands behind the header, up to an offset
+abbrev pub IsNoneInPieces : Disk → ℕ → Type 0
+IsNoneInPieces disk end = IsTrue disk.honest → (v : Vault) → HasSpelling current_version v → FitIntoPieces v
+    → slice_range disk.shown header end ≢ spelling_of current_version v
+
 -- the snapshot of this vault stands behind the header, up to an offset
 pub record IsSnapshotRead (disk : Disk) (version : FileVersion) (base : Vault) (end : ℕ) : Type 0 where
   pub spelled : HasSpelling version base
@@ -40,7 +66,8 @@ pub record IsSnapshotRead (disk : Disk) (version : FileVersion) (base : Vault) (
 
 -- no snapshot of a vault stands there
 abbrev pub IsNoSnapshotRead : Disk → FileVersion → ℕ → Type 0
-IsNoSnapshotRead disk version end = IsTrue disk.honest → (v : Vault) → HasSpelling version v → slice_range disk.shown header end ≡ spelling_of version v → ⊥
+IsNoSnapshotRead disk version end = IsTrue disk.honest → (v : Vault) → HasSpelling version v
+    → slice_range disk.shown header end ≢ spelling_of version v
 
 -- the vault of the snapshot, or nothing where there is none
 abbrev pub IsSnapshotOrNone : Disk → FileVersion → ℕ → Option Vault → Type 0

@@ -1,11 +1,11 @@
 //! A long snapshot in the spelling of today's version, read piece by piece.
-ghost use Rattle.std.specs.Prelude.{◌≡◌, ◌++◌, ◌+◌, ◌^◌, ◌<◌, ◌≤◌, IfOk, IfErr, IfSome, IsTrue, true, length, slice_range, OnOk};
+ghost use Rattle.std.specs.Prelude.{◌≡◌, ◌≢◌, ◌++◌, ◌+◌, ◌^◌, ◌<◌, ◌≤◌, [], None, IfOk, IfErr, IfSome, IsTrue, true, false, length, slice_range, OnOk};
 ghost use Rattle.vault_format.specs.Files.{header};
 ghost use Rattle.vault_format.specs.Snapshot.{current_version};
 ghost use Rattle.vault_format.specs.Places.{ArePlaces};
 ghost use Rattle.vault_journal.specs.Spelling.{in_four};
 ghost use Rattle.vault_store.specs.Calls.{IsQuiet};
-ghost use Rattle.vault_store.specs.Front.{IsFrontRead, IsReadOn, IsBackRead, IsSnapshotRead};
+ghost use Rattle.vault_store.specs.Front.{IsFrontRead, IsReadOn, AreFewerInPieces, IsBackRead, IsNoBackRead, IsSnapshotRead, IsNoneInPieces};
 ghost use Rattle.vault_store.specs.Read.{AreReads, IsWhy};
 
 use crate::body::ReadError;
@@ -58,7 +58,8 @@ struct Front<A: Allocator> {
     at: u64,
 }
 
-// Reads a piece, and the places in it behind those that are there. Whether there was one.
+// Reads a piece, and the places in it behind those that are there. Whether there was one. If not, and more are wanted, one of them doesn't
+// fit into a piece, or they don't stand there.
 fn read_on<D: Device, A: Allocator + Copy>(
     alloc: A,
     device: &mut D,
@@ -72,32 +73,31 @@ fn read_on<D: Device, A: Allocator + Copy>(
     ensures reads { AreReads (D.disk device.old) (D.disk device.new) }
     ensures on { IfOk result (λ has_read. has_read ≡ true → IsReadOn (D.disk device.old) current_version extent.end front.old.at
         front.old.tree front.old.shelf front.new.tree front.new.shelf front.new.at) }
+    ensures few { IfOk result (λ has_read. has_read ≡ true
+        → length front.old.tree < extent.count → length front.new.tree < extent.count) }
+    ensures off { IfOk result (λ has_read. has_read ≡ false → length front.old.tree + 1 < extent.count
+        → AreFewerInPieces (D.disk device.old) extent.count extent.end front.old.at front.old.tree front.old.shelf) }
     ensures refused { IfErr result (λ why. IsWhy (D.disk device.old) (D.disk device.new) (λ offset. ⊥) why) }
     ensures quiet { OnOk result (IsQuiet (D.disk device.old) (D.disk device.new)) }
 {
     let count = (extent.end - front.at).min(u64::from(PIECE)) as u32;
     read_over(device, front.at, count, piece)?;
-    let rest = match read_places_on(
+    let taken = match read_places_on(
         alloc,
         extent.count,
         &mut front.tree,
         &mut front.shelf,
         piece,
     ) {
-        Ok(rest) => rest.len(),
+        Ok(rest) => count as usize - rest.len(),
         Err(SnapshotError::NotWellFormed) => return Ok(false),
         Err(SnapshotError::NoMemory) => return Err(ReadError::NoMemory),
     };
-    match (count as usize).checked_sub(rest) {
-        Some(taken) if taken > 0 => {
-            front.at += taken as u64;
-            Ok(true)
-        }
-        _ => Ok(false),
-    }
+    front.at += taken as u64;
+    Ok(taken > 0)
 }
 
-// Reads all places, from an offset on. None: they can't be read piece by piece.
+// Reads all places, from an offset on. None: one doesn't fit into a piece, or they don't stand there.
 fn read_front<D: Device, A: Allocator + Copy>(
     alloc: A,
     device: &mut D,
@@ -111,6 +111,7 @@ fn read_front<D: Device, A: Allocator + Copy>(
         (λ front. IsFrontRead (D.disk device.old) current_version from front.tree front.shelf front.at)) }
     ensures count { IfOk result (λ found. IfSome found (λ front. length front.tree + 1 ≡ extent.count)) }
     ensures within { IfOk result (λ found. IfSome found (λ front. front.at ≤ extent.end)) }
+    ensures none { IfOk result (λ found. found ≡ None → AreFewerInPieces (D.disk device.old) extent.count extent.end from [] []) }
     ensures refused { IfErr result (λ why. IsWhy (D.disk device.old) (D.disk device.new) (λ offset. ⊥) why) }
     ensures quiet { OnOk result (IsQuiet (D.disk device.old) (D.disk device.new)) }
 {
@@ -131,7 +132,7 @@ fn read_front<D: Device, A: Allocator + Copy>(
     Ok(Some(front))
 }
 
-// Reads the check-outs of a snapshot that ends here, and makes its book. None: it can't be read so.
+// Reads the check-outs of a snapshot that ends here, and makes its book. None: they don't stand there, or it is no vault.
 fn read_back<D: Device, A: Allocator + Copy>(
     alloc: A,
     last_long: u32,
@@ -146,6 +147,8 @@ fn read_back<D: Device, A: Allocator + Copy>(
     ensures reads { AreReads (D.disk device.old) (D.disk device.new) }
     ensures book { IfOk result (λ found. IfSome found
         (λ book. IsBackRead (D.disk device.old) current_version last_long front.tree front.shelf front.at end book)) }
+    ensures none { IfOk result (λ found. found ≡ None
+        → IsNoBackRead (D.disk device.old) last_long front.tree front.shelf front.at end) }
     ensures refused { IfErr result (λ why. IsWhy (D.disk device.old) (D.disk device.new) (λ offset. ⊥) why) }
     ensures quiet { OnOk result (IsQuiet (D.disk device.old) (D.disk device.new)) }
 {
@@ -160,10 +163,13 @@ fn read_back<D: Device, A: Allocator + Copy>(
     };
     let mut claims = Vec::new(alloc);
     let mut drafts = Vec::new(alloc);
-    match read_claims(alloc, FileVersion::Two, &mut claims, &mut drafts, &bytes) {
-        Ok(rest) if rest.is_empty() => {}
-        Ok(_) | Err(SnapshotError::NotWellFormed) => return Ok(None),
+    let rest = match read_claims(alloc, FileVersion::Two, &mut claims, &mut drafts, &bytes) {
+        Ok(rest) => rest,
+        Err(SnapshotError::NotWellFormed) => return Ok(None),
         Err(SnapshotError::NoMemory) => return Err(ReadError::NoMemory),
+    };
+    if !rest.is_empty() {
+        return Ok(None);
     }
     match Book::from_parts(tree, shelf, last_long, claims, drafts) {
         Ok(book) => Ok(Some(book)),
@@ -175,14 +181,17 @@ fn read_back<D: Device, A: Allocator + Copy>(
 // The two numbers of which these are the bytes.
 fn two_numbers(bytes: &[u8]) -> Option<(u32, u32)>
     requires { length bytes.now ≡ 8 }
-    ensures { IfSome result (λ numbers. bytes.now ≡ in_four numbers.0 ++ in_four numbers.1) }
+    ensures numbers { IfSome result (λ numbers. bytes.now ≡ in_four numbers.0 ++ in_four numbers.1) }
+    ensures fit { IfSome result (λ numbers. (numbers.0 < 2 ^ 32) × (numbers.1 < 2 ^ 32)) }
+    ensures some { result ≢ None }
 {
     let (first, rest) = u32_at(bytes)?;
     let (second, _) = u32_at(rest)?;
     Some((first, second))
 }
 
-/// The book of a snapshot of today's version that ends here, read piece by piece. None: it can't be read so.
+/// The book of a snapshot of today's version that ends here, read piece by piece. None: a place of it doesn't fit into a piece, or no vault is
+/// spelled there.
 ///
 /// Beside the book it takes memory for one piece, for the bytes of the check-outs, and for their list.
 pub(crate) fn read_in_pieces<D: Device, A: Allocator + Copy>(
@@ -195,6 +204,7 @@ pub(crate) fn read_in_pieces<D: Device, A: Allocator + Copy>(
     requires len { IsTrue (D.disk device.old).honest → end ≤ length (D.disk device.old).shown }
     ensures reads { AreReads (D.disk device.old) (D.disk device.new) }
     ensures book { IfOk result (λ found. IfSome found (λ book. IsSnapshotRead (D.disk device.old) current_version book end)) }
+    ensures none { IfOk result (λ found. found ≡ None → IsNoneInPieces (D.disk device.old) end) }
     ensures refused { IfErr result (λ why. IsWhy (D.disk device.old) (D.disk device.new) (λ offset. ⊥) why) }
     ensures quiet { OnOk result (IsQuiet (D.disk device.old) (D.disk device.new)) }
 {

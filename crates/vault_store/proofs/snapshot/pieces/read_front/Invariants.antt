@@ -1,4 +1,4 @@
-use Rattle.std.proofs.Common.{◌-◌, ◌≤◌}
+use Rattle.std.proofs.Common.{◌-◌, ◌<◌, ◌≤◌, length}
 use Rattle.vault_format.specs.Snapshot.{current_version}
 use Rattle.vault_store.specs.Calls.{IsQuiet}
 use Rattle.vault_store.specs.Read.{AreReads}
@@ -11,6 +11,7 @@ invariant-loop-alloc g l = record {
   quiet : IsQuiet (g.D.Device.disk l.fn.device) (g.D.Device.disk l.device);
   front : IsFrontRead (g.D.Device.disk l.fn.device) current_version l.from l.front.tree l.front.shelf l.front.at;
   within : l.front.at ≤ l.extent.end;
+  few : 0 < l.extent.count → length l.front.tree < l.extent.count;
 }
 
 abbrev pub decreases-loop-alloc : goal.decreases-loop-alloc
