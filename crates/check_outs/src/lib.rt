@@ -2,7 +2,8 @@
 //!
 //! Promises: a draft is saved under a held check-out alone, in place of one of the same part (`CheckOut<Held>::save`). A list of
 //! check-outs changes as its definition says: one is put last, withdrawn, saved in or closed, whose drafts become versions all or none
-//! (`close_at`). One more draft may be saved exactly where its limits hold (`may_save`). Want of memory changes nothing.
+//! (`close_at`). One more draft may be saved exactly where its limits hold (`may_save`). What is told of items and of drafts is as
+//! defined (`at_paths`, `paths_of`, `content_at`). Want of memory changes nothing.
 //! Stands on: vault_model, design_tree, part_versions. Must not know: how a claim stands, the line, sessions, commands.
 //!
 //! Invariant, of `Held`: drafts stand by rising place, one of a part.
@@ -20,6 +21,7 @@ mod owners;
 mod parts;
 mod places;
 mod stop;
+mod telling;
 mod weights;
 
 pub use any::{
@@ -34,4 +36,5 @@ pub use owners::{is_designer, is_owned_by};
 pub use parts::{are_light, are_of_parts, are_rising, may_be};
 pub use places::{are_there, is_changed_by, joined, may_change, places_of};
 pub use stop::Stop;
+pub use telling::{at_paths, content_at, paths_of};
 pub use weights::may_save;

@@ -21,6 +21,11 @@ pub fn may_change<W, C>(command: &Command<W, C>) -> bool {
             | Command::Fetch(_, _)
             | Command::Count(_)
             | Command::ReadNote(_)
+            | Command::Show(_)
+            | Command::Claims(_)
+            | Command::Drafts(_)
+            | Command::Draft(_, _)
+            | Command::Await(_)
             | Command::Leave
     )
 }

@@ -3,7 +3,10 @@
 use std::alloc::{Allocator, Global};
 use test_memory::{Refusing, Tried, requests};
 use vault_lines::{LineError, outside_text, read_line_of, text_of};
-use vault_model::{ClaimId, Command, CommandIn, Listing, Name, NoMemory, Outside, Reply};
+use vault_model::{
+    ClaimId, Command, CommandIn, Intent, Listing, Name, NoMemory, Outside, Path, PathItem, Reply,
+    ShownClaim, Standing,
+};
 
 /// A reply.
 #[derive(Clone, Copy)]
@@ -12,6 +15,12 @@ enum Told {
     /// Three places of this name.
     Children(&'static [u8]),
     Content(&'static [u8]),
+    /// A claim of a designer of this name, on two items at this path.
+    Shown(&'static [u8], &'static [u8]),
+    /// This claim twice.
+    ClaimsAt(ClaimId),
+    /// This path three times.
+    DraftsOf(&'static [u8]),
 }
 
 /// What is tried, and what has to come of it.
@@ -26,7 +35,7 @@ enum Call {
 }
 
 /// The calls by their names, and how many requests each makes.
-static ROWS: [(&str, Call, u64); 9] = [
+static ROWS: [(&str, Call, u64); 12] = [
     (
         "read_line_of, checkout",
         Call::Reads(b"checkout r:/e w:/", 2),
@@ -59,6 +68,30 @@ static ROWS: [(&str, Call, u64); 9] = [
     (
         "text_of, Content",
         Call::Tells(Told::Content(b"ab"), b"OK content 6162\n"),
+        3,
+    ),
+    (
+        "text_of, Shown",
+        Call::Tells(
+            Told::Shown(b"ben", b"/e/b/p1"),
+            b"OK claim h2 ben queued behind c1 w:/e/b/p1 w:/e/b/p1\n",
+        ),
+        6,
+    ),
+    (
+        "text_of, ClaimsAt",
+        Call::Tells(
+            Told::ClaimsAt(ClaimId::Long(4_294_967_295)),
+            b"OK claims 2 c4294967295 c4294967295\n",
+        ),
+        3,
+    ),
+    (
+        "text_of, DraftsOf",
+        Call::Tells(
+            Told::DraftsOf(b"/e/b/p1"),
+            b"OK drafts 3 /e/b/p1 /e/b/p1 /e/b/p1\n",
+        ),
         3,
     ),
     ("outside_text", Call::Refuses(Outside::Busy, b"ERR 80\n"), 1),
@@ -98,6 +131,21 @@ fn is_text<A: Allocator>(text: Result<Vec<u8, A>, NoMemory>, want: &[u8]) -> Opt
     Some(is_right)
 }
 
+/// A hold of a designer of this name that waits, on two items at this path.
+fn shown(global: Global, name: &[u8], path: &[u8]) -> Option<ShownClaim> {
+    let item = PathItem {
+        intent: Intent::Change,
+        path: Path::read(path)?,
+    };
+    let items = Vec::from_slice(global, &[item; 2]).ok()?;
+    Some(ShownClaim {
+        id: ClaimId::Short(2),
+        designer: Name::read(name)?,
+        standing: Standing::Queued(ClaimId::Long(1)),
+        items: Listing::from_vec(items),
+    })
+}
+
 /// The reply, in ample memory.
 fn reply_of(global: Global, told: Told) -> Option<Reply> {
     match told {
@@ -110,6 +158,16 @@ fn reply_of(global: Global, told: Told) -> Option<Reply> {
         Told::Content(bytes) => {
             let bytes = Vec::from_slice(global, bytes).ok()?;
             Some(Reply::Content(Listing::from_vec(bytes)))
+        }
+        Told::Shown(name, path) => Some(Reply::Shown(shown(global, name, path)?)),
+        Told::ClaimsAt(id) => {
+            let ids = Vec::from_slice(global, &[id; 2]).ok()?;
+            Some(Reply::ClaimsAt(Listing::from_vec(ids)))
+        }
+        Told::DraftsOf(path) => {
+            let path = Path::read(path)?;
+            let paths = Vec::from_slice(global, &[path; 3]).ok()?;
+            Some(Reply::DraftsOf(Listing::from_vec(paths)))
         }
     }
 }

@@ -7,3 +7,4 @@ pub mod Extensions
 pub mod Endings
 pub mod Sends
 pub mod LinesMade
+pub mod Reaching

@@ -1,3 +1,4 @@
 pub mod Keyed
 pub mod Lines
 pub mod LongClaims
+pub mod InLine

@@ -57,6 +57,11 @@ impl<A: Allocator + Copy> Claims<A> {
     {
         Kept::new(*self.by_id.allocator(), claim)
     }
+
+    /// The allocator that they are kept in.
+    pub(crate) fn allocator(&self) -> A {
+        *self.by_id.allocator()
+    }
 }
 
 impl<A: Allocator> Claims<A> {

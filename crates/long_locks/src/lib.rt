@@ -2,7 +2,8 @@
 //!
 //! Promises: it keeps the model's list of claims, and each answer is the model's, for the tree that it was weighed over and
 //! for every tree grown from that. An extension goes to the front, or nothing moves. Who is given a check-out, or a note of it,
-//! changes that alone, in its place. A copy equals its source. A line is made
+//! changes that alone, in its place. It lists exactly the claims that look at a place or at one under it (`claims_at`). A copy equals
+//! its source. A line is made
 //! of long claims exactly where they are a vault's (`from_claims`).
 //! Stands on: vault_model, design_tree, lock_modes, lock_table. Must not know: sessions beside their numbers, drafts, files.
 //!
@@ -21,6 +22,7 @@ mod ending;
 mod from_claims;
 mod kept;
 mod line;
+mod looking;
 mod remembered;
 
 pub use from_claims::FromClaimsError;

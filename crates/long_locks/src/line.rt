@@ -6,7 +6,7 @@ ghost use Rattle.vault_model.specs.declared.claims.Claim.{Claim};
 ghost use Rattle.vault_model.specs.declared.place.Place.{Place};
 ghost use Rattle.vault_model.specs.Tree.{IsTree};
 ghost use Rattle.vault_model.specs.declared.ids.ClaimId.TheVariants.{Long};
-ghost use Rattle.vault_model.specs.Claims.{same_id, standing_behind, standing_of, claim_of, without, covering, changed, given_to, noted_as};
+ghost use Rattle.vault_model.specs.Claims.{same_id, standing_behind, standing_of, claim_of, without, covering, changed, given_to, noted_as, claims_at};
 ghost use Rattle.vault_model.specs.Vault.{AreThere};
 ghost use Rattle.vault_model.specs.Limits.{most_claims, last_number};
 ghost use Rattle.lock_table.specs.Tables.{IsTableOf, extension_by};
@@ -14,12 +14,13 @@ ghost use Rattle.long_locks.specs.Lines.{without_session, without_short, new_lin
 
 use crate::claims::Claims;
 use crate::ending::{Ending, drop_all};
+use crate::looking::claims_at;
 use crate::remembered::Remembered;
 use design_tree::Tree;
 use lock_table::{Extension, Table, lock_set};
 use std::alloc::{Allocator, Global};
 use std::marker::Model;
-use vault_model::{Claim, ClaimId, Items, Name, NoMemory, Note, Owner, PlaceId, Standing};
+use vault_model::{Claim, ClaimId, Items, Listing, Name, NoMemory, Note, Owner, PlaceId, Standing};
 
 /// The claims of a vault in order of arrival. Contracts see them as a list, with the last number
 /// that was given to a claim of each kind, and the tree over which a claim was weighed last.
@@ -198,6 +199,17 @@ impl<A: Allocator> Line<A> {
 }
 
 impl<A: Allocator + Copy> Line<A> {
+    /// The claims, held or queued, that look at a place or at one under it, in the order of the line. The work grows with the
+    /// line's items, and the memory with what is listed.
+    pub fn claims_at(&self, tree: &Tree<A>, place: PlaceId) -> Result<Listing<ClaimId, A>, NoMemory>
+        requires grown { IsGrownFrom self.now.tree tree.now }
+        requires there { place ≤ length tree.now }
+        ensures { IfOk result (λ ids. ids ≡ claims_at tree.now self.now.claims place) }
+    {
+        let ids = claims_at(self.claims.allocator(), &self.claims, tree, place)?;
+        Ok(Listing::from_vec(ids))
+    }
+
     /// Puts a new long claim of a designer last, with the next number, and says how it stands there.
     pub fn ask_long(
         &mut self,

@@ -31,7 +31,7 @@ pub enum Met {
 }
 
 /// What each count is of: first what is counted one by one, then phases, what devices kept, and replies.
-pub const COUNTED: [&str; 63] = [
+pub const COUNTED: [&str; 66] = [
     "runs",
     "commands staged",
     "replies told",
@@ -95,12 +95,15 @@ pub const COUNTED: [&str; 63] = [
     "sessions closed",
     "holds released",
     "notes read",
+    "claims shown",
+    "claims at a place listed",
+    "drafts listed",
 ];
 
 /// What the runs covered.
 #[derive(Clone, Copy)]
 pub struct Counts {
-    tallies: [u64; 63],
+    tallies: [u64; 66],
 }
 
 fn place_of_phase(phase: Phase) -> usize {
@@ -162,6 +165,9 @@ fn place_of_reply(reply: &Reply) -> usize {
         Reply::Left => 60,
         Reply::Released => 61,
         Reply::NoteIs(_) => 62,
+        Reply::Shown(_) => 63,
+        Reply::ClaimsAt(_) => 64,
+        Reply::DraftsOf(_) => 65,
         Reply::Refused(refusal) => place_of_refusal(*refusal),
         _ => 44,
     }
@@ -170,7 +176,7 @@ fn place_of_reply(reply: &Reply) -> usize {
 impl Counts {
     /// Nothing yet.
     pub fn new() -> Counts {
-        Counts { tallies: [0; 63] }
+        Counts { tallies: [0; 66] }
     }
 
     fn up_at(&mut self, place: usize) {

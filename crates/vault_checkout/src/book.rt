@@ -79,7 +79,7 @@ fn effect_of<A: Allocator>(id: ClaimId, items: Items) -> Option<EffectIn<A>>
     }
 }
 
-fn find_session(sessions: &[Session], number: u32) -> Option<&Session>
+pub(crate) fn find_session(sessions: &[Session], number: u32) -> Option<&Session>
     ensures { option_copied result ≡ session_of sessions.now number }
 {
     sessions.iter().find(|session| session.number == number)
@@ -346,6 +346,11 @@ impl<A: Allocator + Copy> Book<A> {
             Command::Give(claim, designer) => self.give(session, *claim, *designer),
             Command::Note(claim, text) => self.note(session, *claim, text.as_slice()),
             Command::ReadNote(claim) => self.read_note(*claim),
+            Command::Show(id) => self.show(*id),
+            Command::Claims(path) => self.claims(path),
+            Command::Drafts(claim) => self.drafted(session, *claim),
+            Command::Draft(claim, path) => self.draft(session, *claim, path),
+            Command::Await(id) => self.state(*id),
             Command::Leave => Ok(self.leave(session)),
         }
     }

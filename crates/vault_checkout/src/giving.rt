@@ -13,7 +13,7 @@ use vault_model::{Claim, ClaimId, Effect, Name, Note, Refusal, Reply, Session};
 impl<A: Allocator + Copy> Book<A> {
     /// The claim of this id, held or queued, for one who owns it.
     #[tactic(auto, unfolding(vault_model::specs::Step::owned, vault_model::specs::Step::chained))]
-    fn owned(&self, session: &Session, id: ClaimId) -> Result<Claim, Refusal>
+    pub(crate) fn owned(&self, session: &Session, id: ClaimId) -> Result<Claim, Refusal>
         ensures { result ≡ owned self.now session.now id }
     {
         let Some(claim) = self.line.get(id) else {

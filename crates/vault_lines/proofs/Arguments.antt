@@ -71,6 +71,19 @@ module _ {W : Type 0} (bytes : W → List ℕ) (words : List W) (d : W) (low : 2
         → arguments_in keywords.Give (map bytes words) ≡ Some (commands.Give claim designer)
     all_given designer e = rw (two_words bytes words d low high) (rw (claimed, e) refl)
 
+-- the two of `draft`
+module _ {W : Type 0} (bytes : W → List ℕ) (words : List W) (d : W) (low : 2 ≤ length words) (high : length words < 3) where
+  pub no_claim_read : long_in (bytes (get_or words 0 d)) ≡ None → arguments_in keywords.Draft (map bytes words) ≡ None
+  no_claim_read e = rw (two_words bytes words d low high) (rw e refl)
+
+  module _ (claim : ℕ) (claimed : long_in (bytes (get_or words 0 d)) ≡ Some claim) where
+    pub no_part : path_in (bytes (get_or words 1 d)) ≡ None → arguments_in keywords.Draft (map bytes words) ≡ None
+    no_part e = rw (two_words bytes words d low high) (rw (claimed, e) refl)
+
+    pub draft_asked : (path : List (List ℕ)) → path_in (bytes (get_or words 1 d)) ≡ Some path
+        → arguments_in keywords.Draft (map bytes words) ≡ Some (commands.Draft claim path)
+    draft_asked path e = rw (two_words bytes words d low high) (rw (claimed, e) refl)
+
 -- the one of `hello`, and that of `count`
 module _ {W : Type 0} (bytes : W → List ℕ) (words : List W) (d : W) (low : 1 ≤ length words) (high : length words < 2) where
   pub no_name : name_in (bytes (get_or words 0 d)) ≡ None → arguments_in keywords.Hello (map bytes words) ≡ None
@@ -141,7 +154,7 @@ module _ {W : Type 0} (bytes : W → List ℕ) (words : List W) (d : W) where
           → arguments_in keywords.Note (map bytes words) ≡ Some (commands.Note claim text)
       noted text e = rw (two_words bytes words d low high) (rw (claimed, e) refl)
 
--- the one of `checkin`, `abandon`, `release` and `state`
+-- the one of `checkin`, `abandon`, `release`, `state`, `show`, `wait`, `drafts` and `claims`
 module _ {W : Type 0} (bytes : W → List ℕ) (words : List W) (d : W) (low : 1 ≤ length words) (high : length words < 2) where
   pub checked_in : arguments_in keywords.CheckIn (map bytes words) ≡ (long_in (bytes (get_or words 0 d)) >>= (λ claim. Some (commands.CheckIn claim)))
   checked_in = rw (one_word bytes words d low high) refl
@@ -154,6 +167,18 @@ module _ {W : Type 0} (bytes : W → List ℕ) (words : List W) (d : W) (low : 1
 
   pub asked : arguments_in keywords.State (map bytes words) ≡ (claim_in (bytes (get_or words 0 d)) >>= (λ claim. Some (commands.State claim)))
   asked = rw (one_word bytes words d low high) refl
+
+  pub shown : arguments_in keywords.Show (map bytes words) ≡ (claim_in (bytes (get_or words 0 d)) >>= (λ claim. Some (commands.Show claim)))
+  shown = rw (one_word bytes words d low high) refl
+
+  pub awaited : arguments_in keywords.Wait (map bytes words) ≡ (claim_in (bytes (get_or words 0 d)) >>= (λ claim. Some (commands.Await claim)))
+  awaited = rw (one_word bytes words d low high) refl
+
+  pub drafts_asked : arguments_in keywords.Drafts (map bytes words) ≡ (long_in (bytes (get_or words 0 d)) >>= (λ claim. Some (commands.Drafts claim)))
+  drafts_asked = rw (one_word bytes words d low high) refl
+
+  pub claims_asked : arguments_in keywords.Claims (map bytes words) ≡ (path_in (bytes (get_or words 0 d)) >>= (λ path. Some (commands.Claims path)))
+  claims_asked = rw (one_word bytes words d low high) refl
 
 -- the first of `extend`
 pub extended : {W : Type 0} (bytes : W → List ℕ) (words : List W) (d : W) → 1 ≤ length words

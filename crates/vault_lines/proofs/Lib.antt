@@ -2,6 +2,7 @@ pub mod Numbers
 pub mod Each
 pub mod Arguments
 pub mod Children
+pub mod Putting
 pub mod Steps
 pub mod Contents
 pub mod DigitPairs

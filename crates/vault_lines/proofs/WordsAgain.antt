@@ -24,8 +24,8 @@ use Rattle.vault_lines.specs.Reading.{◌>>=◌, each_in}
 use Rattle.vault_lines.specs.Words.{number_in, positive_in, claim_in, content_in}
 use Rattle.vault_lines.specs.Items.{intent_in, item_in, items_in}
 use Rattle.vault_lines.specs.Grammar.{words_in, command_of}
-use Rattle.vault_lines.specs.Texts.{claim_text}
-use Rattle.vault_lines.specs.Spelling.{IsClaimNumber, IsClaimId, AreItems, intent_letter, item_text, Spells, LineSpells, OneCommand}
+use Rattle.vault_lines.specs.Texts.{claim_text, intent_letter, item_text}
+use Rattle.vault_lines.specs.Spelling.{IsClaimNumber, IsClaimId, AreItems, Spells, LineSpells, OneCommand}
 use Rattle.vault_lines.proofs.Numbers.{number_is}
 use Rattle.vault_lines.proofs.Contents.{content_again, in_content}
 use Rattle.vault_lines.proofs.Steps.{along}
@@ -108,6 +108,14 @@ words_again words (commands.Note number text) h =
     ∙ ap (λ claim. claim >>= λ n. content_in h.1.0 >>= λ t. Some (commands.Note n t)) (positive_again number h.0)
     ∙ ap (λ bytes. bytes >>= λ t. Some (commands.Note number t)) (content_again h.1.0 text h.1.1)
 words_again words (commands.ReadNote number) h = ap words_in h.1 ∙ ap (λ claim. claim >>= λ n. Some (commands.ReadNote n)) (positive_again number h.0)
+words_again words (commands.Show claim) h = ap words_in h.1 ∙ ap (λ claim. claim >>= λ c. Some (commands.Show c)) (claim_again claim h.0)
+words_again words (commands.Claims path) h = ap words_in h.1 ∙ ap (λ path. path >>= λ p. Some (commands.Claims p)) (path_again path h.0)
+words_again words (commands.Drafts number) h = ap words_in h.1 ∙ ap (λ claim. claim >>= λ n. Some (commands.Drafts n)) (positive_again number h.0)
+words_again words (commands.Draft number path) h =
+    ap words_in h.2
+    ∙ ap (λ claim. claim >>= λ n. path_in (path_text path) >>= λ p. Some (commands.Draft n p)) (positive_again number h.0)
+    ∙ ap (λ place. place >>= λ p. Some (commands.Draft number p)) (path_again path h.1)
+words_again words (commands.Await claim) h = ap words_in h.1 ∙ ap (λ claim. claim >>= λ c. Some (commands.Await c)) (claim_again claim h.0)
 words_again words commands.Leave h = ap words_in h
 
 -- No word has a space.
@@ -208,6 +216,12 @@ words_of words (commands.Give number designer) h =
 words_of words (commands.Note number text) h =
     are_words (codes "note") (claim_text (Long number) ∷ h.1.0 ∷ []) h.1.2 refl (in_claim (Long number) h.0, (in_content h.1.0 text h.1.1, tt))
 words_of words (commands.ReadNote number) h = are_words (codes "note") (claim_text (Long number) ∷ []) h.1 refl (in_claim (Long number) h.0, tt)
+words_of words (commands.Show claim) h = are_words (codes "show") (claim_text claim ∷ []) h.1 refl (in_claim claim h.0, tt)
+words_of words (commands.Claims path) h = are_words (codes "claims") (path_text path ∷ []) h.1 refl (in_path path h.0, tt)
+words_of words (commands.Drafts number) h = are_words (codes "drafts") (claim_text (Long number) ∷ []) h.1 refl (in_claim (Long number) h.0, tt)
+words_of words (commands.Draft number path) h =
+    are_words (codes "draft") (claim_text (Long number) ∷ path_text path ∷ []) h.2 refl (in_claim (Long number) h.0, (in_path path h.1, tt))
+words_of words (commands.Await claim) h = are_words (codes "wait") (claim_text claim ∷ []) h.1 refl (in_claim claim h.0, tt)
 words_of words commands.Leave h = are_words (codes "quit") [] h refl tt
 
 pub line_again : (line : List ℕ) (command : Command) → LineSpells line command → command_of line ≡ Some command

@@ -26,8 +26,8 @@ use Rattle.vault_lines.specs.Words.{number_in, positive_in, long_in, short_in, c
 use Rattle.vault_lines.specs.Items.{intent_in, item_in, items_in}
 use Rattle.vault_lines.specs.Keywords.{keyword_in, keyword_text, all_keywords}
 use Rattle.vault_lines.specs.Grammar.{arguments_in, words_in, command_of}
-use Rattle.vault_lines.specs.Texts.{claim_text}
-use Rattle.vault_lines.specs.Spelling.{IsClaimNumber, IsClaimId, AreItems, intent_letter, item_text, Spells, LineSpells}
+use Rattle.vault_lines.specs.Texts.{claim_text, intent_letter, item_text}
+use Rattle.vault_lines.specs.Spelling.{IsClaimNumber, IsClaimId, AreItems, Spells, LineSpells}
 use Rattle.vault_lines.specs.declared.keyword.Keyword.{Keyword}
 use Rattle.vault_lines.specs.declared.keyword.Keyword.TheVariants as keywords
 use Rattle.vault_lines.proofs.Contents.{content_found}
@@ -320,6 +320,12 @@ arguments_found keywords.Count = one_word paths keywords.Count commands.Count re
 arguments_found keywords.Give =
     two_words longs names keywords.Give commands.Give refl (λ _. refl) (λ _ _. refl) (λ _ _ _ _. refl) (λ n name number is. (number, is, refl))
 arguments_found keywords.Note = note_found
+arguments_found keywords.Show = one_word claims keywords.Show commands.Show refl (λ _. refl) (λ _ _ _. refl) (λ id is. (is, refl))
+arguments_found keywords.Claims = one_word paths keywords.Claims commands.Claims refl (λ _. refl) (λ _ _ _. refl) (λ path is. (is, refl))
+arguments_found keywords.Drafts = one_word longs keywords.Drafts commands.Drafts refl (λ _. refl) (λ _ _ _. refl) (λ n is. (is, refl))
+arguments_found keywords.Draft =
+    two_words longs paths keywords.Draft commands.Draft refl (λ _. refl) (λ _ _. refl) (λ _ _ _ _. refl) (λ n path number is. (number, is, refl))
+arguments_found keywords.Wait = one_word claims keywords.Wait commands.Await refl (λ _. refl) (λ _ _ _. refl) (λ id is. (is, refl))
 arguments_found keywords.Quit = quit_found
 
 words_found : (words : List (List ℕ)) (command : Command) → words_in words ≡ Some command → Spells words command

@@ -81,6 +81,22 @@ arguments_in keywords.Note (claim ∷ text ∷ []) = do
   claim ← long_in claim
   text ← content_in text
   Some (commands.Note claim text)
+arguments_in keywords.Show (claim ∷ []) = do
+  claim ← claim_in claim
+  Some (commands.Show claim)
+arguments_in keywords.Claims (path ∷ []) = do
+  path ← path_in path
+  Some (commands.Claims path)
+arguments_in keywords.Drafts (claim ∷ []) = do
+  claim ← long_in claim
+  Some (commands.Drafts claim)
+arguments_in keywords.Draft (claim ∷ path ∷ []) = do
+  claim ← long_in claim
+  path ← path_in path
+  Some (commands.Draft claim path)
+arguments_in keywords.Wait (claim ∷ []) = do
+  claim ← claim_in claim
+  Some (commands.Await claim)
 arguments_in keywords.Quit [] = Some commands.Leave
 arguments_in keyword words = None
 

@@ -22,6 +22,11 @@ keyword_text keywords.Fetch = codes "fetch"
 keyword_text keywords.Count = codes "count"
 keyword_text keywords.Give = codes "give"
 keyword_text keywords.Note = codes "note"
+keyword_text keywords.Show = codes "show"
+keyword_text keywords.Claims = codes "claims"
+keyword_text keywords.Drafts = codes "drafts"
+keyword_text keywords.Draft = codes "draft"
+keyword_text keywords.Wait = codes "wait"
 keyword_text keywords.Quit = codes "quit"
 
 -- every keyword
@@ -29,7 +34,7 @@ abbrev pub all_keywords : List Keyword
 all_keywords =
     keywords.Hello ∷ keywords.Make ∷ keywords.Nest ∷ keywords.CheckOut ∷ keywords.Extend ∷ keywords.Save ∷ keywords.CheckIn
     ∷ keywords.Abandon ∷ keywords.Hold ∷ keywords.Release ∷ keywords.State ∷ keywords.List ∷ keywords.Fetch ∷ keywords.Count ∷ keywords.Give
-    ∷ keywords.Note ∷ keywords.Quit ∷ []
+    ∷ keywords.Note ∷ keywords.Show ∷ keywords.Claims ∷ keywords.Drafts ∷ keywords.Draft ∷ keywords.Wait ∷ keywords.Quit ∷ []
 
 -- the keyword that the word is
 abbrev pub keyword_in : List ℕ → Option Keyword

@@ -6,14 +6,12 @@ use Rattle.hex.specs.Hex.{hex_digit_value, IsBytes}
 use Rattle.vault_model.specs.Said.{Command}
 use Rattle.vault_model.specs.Name.{IsName}
 use Rattle.vault_model.specs.Path.{IsPath, path_text}
-use Rattle.vault_model.specs.declared.ids.Intent.{Intent}
-use Rattle.vault_model.specs.declared.ids.Intent.TheVariants.{Look, Change}
 use Rattle.vault_model.specs.declared.ids.ClaimId.{ClaimId}
 use Rattle.vault_model.specs.declared.ids.ClaimId.TheVariants.{Long, Short}
 use Rattle.vault_model.specs.declared.claims.PathItem.{PathItem}
 use Rattle.vault_model.specs.declared.commands.Command.TheVariants as commands
 use Rattle.vault_lines.specs.Limits.{longest_line}
-use Rattle.vault_lines.specs.Texts.{claim_text, content_text}
+use Rattle.vault_lines.specs.Texts.{claim_text, item_text, content_text}
 use Rattle.vault_lines.specs.Grammar.{command_of}
 
 -- a number that a claim may have
@@ -24,15 +22,6 @@ IsClaimNumber n = (0 < n) × (n < 2 ^ 32)
 abbrev pub IsClaimId : ClaimId → Type 0
 IsClaimId (Long n) = IsClaimNumber n
 IsClaimId (Short n) = IsClaimNumber n
-
--- `r` to look, `w` to change
-abbrev pub intent_letter : Intent → ℕ
-intent_letter Look = 114
-intent_letter Change = 119
-
--- an item is the letter of its intent, a colon and its path
-abbrev pub item_text : PathItem → List ℕ
-item_text item = intent_letter item.intent ∷ 58 ∷ path_text item.path
 
 -- one item or more, each at a path
 abbrev pub AreItems : List PathItem → Type 0
@@ -83,6 +72,12 @@ Spells words (commands.Note number text) =
     IsClaimNumber number
     × ((digits : List ℕ) × ContentSpells digits text × (words ≡ codes "note" ∷ claim_text (Long number) ∷ digits ∷ []))
 Spells words (commands.ReadNote number) = IsClaimNumber number × (words ≡ codes "note" ∷ claim_text (Long number) ∷ [])
+Spells words (commands.Show claim) = IsClaimId claim × (words ≡ codes "show" ∷ claim_text claim ∷ [])
+Spells words (commands.Claims path) = IsPath path × (words ≡ codes "claims" ∷ path_text path ∷ [])
+Spells words (commands.Drafts number) = IsClaimNumber number × (words ≡ codes "drafts" ∷ claim_text (Long number) ∷ [])
+Spells words (commands.Draft number path) =
+    IsClaimNumber number × IsPath path × (words ≡ codes "draft" ∷ claim_text (Long number) ∷ path_text path ∷ [])
+Spells words (commands.Await claim) = IsClaimId claim × (words ≡ codes "wait" ∷ claim_text claim ∷ [])
 Spells words commands.Leave = words ≡ codes "quit" ∷ []
 
 -- the line is words that spell the command, joined by single spaces, and not too long

@@ -5,7 +5,14 @@ use Rattle.hex.specs.Hex.{encode_lower}
 use Rattle.vault_model.specs.Said.{Reply}
 use Rattle.vault_model.specs.declared.ids.ClaimId.{ClaimId}
 use Rattle.vault_model.specs.declared.ids.ClaimId.TheVariants.{Long, Short}
-use Rattle.vault_model.specs.declared.replies.Reply.TheVariants.{Session, Place, Held, Queued, Saved, CheckedIn, Abandoned, Released, Children, Content, Versions, Given, Noted, NoteIs, Left, Refused}
+use Rattle.vault_model.specs.declared.replies.Reply.TheVariants.{Session, Place, Held, Queued, Saved, CheckedIn, Abandoned, Released, Children, Content, Versions, Given, Noted, NoteIs, Shown, ClaimsAt, DraftsOf, Left, Refused}
+use Rattle.vault_model.specs.declared.replies.ShownClaim.{ShownClaim}
+use Rattle.vault_model.specs.declared.claims.PathItem.{PathItem}
+use Rattle.vault_model.specs.declared.claims.Standing.{Standing}
+use Rattle.vault_model.specs.declared.claims.Standing.TheVariants as standings
+use Rattle.vault_model.specs.declared.ids.Intent.{Intent}
+use Rattle.vault_model.specs.declared.ids.Intent.TheVariants.{Look, Change}
+use Rattle.vault_model.specs.Path.{path_text}
 use Rattle.vault_model.specs.declared.replies.Refusal.{Refusal}
 use Rattle.vault_model.specs.declared.replies.Refusal.TheVariants as refusals
 use Rattle.vault_model.specs.declared.replies.Outside.{Outside}
@@ -50,6 +57,34 @@ abbrev pub content_text : List ℕ → List ℕ
 content_text [] = codes "-"
 content_text (byte ∷ bytes) = encode_lower (byte ∷ bytes)
 
+-- `r` to look, `w` to change
+abbrev pub intent_letter : Intent → ℕ
+intent_letter Look = 114
+intent_letter Change = 119
+
+-- an item is the letter of its intent, a colon and its path
+abbrev pub item_text : PathItem → List ℕ
+item_text item = intent_letter item.intent ∷ 58 ∷ path_text item.path
+
+-- how a claim stands, behind its owner
+abbrev pub standing_text : Standing → List ℕ
+standing_text standings.Held = codes " held"
+standing_text (standings.Queued before) = codes " queued behind " ++ claim_text before
+
+-- all that is said of a claim: whose it is, how it stands, and its items, each behind a space
+abbrev pub shown_text : ShownClaim (List PathItem) → List ℕ
+shown_text shown =
+    codes "OK claim " ++ claim_text shown.id ++ codes " " ++ shown.designer ++ standing_text shown.standing
+    ++ flat_map (λ item. 32 ∷ item_text item) shown.items ++ newline
+
+-- claims, each behind a space, after how many there are
+abbrev pub claims_text : List ClaimId → List ℕ
+claims_text ids = codes "OK claims " ++ decimal (length ids) ++ flat_map (λ id. 32 ∷ claim_text id) ids ++ newline
+
+-- paths of drafts, each behind a space, after how many there are
+abbrev pub drafts_text : List (List (List ℕ)) → List ℕ
+drafts_text paths = codes "OK drafts " ++ decimal (length paths) ++ flat_map (λ path. 32 ∷ path_text path) paths ++ newline
+
 -- the line that a reply is told as
 abbrev pub reply_text : Reply → List ℕ
 reply_text (Session number) = codes "OK session " ++ decimal number ++ newline
@@ -66,6 +101,9 @@ reply_text (Versions count) = codes "OK versions " ++ decimal count ++ newline
 reply_text Given = codes "OK given\n"
 reply_text Noted = codes "OK noted\n"
 reply_text (NoteIs note) = codes "OK note " ++ content_text note ++ newline
+reply_text (Shown shown) = shown_text shown
+reply_text (ClaimsAt ids) = claims_text ids
+reply_text (DraftsOf paths) = drafts_text paths
 reply_text Left = codes "OK left\n"
 reply_text (Refused refusal) = refusal_text refusal ++ newline
 

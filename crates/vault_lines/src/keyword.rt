@@ -22,12 +22,17 @@ pub(crate) enum Keyword {
     Count,
     Give,
     Note,
+    Show,
+    Claims,
+    Drafts,
+    Draft,
+    Wait,
     Quit,
 }
 
 impl Keyword {
     /// Every keyword.
-    const ALL: [Keyword; 17] = [
+    const ALL: [Keyword; 22] = [
         Keyword::Hello,
         Keyword::Make,
         Keyword::Nest,
@@ -44,6 +49,11 @@ impl Keyword {
         Keyword::Count,
         Keyword::Give,
         Keyword::Note,
+        Keyword::Show,
+        Keyword::Claims,
+        Keyword::Drafts,
+        Keyword::Draft,
+        Keyword::Wait,
         Keyword::Quit,
     ];
 
@@ -68,6 +78,11 @@ impl Keyword {
             Keyword::Count => b"count",
             Keyword::Give => b"give",
             Keyword::Note => b"note",
+            Keyword::Show => b"show",
+            Keyword::Claims => b"claims",
+            Keyword::Drafts => b"drafts",
+            Keyword::Draft => b"draft",
+            Keyword::Wait => b"wait",
             Keyword::Quit => b"quit",
         }
     }

@@ -13,6 +13,7 @@ mod error;
 mod keyword;
 pub mod laws;
 mod limits;
+mod pieces;
 mod reading;
 mod split;
 mod text;

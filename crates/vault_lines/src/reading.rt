@@ -196,6 +196,62 @@ fn note<A: Allocator>(alloc: A, arguments: &[&[u8]]) -> Result<CommandIn<A>, Lin
     }
 }
 
+/// `show CLAIM`
+fn show<A: Allocator>(arguments: &[&[u8]]) -> Result<CommandIn<A>, LineError>
+    ensures { Gives result (arguments_in keywords.Show (map (λ word. word.now) arguments.now)) }
+{
+    let [claim] = arguments else {
+        return Err(LineError::BadLine);
+    };
+    let claim = read_claim(claim).ok_or(LineError::BadLine)?;
+    Ok(Command::Show(claim))
+}
+
+/// `claims PATH`
+fn claims<A: Allocator>(arguments: &[&[u8]]) -> Result<CommandIn<A>, LineError>
+    ensures { Gives result (arguments_in keywords.Claims (map (λ word. word.now) arguments.now)) }
+{
+    let [path] = arguments else {
+        return Err(LineError::BadLine);
+    };
+    let path = Path::read(path).ok_or(LineError::BadLine)?;
+    Ok(Command::Claims(path))
+}
+
+/// `drafts CNUM`
+fn drafts<A: Allocator>(arguments: &[&[u8]]) -> Result<CommandIn<A>, LineError>
+    ensures { Gives result (arguments_in keywords.Drafts (map (λ word. word.now) arguments.now)) }
+{
+    let [claim] = arguments else {
+        return Err(LineError::BadLine);
+    };
+    let claim = read_long(claim).ok_or(LineError::BadLine)?;
+    Ok(Command::Drafts(claim))
+}
+
+/// `draft CNUM PATH`
+fn draft<A: Allocator>(arguments: &[&[u8]]) -> Result<CommandIn<A>, LineError>
+    ensures { Gives result (arguments_in keywords.Draft (map (λ word. word.now) arguments.now)) }
+{
+    let [claim, path] = arguments else {
+        return Err(LineError::BadLine);
+    };
+    let claim = read_long(claim).ok_or(LineError::BadLine)?;
+    let path = Path::read(path).ok_or(LineError::BadLine)?;
+    Ok(Command::Draft(claim, path))
+}
+
+/// `wait CLAIM`
+fn wait<A: Allocator>(arguments: &[&[u8]]) -> Result<CommandIn<A>, LineError>
+    ensures { Gives result (arguments_in keywords.Wait (map (λ word. word.now) arguments.now)) }
+{
+    let [claim] = arguments else {
+        return Err(LineError::BadLine);
+    };
+    let claim = read_claim(claim).ok_or(LineError::BadLine)?;
+    Ok(Command::Await(claim))
+}
+
 /// `quit`
 fn quit<A: Allocator>(arguments: &[&[u8]]) -> Result<CommandIn<A>, LineError>
     ensures { Gives result (arguments_in keywords.Quit (map (λ word. word.now) arguments.now)) }
@@ -232,6 +288,11 @@ fn read_arguments<A: Allocator>(
         Keyword::Count => count(arguments),
         Keyword::Give => give(arguments),
         Keyword::Note => note(alloc, arguments),
+        Keyword::Show => show(arguments),
+        Keyword::Claims => claims(arguments),
+        Keyword::Drafts => drafts(arguments),
+        Keyword::Draft => draft(arguments),
+        Keyword::Wait => wait(arguments),
         Keyword::Quit => quit(arguments),
     }
 }

@@ -1,11 +1,15 @@
 //! The texts of replies.
 
 ghost use Rattle.std.specs.Prelude.{◌≡◌, ◌++◌, codes, Some, IfOk};
-ghost use Rattle.vault_lines.specs.Texts.{children_text, claim_text, content_text, newline, outside_text, queued_text, refusal_text, reply_text};
+ghost use Rattle.vault_lines.specs.Texts.{children_text, claim_text, claims_text, content_text, drafts_text, newline, outside_text, queued_text, refusal_text, reply_text, shown_text, standing_text};
 
+use crate::pieces::{put_claims, put_drafts, put_items};
 use std::alloc::{AllocError, Allocator};
 use std::fmt;
-use vault_model::{ClaimId, Name, NoMemory, Outside, Refusal, Reply, ReplyIn};
+use vault_model::{
+    ClaimId, Listing, Name, NoMemory, Outside, Path, PathItem, Refusal, Reply, ReplyIn, ShownClaim,
+    Standing,
+};
 
 /// A claim as lines name it: `c1` is a long one, `h1` a short one.
 #[derive(Clone, Copy)]
@@ -18,6 +22,21 @@ impl fmt::Display for ClaimText {
         match self.0 {
             ClaimId::Long(number) => write!(f, "c{number}"),
             ClaimId::Short(number) => write!(f, "h{number}"),
+        }
+    }
+}
+
+/// How a claim stands, behind its owner.
+#[derive(Clone, Copy)]
+struct StandingText(Standing);
+
+impl fmt::Display for StandingText {
+    ghost output = { λ standing. Some (standing_text standing.0) };
+
+    fn fmt<W: fmt::Write>(&self, f: &mut fmt::Formatter<W>) -> fmt::Result {
+        match self.0 {
+            Standing::Held => write!(f, " held"),
+            Standing::Queued(before) => write!(f, " queued behind {}", ClaimText(before)),
         }
     }
 }
@@ -98,6 +117,42 @@ fn text_of_note<A: Allocator + Copy>(alloc: A, note: &[u8]) -> Result<Vec<u8, A>
     Ok(format!(in alloc; "OK note {digits}\n")?.into_bytes())
 }
 
+/// The text of all that is said of a claim.
+fn text_of_shown<A: Allocator + Copy, B: Allocator>(
+    alloc: A,
+    shown: &ShownClaim<Listing<PathItem, B>>,
+) -> Result<Vec<u8, A>, AllocError>
+    ensures { IfOk result (λ text. text.items ≡ shown_text shown.now) }
+{
+    let mut text = format!(in alloc; "OK claim {} ", ClaimText(shown.id))?.into_bytes();
+    let standing = format!(in alloc; "{}", StandingText(shown.standing))?;
+    text.extend_from_slice(shown.designer.as_bytes())?;
+    text.extend_from_slice(standing.as_bytes())?;
+    put_items(&mut text, shown.items.as_slice())?;
+    text.extend_from_slice(b"\n")?;
+    Ok(text)
+}
+
+/// The text of the claims at a place.
+fn text_of_claims<A: Allocator + Copy>(alloc: A, ids: &[ClaimId]) -> Result<Vec<u8, A>, AllocError>
+    ensures { IfOk result (λ text. text.items ≡ claims_text ids.now) }
+{
+    let mut text = format!(in alloc; "OK claims {}", ids.len())?.into_bytes();
+    put_claims(&mut text, ids)?;
+    text.extend_from_slice(b"\n")?;
+    Ok(text)
+}
+
+/// The text of the paths of drafts.
+fn text_of_drafts<A: Allocator + Copy>(alloc: A, paths: &[Path]) -> Result<Vec<u8, A>, AllocError>
+    ensures { IfOk result (λ text. text.items ≡ drafts_text paths.now) }
+{
+    let mut text = format!(in alloc; "OK drafts {}", paths.len())?.into_bytes();
+    put_drafts(&mut text, paths)?;
+    text.extend_from_slice(b"\n")?;
+    Ok(text)
+}
+
 /// The text of a reply, where memory is there.
 fn reply_text_of<A: Allocator + Copy, B: Allocator>(
     alloc: A,
@@ -123,6 +178,9 @@ fn reply_text_of<A: Allocator + Copy, B: Allocator>(
         Reply::Given => Vec::from_slice(alloc, b"OK given\n"),
         Reply::Noted => Vec::from_slice(alloc, b"OK noted\n"),
         Reply::NoteIs(note) => text_of_note(alloc, note.as_bytes()),
+        Reply::Shown(shown) => text_of_shown(alloc, shown),
+        Reply::ClaimsAt(ids) => text_of_claims(alloc, ids.as_slice()),
+        Reply::DraftsOf(paths) => text_of_drafts(alloc, paths.as_slice()),
         Reply::Left => Vec::from_slice(alloc, b"OK left\n"),
         Reply::Refused(refusal) => {
             Ok(format!(in alloc; "{}\n", RefusalText(*refusal))?.into_bytes())

@@ -1,9 +1,9 @@
 -- The conversations that were worked out by hand, computed.
 use Rattle.std.specs.Prelude.{refl}
 use Rattle.vault_model.specs.Claims.{overlap}
-use Rattle.vault_model.specs.Step.{step, decide, chained, join, make, nest, admitted, permitted, usable, check_out, extend, abandon, hold, release, state, list, save, check_in, fetch, count, owned, give, note, read_note}
+use Rattle.vault_model.specs.Step.{step, decide, chained, join, make, nest, admitted, permitted, usable, check_out, extend, abandon, hold, release, state, list, save, check_in, fetch, count, owned, give, note, read_note, show, claims, drafts, draft}
 use Rattle.vault_model.specs.Shelf.{is_shelvable}
-use Rattle.vault_model.specs.Rows.{replies_of, Rows, TwoDesigners, Siblings, LookAndChange, LineMovesUp, CoveredParent, Refusals, ClaimRefusals, RefusedExtension, GrantedExtension, MadeUnderAClaim, HoldsAndLeaving, ExtensionRefusals, DraftsAndVersions, DraftRefusals, GivenAway, DraftsAndPlaceStay, NestedAssemblies, DeepestPaths, NestRefusals}
+use Rattle.vault_model.specs.Rows.{replies_of, Rows, TwoDesigners, Siblings, LookAndChange, LineMovesUp, CoveredParent, Refusals, ClaimRefusals, RefusedExtension, GrantedExtension, MadeUnderAClaim, HoldsAndLeaving, ExtensionRefusals, DraftsAndVersions, DraftRefusals, GivenAway, DraftsAndPlaceStay, NestedAssemblies, DeepestPaths, NestRefusals, WhoHoldsWhat}
 
 two_designers : TwoDesigners
 unfolding replies_of step decide chained join make admitted permitted check_out overlap
@@ -81,6 +81,10 @@ nest_refusals : NestRefusals
 unfolding replies_of step decide chained join make nest admitted permitted usable check_out extend overlap
 nest_refusals = refl
 
+who_holds_what : WhoHoldsWhat
+unfolding replies_of step decide chained join make admitted permitted usable check_out hold save check_in state owned show claims drafts draft overlap is_shelvable
+who_holds_what = refl
+
 pub rows : Rows
 rows = record {
   two_designers = two_designers;
@@ -102,4 +106,5 @@ rows = record {
   nested_assemblies = nested_assemblies;
   deepest_paths = deepest_paths;
   nest_refusals = nest_refusals;
+  who_holds_what = who_holds_what;
 }

@@ -11,6 +11,7 @@ use Rattle.vault_model.specs.contracts.listing.Listing as Listing
 use Rattle.vault_model.specs.contracts.name.Name as Name
 use Rattle.vault_model.specs.contracts.place.Place as Place
 use Rattle.vault_model.specs.contracts.replies.Reply as Reply
+use Rattle.vault_model.specs.contracts.replies.ShownClaim as ShownClaim
 use Rattle.vault_model.specs.contracts.session.Session as Session
 
 -- The lemmas by which a search goes down through a type to its fields. Where a field is large, the lemma of its type stands before the search.
@@ -37,5 +38,8 @@ listing_send A g X x s f = search fields depth 20
 pub draft_send : (X : RattleType) → IsSend X → IsSend (Draft.the_field X).row
 draft_send X x = search fields depth 20
 
-pub reply_send : (X Y : RattleType) → IsSend X → IsSend Y → IsSend (Reply.the_field X Y).row
-reply_send X Y x y = let T = Reply.the_type X Y in enum_send (enum_shape T) (search fields depth 40 fits 20000)
+pub shown_claim_send : (X : RattleType) → IsSend X → IsSend (ShownClaim.the_field X).row
+shown_claim_send X x = search fields depth 20 fits 20000
+
+pub reply_send : (N C I L P : RattleType) → IsSend N → IsSend C → IsSend I → IsSend L → IsSend P → IsSend (Reply.the_field N C I L P).row
+reply_send N C I L P n c i l p = let T = Reply.the_type N C I L P in enum_send (enum_shape T) (search fields depth 40 fits 20000)

@@ -25,7 +25,7 @@ use Rattle.vault_model.specs.Shelf.{is_shelvable}
 use Rattle.vault_model.specs.Drafts.{new_draft, drafts_of}
 use Rattle.vault_model.specs.Vault.{Vault, AreThere, session_of, counted, counted_in}
 use Rattle.vault_model.specs.Changes.{with_session, gone, with_place, with_check_out, with_hold, with_items, with_content, with_versions, without_check_out, with_owner, with_note, without_hold}
-use Rattle.vault_model.specs.Step.{Outcome, ◌>>=◌, chained, refuse_if, refuse_by, is_owned_by, placed, owned, usable, join, permitted, admitted, make, nest, check_out, extension, extend, abandon, hold, release, state, list, may_save, save, check_in, fetch, count, give, note, read_note, at_door, in_session, decide, outcome_of, step}
+use Rattle.vault_model.specs.Step.{Outcome, ◌>>=◌, chained, refuse_if, refuse_by, is_owned_by, placed, owned, usable, join, permitted, admitted, make, nest, check_out, extension, extend, abandon, hold, release, state, list, may_save, save, check_in, fetch, count, give, note, read_note, show, claims, drafts, draft, at_door, in_session, decide, outcome_of, step}
 use Rattle.vault_model.proofs.Overlaps.{neither}
 use Rattle.vault_model.proofs.Growth.{find_place_there}
 use Rattle.vault_model.proofs.Kept.{length-placed, session_stands}
@@ -225,7 +225,7 @@ module _ (v : Vault) where
       joined name (grind (arith, nat_tests, free.0)) free.1)
 
   session_is : (session : Session) → is_some (session_of v.sessions session.number) ≡ true → (command : Command) → Decided v (in_session v session command)
-  unfolding Decided make nest check_out extend save check_in abandon hold release state list fetch count give note read_note
+  unfolding Decided make nest check_out extend save check_in abandon hold release state list fetch count give note read_note show claims drafts draft
   session_is session stands (commands.Join name) = tt
   session_is session stands (commands.Make path claim) =
       finds _ _ _ (λ name _. finds_place _ _ _ (λ parent there. passes _ _ _ (λ above. admits _ _ _ _ _ (λ fresh room.
@@ -252,6 +252,11 @@ module _ (v : Vault) where
   session_is session stands (commands.Give number designer) = owns _ _ _ (λ claim found. given number designer claim found)
   session_is session stands (commands.Note number text) = owns _ _ _ (λ claim found. holds _ _ _ (λ short. noted number text claim found short))
   session_is session stands (commands.ReadNote number) = follows _ _ (λ _ _. answered)
+  session_is session stands (commands.Show id) = follows _ _ (λ _ _. follows _ _ (λ _ _. follows _ _ (λ _ _. answered)))
+  session_is session stands (commands.Claims path) = follows _ _ (λ _ _. answered)
+  session_is session stands (commands.Drafts number) = follows _ _ (λ _ _. answered)
+  session_is session stands (commands.Draft number path) = follows _ _ (λ _ _. follows _ _ (λ _ _. follows _ _ (λ _ _. follows _ _ (λ _ _. answered))))
+  session_is session stands (commands.Await id) = follows _ _ (λ _ _. answered)
   session_is session stands commands.Leave = left session.number
 
   pub decide_is : (n : ℕ) (command : Command) → Decided v (decide v n command)

@@ -1,6 +1,7 @@
 -- The drafts that check-outs saved: at most one of each part in a check-out. This project's own.
-use Rattle.std.specs.Prelude.{◌≡◌, ℕ, true, Bool, ◌&&◌, ◌||◌, ◌==◌, not, nat_lt, List, [], ◌∷◌, ◌++◌, map, filter}
+use Rattle.std.specs.Prelude.{◌≡◌, ℕ, true, Bool, ◌&&◌, ◌||◌, ◌==◌, not, nat_lt, List, [], ◌∷◌, ◌++◌, map, filter, find, Option}
 use Rattle.std.specs.List.{AllByRecursion}
+use Rattle.std.specs.Option.{option_map}
 use Rattle.vault_model.specs.Shelf.{Draft, draft_at, drafts_weight}
 
 -- a draft, with the number of the check-out that saved it
@@ -24,10 +25,15 @@ comes_before x y = nat_lt x.claim y.claim || ((x.claim == y.claim) && nat_lt x.d
 abbrev pub with_draft : List SavedDraft → SavedDraft → List SavedDraft
 with_draft drafts new = filter (λ x. comes_before x new) drafts ++ new ∷ filter (λ x. comes_before new x) drafts
 
--- the drafts of a check-out, by rising place; and those of the others
+-- the drafts of a check-out, by rising place
 abbrev pub drafts_of : List SavedDraft → ℕ → List Draft
 drafts_of drafts number = map (λ (x : SavedDraft). x.draft) (filter (λ (x : SavedDraft). x.claim == number) drafts)
 
+-- the content of the draft of a place among these
+abbrev pub content_at : List Draft → ℕ → Option (List ℕ)
+content_at drafts place = option_map (λ (x : Draft). x.content) (find (λ (x : Draft). x.place == place) drafts)
+
+-- the drafts of the other check-outs
 abbrev pub without_drafts : List SavedDraft → ℕ → List SavedDraft
 without_drafts drafts number = filter (λ (x : SavedDraft). not (x.claim == number)) drafts
 

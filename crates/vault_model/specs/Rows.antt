@@ -1,10 +1,13 @@
 -- Conversations worked out by hand, which the definitions have to give.
 use Rattle.std.specs.Prelude.{◌≡◌, ℕ, List, [], ◌∷◌, ◌++◌, None, Some, codes, replicate}
 use Rattle.vault_model.specs.Said.{Command, Reply}
-use Rattle.vault_model.specs.declared.commands.Command.TheVariants.{Join, Make, Nest, CheckOut, Extend, Save, CheckIn, Abandon, Hold, Release, State, List as Names, Fetch, Count, Give, Note, ReadNote, Leave}
-use Rattle.vault_model.specs.declared.replies.Reply.TheVariants.{Session, Place, Held, Queued, Saved, CheckedIn, Abandoned, Released, Children, Content, Versions, Given, Noted, NoteIs, Left, Refused}
+use Rattle.vault_model.specs.declared.commands.Command.TheVariants.{Join, Make, Nest, CheckOut, Extend, Save, CheckIn, Abandon, Hold, Release, State, List as Names, Fetch, Count, Give, Note, ReadNote, Show, Claims, Drafts, Draft, Await, Leave}
+use Rattle.vault_model.specs.declared.replies.Reply.TheVariants.{Session, Place, Held, Queued, Saved, CheckedIn, Abandoned, Released, Children, Content, Versions, Given, Noted, NoteIs, Shown, ClaimsAt, DraftsOf, Left, Refused}
 use Rattle.vault_model.specs.declared.replies.Refusal.TheVariants.{NoSession, Joined, NoPlace, Exists, WrongKind, Covered, NoClaim, NotYours, NotHeld, Overlaps, NotCovered, ItemCount, NoVersion, Limit}
 use Rattle.vault_model.specs.declared.claims.PathItem.{PathItem}
+use Rattle.vault_model.specs.declared.claims.Standing.{Standing}
+use Rattle.vault_model.specs.declared.claims.Standing.TheVariants as standings
+use Rattle.vault_model.specs.declared.ids.ClaimId.{ClaimId}
 use Rattle.vault_model.specs.declared.ids.ClaimId.TheVariants.{Long, Short}
 use Rattle.vault_model.specs.declared.ids.Intent.TheVariants.{Look, Change}
 use Rattle.vault_model.specs.Vault.{Vault, new_vault}
@@ -248,6 +251,28 @@ NestRefusals =
     ∷ Refused Exists ∷ Refused (Covered (Long 1)) ∷ Refused NoClaim ∷ Refused NotYours ∷ Refused NotCovered ∷ Held (Long 1) ∷ Place 5
     ∷ Refused Exists ∷ [])
 
+-- what is said of a claim
+abbrev pub shown : ClaimId → List ℕ → Standing → List PathItem → Reply
+shown id designer standing items = Shown (record { id = id; designer = designer; standing = standing; items = items })
+
+-- anybody may ask whose a claim is and which claims look at a place or under it; the drafts are their owner's to read
+abbrev pub WhoHoldsWhat : Type 0
+WhoHoldsWhat =
+    Told
+    ((1, CheckOut (look path_b ∷ change path_p1 ∷ [])) ∷ (2, Hold (look path_p2 ∷ [])) ∷ (2, CheckOut (change path_b ∷ []))
+    ∷ (2, Show (Long 1)) ∷ (1, Show (Short 1)) ∷ (1, Show (Long 2)) ∷ (1, Claims path_p2) ∷ (1, Claims path_p1)
+    ∷ (1, Claims (codes "x" ∷ [])) ∷ (1, Show (Long 9)) ∷ (1, Save 1 path_p1 (0 ∷ [])) ∷ (1, Drafts 1) ∷ (2, Drafts 1)
+    ∷ (1, Draft 1 path_p1) ∷ (1, Draft 1 path_p2) ∷ (1, Draft 1 path_b) ∷ (2, Draft 1 path_p1) ∷ (2, Drafts 2) ∷ (1, Claims [])
+    ∷ (1, Drafts 9) ∷ (1, CheckIn 1) ∷ (1, Show (Long 1)) ∷ (2, Show (Long 2)) ∷ (1, Await (Long 2)) ∷ (1, Await (Short 1))
+    ∷ (1, Await (Long 1)) ∷ (0, Show (Long 2)) ∷ [])
+    (Held (Long 1) ∷ Held (Short 1) ∷ Queued (Long 2) (Long 1) ∷ shown (Long 1) anna standings.Held (look path_b ∷ change path_p1 ∷ [])
+    ∷ shown (Short 1) ben standings.Held (look path_p2 ∷ []) ∷ shown (Long 2) ben (standings.Queued (Long 1)) (change path_b ∷ [])
+    ∷ ClaimsAt (Long 1 ∷ Short 1 ∷ Long 2 ∷ []) ∷ ClaimsAt (Long 1 ∷ Long 2 ∷ []) ∷ Refused NoPlace ∷ Refused NoClaim ∷ Saved
+    ∷ DraftsOf (path_p1 ∷ []) ∷ Refused NotYours ∷ Content (0 ∷ []) ∷ Refused NoVersion ∷ Refused WrongKind ∷ Refused NotYours
+    ∷ DraftsOf [] ∷ ClaimsAt (Long 1 ∷ Short 1 ∷ Long 2 ∷ []) ∷ Refused NoClaim ∷ CheckedIn 1 ∷ Refused NoClaim
+    ∷ shown (Long 2) ben (standings.Queued (Short 1)) (change path_b ∷ []) ∷ Queued (Long 2) (Short 1) ∷ Held (Short 1) ∷ Refused NoClaim
+    ∷ Refused NoSession ∷ [])
+
 -- all of them
 pub record Rows : Type 0 where
   pub two_designers : TwoDesigners
@@ -269,3 +294,4 @@ pub record Rows : Type 0 where
   pub nested_assemblies : NestedAssemblies
   pub deepest_paths : DeepestPaths
   pub nest_refusals : NestRefusals
+  pub who_holds_what : WhoHoldsWhat

@@ -1,5 +1,6 @@
 -- Commands, replies and effects over plain lists, which is all that the definitions see of their memory.
 use Rattle.std.specs.Prelude.{ℕ, List}
+use Rattle.vault_model.specs.declared.ids.ClaimId.{ClaimId}
 use Rattle.vault_model.specs.declared.claims.PathItem.{PathItem}
 use Rattle.vault_model.specs.declared.commands.Command.{Command as CommandOver}
 use Rattle.vault_model.specs.declared.replies.Reply.{Reply as ReplyOver}
@@ -9,9 +10,9 @@ use Rattle.vault_model.specs.declared.effects.Effect.{Effect as EffectOver}
 abbrev pub Command : Type 0
 Command = CommandOver (List PathItem) (List ℕ)
 
--- what a command is told, with plain lists for a listing and for a content
+-- what a command is told, with plain lists for names, a content, items, claims and paths
 abbrev pub Reply : Type 0
-Reply = ReplyOver (List (List ℕ)) (List ℕ)
+Reply = ReplyOver (List (List ℕ)) (List ℕ) (List PathItem) (List ClaimId) (List (List (List ℕ)))
 
 -- what a command changed for good, with a plain list for a content
 abbrev pub Effect : Type 0

@@ -1,6 +1,6 @@
 -- What each command does: its refusals in order, the first that applies, and else its reply, change and effect.
 -- This project's own.
-use Rattle.std.specs.Prelude.{ℕ, ◌+◌, Bool, true, false, not, ◌||◌, ◌&&◌, ◌==◌, nat_le, nat_lt, if◌then◌else◌, List, [], ◌∷◌, ◌++◌, length, Option, None, Some, is_some, Result, Ok, Err}
+use Rattle.std.specs.Prelude.{ℕ, ◌+◌, Bool, true, false, not, ◌||◌, ◌&&◌, ◌==◌, nat_le, nat_lt, if◌then◌else◌, List, [], ◌∷◌, ◌++◌, length, map, Option, None, Some, is_some, Result, Ok, Err}
 use Rattle.std.specs.Option.{option_map, option_and_then, ok_or}
 use Rattle.vault_model.specs.Said.{Command, Reply, Effect}
 use Rattle.vault_model.specs.declared.commands.Command.TheVariants as commands
@@ -23,11 +23,11 @@ use Rattle.std.specs.Str.{bytes_eq}
 use Rattle.vault_model.specs.Path.{front, last}
 use Rattle.vault_model.specs.Limits.{most_items, most_claims, most_sessions, last_number, longest_content, most_drafts, most_weight}
 use Rattle.vault_model.specs.Note.{is_note}
-use Rattle.vault_model.specs.Shelf.{versions_of, numbered, is_shelvable}
-use Rattle.vault_model.specs.Drafts.{SavedDraft, new_draft, with_draft, drafts_of}
+use Rattle.vault_model.specs.Shelf.{Draft, versions_of, numbered, is_shelvable}
+use Rattle.vault_model.specs.Drafts.{SavedDraft, new_draft, with_draft, drafts_of, content_at}
 use Rattle.vault_model.specs.declared.place.Kind.TheVariants.{Assembly}
-use Rattle.vault_model.specs.Tree.{find_place, child, names_under, is_part, is_full, kind_under, may_nest_under}
-use Rattle.vault_model.specs.Claims.{claim_of, is_held, is_session, in_way_of, change_set, covering, standing_behind, standing_of}
+use Rattle.vault_model.specs.Tree.{find_place, child, names_under, path_of, is_part, is_full, kind_under, may_nest_under}
+use Rattle.vault_model.specs.Claims.{claim_of, is_held, is_session, in_way_of, change_set, covering, standing_behind, standing_of, claims_at}
 use Rattle.vault_model.specs.Vault.{Vault, weight_of, session_of, counted}
 use Rattle.vault_model.specs.Changes.{with_session, gone, with_place, with_check_out, with_hold, with_items, with_content, with_versions, without_check_out, with_owner, with_note, without_hold}
 
@@ -298,7 +298,7 @@ release v session number = do
     effect = None;
   })
 
--- `state`: whether a claim is held, or behind which one it is queued; anybody may ask
+-- `state`, and `wait`: whether a claim is held, or behind which one it is queued; anybody may ask
 unfoldable pub state : Vault → ClaimId → Result Outcome Refusal
 state v id = do
   standing ← ok_or (standing_of v.tree v.line id) NoClaim
@@ -314,6 +314,60 @@ list v path = do
   place ← ok_or (find_place v.tree path) NoPlace
   Ok (record {
     reply = replies.Children (names_under v.tree place);
+    vault = v;
+    effect = None;
+  })
+
+-- whose a claim is: a designer's, or that of its session's designer
+abbrev pub designer_of : List Session → Owner → Option (List ℕ)
+designer_of sessions (owners.Designer name) = Some name
+designer_of sessions (owners.Session number) = option_map (λ (s : Session). s.name) (session_of sessions number)
+
+-- an item with the path of its place
+abbrev pub at_path : List Place → Item → PathItem
+at_path tree item = record { intent = item.intent; path = path_of tree item.place }
+
+-- `show`: whose a claim is, how it stands and what it has; anybody may ask
+unfoldable pub show : Vault → ClaimId → Result Outcome Refusal
+show v id = do
+  claim ← ok_or (claim_of v.line id) NoClaim
+  standing ← ok_or (standing_of v.tree v.line id) NoClaim
+  designer ← ok_or (designer_of v.sessions claim.owner) NoClaim
+  Ok (record {
+    reply = replies.Shown (record { id = id; designer = designer; standing = standing; items = map (at_path v.tree) claim.items });
+    vault = v;
+    effect = None;
+  })
+
+-- `claims`: which claims, held or queued, look at a place or at one under it; anybody may ask
+unfoldable pub claims : Vault → List (List ℕ) → Result Outcome Refusal
+claims v path = do
+  place ← ok_or (find_place v.tree path) NoPlace
+  Ok (record {
+    reply = replies.ClaimsAt (claims_at v.tree v.line place);
+    vault = v;
+    effect = None;
+  })
+
+-- `drafts`: the paths of the parts of which a check-out of the session's designer has drafts, by rising place
+unfoldable pub drafts : Vault → Session → ℕ → Result Outcome Refusal
+drafts v session number = do
+  _ ← owned v session (Long number)
+  Ok (record {
+    reply = replies.DraftsOf (map (λ (x : Draft). path_of v.tree x.place) (drafts_of v.drafts number));
+    vault = v;
+    effect = None;
+  })
+
+-- `draft`: the content of the draft of a part that a check-out of the session's designer has
+unfoldable pub draft : Vault → Session → ℕ → List (List ℕ) → Result Outcome Refusal
+draft v session number path = do
+  _ ← owned v session (Long number)
+  place ← ok_or (find_place v.tree path) NoPlace
+  _ ← refuse_if (not (is_part v.tree place)) WrongKind
+  content ← ok_or (content_at (drafts_of v.drafts number) place) NoVersion
+  Ok (record {
+    reply = replies.Content content;
     vault = v;
     effect = None;
   })
@@ -356,6 +410,11 @@ in_session v session (commands.Count path) = count v path
 in_session v session (commands.Give number designer) = give v session number designer
 in_session v session (commands.Note number text) = note v session number text
 in_session v session (commands.ReadNote number) = read_note v number
+in_session v session (commands.Show id) = show v id
+in_session v session (commands.Claims path) = claims v path
+in_session v session (commands.Drafts number) = drafts v session number
+in_session v session (commands.Draft number path) = draft v session number path
+in_session v session (commands.Await id) = state v id
 in_session v session commands.Leave = Ok (leave v session)
 
 -- what a command does, before it is counted; a number without a standing session is no session

@@ -41,6 +41,16 @@ pub enum Command<Wanted = Listing<PathItem, Global>, Content = Listing<u8, Globa
     Note(u32, Content),
     /// Asks for the note of the long claim of this number.
     ReadNote(u32),
+    /// Asks for all that is said of a claim.
+    Show(ClaimId),
+    /// Asks which claims look at a place, or at one under it.
+    Claims(Path),
+    /// Asks of which parts the long claim of this number has drafts.
+    Drafts(u32),
+    /// Asks for the content of the draft of a part that the long claim of this number has.
+    Draft(u32, Path),
+    /// Asks how a claim stands, once it is held or gone.
+    Await(ClaimId),
     /// Closes the session.
     Leave,
 }
@@ -73,6 +83,11 @@ impl<A: Allocator> CommandIn<A> {
             Command::Give(number, designer) => Command::Give(*number, *designer),
             Command::Note(number, text) => Command::Note(*number, text.copy(alloc)?),
             Command::ReadNote(number) => Command::ReadNote(*number),
+            Command::Show(id) => Command::Show(*id),
+            Command::Claims(path) => Command::Claims(*path),
+            Command::Drafts(number) => Command::Drafts(*number),
+            Command::Draft(number, path) => Command::Draft(*number, *path),
+            Command::Await(id) => Command::Await(*id),
             Command::Leave => Command::Leave,
         })
     }

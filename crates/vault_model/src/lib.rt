@@ -53,7 +53,7 @@ pub use name::Name;
 pub use note::Note;
 pub use path::Path;
 pub use place::{Kind, Place};
-pub use replies::{Outside, Refusal, Reply, ReplyIn};
+pub use replies::{Outside, Refusal, Reply, ReplyIn, ShownClaim};
 pub use session::Session;
 use std::alloc::AllocError;
 use thiserror::Error;

@@ -1,7 +1,7 @@
 //! What a session is told.
 ghost use Rattle.std.specs.Prelude.{◌≡◌, IfOk};
 
-use crate::{ClaimId, Listing, Name, NoMemory, Note};
+use crate::{ClaimId, Listing, Name, NoMemory, Note, Path, PathItem, Standing};
 use std::alloc::{Allocator, Global};
 use thiserror::Error;
 
@@ -51,9 +51,40 @@ pub enum Outside {
     Broken,
 }
 
-/// The reply to a command, over how its list of names is kept.
+/// All that is said of a claim, over how its list of items is kept.
 #[derive(Debug, PartialEq, Eq, Drop)]
-pub enum Reply<Names = Listing<Name, Global>, Content = Listing<u8, Global>> {
+pub struct ShownClaim<Items = Listing<PathItem, Global>> {
+    pub id: ClaimId,
+    /// Whose it is; of a hold, the designer of its session.
+    pub designer: Name,
+    pub standing: Standing,
+    /// Its items in their order, each with the path that its place has now.
+    pub items: Items,
+}
+
+impl<A: Allocator> ShownClaim<Listing<PathItem, A>> {
+    /// The same claim in memory of this or another kind.
+    fn copy<B: Allocator>(&self, alloc: B) -> Result<ShownClaim<Listing<PathItem, B>>, NoMemory>
+        ensures { IfOk result (λ copy. copy ≡ self.now) }
+    {
+        Ok(ShownClaim {
+            id: self.id,
+            designer: self.designer,
+            standing: self.standing,
+            items: self.items.copy(alloc)?,
+        })
+    }
+}
+
+/// The reply to a command, over how its lists are kept.
+#[derive(Debug, PartialEq, Eq, Drop)]
+pub enum Reply<
+    Names = Listing<Name, Global>,
+    Content = Listing<u8, Global>,
+    Items = Listing<PathItem, Global>,
+    Claims = Listing<ClaimId, Global>,
+    Paths = Listing<Path, Global>,
+> {
     /// The session of this number was opened.
     Session(u32),
     /// The place of this number was made.
@@ -72,7 +103,7 @@ pub enum Reply<Names = Listing<Name, Global>, Content = Listing<u8, Global>> {
     Released,
     /// The names of the places right under one, by their numbers.
     Children(Names),
-    /// The content of a version.
+    /// The content of a version, or of a draft.
     Content(Content),
     /// How many versions a part has.
     Versions(u32),
@@ -82,6 +113,12 @@ pub enum Reply<Names = Listing<Name, Global>, Content = Listing<u8, Global>> {
     Noted,
     /// The note of a claim.
     NoteIs(Note),
+    /// All that is said of a claim.
+    Shown(ShownClaim<Items>),
+    /// The claims that look at a place or at one under it, in the order of the line.
+    ClaimsAt(Claims),
+    /// The paths of the parts of which a claim has drafts, by the parts' numbers.
+    DraftsOf(Paths),
     /// The session was closed.
     Left,
     /// The command was refused, and changed nothing but the count of its session.
@@ -89,7 +126,13 @@ pub enum Reply<Names = Listing<Name, Global>, Content = Listing<u8, Global>> {
 }
 
 /// A reply in an allocator's memory.
-pub type ReplyIn<A> = Reply<Listing<Name, A>, Listing<u8, A>>;
+pub type ReplyIn<A> = Reply<
+    Listing<Name, A>,
+    Listing<u8, A>,
+    Listing<PathItem, A>,
+    Listing<ClaimId, A>,
+    Listing<Path, A>,
+>;
 
 impl<A: Allocator> ReplyIn<A> {
     /// The same reply in memory of this or another kind.
@@ -111,6 +154,9 @@ impl<A: Allocator> ReplyIn<A> {
             Reply::Given => Reply::Given,
             Reply::Noted => Reply::Noted,
             Reply::NoteIs(note) => Reply::NoteIs(*note),
+            Reply::Shown(shown) => Reply::Shown(shown.copy(alloc)?),
+            Reply::ClaimsAt(claims) => Reply::ClaimsAt(claims.copy(alloc)?),
+            Reply::DraftsOf(paths) => Reply::DraftsOf(paths.copy(alloc)?),
             Reply::Left => Reply::Left,
             Reply::Refused(refusal) => Reply::Refused(*refusal),
         })

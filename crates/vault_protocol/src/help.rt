@@ -17,6 +17,11 @@ A line is '@K LINE' for a connection K of 1 to 64, and LINE is one of:
   hold ITEM ..          asks for a claim that ends with the session
   release CLAIM         gives up such a claim, as h1
   state CLAIM           says whether a claim is held, or behind which one it is queued
+  wait CLAIM            says the same; a script waits for nobody
+  show CLAIM            says whose a claim is, how it stands and what it has
+  claims PATH           lists the claims that look at a place or at one under it
+  drafts CLAIM          lists the parts of which a check-out of one's own has drafts
+  draft CLAIM PART      shows the draft of a part that such a check-out has
   fetch PART VERSION    shows a version of a part, from 1 on
   count PART            says how many versions a part has
   quit                  closes the session

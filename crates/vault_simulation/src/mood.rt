@@ -3,7 +3,7 @@
 use crate::dice::Dice;
 
 // Lines, each as often as it is drawn. A capital stands for a random word (speech.rt).
-const LINES: [&str; 42] = [
+const LINES: [&str; 47] = [
     "hello N",
     "make P",
     "make P",
@@ -45,6 +45,11 @@ const LINES: [&str; 42] = [
     "list P",
     "fetch P V",
     "count P",
+    "show C",
+    "claims P",
+    "drafts K",
+    "draft K D",
+    "wait C",
     "quit",
 ];
 

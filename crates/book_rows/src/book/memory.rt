@@ -183,7 +183,7 @@ fn each_request_of_a_book_is_refused(rt: HostRuntime) {
 }
 
 /// A call, what is tried, and how many requests it makes.
-static WANTED: [(&str, Call, u64); 31] = [
+static WANTED: [(&str, Call, u64); 36] = [
     (
         "Book::apply, Made",
         Call::Does(Durable, Applies(Row::Made(2, "p3"))),
@@ -335,6 +335,37 @@ static WANTED: [(&str, Call, u64); 31] = [
     (
         "Book::act, ReadNote",
         Call::Does(Anna, Says(1, "note c2", "OK note -", NONE)),
+        0,
+    ),
+    (
+        "Book::act, Show",
+        Call::Does(
+            Anna,
+            Says(1, "show h1", "OK claim h1 anna queued behind c2 r:/", NONE),
+        ),
+        1,
+    ),
+    (
+        "Book::act, Claims",
+        Call::Does(Anna, Says(1, "claims /e", "OK claims 4 c2 h1 c3 c4", NONE)),
+        1,
+    ),
+    (
+        "Book::act, Drafts",
+        Call::Does(Anna, Says(1, "drafts c2", "OK drafts 1 /e/b/p", NONE)),
+        1,
+    ),
+    (
+        "Book::act, Draft",
+        Call::Does(
+            Anna,
+            Says(1, "draft c2 /e/b/p", "OK content 7365636f6e64", NONE),
+        ),
+        1,
+    ),
+    (
+        "Book::act, Await",
+        Call::Does(Anna, Says(1, "wait h1", "OK queued h1 behind c2", NONE)),
         0,
     ),
     (

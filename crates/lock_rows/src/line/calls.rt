@@ -39,6 +39,8 @@ pub(super) enum Row {
     /// Up to here.
     NoMemoryTo,
     Covered(u32, Option<ClaimId>),
+    /// The claims that look at a place or at one under it.
+    ClaimsAt(u32, &'static [ClaimId]),
     Stands(ClaimId, Option<Standing>),
     /// The check-out at a position, its designer, its items and its note.
     At(usize, ClaimId, &'static str, &'static [Wish], &'static str),
@@ -117,6 +119,27 @@ fn is_made<'a>(
     }
 }
 
+// Whether the claims that look at a place or at one under it are these.
+fn lists<'a>(
+    rt: &impl Abort,
+    line: &Line<Memory<'a>>,
+    tree: &Tree<Memory<'a>>,
+    place: u32,
+    ids: &[ClaimId],
+) -> Tried
+    requires { IsGrownFrom line.now.tree tree.now }
+{
+    assert!(rt; (place as usize) < tree.len());
+    match line.claims_at(tree, PlaceId(place)) {
+        Ok(told) => {
+            let is_right = told.as_slice() == ids;
+            drop(told);
+            Tried::done(is_right)
+        }
+        Err(NoMemory) => Tried::Refused,
+    }
+}
+
 // Whether a check-out stands at a position, with this designer, these items and this note.
 fn is_at(
     rt: &impl Abort,
@@ -185,6 +208,7 @@ pub(super) fn act<'a>(
             answers(extend(rt, line, tree, id, items_of(rt, wishes)), told)
         }
         Row::PutFirst(id, wishes) => put_first(rt, line, tree, id, wishes),
+        Row::ClaimsAt(place, ids) => lists(rt, line, tree, place, ids),
         Row::Drop(id) => {
             line.drop_claim(id);
             Tried::Done

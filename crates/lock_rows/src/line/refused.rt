@@ -12,7 +12,7 @@ use lock_table::Extension::Done;
 use long_locks::Line;
 use std::process::Abort;
 use test_memory::{Refusing, Tried, requests};
-use vault_model::{Intent, Standing};
+use vault_model::{ClaimId, Intent, Standing};
 
 // Tries a row. Refused, the line is as another, and the next try succeeds.
 fn takes<'a>(
@@ -88,7 +88,7 @@ const QUEUED: [Row; 4] = [
 /// Calls, what comes before them, and how many requests each makes. Of a copy four are for the claims, thirteen for their modes; of
 /// a line of claims four for the claims, twelve for their modes; of the first claim four for the claim, and six for its modes. Those
 /// of the front are all for its modes.
-static WANTED: [(&str, &[Row], Row, u64); 10] = [
+static WANTED: [(&str, &[Row], Row, u64); 11] = [
     ("Line::new", &[], Row::New, 1),
     ("Line::ask_long", &[], ASKED, 11),
     ("Line::ask_short", &[], Row::Hold(1, &[(Look, 1)], Held), 11),
@@ -108,6 +108,12 @@ static WANTED: [(&str, &[Row], Row, u64); 10] = [
     ("Line::ask_long, behind 16", &SIXTEEN, ASKED, 6),
     ("Line::ask_long, behind 32", &THIRTY_TWO, ASKED, 6),
     ("Line::copy", &QUEUED, Row::Copy, 21),
+    (
+        "Line::claims_at",
+        &QUEUED,
+        Row::ClaimsAt(3, &[C1, C2, ClaimId::Short(1)]),
+        1,
+    ),
     (
         "Line::from_claims",
         &[],
