@@ -73,6 +73,7 @@ pub struct Holding<'a, H: Clock> {
     rules: &'static [Rule],
     counts: Counts,
     rests: AtomicU64,
+    deaf: AtomicU64,
     gave_up: AtomicBool,
 }
 
@@ -88,8 +89,19 @@ impl<H: Clock> Holding<'_, H> {
                 pumps: AtomicU64::new(0),
             },
             rests: AtomicU64::new(0),
+            deaf: AtomicU64::new(0),
             gave_up: AtomicBool::new(false),
         }
+    }
+
+    /// Whether these points were passed before a test has waited long enough.
+    pub(crate) fn are_passed(&self, passed: Passed) -> bool {
+        self.counts.are_passed_within(passed, TURNS)
+    }
+
+    /// Whether a server told before so many turns that it accepts no more connections.
+    pub(crate) fn is_deaf_within(&self, turns: u64) -> bool {
+        is_reached_within(&self.deaf, 1, turns)
     }
 
     /// How many pumps there were. None where a thread waited too long.
@@ -119,5 +131,9 @@ impl<H: Clock> Gate for Holding<'_, H> {
                 thread::sleep(self.rt, Duration::from_secs(2));
             }
         }
+    }
+
+    fn accepts_no_more(&self) {
+        self.deaf.fetch_add(1, Ordering::SeqCst);
     }
 }

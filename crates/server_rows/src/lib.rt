@@ -4,7 +4,7 @@
 //! Promises: nothing; it has no public function.
 //! Only tested: what `vault_sessions` says is only tested.
 //! Stands on: vault_sessions, and what it stands on.
-//! Start at: talks.rt for a conversation, serving.rt for a server.
+//! Start at: talks.rt for a conversation, serving.rt for a server, hostility.rt for one beside clients that do their worst.
 #![tactic(auto)]
 
 #[cfg(test)]
@@ -13,6 +13,8 @@ mod devices;
 mod filling;
 #[cfg(test)]
 mod holding;
+#[cfg(test)]
+mod hostility;
 #[cfg(test)]
 mod memory;
 #[cfg(test)]

@@ -210,9 +210,14 @@ fn a_thread_waits_for_a_part_of_a_commit(rt: HostRuntime) {
 }
 
 // What may change the vault.
-static CHANGES: [(&[u8], bool); 3] = [
+static CHANGES: [(&[u8], bool); 8] = [
     (b"state c1", false),
     (b"note c1", false),
+    (b"show c1", false),
+    (b"claims /", false),
+    (b"drafts c1", false),
+    (b"draft c1 /e", false),
+    (b"wait c1", false),
     (b"abandon c1", true),
 ];
 

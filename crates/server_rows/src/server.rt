@@ -2,21 +2,33 @@
 
 use crate::devices::{Devices, Piece, Sender};
 use crate::filling::{Begun, CREATION, Start, begun};
-use crate::holding::{Holding, Rule};
+use crate::holding::{Holding, Rule, TURNS};
+use libc::net::{SHUT_RD, listen, shutdown};
 use std::alloc::Global;
 use std::io;
 use std::net::{Net, Shutdown, TcpListener, TcpStream};
+use std::os::fd::AsRawFd;
 use std::process::Abort;
 use std::sync::Wait;
 use std::thread::{self, Threads};
 use std::time::{Clock, Duration};
 use test_memory::Refusing;
 use vault_device::{Device, MemDevice, Pick};
-use vault_server::{ServerError, Terms, run_server, run_server_on};
-use vault_sessions::Totals;
+use vault_server::{Full, Patience, ServerError, Terms, run_server, run_server_on};
+use vault_sessions::{Point, Totals};
 
-/// How long a server waits for a client that says nothing more, or a client before it comes, in milliseconds.
+/// How long a client waits before it comes, in milliseconds.
 const WAIT: u64 = 300;
+
+/// Clients that may take as long as they like.
+pub const PATIENT: Patience = Patience {
+    idle: None,
+    hello: None,
+    line: None,
+};
+
+// How many connections may wait at a listener.
+const BACKLOG: i32 = 16;
 
 /// What the first file has of a new vault, with its gate; one place takes 12 bytes more, and two in one frame 19.
 pub const HEAD: u64 = 35;
@@ -36,12 +48,20 @@ pub struct Serving {
     /// Whether one thread serves both.
     pub has_one_thread: bool,
     pub connections: Option<u32>,
-    /// Whether it ends a connection that is idle.
-    pub is_impatient: bool,
-    /// Whether its listener doesn't wait for a connection.
-    pub is_hasty: bool,
+    /// Behind how many milliseconds it ends a connection that says nothing, has no session, or doesn't end its line.
+    pub idle: Option<u64>,
+    pub hello: Option<u64>,
+    pub line: Option<u64>,
+    /// Behind how many it turns away who waits for a place, and how long who is ended for him has to be silent.
+    pub full: Option<(u64, u64)>,
+    /// Whether another protocol's first line ends a connection.
+    pub refuses_foreign: bool,
+    /// Whether nobody can be accepted any more, once the first connection was told a reply; or before one that comes late.
+    pub is_shut: bool,
     /// Whether one client comes once it runs.
     pub is_late: bool,
+    /// Whether its clients say that no more comes only once it told that no more can be accepted.
+    pub is_patient: bool,
     pub rules: &'static [Rule],
     pub clients: &'static [Client],
     /// What the clients hear to their ends, one behind the other, may be one of these.
@@ -50,6 +70,42 @@ pub struct Serving {
     pub frames: &'static [[u8; 20]],
     pub pumps: Option<u64>,
     pub came: Outcome,
+}
+
+impl Serving {
+    fn workers(&self) -> usize {
+        if self.has_two_workers { 2 } else { 1 }
+    }
+
+    // What it keeps to, where it is no server as any other.
+    fn terms(&self) -> Option<Terms> {
+        let is_plain = self.idle.is_none()
+            && self.hello.is_none()
+            && self.line.is_none()
+            && self.full.is_none()
+            && !self.refuses_foreign
+            && !self.has_one_thread
+            && !self.is_patient;
+        if is_plain {
+            return None;
+        }
+        Some(Terms {
+            workers: self.workers(),
+            threads: if self.has_one_thread { 1 } else { 2 },
+            connections: self.connections,
+            patience: Patience {
+                idle: self.idle.map(Duration::from_millis),
+                hello: self.hello.map(Duration::from_millis),
+                line: self.line.map(Duration::from_millis),
+            },
+            refuses_foreign: self.refuses_foreign,
+            full: self.full.map(|(wait, silence)| Full {
+                wait: Duration::from_millis(wait),
+                silence: Duration::from_millis(silence),
+            }),
+            per_address: None,
+        })
+    }
 }
 
 /// What a server came to.
@@ -81,9 +137,14 @@ pub const PLAIN: Serving = Serving {
     has_two_workers: false,
     has_one_thread: false,
     connections: Some(1),
-    is_impatient: false,
-    is_hasty: false,
+    idle: None,
+    hello: None,
+    line: None,
+    full: None,
+    refuses_foreign: false,
+    is_shut: false,
     is_late: false,
+    is_patient: false,
     rules: &[],
     clients: &[],
     hears: &[],
@@ -156,21 +217,11 @@ fn comes_to<H: Net + Threads + Wait + Clock + Sync + Abort>(
     request: u64,
 ) -> Outcome {
     let vault = begun(rt, global, memory, Start::New(serving.failing));
-    let terms = Terms {
-        workers: if serving.has_two_workers { 2 } else { 1 },
-        threads: if serving.has_one_thread { 1 } else { 2 },
-        connections: serving.connections,
-        idle: if serving.is_impatient {
-            Some(Duration::from_millis(WAIT))
-        } else {
-            None
-        },
-    };
+    let (workers, connections) = (serving.workers(), serving.connections);
     memory.refuse(request);
-    let served = if serving.has_two_workers || serving.is_impatient {
-        run_server_on(rt, memory, listener, vault, &terms, gate)
-    } else {
-        run_server(rt, memory, listener, vault, 1, serving.connections, gate)
+    let served = match serving.terms() {
+        Some(terms) => run_server_on(rt, memory, listener, vault, &terms, gate),
+        None => run_server(rt, memory, listener, vault, workers, connections, gate),
     };
     match served {
         Ok((vault, totals)) => left(rt, vault, totals, serving),
@@ -216,7 +267,32 @@ fn late<R: Net<Listener = TcpListener, Stream = TcpStream> + Clock + Abort>(
         return Vec::new(global);
     }
     thread::sleep(rt, Duration::from_millis(WAIT));
+    assert!(rt; listen(listener.as_raw_fd(), BACKLOG) == 0);
     all_connected(rt, global, listener, serving.clients)
+}
+
+/// Has every accept at this listener fail.
+pub(crate) fn shut(listener: &TcpListener) {
+    let _ = shutdown(listener.as_raw_fd(), SHUT_RD);
+}
+
+// Shuts the listener once the first connection was told a reply, if it is to be shut. Then the clients that wait for it say that no more comes,
+// once the server told that no more can be accepted.
+fn part<H: Clock>(
+    serving: &Serving,
+    gate: &Holding<'_, H>,
+    listener: &TcpListener,
+    streams: &Vec<TcpStream>,
+) {
+    if serving.is_late || !serving.is_shut || !gate.are_passed(&[(Point::Told(1), 1)]) {
+        return;
+    }
+    shut(listener);
+    if serving.is_patient && gate.is_deaf_within(TURNS) {
+        for stream in streams {
+            let _ = stream.shutdown(Shutdown::Write);
+        }
+    }
 }
 
 /// What a server comes to, while this request for memory is refused, what its clients hear, and how many pumps there were: none where a
@@ -238,12 +314,17 @@ pub(crate) fn served<
         serving.clients
     };
     let streams = all_connected(rt, global, &again, early);
-    assert!(rt; !serving.is_hasty || again.set_nonblocking(true).is_ok());
+    if serving.is_late {
+        shut(&again);
+    }
     let gate = Holding::new(rt, serving.rules);
     let (outcome, last) = thread::join(
         rt,
-        || comes_to(rt, global, memory, listener, serving, &gate, request),
-        || late(rt, global, &again, serving),
+        || { comes_to(rt, global, memory, listener, serving, &gate, request) },
+        || {
+            part(serving, &gate, &again, &streams);
+            late(rt, global, &again, serving)
+        },
     );
     drop(again);
     let mut text = String::new(global);

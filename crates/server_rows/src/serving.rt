@@ -137,7 +137,7 @@ const SHARED_TWICE: &[&[Piece]] = &[
     )],
 ];
 
-static SERVINGS: [Serving; 13] = [
+static SERVINGS: [Serving; 20] = [
     Serving {
         name: "a round over tcp",
         has_two_workers: true,
@@ -304,7 +304,7 @@ static SERVINGS: [Serving; 13] = [
     // After the idle time, with a last leave.
     Serving {
         name: "a silent client is ended",
-        is_impatient: true,
+        idle: Some(300),
         clients: &[Client {
             says: &[(b"hello anna\nhold w:/\n", 1)],
             may_say_more: true,
@@ -316,13 +316,124 @@ static SERVINGS: [Serving; 13] = [
         },
         ..PLAIN
     },
+    Serving {
+        name: "a client without a session is ended",
+        hello: Some(300),
+        clients: &[Client {
+            says: &[(b"list /\n", 1)],
+            may_say_more: true,
+        }],
+        hears: &[&[(b"ERR 11\nend\n", 1)]],
+        came: Outcome {
+            totals: Totals { staged: 1, told: 1 },
+            ..ENDED
+        },
+        ..PLAIN
+    },
+    Serving {
+        name: "a client whose line doesn't end is ended, with a last leave",
+        hello: Some(60_000),
+        line: Some(300),
+        clients: &[Client {
+            says: &[(b"hello anna\nlist", 1)],
+            may_say_more: true,
+        }],
+        hears: &[&[(b"OK session 1\nend\n", 1)]],
+        came: Outcome {
+            totals: Totals { staged: 2, told: 1 },
+            ..ENDED
+        },
+        ..PLAIN
+    },
+    Serving {
+        name: "one that waits for a place is turned away",
+        connections: Some(2),
+        idle: Some(2_000),
+        full: Some((300, 60_000)),
+        clients: &[
+            Client {
+                says: &[(b"hello anna\n", 1)],
+                may_say_more: true,
+            },
+            Client {
+                says: &[(b"hello ben\nquit\n", 1)],
+                may_say_more: true,
+            },
+        ],
+        hears: &[&[(b"OK session 1\nend\nERR 80\nend\n", 1)]],
+        came: Outcome {
+            totals: Totals { staged: 2, told: 1 },
+            ..ENDED
+        },
+        ..PLAIN
+    },
+    // With its session and its hold.
+    Serving {
+        name: "one that is silent is ended for one that waits for a place",
+        connections: Some(2),
+        full: Some((60_000, 300)),
+        clients: &[
+            Client {
+                says: &[(b"hello anna\nhold w:/\n", 1)],
+                may_say_more: true,
+            },
+            Client {
+                says: &[(b"hello ben\nhold w:/\nquit\n", 1)],
+                may_say_more: false,
+            },
+        ],
+        hears: &[&[(
+            b"OK session 1\nOK held h1\nend\nOK session 2\nOK held h2\nOK left\nend\n",
+            1,
+        )]],
+        came: Outcome {
+            totals: Totals { staged: 6, told: 5 },
+            ..ENDED
+        },
+        ..PLAIN
+    },
+    // Nothing is staged, and nothing is told.
+    Serving {
+        name: "another protocol's first line ends a connection",
+        connections: Some(2),
+        refuses_foreign: true,
+        clients: &[
+            Client {
+                says: &[(b"POST / HTTP/1.1\r\n\r\nhello anna\nmake /e\nquit\n", 1)],
+                may_say_more: true,
+            },
+            Client {
+                says: &[(b"POST / HTTP\nhello ben\nmake / HTTP/\nquit\n", 1)],
+                may_say_more: false,
+            },
+        ],
+        hears: &[&[(b"end\nERR 10\nOK session 1\nERR 10\nOK left\nend\n", 1)]],
+        came: Outcome {
+            totals: Totals { staged: 2, told: 2 },
+            ..ENDED
+        },
+        ..PLAIN
+    },
+    Serving {
+        name: "another protocol's first line is a line as any other where it isn't refused",
+        clients: &[Client {
+            says: &[(b"POST / HTTP/1.1\nhello anna\nquit\n", 1)],
+            may_say_more: false,
+        }],
+        hears: &[&[(b"ERR 10\nOK session 1\nOK left\nend\n", 1)]],
+        came: Outcome {
+            totals: Totals { staged: 2, told: 2 },
+            ..ENDED
+        },
+        ..PLAIN
+    },
     // What one holds the other waits for, so it is served while that one stays.
     Serving {
         name: "one thread serves one beside another that is silent",
         has_two_workers: true,
         has_one_thread: true,
         connections: Some(2),
-        is_impatient: true,
+        idle: Some(300),
         clients: &[
             Client {
                 says: &[(b"hello anna\nhold w:/\n", 1)],
@@ -347,7 +458,7 @@ static SERVINGS: [Serving; 13] = [
     Serving {
         name: "an accept fault ends the server",
         connections: None,
-        is_hasty: true,
+        is_shut: true,
         clients: &[Client {
             says: &[(b"hello anna\nquit\n", 1)],
             may_say_more: false,
@@ -363,10 +474,31 @@ static SERVINGS: [Serving; 13] = [
         },
         ..PLAIN
     },
+    // The server tells that at once. Only then the client says that no more comes.
+    Serving {
+        name: "an accept fault is told at once",
+        connections: None,
+        is_shut: true,
+        is_patient: true,
+        clients: &[Client {
+            says: &[(b"hello anna\n", 1)],
+            may_say_more: true,
+        }],
+        hears: &[&[(b"OK session 1\nend\n", 1)]],
+        came: Outcome {
+            error: Some(ServerError::Accept),
+            totals: Totals { staged: 0, told: 0 },
+            has_frame: false,
+            calls: 0,
+            length: 0,
+            ..ENDED
+        },
+        ..PLAIN
+    },
     // A listener at which nobody can be accepted for a while.
     Serving {
         name: "an accept fault that passes",
-        is_hasty: true,
+        is_shut: true,
         is_late: true,
         clients: &[Client {
             says: &[(b"hello anna\nquit\n", 1)],

@@ -1,9 +1,7 @@
 -- The types of a server may be sent between threads, or shared by them, as what they are made of may.
-use denote.Builtin.{usize}
 use denote.RattleType.{RattleType}
 use denote.Param.Send.{IsSend, IsSync, Frees, sendable}
 use denote.Ref.{NamedLft}
-use Rattle.std.specs.contracts.option.Option as Option
 use Rattle.std.specs.declared.alloc.Allocator.{Ghosts}
 use Rattle.std.proofs.Crossing.{crosses as locks}
 use Rattle.std.proofs.CrossingOver.{crosses as over}
@@ -17,8 +15,11 @@ use Rattle.vault_sessions.specs.declared.tally.Tally.{Ghosts as TallyGhosts}
 use Rattle.vault_sessions.proofs.Sends.{worker_send}
 use Rattle.vault_server.specs.contracts.bells.Bell as Bell
 use Rattle.vault_server.specs.contracts.commits.Seat as Seat
+use Rattle.vault_server.specs.contracts.door.Crowd as Crowd
+use Rattle.vault_server.specs.contracts.door.News as News
 use Rattle.vault_server.specs.contracts.rounds.Rounds as Rounds
 use Rattle.vault_server.specs.contracts.server.Connection as Connection
+use Rattle.vault_server.specs.contracts.slot.Patience as Patience
 
 pub poll_send : IsSend Poll.the_row
 poll_send = search fields depth 40 fits 20000
@@ -32,8 +33,17 @@ connection_send = search fields depth 40 fits 20000
 pub receiver_send : (A : RattleType) (g : Ghosts A.Denot) → IsSend A → IsSync A → Frees g g.dealloc_token → IsSend (Receiver.the_field Connection.the_row A g).row
 receiver_send A g s y f = let c = connection_send in search (fields, locks) depth 60 fits 20000
 
-pub sender_send : (A : RattleType) (g : Ghosts A.Denot) → IsSend A → IsSync A → Frees g g.dealloc_token → IsSend (Sender.the_field (Option.the_row usize) A g).row
-sender_send A g s y f = search (fields, locks) depth 60 fits 20000
+news_send : IsSend News.the_row
+news_send = search fields depth 40 fits 20000
+
+pub sender_send : (A : RattleType) (g : Ghosts A.Denot) → IsSend A → IsSync A → Frees g g.dealloc_token → IsSend (Sender.the_field News.the_row A g).row
+sender_send A g s y f = let n = news_send in search (fields, locks) depth 60 fits 20000
+
+pub crowd_sync : IsSync Crowd.the_row
+crowd_sync = let b = bell_sync in search (fields, locks) depth 40 fits 20000
+
+patience_send : IsSend Patience.the_row
+patience_send = search fields depth 40 fits 20000
 
 seat_send : IsSend Seat.the_row
 seat_send = search fields depth 40 fits 20000
@@ -43,6 +53,8 @@ module _ (D S T A : RattleType) (d : DeviceGhosts D.Denot) (sc : TallyGhosts S.D
   rounds_send ℓ G H ds s sy t ty a ay f gy hy =
       let w = λ (ℓ : NamedLft). worker_send D S T A d sc sl tc tl g ℓ G H ds s sy t ty a f gy hy in
       let b = bell_sync in
+      let p = crowd_sync in
+      let q = patience_send in
       let l = seat_send in
       let r = receiver_send A g a ay f in
       let c = sender_send A g a ay f in

@@ -1,4 +1,8 @@
-//! Committing, by the threads that serve connections: whichever has something to commit, and finds that no other commits.
+//! Committing, by the threads that serve connections: whichever finds that it is due, and that no other commits.
+//!
+//! Each thread asks once in each of its rounds, whatever else it has to do. To commit is due where something isn't settled, or a conversation
+//! waits for room, unless others may still come whom the last commit told or who came meanwhile. How long these are waited for at most is
+//! `Desk::due`'s to say, by `flusher_pace`. A snapshot is made before, where one is wanted, once behind each commit of the thread's own.
 
 use flusher_pace::{Commit, Gathering};
 use std::alloc::Allocator;
@@ -34,6 +38,16 @@ pub(crate) enum Tried {
     Settled,
     /// A commit, before which so many entries were settled.
     Committed(u64, Commit),
+}
+
+impl Tried {
+    /// Whether somebody's entry may be settled now, or a seat is free that another found taken.
+    pub fn may_settle(self) -> bool {
+        matches!(
+            self,
+            Tried::InVain | Tried::Settled | Tried::Committed(_, _)
+        )
+    }
 }
 
 impl<'a, D: Device, S: Tally, T: Tally, A: Allocator + Copy, G: Gate, H: Wait + Clock> Committer<

@@ -2,8 +2,9 @@
 
 use crate::bells::{Bell, ring_others};
 use crate::commits::{Committer, Seat, Tried};
+use crate::door::{Crowd, News};
 use crate::server::Connection;
-use crate::slot::{Goes, Slot};
+use crate::slot::{Goes, Patience, Slot, first_of};
 use crossbeam_channel::{Receiver, Sender};
 use mio::unix::SourceFd;
 use mio::{Events, Interest, Poll, Registry, Token};
@@ -35,13 +36,19 @@ pub(crate) struct Rounds<'a, D: Device, S: Tally, T: Tally, A: Allocator, G: Gat
     pub number: usize,
     /// The connections that come to it.
     pub coming: Receiver<Connection, A>,
-    /// Where it says its number for each place that is free, or nothing where it can't serve for want of memory.
-    pub freed: Sender<Option<usize>, A>,
-    /// For how long a client may be silent.
-    pub idle: Option<Duration>,
+    /// Where it says that a place is free, or that it can't serve for want of memory.
+    pub says: Sender<News, A>,
+    /// Those who wait for a place.
+    pub crowd: &'a Crowd,
+    /// For how long clients may take.
+    pub patience: Patience,
+    /// Whether another protocol's first line ends a connection.
+    pub refuses_foreign: bool,
+    /// How long a connection has to be silent that is ended for one who waits for a place. None: none is.
+    pub silence: Option<Duration>,
 }
 
-// For how long a thread waits that has nothing to do.
+// For how long a thread waits until the next round.
 #[derive(Debug, Clone, Copy, PartialEq, Eq)]
 enum Rest {
     // There is more to do.
@@ -52,6 +59,22 @@ enum Rest {
     Moment,
     // Until something happens.
     Long,
+}
+
+impl Rest {
+    // Behind such a turn of all connections and such a try to commit.
+    fn behind(goes: Goes, tried: Tried) -> Rest {
+        if goes == Goes::On {
+            return Rest::Nothing;
+        }
+        match tried {
+            Tried::NotNow => Rest::Long,
+            Tried::Early(left) if left < Duration::from_micros(SHORTEST_WAIT) => Rest::Blink,
+            // Who wants room tries again soon: another's ticket is still out.
+            Tried::Early(_) | Tried::InVain => Rest::Moment,
+            Tried::Settled | Tried::Committed(_, _) => Rest::Nothing,
+        }
+    }
 }
 
 impl<D: Device, S: Tally, T: Tally, A: Allocator + Copy, G: Gate, H: Wait + Clock> Rounds<
@@ -67,15 +90,15 @@ impl<D: Device, S: Tally, T: Tally, A: Allocator + Copy, G: Gate, H: Wait + Cloc
     pub fn run(&self, poll: Poll, shares: Vec<Share<S, T>, A>) -> Vec<Share<S, T>, A> {
         let mut shares = shares;
         let Ok(mut events) = Events::with_capacity(self.worker.alloc, MOST_EVENTS) else {
-            self.say(None);
+            self.say(News::Lacks);
             return shares;
         };
         let Some(mut slots) = slots_of(self.worker.alloc, &mut shares) else {
-            self.say(None);
+            self.say(News::Lacks);
             return shares;
         };
         for _ in 0..slots.len() {
-            self.say(Some(self.number));
+            self.say(News::Place(self.number));
         }
         let mut poll = poll;
         let flusher = Flusher::new(self.worker.rt, self.worker.shared, self.worker.gate);
@@ -91,15 +114,17 @@ impl<D: Device, S: Tally, T: Tally, A: Allocator + Copy, G: Gate, H: Wait + Cloc
     }
 
     // Says that a place is free, or that it can't serve.
-    fn say(&self, number: Option<usize>) {
-        let _ = self.freed.send(self.worker.rt, number);
+    fn say(&self, news: News) {
+        let _ = self.says.send(self.worker.rt, news);
+        self.crowd.ring();
     }
 
     fn now(&self) -> Option<Instant> {
         Instant::now(self.worker.rt).ok()
     }
 
-    // Serves connections until no more come.
+    // Serves connections until no more come. In each round it looks at the kernel, lets each connection take its steps, and commits where
+    // that is due, whatever else there is to do.
     fn serve(
         &self,
         committer: &mut Committer<'_, D, S, T, A, G, H>,
@@ -107,16 +132,20 @@ impl<D: Device, S: Tally, T: Tally, A: Allocator + Copy, G: Gate, H: Wait + Cloc
         events: &mut Events<A>,
         slots: &mut Vec<Slot<S, T, A>, A>,
     ) {
+        let mut tried = Tried::NotNow;
         let mut rest = Rest::Long;
         for _ in self.worker.rt.forever() {
             self.look(poll, events, slots, rest);
+            self.announce(committer, slots, tried);
             let now = self.now();
             let may_come = self.take(poll.registry(), slots, now);
+            self.make_room(slots, now);
             let goes = self.turn(slots, now);
-            rest = match goes {
-                Goes::On => Rest::Nothing,
-                Goes::Rests | Goes::Over => self.commit(committer, poll, events, slots),
-            };
+            tried = committer.commit();
+            if tried.may_settle() {
+                look_again(slots);
+            }
+            rest = Rest::behind(goes, tried);
             if goes == Goes::Over && rest == Rest::Long {
                 self.bell.attend(false);
                 if !may_come {
@@ -126,39 +155,20 @@ impl<D: Device, S: Tally, T: Tally, A: Allocator + Copy, G: Gate, H: Wait + Cloc
         }
     }
 
-    // Commits what is staged, unless another thread does. Then its connections take what came meanwhile, and after that those go on whose
-    // entries are settled.
-    fn commit(
+    // Behind a commit, before anybody is told or heard: what came meanwhile is counted, since who is told comes back, and would be counted
+    // twice; and the other threads are woken, since who hears a line may be held up.
+    fn announce(
         &self,
-        committer: &mut Committer<'_, D, S, T, A, G, H>,
-        poll: &mut Poll,
-        events: &mut Events<A>,
-        slots: &mut Vec<Slot<S, T, A>, A>,
-    ) -> Rest {
-        let mut rest = Rest::Nothing;
-        match committer.commit() {
-            Tried::NotNow => return Rest::Long,
-            Tried::Early(left) if left < Duration::from_micros(SHORTEST_WAIT) => return Rest::Blink,
-            Tried::Early(_) => return Rest::Moment,
-            // Who wants room tries again soon: another's ticket is still out.
-            Tried::InVain => {
-                ring_others(self.bells, self.number);
-                rest = Rest::Moment;
-            }
-            Tried::Settled => ring_others(self.bells, self.number),
-            // What came meanwhile is counted before anybody is told: who is told comes back, and would be counted twice. The others are
-            // woken before a line is heard: who hears it may be held up.
-            Tried::Committed(settled, commit) => {
-                self.look(poll, events, slots, Rest::Nothing);
-                committer.expect(settled, commit, lines_of(slots));
-                ring_others(self.bells, self.number);
-                let _ = self.turn(slots, self.now());
-            }
+        committer: &Committer<'_, D, S, T, A, G, H>,
+        slots: &Vec<Slot<S, T, A>, A>,
+        tried: Tried,
+    ) {
+        if let Tried::Committed(settled, commit) = tried {
+            committer.expect(settled, commit, lines_of(slots));
         }
-        for slot in slots.as_mut_slice() {
-            slot.look_again();
+        if tried.may_settle() {
+            ring_others(self.bells, self.number);
         }
-        rest
     }
 
     // Waits until something happens where there is nothing to do, and notes what did.
@@ -188,25 +198,56 @@ impl<D: Device, S: Tally, T: Tally, A: Allocator + Copy, G: Gate, H: Wait + Cloc
             }
         }
         if is_rung {
-            for slot in slots.as_mut_slice() {
-                slot.look_again();
-            }
+            look_again(slots);
         }
     }
 
     // How long it may wait where nothing happens. None: for ever.
     fn wait_for(&self, slots: &Vec<Slot<S, T, A>, A>) -> Option<Duration> {
-        let mut first: Option<Instant> = None;
+        let mut first = None;
         for slot in slots {
-            if let Some(deadline) = slot.deadline(self.idle) {
-                first = Some(match first {
-                    Some(first) if first < deadline => first,
-                    _ => deadline,
-                });
+            first = first_of(first, slot.deadline(self.patience));
+        }
+        if let Some(silence) = self.pressing_silence(slots) {
+            for slot in slots {
+                let gone = slot
+                    .silent_since()
+                    .and_then(|since| since.checked_add(silence));
+                first = first_of(first, gone);
             }
         }
-        let first = first?;
-        Some(first.saturating_duration_since(self.now()?))
+        Some(first?.saturating_duration_since(self.now()?))
+    }
+
+    // Behind how long a silence a connection is ended now, since somebody waits for a place, and none is free.
+    fn pressing_silence(&self, slots: &Vec<Slot<S, T, A>, A>) -> Option<Duration> {
+        let silence = self.silence?;
+        if self.crowd.presses() && !slots.iter().any(|slot| slot.is_free()) {
+            Some(silence)
+        } else {
+            None
+        }
+    }
+
+    // Ends the connection that has been silent longest, where somebody waits for its place, and it was silent for long enough.
+    fn make_room(&self, slots: &mut Vec<Slot<S, T, A>, A>, now: Option<Instant>) {
+        let Some(silence) = self.pressing_silence(slots) else {
+            return;
+        };
+        let last = now.and_then(|now| now.checked_sub(silence));
+        let mut first = None;
+        for slot in slots.iter() {
+            first = first_of(first, slot.silent_since());
+        }
+        let (Some(first), Some(last)) = (first, last) else {
+            return;
+        };
+        for slot in slots.as_mut_slice() {
+            if first <= last && slot.silent_since() == Some(first) {
+                slot.give_up(&self.worker);
+                return;
+            }
+        }
     }
 
     // Puts connections that came into free places. Whether more may come.
@@ -242,14 +283,15 @@ impl<D: Device, S: Tally, T: Tally, A: Allocator + Copy, G: Gate, H: Wait + Cloc
             .register(&mut SourceFd(&fd), Token(number), both)
             .is_err()
         {
+            self.say(News::Over(self.number, connection.number));
             drop(connection);
-            self.say(Some(self.number));
             return;
         }
         self.bell.attend(true);
-        slot.serve(&self.worker, connection, now);
+        let over = News::Over(self.number, connection.number);
+        slot.serve(&self.worker, connection, self.refuses_foreign, now);
         if slot.is_free() {
-            self.say(Some(self.number));
+            self.say(over);
         }
     }
 
@@ -257,20 +299,27 @@ impl<D: Device, S: Tally, T: Tally, A: Allocator + Copy, G: Gate, H: Wait + Cloc
     fn turn(&self, slots: &mut Vec<Slot<S, T, A>, A>, now: Option<Instant>) -> Goes {
         let mut all = Goes::Over;
         for slot in slots.as_mut_slice() {
-            if slot.is_free() {
+            let Some(connection) = slot.number() else {
                 continue;
-            }
-            match slot.turn(&self.worker, self.idle, now) {
+            };
+            match slot.turn(&self.worker, self.patience, now) {
                 Goes::On => all = Goes::On,
                 Goes::Rests if all == Goes::Over => all = Goes::Rests,
                 Goes::Rests => {}
                 Goes::Over => {
-                    self.say(Some(self.number));
+                    self.say(News::Over(self.number, connection));
                     all = Goes::On;
                 }
             }
         }
         all
+    }
+}
+
+// Entries may be settled for which connections wait.
+fn look_again<S: Tally, T: Tally, A: Allocator + Copy>(slots: &mut Vec<Slot<S, T, A>, A>) {
+    for slot in slots.as_mut_slice() {
+        slot.look_again();
     }
 }
 

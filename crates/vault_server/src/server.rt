@@ -7,8 +7,9 @@ ghost use denote.Param.Send.{Frees};
 
 use crate::bells::Bell;
 use crate::commits::Seat;
+use crate::door::{Crowd, Door, News};
 use crate::rounds::Rounds;
-use crate::stream::prepare;
+use crate::slot::Patience;
 use crossbeam_channel::{Receiver, Sender, bounded};
 use group_commit::Vault;
 use mio::Poll;
@@ -17,17 +18,14 @@ use std::marker::Brand;
 use std::net::{Net, TcpListener, TcpStream};
 use std::sync::ledger::Blank;
 use std::sync::{Mutex, Wait};
-use std::thread::{JoinHandle, Scope, Threads};
+use std::thread::{self, JoinHandle, Scope, Threads};
 use std::time::{Clock, Duration};
-use std::{io, thread};
 use thiserror::Error;
 use vault_device::Device;
 use vault_sessions::{Gate, Share, Shared, Tally, Totals, Worker, gather, run_flusher};
 
-// How many accepts may fail in a row, and for how many milliseconds the server rests behind each.
-const MOST_FAULTS: u32 = 20;
-
-const REST: u64 = 50;
+// By how many threads a server serves at most, where it isn't told.
+const MOST_THREADS: usize = 2;
 
 // The system's numbers of a want of memory, of descriptors of all programs, of descriptors of this one, and of buffers.
 const WANTS: [i32; 4] = [libc::ENOMEM, 23, libc::EMFILE, 105];
@@ -51,11 +49,25 @@ pub struct Terms {
     /// By how many threads at most, each with a like part of the places: one at least, and no more than `workers`. The first has
     /// connections until its places are full.
     pub threads: usize,
-    /// After how many connections it ends. None: it serves on.
+    /// After how many connections it ends, those counted that were turned away. None: it serves on.
     pub connections: Option<u32>,
-    /// After how long a connection is ended, as by a reader's or a writer's fault, whose client sends nothing, or takes nothing of a
-    /// reply. None: it may wait for ever.
-    pub idle: Option<Duration>,
+    /// For how long clients may take. Then a connection is ended, as by a reader's or a writer's fault.
+    pub patience: Patience,
+    /// Whether a connection whose first line is another protocol's is ended, as if none had come of that line.
+    pub refuses_foreign: bool,
+    /// What becomes of those for whom there is no place. None: they wait as long as it takes.
+    pub full: Option<Full>,
+    /// How many connections there may be at once from one address, but for this host's own. None: any number.
+    pub per_address: Option<u32>,
+}
+
+/// What becomes of those for whom there is no place.
+#[derive(Debug, Clone, Copy, PartialEq, Eq)]
+pub struct Full {
+    /// For how long one waits. Then he is told `Busy`, and ended.
+    pub wait: Duration,
+    /// How long the connection has to have been silent, and longer than any other of its thread, that is ended for him.
+    pub silence: Duration,
 }
 
 // An accepted connection, with its number.
@@ -65,10 +77,10 @@ pub(crate) struct Connection {
     pub stream: TcpStream,
 }
 
-/// Serves so many connections at a time by one thread, which has ended when it returns, and which commits what they staged. Where a
-/// number of connections is given, it ends once these were served, with the vault and what was counted. Connections count from 1, and
-/// wrap. At an error the connections that were handed to the thread are served to their end first. With a broken vault it goes on, and
-/// every command is answered `Broken`.
+/// Serves so many connections at a time by one thread or, for two workers and more, by two, each of which commits what was staged. They
+/// have ended when it returns. Where a number of connections is given, it ends once these were served, with the vault and what was counted.
+/// Connections count from 1, and wrap. At an error the connections that were handed to the threads are served to their end first. With a
+/// broken vault it goes on, and every command is answered `Broken`.
 pub fn run_server<
     D: Device + Drop + Send,
     A: Allocator + Copy + Send + Sync,
@@ -89,14 +101,22 @@ pub fn run_server<
 {
     let terms = Terms {
         workers,
-        threads: 1,
+        threads: workers.min(MOST_THREADS),
         connections,
-        idle: None,
+        patience: Patience {
+            idle: None,
+            hello: None,
+            line: None,
+        },
+        refuses_foreign: false,
+        full: None,
+        per_address: None,
     };
     run_server_on(rt, alloc, listener, vault, &terms, gate)
 }
 
-/// The same, on these terms. Of several threads one commits at a time, for all.
+/// The same, on these terms. Of several threads one commits at a time, for all. The gate is told at once where no more connections can
+/// be accepted.
 pub fn run_server_on<
     D: Device + Drop + Send,
     A: Allocator + Copy + Send + Sync,
@@ -146,7 +166,8 @@ fn run<
     ensures grown { IfOk result (λ served. HasGrown vault.view served.0.view served.1) }
 {
     let workers = terms.workers;
-    let (polls, bells) = match polls_of(rt, alloc, workers.min(terms.threads).max(1)) {
+    let made = polls_of(rt, alloc, workers.min(terms.threads).max(1));
+    let (polls, bells, poll, crowd) = match made {
         Ok(made) => made,
         Err(error) => {
             drop(vault);
@@ -159,6 +180,8 @@ fn run<
             drop(refused);
             drop(polls);
             drop(bells);
+            drop(poll);
+            drop(crowd);
             return Err(ServerError::NoMemory);
         }
     };
@@ -169,17 +192,27 @@ fn run<
         shared: &shared,
         gate,
         bells: &bells,
+        crowd: &crowd,
         seat: &seat,
+        terms: *terms,
     };
-    let returned = match server.serve_all(shares, polls, &listener, terms) {
+    let beginning = Beginning {
+        shares,
+        polls,
+        poll,
+        listener: &listener,
+    };
+    let returned = match server.serve_all(beginning) {
         Ok(returned) => returned,
         Err(error) => {
             drop(shared);
             drop(bells);
+            drop(crowd);
             return Err(error);
         }
     };
     drop(bells);
+    drop(crowd);
     match gather(shared, returned) {
         Ok(served) => Ok(served),
         Err(refused) => {
@@ -189,12 +222,12 @@ fn run<
     }
 }
 
-// So many polls, each with a bell.
+// So many polls, each with a bell, and the door's.
 fn polls_of<A: Allocator + Copy, H: Net>(
     rt: &H,
     alloc: A,
     count: usize,
-) -> Result<(Vec<Poll, A>, Vec<Bell, A>), ServerError> {
+) -> Result<(Vec<Poll, A>, Vec<Bell, A>, Poll, Crowd), ServerError> {
     let mut polls = Vec::new(alloc);
     let mut bells = Vec::new(alloc);
     for _ in 0..count {
@@ -204,7 +237,9 @@ fn polls_of<A: Allocator + Copy, H: Net>(
             return Err(ServerError::NoMemory);
         }
     }
-    Ok((polls, bells))
+    let poll = Poll::new(rt).or(Err(ServerError::NoMemory))?;
+    let crowd = Crowd::new(&poll).or(Err(ServerError::NoMemory))?;
+    Ok((polls, bells, poll, crowd))
 }
 
 // What each thread of a server has.
@@ -215,8 +250,19 @@ struct Server<'a, D: Device, A: Allocator, G: Gate, H, S: Tally, T: Tally> {
     shared: &'a Shared<D, S, T, A>,
     gate: &'a G,
     bells: &'a Vec<Bell, A>,
+    crowd: &'a Crowd,
     // Who has it commits.
     seat: &'a Mutex<Seat>,
+    terms: Terms,
+}
+
+// What a server begins with: the shares of its places, what each thread and the door wait by, and where connections come.
+#[derive(Drop)]
+struct Beginning<'a, S: Tally, T: Tally, A: Allocator> {
+    shares: Vec<Share<S, T>, A>,
+    polls: Vec<Poll, A>,
+    poll: Poll,
+    listener: &'a TcpListener,
 }
 
 // The threads that serve connections: how each gets them, and what it gives back.
@@ -237,10 +283,7 @@ impl<
     // Serves by threads of its own, all of which have ended when it returns.
     fn serve_all(
         &self,
-        shares: Vec<Share<S, T>, A>,
-        polls: Vec<Poll, A>,
-        listener: &TcpListener,
-        terms: &Terms,
+        beginning: Beginning<'_, S, T, A>,
     ) -> Result<Vec<Share<S, T>, A>, ServerError>
         requires { Frees A.Allocator A.dealloc_token }
     {
@@ -250,7 +293,7 @@ impl<
             |scope| -> Result<Vec<Share<S, T>, A>, ServerError>
                 requires { IsSend D.row × IsSend A.row × IsSync A.row × Frees A.Allocator A.dealloc_token × IsSync G.row × IsSync H.row
                     × IsSend S.row × IsSync S.row × IsSend T.row × IsSync T.row }
-            { self.serve_within(scope, shares, polls, listener, terms) },
+            { self.serve_within(scope, beginning) },
         )
     }
 
@@ -258,24 +301,29 @@ impl<
     fn serve_within<'s, E>(
         &'s self,
         scope: &'s Scope<'s, E>,
-        shares: Vec<Share<S, T>, A>,
-        polls: Vec<Poll, A>,
-        listener: &TcpListener,
-        terms: &Terms,
+        beginning: Beginning<'_, S, T, A>,
     ) -> Result<Vec<Share<S, T>, A>, ServerError>
         requires { Frees A.Allocator A.dealloc_token }
     {
+        let Beginning {
+            shares,
+            polls,
+            poll,
+            listener,
+        } = beginning;
         let count = shares.len();
         let mut returned = Vec::new(self.alloc);
         if returned.reserve(count).is_err() {
             drop(polls);
+            drop(poll);
             drop(shares);
             return Err(ServerError::NoMemory);
         }
         let most_said = count.saturating_add(polls.len());
-        let Ok((freed, free)) = bounded::<Option<usize>, A>(self.alloc, most_said) else {
+        let Ok((says, news)) = bounded::<News, A>(self.alloc, most_said) else {
             drop(returned);
             drop(polls);
+            drop(poll);
             drop(shares);
             return Err(ServerError::NoMemory);
         };
@@ -283,12 +331,16 @@ impl<
             senders: Vec::new(self.alloc),
             handles: Vec::new(self.alloc),
         };
-        let started = self.start_all(scope, polls, shares, &freed, terms.idle, &mut running);
-        drop(freed);
+        let started = self.start_all(scope, polls, shares, &says, &mut running);
+        drop(says);
         let Running { senders, handles } = running;
-        let accepted = started.and_then(|()| accept_all(
-            self.rt, listener, &senders, &free, self.bells, terms,
-        ));
+        let accepted = match started {
+            Ok(()) => self.accept_all(listener, &senders, &news, poll),
+            Err(error) => {
+                drop(poll);
+                Err(error)
+            }
+        };
         drop(senders);
         for bell in self.bells {
             bell.ring();
@@ -296,7 +348,7 @@ impl<
         join_all(self.rt, handles, &mut returned);
         self.shared.close(self.rt);
         let _ = run_flusher(self.rt, self.shared, self.gate);
-        drop(free);
+        drop(news);
         match accepted {
             Ok(()) => Ok(returned),
             Err(error) => {
@@ -306,14 +358,34 @@ impl<
         }
     }
 
+    // Accepts connections, and hands them to the threads.
+    fn accept_all(
+        &self,
+        listener: &TcpListener,
+        senders: &Vec<Sender<Connection, A>, A>,
+        news: &Receiver<News, A>,
+        poll: Poll,
+    ) -> Result<(), ServerError> {
+        let door = Door {
+            rt: self.rt,
+            alloc: self.alloc,
+            listener,
+            senders,
+            bells: self.bells,
+            news,
+            crowd: self.crowd,
+            terms: self.terms,
+        };
+        door.keep(poll, self.gate)
+    }
+
     // Starts a thread for each poll, with a like part of the shares, unless there is no memory for one.
     fn start_all<'s, E>(
         &'s self,
         scope: &'s Scope<'s, E>,
         polls: Vec<Poll, A>,
         shares: Vec<Share<S, T>, A>,
-        freed: &Sender<Option<usize>, A>,
-        idle: Option<Duration>,
+        says: &Sender<News, A>,
         running: &mut Running<S, T, A>,
     ) -> Result<(), ServerError>
         requires { Frees A.Allocator A.dealloc_token }
@@ -322,7 +394,7 @@ impl<
         let threads = polls.len();
         for (number, poll) in polls.into_iter().enumerate() {
             let own = part_of(self.alloc, &mut shares, threads.saturating_sub(number))?;
-            self.start_one(scope, number, poll, own, freed, idle, running)?;
+            self.start_one(scope, number, poll, own, says, running)?;
         }
         Ok(())
     }
@@ -334,13 +406,12 @@ impl<
         number: usize,
         poll: Poll,
         own: Vec<Share<S, T>, A>,
-        freed: &Sender<Option<usize>, A>,
-        idle: Option<Duration>,
+        says: &Sender<News, A>,
         running: &mut Running<S, T, A>,
     ) -> Result<(), ServerError>
         requires { Frees A.Allocator A.dealloc_token }
     {
-        let rounds = match self.rounds_of(number, own.len(), freed, idle, &mut running.senders) {
+        let rounds = match self.rounds_of(number, own.len(), says, &mut running.senders) {
             Ok(rounds) => rounds,
             Err(error) => {
                 drop(poll);
@@ -372,8 +443,7 @@ impl<
         &'s self,
         number: usize,
         places: usize,
-        freed: &Sender<Option<usize>, A>,
-        idle: Option<Duration>,
+        says: &Sender<News, A>,
         senders: &mut Vec<Sender<Connection, A>, A>,
     ) -> Result<Rounds<'s, D, S, T, A, G, H>, ServerError> {
         let Some(bell) = self.bells.as_slice().get(number) else {
@@ -382,7 +452,7 @@ impl<
         let Ok((sender, coming)) = bounded::<Connection, A>(self.alloc, places) else {
             return Err(ServerError::NoMemory);
         };
-        let freed = freed.clone().or(Err(ServerError::NoMemory))?;
+        let says = says.clone().or(Err(ServerError::NoMemory))?;
         if senders.push(sender).is_err() {
             return Err(ServerError::NoMemory);
         }
@@ -398,8 +468,11 @@ impl<
             bell,
             number,
             coming,
-            freed,
-            idle,
+            says,
+            crowd: self.crowd,
+            patience: self.terms.patience,
+            refuses_foreign: self.terms.refuses_foreign,
+            silence: self.terms.full.map(|full| full.silence),
         })
     }
 }
@@ -431,68 +504,4 @@ fn join_all<A: Allocator, H: Threads, S: Tally, T: Tally>(
             let _ = returned.push(share);
         }
     }
-}
-
-// Hands connections out until there were enough, or no more can be accepted.
-fn accept_all<A: Allocator, H: Wait + Clock>(
-    rt: &H,
-    listener: &TcpListener,
-    senders: &Vec<Sender<Connection, A>, A>,
-    free: &Receiver<Option<usize>, A>,
-    bells: &Vec<Bell, A>,
-    terms: &Terms,
-) -> Result<(), ServerError> {
-    let mut number = 0u32;
-    let mut faults = 0u32;
-    if terms.connections == Some(0) {
-        return Ok(());
-    }
-    for stream in listener.incoming() {
-        let Ok(stream) = stream else {
-            faults = faults.saturating_add(1);
-            rest(rt, stream, faults)?;
-            continue;
-        };
-        faults = 0;
-        number = number.wrapping_add(1);
-        if prepare(&stream).is_ok() {
-            hand_out(rt, Connection { number, stream }, senders, free, bells)?;
-        }
-        if terms.connections == Some(number) {
-            return Ok(());
-        }
-    }
-    Ok(())
-}
-
-// Waits for a free place, and hands a connection to its thread.
-fn hand_out<A: Allocator, H: Wait>(
-    rt: &H,
-    connection: Connection,
-    senders: &Vec<Sender<Connection, A>, A>,
-    free: &Receiver<Option<usize>, A>,
-    bells: &Vec<Bell, A>,
-) -> Result<(), ServerError> {
-    let Ok(Some(number)) = free.recv(rt) else {
-        return Err(ServerError::NoMemory);
-    };
-    let (Some(sender), Some(bell)) = (senders.get(number), bells.get(number)) else {
-        return Err(ServerError::NoMemory);
-    };
-    if sender.send(rt, connection).is_err() {
-        return Err(ServerError::NoMemory);
-    }
-    bell.ring();
-    Ok(())
-}
-
-// Rests behind an accept that failed, so many times in a row, unless it fails for good. Descriptors and memory, where these are short,
-// come free with other connections, so that is waited for as long as it takes.
-fn rest<H: Clock>(rt: &H, stream: io::Result<TcpStream>, faults: u32) -> Result<(), ServerError> {
-    let code = stream.err().and_then(|error| error.raw_os_error());
-    if faults > MOST_FAULTS && !code.is_some_and(|code| WANTS.contains(&code)) {
-        return Err(ServerError::Accept);
-    }
-    thread::sleep(rt, Duration::from_millis(REST));
-    Ok(())
 }

@@ -1,31 +1,40 @@
 //! A place for one connection at a time, among those that a thread serves.
+ghost use Rattle.std.specs.Prelude.{◌≡◌, true};
 
 use crate::server::Connection;
-use crate::stream::{Drain, Drained, Tap};
+use crate::stream::{Drain, Drained, Wire};
 use std::alloc::Allocator;
 use std::mem;
-use std::net::TcpStream;
 use std::sync::Wait;
 use std::time::{Duration, Instant};
 use vault_device::Device;
-use vault_sessions::{Conversation, Ended, Gate, Share, Tally, Turn, Worker, tell};
+use vault_sessions::{Awaits, Dialogue, Ended, Finished, Gate, Share, Step, Tally, Worker};
 
-// How many steps a connection takes in a row. Then the others get their turn.
-const STEPS_IN_A_ROW: u32 = 48;
+// How many steps a connection takes in a round at most. A line that spells nothing takes two, and any other takes three.
+const STEPS_A_ROUND: u32 = 4;
+
+/// For how long a client may take. None: for ever.
+#[derive(Debug, Clone, Copy, PartialEq, Eq)]
+pub struct Patience {
+    /// From one line, or from one reply that it took, to the next line or reply.
+    pub idle: Option<Duration>,
+    /// Until it has a session.
+    pub hello: Option<Duration>,
+    /// From the first byte of a line to its end.
+    pub line: Option<Duration>,
+}
 
 /// A connection that is served.
 pub(crate) struct Served<S: Tally, T: Tally, A: Allocator> {
-    stream: TcpStream,
-    talk: Conversation<S, T, A>,
-    turn: Turn<A>,
+    // The number of its connection.
+    number: u32,
+    dialogue: Dialogue<Wire, S, T, A>,
     // Whether the next step may come to something.
     is_ready: bool,
-    // Whether nothing is to be read until the kernel says so.
-    is_dry: bool,
-    // Whether its client sends no more than what is there.
-    is_ending: bool,
-    // When something last came from the client, or was told to it.
+    // When it began, when the last step was taken, and when a line began that isn't whole.
+    began: Option<Instant>,
     moved: Option<Instant>,
+    line_began: Option<Instant>,
 }
 
 /// A place for one connection at a time.
@@ -52,32 +61,39 @@ pub(crate) enum Goes {
 fn serve<S: Tally, T: Tally, A: Allocator + Copy>(
     alloc: A,
     connection: Connection,
+    refuses_foreign: bool,
     share: Share<S, T>,
     now: Option<Instant>,
 ) -> Slot<S, T, A> {
     let Connection { number, stream } = connection;
-    match Conversation::new(alloc, number, share) {
-        Ok(talk) => Slot::Served(Served {
-            stream,
-            talk,
-            turn: Turn::Hear,
+    match Dialogue::new(
+        alloc,
+        number,
+        Wire::new(stream, refuses_foreign),
+        share,
+        false,
+    ) {
+        Ok(dialogue) => Slot::Served(Served {
+            number,
+            dialogue,
             is_ready: true,
-            is_dry: false,
-            is_ending: false,
+            began: now,
             moved: now,
+            line_began: None,
         }),
-        Err(share) => left(stream, share, Ended::NoMemory, now),
+        Err((wire, share)) => left(number, wire, share, Ended::NoMemory, now),
     }
 }
 
 // What becomes of the place of a connection that is over.
 fn left<S: Tally, T: Tally, A: Allocator>(
-    stream: TcpStream,
+    number: u32,
+    wire: Wire,
     share: Share<S, T>,
     ended: Ended,
     now: Option<Instant>,
 ) -> Slot<S, T, A> {
-    match Drain::begin(stream, ended, now) {
+    match Drain::begin(number, wire.into_stream(), ended, now) {
         Some(drain) => Slot::Drained(drain, share),
         None => Slot::Free(share),
     }
@@ -89,15 +105,25 @@ impl<S: Tally, T: Tally, A: Allocator + Copy> Slot<S, T, A> {
         matches!(self, Slot::Free(_))
     }
 
+    /// The number of the connection that has it.
+    pub fn number(&self) -> Option<u32> {
+        match self {
+            Slot::Served(served) => Some(served.number),
+            Slot::Drained(drain, _) => Some(drain.number),
+            Slot::Free(_) | Slot::Open => None,
+        }
+    }
+
     /// Serves a connection from now on, where it is free. Else that is given up.
     pub fn serve<D: Device, G: Gate, H: Wait>(
         &mut self,
         worker: &Worker<'_, D, S, T, A, G, H>,
         connection: Connection,
+        refuses_foreign: bool,
         now: Option<Instant>,
     ) {
         let served = match mem::replace(self, Slot::Open) {
-            Slot::Free(share) => serve(worker.alloc, connection, share, now),
+            Slot::Free(share) => serve(worker.alloc, connection, refuses_foreign, share, now),
             other => {
                 drop(connection);
                 other
@@ -119,15 +145,14 @@ impl<S: Tally, T: Tally, A: Allocator + Copy> Slot<S, T, A> {
     pub fn wake(&mut self, is_ending: bool) {
         if let Slot::Served(served) = self {
             served.is_ready = true;
-            served.is_dry = false;
-            served.is_ending = served.is_ending || is_ending;
+            served.dialogue.wake(is_ending);
         }
     }
 
     /// Whether its client sent something that isn't heard.
     pub fn has_news(&self) -> bool {
         match self {
-            Slot::Served(served) => served.is_ready && matches!(served.turn, Turn::Hear),
+            Slot::Served(served) => served.is_ready && served.dialogue.awaits() == Awaits::Line,
             Slot::Free(_) | Slot::Drained(_, _) | Slot::Open => false,
         }
     }
@@ -135,17 +160,32 @@ impl<S: Tally, T: Tally, A: Allocator + Copy> Slot<S, T, A> {
     /// Entries are settled.
     pub fn look_again(&mut self) {
         if let Slot::Served(served) = self {
-            served.is_ready = served.is_ready
-                || matches!(served.turn, Turn::Wait(_) | Turn::Over(_));
+            let awaits = served.dialogue.awaits();
+            served.is_ready = served.is_ready || matches!(awaits, Awaits::Reply | Awaits::Leave);
         }
     }
 
     /// Until when nothing is to be done, if nothing happens.
-    pub fn deadline(&self, idle: Option<Duration>) -> Option<Instant> {
+    pub fn deadline(&self, patience: Patience) -> Option<Instant> {
         match self {
             Slot::Free(_) | Slot::Open => None,
-            Slot::Served(served) => served.deadline(idle),
+            Slot::Served(served) => served.deadline(patience),
             Slot::Drained(drain, _) => drain.deadline(),
+        }
+    }
+
+    /// Since when its client says nothing, and takes nothing.
+    pub fn silent_since(&self) -> Option<Instant> {
+        match self {
+            Slot::Served(served) => served.silent_since(),
+            Slot::Free(_) | Slot::Drained(_, _) | Slot::Open => None,
+        }
+    }
+
+    /// Gives its connection up.
+    pub fn give_up<D: Device, G: Gate, H: Wait>(&mut self, worker: &Worker<'_, D, S, T, A, G, H>) {
+        if let Slot::Served(served) = self {
+            served.give_up(worker);
         }
     }
 
@@ -153,12 +193,12 @@ impl<S: Tally, T: Tally, A: Allocator + Copy> Slot<S, T, A> {
     pub fn turn<D: Device, G: Gate, H: Wait>(
         &mut self,
         worker: &Worker<'_, D, S, T, A, G, H>,
-        idle: Option<Duration>,
+        patience: Patience,
         now: Option<Instant>,
     ) -> Goes {
         let goes = match self {
             Slot::Free(_) | Slot::Open => return Goes::Over,
-            Slot::Served(served) => served.turn(worker, idle, now),
+            Slot::Served(served) => served.turn(worker, patience, now),
             Slot::Drained(drain, _) => match drain.drain(now) {
                 Drained::Rests => Goes::Rests,
                 Drained::GoesOn => Goes::On,
@@ -180,20 +220,16 @@ impl<S: Tally, T: Tally, A: Allocator + Copy> Slot<S, T, A> {
         worker: &Worker<'_, D, S, T, A, G, H>,
         now: Option<Instant>,
     ) -> Goes {
-        let left = mem::replace(self, Slot::Open).over(worker, now);
+        let left = mem::replace(self, Slot::Open).over(now);
         self.put(worker, left);
         if self.is_free() { Goes::Over } else { Goes::On }
     }
 
     // What is left of a connection that is over.
-    fn over<D: Device, G: Gate, H: Wait>(
-        self,
-        worker: &Worker<'_, D, S, T, A, G, H>,
-        now: Option<Instant>,
-    ) -> Slot<S, T, A> {
+    fn over(self, now: Option<Instant>) -> Slot<S, T, A> {
         match self {
             Slot::Free(share) => Slot::Free(share),
-            Slot::Served(served) => served.over(worker, now),
+            Slot::Served(served) => served.over(now),
             Slot::Drained(drain, share) => {
                 drop(drain);
                 Slot::Free(share)
@@ -219,172 +255,163 @@ impl<S: Tally, T: Tally, A: Allocator + Copy> Slot<S, T, A> {
     }
 }
 
-// What a conversation comes to whose client was silent for too long.
-fn given_up<A: Allocator>(turn: Turn<A>) -> Turn<A> {
-    match turn {
-        Turn::Hear => Turn::Over(Ended::Read),
-        Turn::Tell(_) => Turn::Over(Ended::Write),
-        other => other,
-    }
-}
-
 impl<S: Tally, T: Tally, A: Allocator + Copy> Served<S, T, A> {
-    // Until when its client may be silent, or take nothing of a reply.
-    fn deadline(&self, idle: Option<Duration>) -> Option<Instant> {
-        match self.turn {
-            Turn::Hear | Turn::Tell(_) => self.moved?.checked_add(idle?),
-            Turn::Wait(_) | Turn::Over(_) => None,
+    // Since when its client says nothing, or takes nothing of a reply. None while it waits for the server.
+    fn silent_since(&self) -> Option<Instant> {
+        match self.dialogue.awaits() {
+            Awaits::Line | Awaits::Telling => self.moved,
+            Awaits::Reply | Awaits::Leave | Awaits::Nothing => None,
         }
     }
 
-    // Takes steps where one may come to something, or where its client was silent for too long.
-    fn turn<D: Device, G: Gate, H: Wait>(
-        &mut self,
-        worker: &Worker<'_, D, S, T, A, G, H>,
-        idle: Option<Duration>,
-        now: Option<Instant>,
-    ) -> Goes {
-        if self.is_ready {
-            self.moved = now;
-        } else if self.is_silent(idle, now) {
-            let turn = mem::replace(&mut self.turn, Turn::Hear);
-            self.put(worker, given_up(turn));
+    // Until when its client has time.
+    fn deadline(&self, patience: Patience) -> Option<Instant> {
+        let idle = behind(Some(self.silent_since()?), patience.idle);
+        let hello = if self.dialogue.has_session() {
+            None
         } else {
-            return Goes::Rests;
-        }
-        let goes = self.steps(worker);
-        self.is_ready = goes == Goes::On;
-        goes
+            behind(self.began, patience.hello)
+        };
+        first_of(
+            idle,
+            first_of(hello, behind(self.line_began, patience.line)),
+        )
     }
 
-    fn is_silent(&self, idle: Option<Duration>, now: Option<Instant>) -> bool {
-        match (self.deadline(idle), now) {
+    fn is_late(&self, patience: Patience, now: Option<Instant>) -> bool {
+        match (self.deadline(patience), now) {
             (Some(deadline), Some(now)) => deadline <= now,
             _ => false,
         }
     }
 
-    // Takes steps until the next one comes to nothing, or it took many.
+    // Takes steps where one may come to something. Where its client took too long, it is given up.
+    fn turn<D: Device, G: Gate, H: Wait>(
+        &mut self,
+        worker: &Worker<'_, D, S, T, A, G, H>,
+        patience: Patience,
+        now: Option<Instant>,
+    ) -> Goes {
+        let goes = if self.is_ready {
+            self.steps(worker, patience, now)
+        } else {
+            Goes::Rests
+        };
+        self.is_ready = goes == Goes::On;
+        if goes != Goes::Over && self.is_late(patience, now) {
+            self.give_up(worker);
+            return Goes::On;
+        }
+        goes
+    }
+
+    // Hears and tells nothing more. What is left is done in the next round.
+    fn give_up<D: Device, G: Gate, H: Wait>(&mut self, worker: &Worker<'_, D, S, T, A, G, H>) {
+        self.dialogue.give_up(worker);
+        self.is_ready = true;
+    }
+
+    // Takes steps until the next one comes to nothing, or it took as many, or heard as much, as it may in a round.
     fn steps<D: Device, G: Gate, H: Wait>(
         &mut self,
         worker: &Worker<'_, D, S, T, A, G, H>,
+        patience: Patience,
+        now: Option<Instant>,
     ) -> Goes {
-        for _ in 0..STEPS_IN_A_ROW {
-            let turn = mem::replace(&mut self.turn, Turn::Hear);
-            let (next, goes) = self.step(worker, turn);
-            self.put(worker, next);
-            if goes != Goes::On {
-                return goes;
+        self.dialogue.begin_round();
+        for _ in 0..STEPS_A_ROUND {
+            match self.dialogue.step(worker) {
+                Step::Went => {
+                    self.moved = now;
+                    self.line_began = None;
+                    if self.is_late(patience, now) {
+                        self.give_up(worker);
+                    }
+                }
+                Step::Dry => return self.runs_dry(now),
+                Step::Waits | Step::Full => return Goes::Rests,
+                Step::Over => return Goes::Over,
             }
         }
         Goes::On
     }
 
-    // Takes a step, and says whether there was one to take.
-    fn step<D: Device, G: Gate, H: Wait>(
-        &mut self,
-        worker: &Worker<'_, D, S, T, A, G, H>,
-        turn: Turn<A>,
-    ) -> (Turn<A>, Goes) {
-        let Served {
-            stream,
-            talk,
-            turn: _,
-            is_ready: _,
-            is_dry,
-            is_ending,
-            moved: _,
-        } = self;
-        let stream = &*stream;
-        match turn {
-            Turn::Hear => {
-                let mut tap = Tap {
-                    stream,
-                    is_dry: *is_dry,
-                    is_ending: *is_ending,
-                };
-                let next = worker.hear(talk, &mut tap);
-                *is_dry = tap.is_dry;
-                match next {
-                    Turn::Hear => (Turn::Hear, Goes::Rests),
-                    next => (next, Goes::On),
-                }
-            }
-            Turn::Wait(ticket) => match worker.settle(talk, ticket, false) {
-                Turn::Wait(ticket) => (Turn::Wait(ticket), Goes::Rests),
-                next => (next, Goes::On),
-            },
-            Turn::Tell(telling) => match tell(&mut &*stream, telling) {
-                Turn::Tell(telling) => (Turn::Tell(telling), Goes::Rests),
-                next => (next, Goes::On),
-            },
-            Turn::Over(ended) => {
-                let is_over = talk.session == 0 || worker.try_leave(talk.session, &mut talk.share);
-                (
-                    Turn::Over(ended),
-                    if is_over { Goes::Over } else { Goes::Rests },
-                )
-            }
+    // There is no whole line for now, or not in this round.
+    fn runs_dry(&mut self, now: Option<Instant>) -> Goes {
+        if self.line_began.is_none() && self.dialogue.is_within_line() {
+            self.line_began = now;
+        }
+        if self.dialogue.is_spent() {
+            Goes::On
+        } else {
+            Goes::Rests
         }
     }
 
-    // Keeps what it does next.
-    fn put<D: Device, G: Gate, H: Wait>(
-        &mut self,
-        worker: &Worker<'_, D, S, T, A, G, H>,
-        turn: Turn<A>,
-    ) {
-        match mem::replace(&mut self.turn, turn) {
-            Turn::Wait(ticket) => worker.forget(ticket),
-            Turn::Hear | Turn::Tell(_) | Turn::Over(_) => {}
+    // What is left of it once it is over. Until then it is served on.
+    fn over(self, now: Option<Instant>) -> Slot<S, T, A> {
+        if self.dialogue.awaits() != Awaits::Nothing {
+            return Slot::Served(self);
         }
-    }
-
-    // What is left of it.
-    fn over<D: Device, G: Gate, H: Wait>(
-        self,
-        worker: &Worker<'_, D, S, T, A, G, H>,
-        now: Option<Instant>,
-    ) -> Slot<S, T, A> {
         let Served {
-            stream,
-            talk,
-            turn,
+            number,
+            dialogue,
             is_ready: _,
-            is_dry: _,
-            is_ending: _,
+            began: _,
             moved: _,
+            line_began: _,
         } = self;
-        let ended = match turn {
-            Turn::Over(ended) => ended,
-            Turn::Wait(ticket) => {
-                worker.forget(ticket);
-                Ended::Read
-            }
-            Turn::Hear | Turn::Tell(_) => Ended::Read,
-        };
-        left(stream, talk.into_share(), ended, now)
+        let (wire, share, ended) = parts_of(dialogue);
+        left(number, wire, share, ended, now)
     }
 
-    // Its share.
+    // Its share. It is given up.
     fn into_share<D: Device, G: Gate, H: Wait>(
         self,
         worker: &Worker<'_, D, S, T, A, G, H>,
     ) -> Share<S, T> {
         let Served {
-            stream,
-            talk,
-            turn,
+            number: _,
+            dialogue,
             is_ready: _,
-            is_dry: _,
-            is_ending: _,
+            began: _,
             moved: _,
+            line_began: _,
         } = self;
-        match turn {
-            Turn::Wait(ticket) => worker.forget(ticket),
-            Turn::Hear | Turn::Tell(_) | Turn::Over(_) => {}
-        }
-        drop(stream);
-        talk.into_share()
+        let mut dialogue = dialogue;
+        dialogue.give_up(worker);
+        let (wire, share, _) = parts_of(dialogue);
+        drop(wire);
+        share
+    }
+}
+
+// Its connection, its share, and why it ended.
+fn parts_of<S: Tally, T: Tally, A: Allocator + Copy>(
+    dialogue: Dialogue<Wire, S, T, A>,
+) -> (Wire, Share<S, T>, Ended)
+    requires { dialogue.has_ended ≡ true }
+{
+    let (wire, finished) = dialogue.finish();
+    let Finished {
+        answers,
+        share,
+        ended,
+    } = finished;
+    drop(answers);
+    (wire, share, ended)
+}
+
+// So long behind a moment.
+fn behind(moment: Option<Instant>, time: Option<Duration>) -> Option<Instant> {
+    moment?.checked_add(time?)
+}
+
+/// The first of two moments.
+pub(crate) fn first_of(one: Option<Instant>, other: Option<Instant>) -> Option<Instant> {
+    match (one, other) {
+        (Some(one), Some(other)) => Some(if one < other { one } else { other }),
+        (None, other) => other,
+        (one, None) => one,
     }
 }

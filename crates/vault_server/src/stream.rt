@@ -2,39 +2,50 @@
 
 ghost use Rattle.libc.specs.Net.{SockOption};
 
+use first_line::FirstLine;
 use libc::net as c;
-use std::io::{self, ErrorKind, Read};
+use line_inlet::{Inlet, NextByte, NextLine};
+use std::alloc::Allocator;
+use std::io::{self, ErrorKind, Read, Write};
 use std::net::{Shutdown, TcpStream};
 use std::os::fd::AsRawFd;
 use std::time::{Duration, Instant};
-use vault_sessions::Ended;
+use vault_lines::outside_text;
+use vault_model::Outside;
+use vault_sessions::{Connection, Ended};
 
-// The kernel asks after a client that said nothing for a minute, six times with ten seconds between, and then ends the connection.
-const FIRST_ASKED: u8 = 60;
+// The kernel asks after a client that said nothing for a minute, six times with ten seconds between, and then ends the connection. One that
+// doesn't take what was sent it is ended behind as long, in milliseconds.
+const FIRST_ASKED: u32 = 60;
 
-const ASKED_AGAIN: u8 = 10;
+const ASKED_AGAIN: u32 = 10;
 
-const ASKED: u8 = 6;
+const ASKED: u32 = 6;
+
+const LONGEST_UNTAKEN: u32 = 120_000;
 
 // How many milliseconds are waited for a client's further bytes once no more is answered, and how many reads there are, of which so many
-// are made in a row.
+// are made in a round.
 const LONGEST_WAIT: u64 = 5000;
 
 const MOST_CHUNKS: u32 = 4096;
 
-const CHUNKS_IN_A_ROW: u32 = 16;
+const CHUNKS_A_ROUND: u32 = 4;
+
+// How many bytes of a connection are heard in a round.
+const BYTES_A_ROUND: usize = 8_192;
 
 // For how many milliseconds nothing may come: from a client that may be about to send more, and from one that has quit and sent nothing since.
 const WAIT: u64 = 1000;
 
 const WAIT_BEHIND_QUIT: u64 = 100;
 
-// Sets an option of a connection to a small number. The kernel may refuse it, and nothing depends on it.
-fn set(stream: &TcpStream, level: i32, option: i32, number: u8)
+// Sets an option of a connection to a number. The kernel may refuse it, and nothing depends on it.
+fn set(stream: &TcpStream, level: i32, option: i32, number: u32)
     requires { SockOption level option }
 {
     let mut value = [0; 16];
-    value[0] = number;
+    value[..4].copy_from_slice(&number.to_ne_bytes());
     let _ = unsafe { c::setsockopt(stream.as_raw_fd(), level, option, &value, 4) };
 }
 
@@ -43,6 +54,7 @@ fn keep_alive(stream: &TcpStream) {
     set(stream, c::IPPROTO_TCP, c::TCP_KEEPIDLE, FIRST_ASKED);
     set(stream, c::IPPROTO_TCP, c::TCP_KEEPINTVL, ASKED_AGAIN);
     set(stream, c::IPPROTO_TCP, c::TCP_KEEPCNT, ASKED);
+    set(stream, c::IPPROTO_TCP, c::TCP_USER_TIMEOUT, LONGEST_UNTAKEN);
     set(stream, c::SOL_SOCKET, c::SO_KEEPALIVE, 1);
 }
 
@@ -54,28 +66,124 @@ pub(crate) fn prepare(stream: &TcpStream) -> io::Result<()> {
     stream.set_nonblocking(true)
 }
 
-/// Reads a connection until it gives less than was asked for. Then nothing is there, and the kernel says when more is.
-#[derive(Drop)]
-pub(crate) struct Tap<'a> {
-    pub stream: &'a TcpStream,
-    /// Whether nothing is there.
-    pub is_dry: bool,
-    /// Whether the end may stand behind what is there, of which the kernel says nothing more.
-    pub is_ending: bool,
+/// Tells a connection that there is no place for it, and ends it. What it sent by now is read before: a connection that is dropped with bytes
+/// unread is reset, and then the client may lose what it was told.
+pub(crate) fn turn_away<A: Allocator + Copy>(alloc: A, stream: TcpStream) {
+    let mut both = &stream;
+    let mut chunk = [0; 4096];
+    for _ in 0..CHUNKS_A_ROUND {
+        if !both.read(&mut chunk).is_ok_and(|count| count > 0) {
+            break;
+        }
+    }
+    if let Ok(text) = outside_text(alloc, Outside::Busy) {
+        let _ = both.write(&text);
+        drop(text);
+    }
+    let _ = stream.shutdown(Shutdown::Write);
+    drop(stream);
 }
 
-impl Read for Tap<'_> {
+/// A connection that is served. It is read until it gives less than was asked for. Then nothing is there, and the kernel says when more is.
+/// In one round it gives so many bytes, and then says that it has none for now. Where its first line is another protocol's, it gives its end in
+/// the place of the bytes by which that is known, and of all behind them.
+#[derive(Drop)]
+pub(crate) struct Wire {
+    stream: TcpStream,
+    // Whether nothing is there.
+    is_dry: bool,
+    // Whether the end may stand behind what is there, of which the kernel says nothing more.
+    is_ending: bool,
+    // How many bytes may still be read in this round.
+    left: usize,
+    // What came of its first line.
+    first: FirstLine,
+}
+
+impl Wire {
+    /// Nothing was read yet. Another protocol's first line is the end where it is refused, and else a line as any other.
+    pub fn new(stream: TcpStream, refuses_foreign: bool) -> Wire {
+        Wire {
+            stream,
+            is_dry: false,
+            is_ending: false,
+            left: BYTES_A_ROUND,
+            first: if refuses_foreign {
+                FirstLine::new()
+            } else {
+                FirstLine::Own
+            },
+        }
+    }
+
+    /// The stream.
+    pub fn into_stream(self) -> TcpStream {
+        self.stream
+    }
+
+    // These bytes came. Whether the conversation may hear them.
+    fn may_be_heard(&mut self, bytes: &[u8]) -> bool {
+        if self.first.is_open() {
+            self.first = self.first.hear(bytes);
+        }
+        !self.first.is_foreign()
+    }
+}
+
+impl Read for Wire {
     fn read(&mut self, buf: &mut [u8]) -> io::Result<usize> {
-        if self.is_dry {
+        if self.first.is_foreign() {
+            return Ok(0);
+        }
+        if self.is_dry || self.left == 0 {
             return Err(io::Error::from(ErrorKind::WouldBlock));
         }
-        let mut stream = self.stream;
-        let given = stream.read(buf);
-        self.is_dry = match &given {
-            Ok(count) => *count < buf.len() && !self.is_ending,
-            Err(error) => error.kind() == ErrorKind::WouldBlock,
-        };
-        given
+        let mut stream = &self.stream;
+        match stream.read(buf) {
+            Ok(count) => {
+                self.is_dry = count < buf.len() && !self.is_ending;
+                self.left = self.left.saturating_sub(count);
+                let bytes = buf.get(..count).unwrap_or(b"");
+                Ok(if self.may_be_heard(bytes) { count } else { 0 })
+            }
+            Err(error) => {
+                self.is_dry = error.kind() == ErrorKind::WouldBlock;
+                Err(error)
+            }
+        }
+    }
+}
+
+impl Connection for Wire {
+    fn next_byte(&mut self, inlet: &mut Inlet) -> NextByte {
+        inlet.next_byte(self)
+    }
+
+    fn next_line<A: Allocator>(
+        &mut self,
+        inlet: &mut Inlet,
+        line: &mut Vec<u8, A>,
+        is_long: &mut bool,
+    ) -> NextLine {
+        inlet.next_line(self, line, is_long)
+    }
+
+    fn write(&mut self, buf: &[u8]) -> io::Result<usize> {
+        let mut stream = &self.stream;
+        stream.write(buf)
+    }
+
+    fn wake(&mut self, is_ending: bool) {
+        self.is_dry = false;
+        self.is_ending = self.is_ending || is_ending;
+    }
+
+    fn begin_round(&mut self) {
+        self.left = BYTES_A_ROUND;
+    }
+
+    fn is_spent(&self) -> bool {
+        self.left == 0 && !self.is_dry
     }
 }
 
@@ -83,6 +191,8 @@ impl Read for Tap<'_> {
 /// for a while. A connection that is dropped with bytes unread is reset, and then a client that reads late loses replies that were written.
 #[derive(Drop)]
 pub(crate) struct Drain {
+    /// The number of its connection.
+    pub number: u32,
     stream: TcpStream,
     began: Instant,
     // When something last came, and for how many milliseconds nothing may come now.
@@ -93,7 +203,12 @@ pub(crate) struct Drain {
 
 impl Drain {
     /// Says that no more comes on a connection that ended so. None where there is nothing unread, or nobody who reads.
-    pub fn begin(stream: TcpStream, ended: Ended, now: Option<Instant>) -> Option<Drain> {
+    pub fn begin(
+        number: u32,
+        stream: TcpStream,
+        ended: Ended,
+        now: Option<Instant>,
+    ) -> Option<Drain> {
         let wait = match ended {
             Ended::Quit => WAIT_BEHIND_QUIT,
             Ended::Limit | Ended::NoMemory => WAIT,
@@ -104,6 +219,7 @@ impl Drain {
             return None;
         }
         Some(Drain {
+            number,
             stream,
             began: now,
             came: now,
@@ -122,7 +238,7 @@ impl Drain {
     /// Throws away what has come.
     pub fn drain(&mut self, now: Option<Instant>) -> Drained {
         let mut chunk = [0; 4096];
-        for _ in 0..CHUNKS_IN_A_ROW {
+        for _ in 0..CHUNKS_A_ROUND {
             let mut stream = &self.stream;
             match stream.read(&mut chunk) {
                 Ok(0) => return Drained::Over,

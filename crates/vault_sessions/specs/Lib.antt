@@ -3,3 +3,7 @@ pub mod Tallies
 pub mod Pumping
 pub mod Serving
 pub mod Talking
+pub mod AtTalk
+pub mod Answered
+pub mod Logs
+pub mod Dialogues

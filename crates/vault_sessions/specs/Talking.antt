@@ -87,7 +87,7 @@ pub record Stands {A : Type 0} (turn : Turn A) (reader_old reader_new writer_old
 abbrev pub StandsAt : {S T A : Type 0} {s : TallyGhosts S} {t : TallyGhosts T} → Turn A → (reader_old reader_new writer_old writer_new : Option (List ℕ))
     → Totals → Conversation S T A s t → Type 0
 StandsAt turn reader_old reader_new writer_old writer_new counts talk =
-    Stands turn reader_old reader_new writer_old writer_new counts talk.inlet talk.line.items talk.is_long talk.outs.items talk.session talk.share
+    Stands turn reader_old reader_new writer_old writer_new counts talk.inlet talk.line.items talk.is_long talk.answers.outs talk.session talk.share
 
 -- how a conversation may end whose reader gives no more
 abbrev pub IsReaders : Ended → Type 0

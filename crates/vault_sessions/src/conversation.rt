@@ -2,7 +2,7 @@
 ghost use Rattle.std.specs.Prelude.{◌≡◌, ◌≤◌, [], IfOk, IfErr, vec_capacity, false};
 ghost use Rattle.vault_lines.specs.Limits.{longest_line};
 
-use crate::report::Out;
+use crate::answers::Answers;
 use crate::tally::{Share, Tally};
 use line_inlet::Inlet;
 use std::alloc::Allocator;
@@ -20,7 +20,7 @@ pub struct Conversation<S: Tally, T: Tally, A: Allocator> {
     /// Whether these were too many, and some of them are left out.
     pub is_long: bool,
     /// The answers, in order.
-    pub outs: Vec<Out<A>, A>,
+    pub answers: Answers<A>,
     /// The session that it speaks for, or 0.
     pub session: u32,
     /// What it counted.
@@ -33,10 +33,11 @@ impl<S: Tally, T: Tally, A: Allocator + Copy> Conversation<S, T, A> {
     pub fn new(
         alloc: A,
         connection: u32,
+        keeps: bool,
         share: Share<S, T>,
     ) -> Result<Conversation<S, T, A>, Share<S, T>>
         ensures made { IfOk result (λ talk. (talk.inlet ≡ record { pending = []; taken = 0 }) × (talk.line.items ≡ []) × (talk.is_long ≡ false)
-            × (talk.outs.items ≡ []) × (talk.session ≡ 0) × (talk.share ≡ share)) }
+            × (talk.answers ≡ record { outs = []; is_kept = keeps; has_room = false }) × (talk.session ≡ 0) × (talk.share ≡ share)) }
         ensures handed_back { IfErr result (λ back. back ≡ share) }
     {
         let mut line = Vec::new(alloc);
@@ -48,7 +49,7 @@ impl<S: Tally, T: Tally, A: Allocator + Copy> Conversation<S, T, A> {
             inlet: Inlet::new(),
             line,
             is_long: false,
-            outs: Vec::new(alloc),
+            answers: Answers::new(alloc, keeps),
             session: 0,
             share,
         })
@@ -57,26 +58,10 @@ impl<S: Tally, T: Tally, A: Allocator + Copy> Conversation<S, T, A> {
     // The line that was heard is used, and no byte of the next one was taken.
     pub(crate) fn begin_line(&mut self)
         ensures begun { (self.new.line.items ≡ []) × (self.new.is_long ≡ false) }
-        ensures same { (self.new.inlet ≡ self.old.inlet) × (self.new.outs ≡ self.old.outs) × (self.new.session ≡ self.old.session)
+        ensures same { (self.new.inlet ≡ self.old.inlet) × (self.new.answers ≡ self.old.answers) × (self.new.session ≡ self.old.session)
             × (self.new.share ≡ self.old.share) }
     {
         self.line.clear();
         self.is_long = false;
-    }
-
-    /// Its share.
-    pub fn into_share(self) -> Share<S, T>
-        ensures { result ≡ self.share }
-    {
-        let Conversation {
-            connection: _,
-            inlet: _,
-            line: _,
-            is_long: _,
-            outs: _,
-            session: _,
-            share,
-        } = self;
-        share
     }
 }

@@ -268,6 +268,9 @@ impl<D: Device, S: Tally, T: Tally, A: Allocator + Copy> Desk<D, S, T, A> {
         if is_owed || self.pace.lacks(self.waiting()) {
             let moved = self.vault.len().saturating_add(told);
             if let Some(left) = gathering.left(clock, &self.last, moved, is_owed) {
+                if wants_room {
+                    self.pace.asks_for_room();
+                }
                 return Due::In(left);
             }
         }

@@ -1,4 +1,4 @@
-//! Points at which a test can hold a thread.
+//! Points at which a test can hold a thread, and what a server tells at once.
 
 /// Where a thread stands, with the number of its connection.
 #[derive(Debug, Clone, Copy, PartialEq, Eq)]
@@ -17,6 +17,9 @@ pub enum Point {
 pub trait Gate {
     /// Returns once the thread may go on.
     fn at(&self, point: Point);
+
+    /// A server can accept no more connections, and ends with those that it has.
+    fn accepts_no_more(&self) {}
 }
 
 /// Holds nobody.

@@ -2,7 +2,8 @@
 //!
 //! Promises: whenever the lock is free the vault keeps its laws, and the tallies count what was staged and told. Each line of
 //! a connection has its answer at its place, a receipt shows the line's command, and what is written is the texts of the
-//! answers (`serve_one`). A conversation goes by steps, and each step keeps that (`Worker::hear`, `settle`, `tell`). The shares of all
+//! answers (`serve_one`). A conversation is a `Dialogue`, which owns its connection and goes by steps: whoever takes them, each keeps that,
+//! and `finish` gives it, with no premise on the caller. `serve_one` is a loop over these steps. The shares of all
 //! workers sum to what the history grew by (`gather`). A pump, the start of a snapshot and the retiring of an entry are one act of the
 //! vault each, and count nothing (`Desk`). Of `run_flusher`, `Flusher`, `Shared::close` and `Worker::forget` safety alone is
 //! proved.
@@ -16,18 +17,22 @@
 //! 4. `Shared`: each ledger has one part for each worker, and one for the opening.
 //! 5. `Share`: it has one part of each ledger, which counts what the share says.
 //! 6. `Conversation`: the buffer has room for the longest line.
+//! 7. `Dialogue`: what it heard, whom it speaks for, what it wrote and what it counted since it began, by what it does next.
 //!
 //! Only tested: two sessions share a frame; a second one is answered while the first waits; the flusher waits for a client
 //! that comes back, goes on without one that doesn't, and stays until it is closed; it begins a snapshot where one is wanted,
 //! and, refused its memory, commits and begins it then; one pump a holding; each request of `Shared::new` and `serve_one` for
 //! memory, refused.
 //! Neither: that anybody is served or woken; fairness, time; whom a name belongs to.
-//! Start at: desk.rt (what is done under the lock), worker.rt (the steps of a conversation), serve.rt (one connection), flusher.rt
+//! Start at: desk.rt (what is done under the lock), worker.rt (what a step does), dialogue.rt (its steps), serve.rt (one connection), flusher.rt
 //! (when, by `flusher_pace`).
 #![tactic(auto)]
 
+mod answers;
+mod connection;
 mod conversation;
 mod desk;
+mod dialogue;
 mod flusher;
 mod gate;
 mod report;
@@ -37,13 +42,14 @@ mod tally;
 mod turn;
 mod worker;
 
-pub use conversation::Conversation;
+pub use answers::Answers;
+pub use connection::Connection;
 pub use desk::{Desk, Due};
+pub use dialogue::{Awaits, Dialogue, Step};
 pub use flusher::{Flushed, Flusher, run_flusher};
 pub use gate::{Gate, OpenGate, Point};
-pub use report::{Ended, Out, Report};
+pub use report::{Ended, Finished, Out, Report};
 pub use serve::serve_one;
 pub use shared::{Shared, gather};
 pub use tally::{Share, Tally, Totals};
-pub use turn::{Telling, Turn, tell};
 pub use worker::Worker;

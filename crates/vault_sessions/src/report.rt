@@ -1,5 +1,6 @@
 //! What a conversation came to.
 
+use crate::answers::Answers;
 use crate::tally::{Share, Tally};
 use group_commit::Receipt;
 use std::alloc::{Allocator, Global};
@@ -36,6 +37,17 @@ pub enum Ended {
 pub struct Report<S: Tally, T: Tally, A: Allocator = Global> {
     /// The answers to its lines, in order.
     pub outs: Vec<Out<A>, A>,
+    /// The worker's share.
+    pub share: Share<S, T>,
+    /// Why it ended.
+    pub ended: Ended,
+}
+
+/// What a dialogue came to.
+#[derive(Drop)]
+pub struct Finished<S: Tally, T: Tally, A: Allocator = Global> {
+    /// The answers to its lines.
+    pub answers: Answers<A>,
     /// The worker's share.
     pub share: Share<S, T>,
     /// Why it ended.

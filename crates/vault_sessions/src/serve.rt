@@ -1,16 +1,13 @@
 //! A worker serves one connection.
-ghost use Rattle.std.specs.Prelude.{◌≡◌, ◌≤◌, ℕ, List, Option, length};
+ghost use Rattle.std.specs.Prelude.{◌≡◌, ◌≤◌, length, true};
 ghost use Rattle.vault_sessions.specs.Serving.{most_lines, HeardAll, SpeaksFor, CountsAll, WritesAll, QuitsBy};
-ghost use Rattle.vault_sessions.specs.Talking.{StandsAt, TellsOn};
-ghost use Rattle.vault_sessions.specs.declared.tally.Totals.{Totals};
-ghost use Rattle.vault_sessions.specs.declared.turn.Turn.TheVariants as turns;
 
-use crate::conversation::Conversation;
+use crate::connection::{Connection, Ear, Joined};
+use crate::dialogue::{Dialogue, Step};
 use crate::gate::Gate;
-use crate::report::{Ended, Report};
+use crate::report::{Ended, Finished, Report};
 use crate::shared::Shared;
 use crate::tally::{Share, Tally};
-use crate::turn::{Telling, Turn, tell};
 use crate::worker::Worker;
 use std::alloc::Allocator;
 use std::io::{Read, Write};
@@ -51,34 +48,18 @@ pub fn serve_one<
         shared,
         gate,
     };
-    let mut talk = match Conversation::new(alloc, connection, share) {
-        Ok(talk) => talk,
-        Err(share) => {
-            return Report {
-                outs: Vec::new(alloc),
-                share,
-                ended: Ended::NoMemory,
-            };
-        }
-    };
-    let ended = converse(&worker, &mut talk, reader, writer);
-    let Conversation {
-        connection: _,
-        inlet: _,
-        line: _,
-        is_long: _,
-        outs,
-        session,
-        mut share,
-    } = talk;
-    if session != 0 {
-        worker.leave(&outs, session, &mut share);
-    }
-    Report { outs, share, ended }
+    let ear = Ear { reader };
+    let (ear, report) = serve_heard(&worker, connection, ear, writer, share);
+    let Ear { reader } = ear;
+    // A proof reads here what it holds. Of two in one function it would know only the last one.
+    let _ = &*reader;
+    report
 }
 
-// Answers the lines, and says why no more came.
-fn converse<
+// The same, with the reader handed back.
+fn serve_heard<
+    'x,
+    'y,
     D: Device,
     S: Tally,
     T: Tally,
@@ -89,51 +70,73 @@ fn converse<
     H: Wait,
 >(
     worker: &Worker<'_, D, S, T, A, G, H>,
-    talk: &mut Conversation<S, T, A>,
-    reader: &mut R,
-    writer: &mut W,
-) -> Ended
-    requires { StandsAt turns.Hear (R.remaining reader.old) (R.remaining reader.old) (W.contents writer.old) (W.contents writer.old) talk.old.share talk.old }
-    ensures { StandsAt (turns.Over result) (R.remaining reader.old) (R.remaining reader.new) (W.contents writer.old) (W.contents writer.new)
-        talk.old.share talk.new }
+    number: u32,
+    ear: Ear<'x, R>,
+    writer: &'y mut W,
+    share: Share<S, T>,
+) -> (Ear<'x, R>, Report<S, T, A>)
+    ensures back { result.0.reader.ghost_name ≡ ear.entry.reader.ghost_name }
+    ensures heard { HeardAll (R.remaining ear.entry.reader.now) (R.remaining result.0.reader.now) result.1.outs.items result.1.ended }
+    ensures few { length result.1.outs.items ≤ most_lines }
+    ensures spoken { SpeaksFor 0 result.1.outs.items }
+    ensures written { WritesAll result.1.ended (W.contents writer.old) (W.contents writer.new) result.1.outs.items }
+    ensures quit { QuitsBy result.1.ended result.1.outs.items }
+    ensures counted { CountsAll share result.1.outs.items result.1.ended result.1.share }
 {
-    let mut turn = Turn::Hear;
-    for _ in worker.rt.forever() {
-        turn = match turn {
-            Turn::Hear => hear_whole(worker, talk, reader),
-            Turn::Wait(ticket) => worker.settle(talk, ticket, true),
-            Turn::Tell(telling) => tell_whole(writer, telling),
-            Turn::Over(ended) => return ended,
-        };
-    }
-    unreachable!()
-}
-
-// Hears a line. A reader that has no whole one for now has failed.
-fn hear_whole<D: Device, S: Tally, T: Tally, A: Allocator + Copy, G: Gate, R: Read, H: Wait>(
-    worker: &Worker<'_, D, S, T, A, G, H>,
-    talk: &mut Conversation<S, T, A>,
-    reader: &mut R,
-) -> Turn<A>
-    ensures { (reader_old writer_old writer_new : Option (List ℕ)) (counts : Totals)
-        → StandsAt turns.Hear reader_old (R.remaining reader.old) writer_old writer_new counts talk.old
-        → StandsAt result reader_old (R.remaining reader.new) writer_old writer_new counts talk.new }
-{
-    match worker.hear(talk, reader) {
-        Turn::Hear => Turn::Over(Ended::Read),
-        next => next,
-    }
-}
-
-// Tells an answer. A writer that takes no more for now has failed.
-fn tell_whole<A: Allocator, W: Write>(writer: &mut W, telling: Telling<A>) -> Turn<A>
-    ensures { TellsOn telling result (W.contents writer.old) (W.contents writer.new) }
-{
-    match tell(writer, telling) {
-        Turn::Tell(untold) => {
-            drop(untold);
-            Turn::Over(Ended::Write)
+    let joined = Joined { ear, writer };
+    let mut dialogue = match Dialogue::new(worker.alloc, number, joined, share, true) {
+        Ok(dialogue) => dialogue,
+        Err(back) => {
+            let (joined, share) = back;
+            let Joined { ear, writer } = joined;
+            let _ = &*writer;
+            let report = Report {
+                outs: Vec::new(worker.alloc),
+                share,
+                ended: Ended::NoMemory,
+            };
+            return (ear, report);
         }
-        next => next,
+    };
+    converse(worker, &mut dialogue);
+    let (joined, finished) = dialogue.finish();
+    let report = report_of(finished);
+    let Joined { ear, writer } = joined;
+    let _ = &*writer;
+    (ear, report)
+}
+
+// What a conversation came to whose answers are kept.
+fn report_of<S: Tally, T: Tally, A: Allocator + Copy>(
+    finished: Finished<S, T, A>,
+) -> Report<S, T, A>
+    requires { finished.answers.is_kept ≡ true }
+    ensures { (result.outs.items ≡ finished.answers.outs) × (result.share ≡ finished.share) × (result.ended ≡ finished.ended) }
+{
+    let Finished {
+        answers,
+        share,
+        ended,
+    } = finished;
+    match answers.into_values() {
+        Some(outs) => Report { outs, share, ended },
+        None => unreachable!(),
+    }
+}
+
+// Takes steps until it is over. A reader that has no whole line for now has failed, and so has a writer that takes no more for now.
+fn converse<D: Device, S: Tally, T: Tally, A: Allocator + Copy, G: Gate, H: Wait, C: Connection>(
+    worker: &Worker<'_, D, S, T, A, G, H>,
+    dialogue: &mut Dialogue<C, S, T, A>,
+)
+    ensures began { dialogue.new.began ≡ dialogue.old.began }
+    ensures ended { dialogue.new.has_ended ≡ true }
+{
+    for _ in worker.rt.forever() {
+        match dialogue.step_on(worker, true) {
+            Step::Went | Step::Waits => {}
+            Step::Dry | Step::Full => dialogue.give_up(worker),
+            Step::Over => return,
+        }
     }
 }

@@ -3,10 +3,11 @@ ghost use Rattle.std.specs.Prelude.{◌≡◌, IfOk, MatchBool};
 ghost use Rattle.vault_sessions.specs.Serving.{session_after as session_after_out, text_of as text_of_answer, IsLeft};
 ghost use Rattle.vault_sessions.specs.Talking.{TellsOn};
 
+use crate::connection::Connection;
 use crate::report::{Ended, Out};
 use group_commit::Ticket;
 use std::alloc::Allocator;
-use std::io::{ErrorKind, Write};
+use std::io::ErrorKind;
 use vault_lines::{outside_text, text_of};
 use vault_model::{NoMemory, Reply};
 
@@ -29,17 +30,30 @@ pub enum Turn<A: Allocator> {
     Wait(Ticket<A>),
     /// It tells an answer.
     Tell(Telling<A>),
-    /// It ended, and does nothing more.
+    /// It ended, and hears and tells nothing more.
     Over(Ended),
 }
 
-/// Tells more of an answer. It is still to be told where the writer takes no more for now.
-pub fn tell<A: Allocator, W: Write>(writer: &mut W, telling: Telling<A>) -> Turn<A>
-    ensures { TellsOn telling result (W.contents writer.old) (W.contents writer.new) }
+// What a dialogue does next.
+pub(crate) enum Next<A: Allocator> {
+    // This turn. Where it is over, a session that stands gets a last leave.
+    Takes(Turn<A>),
+    // It was given up, and ended so. A session that stands gets a last leave, if there is a further step.
+    GivenUp(Ended),
+    // Nothing.
+    Done(Ended),
+    // Its turn is taken out, and comes back in a moment.
+    Open,
+}
+
+/// Tells more of an answer. It is still to be told where the connection takes no more for now.
+pub(crate) fn tell<A: Allocator, C: Connection>(connection: &mut C, telling: Telling<A>) -> Turn<A>
+    ensures told { TellsOn telling result (C.contents connection.old) (C.contents connection.new) }
+    ensures same { (C.remaining connection.new ≡ C.remaining connection.old) × (C.names connection.new ≡ C.names connection.old) }
 {
     let mut telling = telling;
     while telling.written < telling.text.len() {
-        match writer.write(&telling.text.as_slice()[telling.written..]) {
+        match connection.write(&telling.text.as_slice()[telling.written..]) {
             Ok(0) => return Turn::Over(Ended::Write),
             Ok(count) => telling.written += count,
             Err(error) if error.kind() == ErrorKind::WouldBlock => return Turn::Tell(telling),

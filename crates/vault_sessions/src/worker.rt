@@ -1,5 +1,5 @@
 //! The steps of a conversation: it hears a line, waits for the reply, and tells it.
-ghost use Rattle.std.specs.Prelude.{◌≡◌, ◌≢◌, ◌+◌, ◌≤◌, ◌<◌, ℕ, List, Option, false, [], ◌∷◌, ◌++◌, MatchOption, IfOk, IfErr, IfSome, length, vec_capacity, vec_len};
+ghost use Rattle.std.specs.Prelude.{◌≡◌, ◌≢◌, ◌+◌, ◌≤◌, ◌<◌, ℕ, List, Option, false, [], ◌∷◌, ◌++◌, MatchOption, IfOk, IfErr, IfSome, length, true};
 ghost use Rattle.vault_lines.specs.Limits.{longest_line};
 ghost use Rattle.vault_sessions.specs.Serving.{Counts, session_of, session_after as session_after_out};
 ghost use Rattle.vault_sessions.specs.Tallies.{IsOfTicket, CountsRedeem};
@@ -10,6 +10,8 @@ ghost use Rattle.vault_sessions.specs.declared.turn.Turn.TheVariants as turns;
 ghost use Rattle.vault_model.specs.declared.replies.Outside.TheVariants.{BadLine};
 ghost use Rattle.vault_model.specs.declared.commands.Command.TheVariants.{Leave};
 
+use crate::answers::Answers;
+use crate::connection::Connection;
 use crate::conversation::Conversation;
 use crate::gate::{Gate, Point};
 use crate::report::{Ended, Out};
@@ -20,7 +22,6 @@ use flusher_pace::may_change;
 use group_commit::{Redeemed, Ticket};
 use line_inlet::{NextByte, NextLine};
 use std::alloc::Allocator;
-use std::io::Read;
 use std::sync::Wait;
 use vault_device::Device;
 use vault_lines::{LineError, read_line_of};
@@ -63,24 +64,30 @@ impl<D: Device, S: Tally, T: Tally, A: Allocator + Copy, G: Gate, H: Wait> Worke
     H,
 > {
     /// Hears a line, and stages its command or answers it. A line is still to be heard where the reader has no whole one for now.
-    pub fn hear<R: Read>(&self, talk: &mut Conversation<S, T, A>, reader: &mut R) -> Turn<A>
-        ensures { (reader_old writer_old writer_new : Option (List ℕ)) (counts : Totals)
-            → StandsAt turns.Hear reader_old (R.remaining reader.old) writer_old writer_new counts talk.old
-            → StandsAt result reader_old (R.remaining reader.new) writer_old writer_new counts talk.new }
+    pub(crate) fn hear<C: Connection>(
+        &self,
+        talk: &mut Conversation<S, T, A>,
+        connection: &mut C,
+    ) -> Turn<A>
+        ensures stands { (reader_old writer_old writer_new : Option (List ℕ)) (counts : Totals)
+            → StandsAt turns.Hear reader_old (C.remaining connection.old) writer_old writer_new counts talk.old
+            → StandsAt result reader_old (C.remaining connection.new) writer_old writer_new counts talk.new }
+        ensures same { (C.contents connection.new ≡ C.contents connection.old) × (C.names connection.new ≡ C.names connection.old) }
+        ensures kept { talk.new.answers.is_kept ≡ talk.old.answers.is_kept }
     {
-        if talk.outs.len() >= MOST_LINES {
-            return match talk.inlet.next_byte(reader) {
+        if talk.answers.len() >= MOST_LINES {
+            return match connection.next_byte(&mut talk.inlet) {
                 NextByte::Byte(_) | NextByte::Limit => Turn::Over(Ended::Limit),
                 NextByte::End => Turn::Over(Ended::EndOfInput),
                 NextByte::Fault => Turn::Over(Ended::Read),
                 NextByte::NotYet => Turn::Hear,
             };
         }
-        if talk.outs.reserve(1).is_err() {
+        if talk.answers.reserve().is_err() {
             return Turn::Over(Ended::NoMemory);
         }
         self.gate.at(Point::Read(talk.connection));
-        match self.next(talk, reader) {
+        match self.next(talk, connection) {
             Heard::Asked(ticket) => {
                 self.gate.at(Point::Staged(talk.connection));
                 Turn::Wait(ticket)
@@ -93,16 +100,16 @@ impl<D: Device, S: Tally, T: Tally, A: Allocator + Copy, G: Gate, H: Wait> Worke
 
     // Keeps an answer, which is to be told next.
     fn answer(&self, talk: &mut Conversation<S, T, A>, out: Out<A>) -> Turn<A>
-        requires { vec_len talk.old.outs < vec_capacity talk.old.outs }
-        ensures kept { (talk.new.outs.items ≡ talk.old.outs.items ++ out ∷ []) × (talk.new.session ≡ session_after_out talk.old.session out) }
+        requires { talk.old.answers.has_room ≡ true }
+        ensures kept { (talk.new.answers.outs ≡ talk.old.answers.outs ++ out ∷ []) × (talk.new.session ≡ session_after_out talk.old.session out) }
         ensures same { (talk.new.inlet ≡ talk.old.inlet) × (talk.new.line.items ≡ talk.old.line.items) × (talk.new.is_long ≡ talk.old.is_long)
-            × (talk.new.share ≡ talk.old.share) }
+            × (talk.new.share ≡ talk.old.share) × (talk.new.answers.is_kept ≡ talk.old.answers.is_kept) }
         ensures told { IsAnswered out result }
     {
         let text = text_of_out(self.alloc, &out);
         let is_left = is_left(&out);
         talk.session = session_after(talk.session, &out);
-        talk.outs.push_reserved(out);
+        talk.answers.push(out);
         match text {
             Ok(text) => Turn::Tell(Telling {
                 text,
@@ -114,17 +121,15 @@ impl<D: Device, S: Tally, T: Tally, A: Allocator + Copy, G: Gate, H: Wait> Worke
     }
 
     // Reads a line, and stages its command.
-    fn next<R: Read>(&self, talk: &mut Conversation<S, T, A>, reader: &mut R) -> Heard<A>
+    fn next<C: Connection>(&self, talk: &mut Conversation<S, T, A>, connection: &mut C) -> Heard<A>
         ensures heard { (start : Option (List ℕ)) (outs : List (Out A))
-            → HeardPart start (R.remaining reader.old) talk.old.inlet talk.old.line.items talk.old.is_long outs
-            → IsHeard result start (R.remaining reader.new) talk.new.inlet talk.new.line.items talk.new.is_long outs }
-        ensures same { (talk.new.outs ≡ talk.old.outs) × (talk.new.session ≡ talk.old.session) }
+            → HeardPart start (C.remaining connection.old) talk.old.inlet talk.old.line.items talk.old.is_long outs
+            → IsHeard result start (C.remaining connection.new) talk.new.inlet talk.new.line.items talk.new.is_long outs }
+        ensures connection { (C.contents connection.new ≡ C.contents connection.old) × (C.names connection.new ≡ C.names connection.old) }
+        ensures same { (talk.new.answers ≡ talk.old.answers) × (talk.new.session ≡ talk.old.session) }
         ensures staged { StagesBy result talk.old.session talk.old.share talk.new.share }
     {
-        match talk
-            .inlet
-            .next_line(reader, &mut talk.line, &mut talk.is_long)
-        {
+        match connection.next_line(&mut talk.inlet, &mut talk.line, &mut talk.is_long) {
             NextLine::Whole => {
                 let heard = self.ask(talk.session, talk.line.as_slice(), &mut talk.share);
                 talk.begin_line();
@@ -201,17 +206,18 @@ impl<D: Device, S: Tally, T: Tally, A: Allocator + Copy, G: Gate, H: Wait> Worke
 
     /// Answers the command that a ticket is for, once its fate is known. Waits for that, or looks once: the reply is still waited for
     /// where it isn't known yet.
-    pub fn settle(
+    pub(crate) fn settle(
         &self,
         talk: &mut Conversation<S, T, A>,
         ticket: Ticket<A>,
         waits: bool,
     ) -> Turn<A>
-        ensures { (reader_old reader_new writer_old writer_new : Option (List ℕ)) (counts : Totals)
+        ensures stands { (reader_old reader_new writer_old writer_new : Option (List ℕ)) (counts : Totals)
             → StandsAt (turns.Wait ticket) reader_old reader_new writer_old writer_new counts talk.old
             → StandsAt result reader_old reader_new writer_old writer_new counts talk.new }
+        ensures kept { talk.new.answers.is_kept ≡ talk.old.answers.is_kept }
     {
-        if talk.outs.reserve(1).is_err() {
+        if talk.answers.reserve().is_err() {
             self.forget(ticket);
             return Turn::Over(Ended::NoMemory);
         }
@@ -282,14 +288,20 @@ impl<D: Device, S: Tally, T: Tally, A: Allocator + Copy, G: Gate, H: Wait> Worke
     }
 
     /// Spends a ticket without its reply.
-    pub fn forget(&self, ticket: Ticket<A>) {
+    pub(crate) fn forget(&self, ticket: Ticket<A>) {
         let shared = self.shared;
         let _ = shared.desk.lock(self.rt).forget(ticket);
     }
 
-    /// Stages a last leave of a session, and forgets its ticket. False where there is no room for it yet. Where it is refused for
-    /// another reason, the session stands.
-    pub fn try_leave(&self, session: u32, share: &mut Share<S, T>) -> bool
+    /// Stages a last leave of the session that the answers leave standing, and forgets its ticket. False where there is no room for it
+    /// yet. Where it is refused for another reason, the session stands.
+    pub(crate) fn try_leave(
+        &self,
+        answers: &Answers<A>,
+        session: u32,
+        share: &mut Share<S, T>,
+    ) -> bool
+        requires { session ≡ session_of 0 answers.now.outs }
         ensures full { result ≡ false → share.new ≡ share.old }
         ensures counted { Counts share.old 0 1 share.new }
     {
@@ -306,12 +318,12 @@ impl<D: Device, S: Tally, T: Tally, A: Allocator + Copy, G: Gate, H: Wait> Worke
     // for another reason.
     fn stage_leave(
         &self,
-        outs: &Vec<Out<A>, A>,
+        answers: &Answers<A>,
         session: u32,
         share: &mut Share<S, T>,
     ) -> Option<Ticket<A>>
-        requires { session ≡ session_of 0 outs.now.items }
-        ensures ticket { IfSome result (λ ticket. (ticket.session ≡ session_of 0 outs.now.items) × (ticket.command ≡ Leave)) }
+        requires { session ≡ session_of 0 answers.now.outs }
+        ensures ticket { IfSome result (λ ticket. (ticket.session ≡ session_of 0 answers.now.outs) × (ticket.command ≡ Leave)) }
         ensures counted { MatchOption result (share.new ≡ share.old)
             (λ ticket. share.new ≡ record share.old { staged = share.old.staged + 1 }) }
     {
@@ -340,11 +352,11 @@ impl<D: Device, S: Tally, T: Tally, A: Allocator + Copy, G: Gate, H: Wait> Worke
     }
 
     // Stages a last leave, and forgets its ticket. Waits for room. Where it is refused for another reason, the session stands.
-    pub(crate) fn leave(&self, outs: &Vec<Out<A>, A>, session: u32, share: &mut Share<S, T>)
-        requires { session ≡ session_of 0 outs.now.items }
+    pub(crate) fn leave(&self, answers: &Answers<A>, session: u32, share: &mut Share<S, T>)
+        requires { session ≡ session_of 0 answers.now.outs }
         ensures { Counts share.old 0 1 share.new }
     {
-        if let Some(ticket) = self.stage_leave(outs, session, share) {
+        if let Some(ticket) = self.stage_leave(answers, session, share) {
             self.forget(ticket);
         }
     }

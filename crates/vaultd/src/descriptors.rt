@@ -4,7 +4,7 @@ use libc::types::rlimit;
 use vaultd_tasks::Failure;
 
 /// What the program has open beside the connections that it serves: the standard streams, what stands in for them, two files and the
-/// listener, what two threads wait by and are woken by, a connection that waits for a worker, and one to spare.
+/// listener, and what two threads and the door wait by and are woken by.
 const BESIDE: u64 = 15;
 
 /// How many descriptors a server needs: for each worker the connection that it serves, and what it has beside these.

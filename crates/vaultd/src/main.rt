@@ -33,9 +33,11 @@ fn words(rt: &HostRuntime) -> io::Result<Vec<String>> {
     Ok(words)
 }
 
-/// Says in one line what went wrong.
+/// Says in one line what went wrong, unless that was said as soon as it was so.
 fn told(rt: &HostRuntime, failure: Failure) -> ExitCode {
-    let _ = eprintln!(rt; "{failure}");
+    if !matches!(failure, Failure::Accept) {
+        let _ = eprintln!(rt; "{failure}");
+    }
     ExitCode::from(FAULT)
 }
 

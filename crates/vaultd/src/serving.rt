@@ -11,12 +11,20 @@ use std::sync::Wait;
 use std::thread::Threads;
 use std::time::{Clock, Duration};
 use vault_device::FileDevice;
-use vault_server::{ServerError, Terms, run_server_on};
-use vault_sessions::OpenGate;
+use vault_server::{Full, Patience, ServerError, Terms, run_server_on};
+use vault_sessions::{Gate, Point};
 use vaultd_tasks::{Failure, Serving, open_locked};
 
 /// The number of the program's one life of a vault.
 const LIFE: u64 = 1;
+
+/// How many seconds a connection has been silent at least that is ended for one who waits for a place.
+const LEAST_SILENCE: u32 = 60;
+
+/// So many seconds.
+fn seconds(count: u32) -> Duration {
+    Duration::from_secs(u64::from(count))
+}
 
 /// Opens the vault in the two files.
 fn open<R: Files<File = File> + AllocGlobal>(
@@ -56,9 +64,17 @@ fn terms_of(serving: &Serving<'_>) -> Terms
         workers: serving.workers.clamp(1, 64) as usize,
         threads: serving.threads as usize,
         connections: serving.connections,
-        idle: serving
-            .idle
-            .map(|seconds| Duration::from_secs(u64::from(seconds))),
+        patience: Patience {
+            idle: serving.idle.map(seconds),
+            hello: Some(seconds(serving.hello)),
+            line: Some(seconds(serving.line)),
+        },
+        refuses_foreign: true,
+        full: Some(Full {
+            wait: seconds(serving.full),
+            silence: seconds(LEAST_SILENCE),
+        }),
+        per_address: serving.per_address,
     }
 }
 
@@ -70,10 +86,26 @@ fn failure_of(error: ServerError) -> Failure {
     }
 }
 
+/// Says on standard error what ends the server, as soon as it is so.
+#[derive(Drop)]
+struct Teller<'a, R> {
+    rt: &'a R,
+}
+
+impl<R: Eprint> Gate for Teller<'_, R> {
+    fn at(&self, _point: Point) {}
+
+    fn accepts_no_more(&self) {
+        let error = ServerError::Accept;
+        let _ = eprintln!(self.rt; "{error}");
+    }
+}
+
 /// Opens the vault, binds the address, says so on standard output, and serves until enough connections were served.
 pub(crate) fn serve<
     R: Files<File = File>
         + Print
+        + Eprint
         + AllocGlobal
         + Net<Listener = TcpListener, Stream = TcpStream>
         + Threads
@@ -91,7 +123,8 @@ pub(crate) fn serve<
         }
     };
     let terms = terms_of(serving);
-    let served = run_server_on(rt, rt.alloc(), listener, vault, &terms, &OpenGate);
+    let teller = Teller { rt };
+    let served = run_server_on(rt, rt.alloc(), listener, vault, &terms, &teller);
     let (vault, _) = served.map_err(failure_of)?;
     let is_broken = vault.is_broken();
     drop(vault);

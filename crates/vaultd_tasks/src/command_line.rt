@@ -63,8 +63,16 @@ pub struct Serving<'a> {
     pub threads: u32,
     /// After how many connections the program ends.
     pub connections: Option<u32>,
-    /// After how many seconds a silent connection is ended.
+    /// After how many seconds a connection is ended that said no line, or took no reply.
     pub idle: Option<u32>,
+    /// After how many seconds one is ended that has no session.
+    pub hello: u32,
+    /// After how many seconds one is ended whose line has begun, and doesn't end.
+    pub line: u32,
+    /// After how many seconds one is turned away that waits for a place.
+    pub full: u32,
+    /// How many there may be at once from one address.
+    pub per_address: Option<u32>,
 }
 
 /// What the program is asked to do.
@@ -152,8 +160,22 @@ fn connections<'a>(alloc: Global) -> Arg<'a> {
 
 /// After how long a silent connection is ended.
 fn idle<'a>(alloc: Global) -> Arg<'a> {
-    let help = "Ends a connection that sends nothing for so long; without it, it may be silent";
+    let help = "Ends a connection that sends no line for so long; without it, it may be silent";
     option(alloc, "idle", "SECONDS", help).value_parser(value_parser!(u32).range(1..))
+}
+
+/// A time that is a minute where it isn't given.
+fn time<'a>(alloc: Global, name: &'a str, help: &'a str) -> Arg<'a> {
+    option(alloc, name, "SECONDS", help)
+        .default_value("60")
+        .value_parser(value_parser!(u32).range(1..))
+}
+
+/// How many connections there may be at once from one address.
+fn per_address<'a>(alloc: Global) -> Arg<'a> {
+    let help =
+        "Turns further connections of one address away, but for this host's; without it, none";
+    option(alloc, "per-address", "N", help).value_parser(value_parser!(u32).range(1..))
 }
 
 /// The subcommand that serves.
@@ -166,7 +188,14 @@ fn serve<'a>(alloc: Global) -> Result<Command<'a>, AllocError> {
     let command = command.arg(workers(alloc))?;
     let command = command.arg(threads(alloc))?;
     let command = command.arg(connections(alloc))?;
-    command.arg(idle(alloc))
+    let command = command.arg(idle(alloc))?;
+    let hello = "Ends a connection that has no session after so long";
+    let command = command.arg(time(alloc, "hello", hello))?;
+    let line = "Ends a connection whose line has begun so long ago, and isn't whole";
+    let command = command.arg(time(alloc, "line", line))?;
+    let full = "Answers 'ERR 80' to who has waited so long for a place";
+    let command = command.arg(time(alloc, "full", full))?;
+    command.arg(per_address(alloc))
 }
 
 /// One subcommand more, where there was memory for it.
@@ -209,6 +238,10 @@ fn serving_of<'a>(matches: &ArgMatches<'a>) -> Serving<'a> {
         threads: matches.get_one::<u32>("threads").unwrap_or(1),
         connections: matches.get_one::<u32>("connections"),
         idle: matches.get_one::<u32>("idle"),
+        hello: matches.get_one::<u32>("hello").unwrap_or(60),
+        line: matches.get_one::<u32>("line").unwrap_or(60),
+        full: matches.get_one::<u32>("full").unwrap_or(60),
+        per_address: matches.get_one::<u32>("per-address"),
     }
 }
 

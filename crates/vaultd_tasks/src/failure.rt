@@ -40,7 +40,7 @@ pub enum Failure {
     /// The address can't be bound.
     #[error("read fault")]
     Bind,
-    /// Connections can't be accepted for good.
+    /// Connections can't be accepted for good. The server said so at once.
     #[error("read fault")]
     Accept,
     /// Standard output failed.

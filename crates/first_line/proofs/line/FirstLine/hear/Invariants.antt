@@ -1,0 +1,8 @@
+use Rattle.std.proofs.Common.{◌↔◌, ℕ, List, ◌++◌, drop}
+use Rattle.first_line.specs.Foreign.{IsForeignBehind}
+use Rattle.first_line.proofs.line.FirstLine.hear.Given as goal
+
+-- what has to come behind the bytes that are left is what has to come behind all
+abbrev pub invariant-loop-byte : goal.invariant-loop-byte
+invariant-loop-byte l =
+    (more : List ℕ) → IsForeignBehind l.fn.self (l.bytes ++ more) ↔ IsForeignBehind l.line (drop l.byte-index l.bytes ++ more)

@@ -1,0 +1,340 @@
+//! Who comes is accepted, and waits for a place.
+
+use crate::bells::Bell;
+use crate::server::{Connection, ServerError, Terms};
+use crate::slot::first_of;
+use crate::stream::{prepare, turn_away};
+use crossbeam_channel::{Receiver, Sender};
+use mio::unix::SourceFd;
+use mio::{Events, Interest, Poll, Token};
+use std::alloc::Allocator;
+use std::io::{self, ErrorKind};
+use std::net::{IpAddr, SocketAddr, TcpListener, TcpStream};
+use std::os::fd::AsRawFd;
+use std::sync::Wait;
+use std::sync::atomic::{AtomicBool, Ordering};
+use std::time::{Clock, Duration, Instant};
+use vault_sessions::Gate;
+
+// How many connections wait for a place at most. The kernel keeps some more behind these.
+const MOST_WAITING: usize = 64;
+
+// How many connections are waited for, or served, at most.
+const MOST_HERE: usize = 128;
+
+// How many accepts may fail in a row, and for how many milliseconds nobody is accepted behind each.
+const MOST_FAULTS: u32 = 20;
+
+const REST: u64 = 50;
+
+// The system's numbers of a want of memory, of descriptors of all programs, of descriptors of this one, and of buffers.
+const WANTS: [i32; 4] = [libc::ENOMEM, 23, libc::EMFILE, 105];
+
+// What the kernel's news are of: the listener, or the crowd's bell.
+const LISTENER: Token = Token(0);
+
+const MOST_EVENTS: usize = 4;
+
+/// What a thread that serves says to the door.
+#[derive(Debug, Clone, Copy, PartialEq, Eq)]
+pub(crate) enum News {
+    /// This thread has one place more.
+    Place(usize),
+    /// This thread has one place more, since the connection of this number is over.
+    Over(usize, u32),
+    /// A thread can't serve for want of memory.
+    Lacks,
+}
+
+/// Those who wait for a place, as the threads see them that serve.
+#[derive(Drop)]
+pub(crate) struct Crowd {
+    bell: Bell,
+    // Whether somebody waits for whom another connection may be ended.
+    presses: AtomicBool,
+}
+
+impl Crowd {
+    /// Nobody. The door waits by this poll.
+    pub fn new(poll: &Poll) -> io::Result<Crowd> {
+        Ok(Crowd {
+            bell: Bell::new(poll)?,
+            presses: AtomicBool::new(false),
+        })
+    }
+
+    /// Whether somebody waits for whom another connection may be ended.
+    pub fn presses(&self) -> bool {
+        self.presses.load(Ordering::SeqCst)
+    }
+
+    /// Wakes the door: there is news.
+    pub fn ring(&self) {
+        self.bell.ring();
+    }
+}
+
+// A connection that waits, and until when.
+#[derive(Drop)]
+struct Waiting {
+    connection: Connection,
+    until: Option<Instant>,
+}
+
+// Who has come, and who may come.
+#[derive(Drop)]
+struct Queue<A: Allocator> {
+    waiting: Vec<Waiting, A>,
+    // The threads of the places that are free, in the order in which they were told.
+    places: Vec<usize, A>,
+    // Who waits, or is served, and from where.
+    here: Vec<(u32, IpAddr), A>,
+    // The number of the last connection that came.
+    number: u32,
+    faults: u32,
+    // Whether more may be there by now than was accepted.
+    may_more: bool,
+    // Whether nobody is accepted any more: enough were, or none can be for good.
+    closed: Option<Result<(), ServerError>>,
+}
+
+/// Accepts connections, and hands them to the threads that serve.
+#[derive(Drop)]
+pub(crate) struct Door<'a, A: Allocator, H> {
+    pub rt: &'a H,
+    pub alloc: A,
+    pub listener: &'a TcpListener,
+    /// How each thread gets its connections, and what wakes it.
+    pub senders: &'a Vec<Sender<Connection, A>, A>,
+    pub bells: &'a Vec<Bell, A>,
+    /// What the threads say.
+    pub news: &'a Receiver<News, A>,
+    pub crowd: &'a Crowd,
+    pub terms: Terms,
+}
+
+impl<A: Allocator + Copy, H: Wait + Clock> Door<'_, A, H> {
+    /// Hands connections out until there were enough, or no more can be accepted. Who came by then is served, or is told that there is no
+    /// place.
+    pub fn keep<G: Gate>(&self, poll: Poll, gate: &G) -> Result<(), ServerError> {
+        let mut poll = poll;
+        let mut queue = self.queue()?;
+        let fd = self.listener.as_raw_fd();
+        let mut events = Events::with_capacity(self.alloc, MOST_EVENTS).or(Err(
+            ServerError::NoMemory,
+        ))?;
+        let is_ready = self.listener.set_nonblocking(true).is_ok()
+            && poll
+                .registry()
+                .register(&mut SourceFd(&fd), LISTENER, Interest::READABLE)
+                .is_ok();
+        if !is_ready {
+            return Err(ServerError::NoMemory);
+        }
+        for _ in self.rt.forever() {
+            let now = Instant::now(self.rt).ok();
+            let is_faulty = self.accept(&mut queue, now, gate);
+            self.listen(&mut queue)?;
+            self.hand_out(&mut queue)?;
+            self.turn_late_away(&mut queue, now);
+            self.press(&queue);
+            if let (Some(closed), true) = (queue.closed, queue.waiting.is_empty()) {
+                return closed;
+            }
+            let wait = self.wait_for(&queue, now, is_faulty);
+            let _ = poll.poll(&mut events, wait);
+            queue.may_more = queue.may_more || events.iter().any(|event| event.token() == LISTENER);
+        }
+        Err(ServerError::NoMemory)
+    }
+
+    // Nobody has come.
+    fn queue(&self) -> Result<Queue<A>, ServerError> {
+        let mut queue = Queue {
+            waiting: Vec::new(self.alloc),
+            places: Vec::new(self.alloc),
+            here: Vec::new(self.alloc),
+            number: 0,
+            faults: 0,
+            may_more: true,
+            closed: if self.terms.connections == Some(0) {
+                Some(Ok(()))
+            } else {
+                None
+            },
+        };
+        let has_room = queue.waiting.reserve(MOST_WAITING).is_ok()
+            && queue.places.reserve(self.terms.workers).is_ok()
+            && queue.here.reserve(MOST_HERE).is_ok();
+        if has_room {
+            Ok(queue)
+        } else {
+            drop(queue);
+            Err(ServerError::NoMemory)
+        }
+    }
+
+    // Accepts who is there, while there is room to wait. Whether an accept failed.
+    fn accept<G: Gate>(&self, queue: &mut Queue<A>, now: Option<Instant>, gate: &G) -> bool {
+        for _ in 0..MOST_WAITING {
+            if !queue.may_more || queue.closed.is_some() || queue.waiting.len() >= MOST_WAITING {
+                return false;
+            }
+            match self.listener.accept() {
+                Ok((stream, address)) => self.admit(queue, stream, address, now),
+                Err(error) if error.kind() == ErrorKind::Interrupted => {}
+                Err(error) if error.kind() == ErrorKind::WouldBlock => queue.may_more = false,
+                Err(error) => {
+                    self.fail(queue, error, gate);
+                    return true;
+                }
+            }
+        }
+        false
+    }
+
+    // An accept failed. It fails for good behind so many in a row. Descriptors and memory, where these are short, come free with other
+    // connections, so that is waited for as long as it takes.
+    fn fail<G: Gate>(&self, queue: &mut Queue<A>, error: io::Error, gate: &G) {
+        queue.faults = queue.faults.saturating_add(1);
+        let is_want = error
+            .raw_os_error()
+            .is_some_and(|code| WANTS.contains(&code));
+        if queue.faults > MOST_FAULTS && !is_want {
+            queue.closed = Some(Err(ServerError::Accept));
+            gate.accepts_no_more();
+        }
+    }
+
+    // Lets a connection wait, unless as many are here from where it comes as may be.
+    fn admit(
+        &self,
+        queue: &mut Queue<A>,
+        stream: TcpStream,
+        address: SocketAddr,
+        now: Option<Instant>,
+    ) {
+        queue.faults = 0;
+        queue.number = queue.number.wrapping_add(1);
+        let connection = Connection {
+            number: queue.number,
+            stream,
+        };
+        if self.terms.connections == Some(queue.number) {
+            queue.closed = Some(Ok(()));
+        }
+        let from = address.ip().to_canonical();
+        if prepare(&connection.stream).is_err() {
+            drop(connection);
+        } else if self.are_enough(queue, from) {
+            turn_away(self.alloc, connection.stream);
+        } else {
+            let _ = queue.here.push((connection.number, from));
+            let wait = self.terms.full.map(|full| full.wait);
+            let until = now.and_then(|now| now.checked_add(wait?));
+            let _ = queue.waiting.push(Waiting { connection, until });
+        }
+    }
+
+    // Whether as many are here from this address as may be. Of this host itself there may be any number.
+    fn are_enough(&self, queue: &Queue<A>, from: IpAddr) -> bool {
+        let Some(most) = self.terms.per_address else {
+            return false;
+        };
+        let count = queue.here.iter().filter(|(_, ip)| *ip == from).count();
+        !from.is_loopback() && count >= most as usize
+    }
+
+    // Hears what the threads say.
+    fn listen(&self, queue: &mut Queue<A>) -> Result<(), ServerError> {
+        for _ in 0..MOST_HERE {
+            match self.news.try_recv(self.rt) {
+                Ok(News::Place(thread)) => {
+                    let _ = queue.places.push(thread);
+                }
+                Ok(News::Over(thread, number)) => {
+                    queue.here.retain(|(here, _)| *here != number);
+                    let _ = queue.places.push(thread);
+                }
+                Ok(News::Lacks) => return Err(ServerError::NoMemory),
+                Err(_) => return Ok(()),
+            }
+        }
+        Ok(())
+    }
+
+    // Hands those who wait to the threads of free places.
+    fn hand_out(&self, queue: &mut Queue<A>) -> Result<(), ServerError> {
+        for _ in 0..MOST_WAITING {
+            if queue.waiting.is_empty() || queue.places.is_empty() {
+                return Ok(());
+            }
+            let Waiting {
+                connection,
+                until: _,
+            } = queue.waiting.remove(0);
+            let thread = queue.places.remove(0);
+            let (Some(sender), Some(bell)) = (self.senders.get(thread), self.bells.get(thread))
+            else {
+                return Err(ServerError::NoMemory);
+            };
+            if sender.send(self.rt, connection).is_err() {
+                return Err(ServerError::NoMemory);
+            }
+            bell.ring();
+        }
+        Ok(())
+    }
+
+    // Tells those who waited for too long that there is no place. They came in this order.
+    fn turn_late_away(&self, queue: &mut Queue<A>, now: Option<Instant>) {
+        for _ in 0..MOST_WAITING {
+            let is_late = match (queue.waiting.first(), now) {
+                (Some(first), Some(now)) => first.until.is_some_and(|until| until <= now),
+                _ => false,
+            };
+            if !is_late {
+                return;
+            }
+            let Waiting {
+                connection,
+                until: _,
+            } = queue.waiting.remove(0);
+            let Connection { number, stream } = connection;
+            queue.here.retain(|(here, _)| *here != number);
+            turn_away(self.alloc, stream);
+        }
+    }
+
+    // Says whether somebody waits for whom another connection may be ended. The threads are woken where that is new.
+    fn press(&self, queue: &Queue<A>) {
+        let presses = self.terms.full.is_some() && !queue.waiting.is_empty();
+        let did = self.crowd.presses.swap(presses, Ordering::SeqCst);
+        if presses && !did {
+            for bell in self.bells {
+                bell.ring();
+            }
+        }
+    }
+
+    // For how long nothing is to be done, if nothing happens. None: for ever.
+    fn wait_for(
+        &self,
+        queue: &Queue<A>,
+        now: Option<Instant>,
+        is_faulty: bool,
+    ) -> Option<Duration> {
+        let has_room = queue.closed.is_none() && queue.waiting.len() < MOST_WAITING;
+        if has_room && queue.may_more && !is_faulty {
+            return Some(Duration::ZERO);
+        }
+        let now = now?;
+        let again = if is_faulty {
+            now.checked_add(Duration::from_millis(REST))
+        } else {
+            None
+        };
+        let late = queue.waiting.first().and_then(|first| first.until);
+        Some(first_of(late, again)?.saturating_duration_since(now))
+    }
+}

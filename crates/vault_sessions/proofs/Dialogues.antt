@@ -1,0 +1,138 @@
+-- A dialogue goes from step to step, and ends.
+use Rattle.std.proofs.Common.{◌≡◌, ◌≢◌, ℕ, ◌+◌, ◌<◌, ◌≤◌, Bool, true, false, List, [], length, drop, drop_of_length-le, sym, refl, subst, arith, Option, inl}
+use Rattle.std.proofs.lemmas.Bool.Decides.{nat_tests}
+use Rattle.std.specs.Prelude.{◌==◌}
+use Rattle.std.specs.Io.KnownBytes.{Appends}
+use Rattle.std.proofs.KnownBytes.{Appends-nil}
+use Rattle.line_inlet.specs.Inflow.{Inflow}
+use Rattle.vault_sessions.specs.Serving.{session_of, left_behind, lost_by, Counts, CountsWith, HeardAll, WritesAll}
+use Rattle.vault_sessions.specs.Talking.{Stands, TellsOn}
+use Rattle.vault_sessions.specs.Dialogues.{IsDone, StandsIn, is_done, has_ended}
+use Rattle.vault_sessions.specs.declared.report.Out.{Out}
+use Rattle.vault_sessions.specs.declared.report.Ended.{Ended}
+use Rattle.vault_sessions.specs.declared.report.Ended.TheVariants as ends
+use Rattle.vault_sessions.specs.declared.tally.Totals.{Totals}
+use Rattle.vault_sessions.specs.declared.turn.Telling.{Telling}
+use Rattle.vault_sessions.specs.declared.turn.Turn.TheVariants.{Hear, Tell, Over}
+use Rattle.vault_sessions.specs.declared.turn.Next.{Next}
+use Rattle.vault_sessions.specs.declared.turn.Next.TheVariants.{Takes, GivenUp, Done, Open}
+use Rattle.vault_sessions.proofs.Heard.{hears_nothing, hears_end}
+use Rattle.vault_sessions.proofs.Told.{not_ended_left}
+use Rattle.vault_sessions.proofs.Talks.{part_end, ends_so, readers, told_on}
+
+-- its session is the one that the answers leave standing
+pub stands_for : {A : Type 0} (next : Next A) (r0 r w0 w : Option (List ℕ)) (s0 : Totals) (inflow : Inflow) (kept : List ℕ) (is_long : Bool)
+    (outs : List (Out A)) (session : ℕ) (share : Totals) → StandsIn next r0 r w0 w s0 inflow kept is_long outs session share → session ≡ session_of 0 outs
+stands_for (Takes turn) r0 r w0 w s0 inflow kept is_long outs session share h = h.session_is
+stands_for (GivenUp ended) r0 r w0 w s0 inflow kept is_long outs session share h = h.session_is
+stands_for (Done ended) r0 r w0 w s0 inflow kept is_long outs session share h = h.session_is
+stands_for Open r0 r w0 w s0 inflow kept is_long outs session share h = absurd h
+
+-- where no step is left it has ended
+pub done_ended : {A : Type 0} (next : Next A) → is_done next ≡ true → has_ended next ≡ true
+done_ended (Takes turn) e = absurd (cc)
+done_ended (GivenUp ended) e = refl
+done_ended (Done ended) e = refl
+done_ended Open e = refl
+
+-- what may be counted with some lost may be with more
+counts_less : {A : Type 0} (old new : Totals) (outs : List (Out A)) (lost more : ℕ) → CountsWith old outs lost new → CountsWith old outs (lost + more) new
+counts_less old new outs lost more h = record { told = h.told; least = h.least; most = omega (arith, h.most) }
+
+-- a session that stands is left behind
+left_one : {A : Type 0} (outs : List (Out A)) → session_of 0 outs ≢ 0 → left_behind outs ≡ 1
+left_one outs stands =
+    let no : (session_of 0 outs == 0) ≡ false = grind (arith, nat_tests) in
+    rw no refl
+
+-- one last leave is counted
+counts_leave : {A : Type 0} (old mid new : Totals) (outs : List (Out A)) (lost : ℕ) → CountsWith old outs lost mid → Counts mid 0 1 new
+    → session_of 0 outs ≢ 0 → CountsWith old outs (lost + left_behind outs) new
+counts_leave old mid new outs lost h more stands = record {
+  told = omega (arith, h.told, more.told);
+  least = omega (arith, h.least, more.least);
+  most = omega (arith, h.most, more.most, left_one outs stands);
+}
+
+-- a conversation that ended is done with no last leave
+pub done_so : {A : Type 0} (ended : Ended) (r0 r w0 w : Option (List ℕ)) (s0 : Totals) (inflow : Inflow) (kept : List ℕ) (is_long : Bool)
+    (outs : List (Out A)) (session : ℕ) (share : Totals)
+    → Stands (Over ended) r0 r w0 w s0 inflow kept is_long outs session share → IsDone ended r0 r w0 w s0 outs session share
+done_so ended r0 r w0 w s0 inflow kept is_long outs session share h = record {
+  heard = h.heard;
+  few = omega (arith, h.few);
+  spoken = h.spoken;
+  session_is = h.session_is;
+  written = h.written.0;
+  quit = h.written.1;
+  counted = counts_less s0 share outs (lost_by ended) (left_behind outs) h.counted;
+}
+
+-- and with one of the session that stands
+pub done_left : {A : Type 0} (ended : Ended) (r0 r w0 w : Option (List ℕ)) (s0 : Totals) (inflow : Inflow) (kept : List ℕ) (is_long : Bool)
+    (outs : List (Out A)) (session : ℕ) (share new : Totals)
+    → Stands (Over ended) r0 r w0 w s0 inflow kept is_long outs session share → session ≢ 0 → Counts share 0 1 new
+    → IsDone ended r0 r w0 w s0 outs session new
+done_left ended r0 r w0 w s0 inflow kept is_long outs session share new h stands more = record {
+  heard = h.heard;
+  few = omega (arith, h.few);
+  spoken = h.spoken;
+  session_is = h.session_is;
+  written = h.written.0;
+  quit = h.written.1;
+  counted = counts_leave s0 share new outs (lost_by ended) h.counted more (subst (λ n. n ≢ 0) h.session_is stands);
+}
+
+-- a conversation that would hear a line ends as a reader that fails
+pub stops_hearing : {A : Type 0} (r0 r w0 w : Option (List ℕ)) (s0 : Totals) (inflow : Inflow) (kept : List ℕ) (is_long : Bool)
+    (outs : List (Out A)) (session : ℕ) (share : Totals)
+    → Stands Hear r0 r w0 w s0 inflow kept is_long outs session share → Stands (Over ends.Read) r0 r w0 w s0 inflow kept is_long outs session share
+stops_hearing r0 r w0 w s0 inflow kept is_long outs session share h =
+    ends_so ends.Read r0 r r w0 w s0 inflow inflow kept kept is_long is_long outs session share
+    (part_end r0 r inflow kept is_long outs ends.Read h.heard (λ given left. tt)) (readers ends.Read tt) h
+
+-- one that has bytes of an answer to tell ends as a writer that fails
+pub stops_telling : {A : Type 0} (telling : Telling A) (r0 r w0 w : Option (List ℕ)) (s0 : Totals) (inflow : Inflow) (kept : List ℕ) (is_long : Bool)
+    (outs : List (Out A)) (session : ℕ) (share : Totals) → telling.written < length telling.text.items
+    → Stands (Tell telling) r0 r w0 w s0 inflow kept is_long outs session share → Stands (Over ends.Write) r0 r w0 w s0 inflow kept is_long outs session share
+stops_telling telling r0 r w0 w s0 inflow kept is_long outs session share less h =
+    let told : TellsOn telling (Over ends.Write) w w = (0, omega (arith, less), Appends-nil w) in
+    told_on telling (Over ends.Write) r0 r w0 w w s0 inflow kept is_long outs session share told h
+
+-- one that has none is through with it
+told_nothing : {A : Type 0} (telling : Telling A) (w : Option (List ℕ)) → length telling.text.items ≤ telling.written
+    → Appends w w (drop telling.written telling.text.items)
+told_nothing telling w long = subst (Appends w w) (sym (drop_of_length-le telling.text.items {i = telling.written} long)) (Appends-nil w)
+
+pub stops_told : {A : Type 0} (telling : Telling A) (r0 r w0 w : Option (List ℕ)) (s0 : Totals) (inflow : Inflow) (kept : List ℕ) (is_long : Bool)
+    (outs : List (Out A)) (session : ℕ) (share : Totals) → length telling.text.items ≤ telling.written → telling.is_left ≡ false
+    → Stands (Tell telling) r0 r w0 w s0 inflow kept is_long outs session share → Stands (Over ends.Read) r0 r w0 w s0 inflow kept is_long outs session share
+stops_told telling r0 r w0 w s0 inflow kept is_long outs session share long stays h =
+    stops_hearing r0 r w0 w s0 inflow kept is_long outs session share
+    (told_on telling Hear r0 r w0 w w s0 inflow kept is_long outs session share (told_nothing telling w long, stays) h)
+
+pub stops_left : {A : Type 0} (telling : Telling A) (r0 r w0 w : Option (List ℕ)) (s0 : Totals) (inflow : Inflow) (kept : List ℕ) (is_long : Bool)
+    (outs : List (Out A)) (session : ℕ) (share : Totals) → length telling.text.items ≤ telling.written → telling.is_left ≡ true
+    → Stands (Tell telling) r0 r w0 w s0 inflow kept is_long outs session share → Stands (Over ends.Quit) r0 r w0 w s0 inflow kept is_long outs session share
+stops_left telling r0 r w0 w s0 inflow kept is_long outs session share long left h =
+    told_on telling (Over ends.Quit) r0 r w0 w w s0 inflow kept is_long outs session share (told_nothing telling w long, left) h
+
+-- where nothing was heard and nothing written, memory may have been refused
+pub none_heard : {A : Type 0} (a b : Option (List ℕ)) (outs : List (Out A)) → outs ≡ [] → b ≡ a → HeardAll a b outs ends.NoMemory
+none_heard a b outs none same = subst (λ r. HeardAll a r outs ends.NoMemory) (sym same) (hears_end a a _ outs ends.NoMemory (hears_nothing a outs none) (λ given left. tt))
+
+pub none_written : {A : Type 0} (a b : Option (List ℕ)) (outs : List (Out A)) → outs ≡ [] → b ≡ a → WritesAll ends.NoMemory a b outs
+none_written {A} a b outs none same =
+    let P : List (Out A) → Type 0 = λ o. WritesAll ends.NoMemory a a o in
+    let here : P [] = inl (Appends-nil a, not_ended_left [] tt) in
+    subst (λ w. WritesAll ends.NoMemory a w outs) (sym same) (subst P (sym none) here)
+
+-- what was heard of a connection was heard of its reader
+pub heard_of : {A : Type 0} (a a' b b' : Option (List ℕ)) (outs : List (Out A)) (ended : Ended) → HeardAll a b outs ended → a ≡ a' → b ≡ b' → HeardAll a' b' outs ended
+heard_of a a' b b' outs ended h first last = subst (λ r. HeardAll a' r outs ended) last (subst (λ r. HeardAll r b outs ended) first h)
+
+-- what was written over a connection was written by its writer
+pub written_of : {A : Type 0} (a a' b b' : Option (List ℕ)) (outs outs' : List (Out A)) (ended ended' : Ended) → WritesAll ended a b outs → a ≡ a' → b ≡ b'
+    → outs ≡ outs' → ended ≡ ended' → WritesAll ended' a' b' outs'
+written_of a a' b b' outs outs' ended ended' h first last same end =
+    subst (λ e. WritesAll e a' b' outs') end (subst (λ o. WritesAll ended a' b' o) same (subst (λ w. WritesAll ended a' w outs) last (subst (λ w. WritesAll ended w b outs) first h)))

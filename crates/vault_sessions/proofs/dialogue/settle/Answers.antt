@@ -1,0 +1,9 @@
+use Rattle.std.proofs.Common.{rules}
+use Rattle.vault_sessions.proofs.dialogue.settle.Goals as goal
+
+pub returns-in_default : goal.returns-in_default
+returns-in_default g c = record {
+  stands = c.settle.ensures.stands;
+  kept = c.settle.ensures.kept;
+  over = search rules;
+}

@@ -1,0 +1,21 @@
+-- What contracts see of a dialogue. This project's own.
+use Rattle.std.specs.Prelude.{ℕ, Bool, List, Option}
+use Rattle.vault_sessions.specs.declared.tally.Totals.{Totals}
+
+-- what a dialogue began with: the bytes that its connection had to give, those that it held, what the share counted; and the references
+-- that the connection holds, and whether the values of answers are kept
+pub record Beginning : Type 0 where
+  pub remaining : Option (List ℕ)
+  pub contents : Option (List ℕ)
+  pub counted : Totals
+  pub names : ℕ × ℕ
+  pub keeps : Bool
+
+-- what it began with, the bytes that its connection has to give now, and those that it holds, whether no step is left, and whether it may be
+-- finished: no step is left, or it was given up
+pub record AtTalk : Type 0 where
+  pub began : Beginning
+  pub remaining : Option (List ℕ)
+  pub contents : Option (List ℕ)
+  pub is_over : Bool
+  pub has_ended : Bool

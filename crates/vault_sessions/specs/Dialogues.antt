@@ -1,0 +1,55 @@
+-- What holds of a dialogue between two steps. This project's own.
+use Rattle.std.specs.Prelude.{◌≡◌, ℕ, ◌≤◌, Bool, true, false, List, length, Option}
+use Rattle.line_inlet.specs.Inflow.{Inflow}
+use Rattle.vault_sessions.specs.Serving.{most_lines, HeardAll, SpeaksFor, session_of, WritesAll, QuitsBy, CountsAll}
+use Rattle.vault_sessions.specs.Talking.{Stands}
+use Rattle.vault_sessions.specs.declared.report.Out.{Out}
+use Rattle.vault_sessions.specs.declared.report.Ended.{Ended}
+use Rattle.vault_sessions.specs.declared.tally.Tally.{Ghosts as TallyGhosts}
+use Rattle.vault_sessions.specs.declared.tally.Totals.{Totals}
+use Rattle.vault_sessions.specs.declared.conversation.Conversation.{Conversation}
+use Rattle.vault_sessions.specs.declared.turn.Next.{Next}
+use Rattle.vault_sessions.specs.declared.turn.Turn.TheVariants.{Over}
+use Rattle.vault_sessions.specs.declared.turn.Next.TheVariants.{Takes, GivenUp, Done, Open}
+
+-- What a conversation came to in all, also with its last leave: what it heard, whom it spoke for, what it wrote and what it counted.
+pub record IsDone {A : Type 0} (ended : Ended) (reader_old reader_new writer_old writer_new : Option (List ℕ)) (counts : Totals)
+    (outs : List (Out A)) (session : ℕ) (share : Totals) : Type 0 where
+  pub heard : HeardAll reader_old reader_new outs ended
+  pub few : length outs ≤ most_lines
+  pub spoken : SpeaksFor 0 outs
+  pub session_is : session ≡ session_of 0 outs
+  pub written : WritesAll ended writer_old writer_new outs
+  pub quit : QuitsBy ended outs
+  pub counted : CountsAll counts outs ended share
+
+-- what it has come to, by what comes next; its next turn is out only within a step
+abbrev pub StandsIn : {A : Type 0} → Next A → (reader_old reader_new writer_old writer_new : Option (List ℕ)) → Totals → Inflow → List ℕ → Bool
+    → List (Out A) → ℕ → Totals → Type 0
+StandsIn (Takes turn) reader_old reader_new writer_old writer_new counts inflow kept is_long outs session share =
+    Stands turn reader_old reader_new writer_old writer_new counts inflow kept is_long outs session share
+StandsIn {A} (GivenUp ended) reader_old reader_new writer_old writer_new counts inflow kept is_long outs session share =
+    Stands {A = A} (Over ended) reader_old reader_new writer_old writer_new counts inflow kept is_long outs session share
+StandsIn (Done ended) reader_old reader_new writer_old writer_new counts inflow kept is_long outs session share =
+    IsDone ended reader_old reader_new writer_old writer_new counts outs session share
+StandsIn Open reader_old reader_new writer_old writer_new counts inflow kept is_long outs session share = ⊥
+
+-- the same of a conversation
+abbrev pub TalksOn : {S T A : Type 0} {s : TallyGhosts S} {t : TallyGhosts T} → Next A → (reader_old reader_new writer_old writer_new : Option (List ℕ))
+    → Totals → Conversation S T A s t → Type 0
+TalksOn next reader_old reader_new writer_old writer_new counts talk =
+    StandsIn next reader_old reader_new writer_old writer_new counts talk.inlet talk.line.items talk.is_long talk.answers.outs talk.session talk.share
+
+-- whether there is no step any more
+abbrev pub is_done : {A : Type 0} → Next A → Bool
+is_done (Takes turn) = false
+is_done (GivenUp ended) = false
+is_done (Done ended) = true
+is_done Open = true
+
+-- whether it is over or was given up
+abbrev pub has_ended : {A : Type 0} → Next A → Bool
+has_ended (Takes turn) = false
+has_ended (GivenUp ended) = true
+has_ended (Done ended) = true
+has_ended Open = true

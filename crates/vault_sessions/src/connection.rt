@@ -1,0 +1,100 @@
+//! What a conversation is held over.
+ghost use Rattle.std.specs.Prelude.{◌≡◌, ◌≤◌, ℕ, ◌∷◌, List, Option, None, vec_capacity};
+ghost use Rattle.std.specs.Io.{WritesAtMost};
+ghost use Rattle.std.specs.Io.KnownBytes.{Consumes, WriteAppends};
+ghost use Rattle.vault_lines.specs.Limits.{longest_line};
+ghost use Rattle.line_inlet.specs.Incoming.{GivesByte, GivesLine, KeepsLine};
+
+use line_inlet::{Inlet, NextByte, NextLine};
+use std::alloc::Allocator;
+use std::io::{self, Read, Write};
+
+/// What a conversation is held over: lines come by it, and their answers go. To hear changes nothing of what was written, and to write
+/// nothing of what is left to hear: std's `Read` and `Write` of one type don't say so.
+pub trait Connection {
+    /// The bytes that are still to come, where they are known.
+    ghost remaining: { Self → Option (List ℕ) } = { λ _. None };
+
+    /// The bytes that were written, where they are known.
+    ghost contents: { Self → Option (List ℕ) } = { λ _. None };
+
+    /// Which references it holds, by their ghost names.
+    ghost names: { Self → ℕ × ℕ } = { λ _. (0, 0) };
+
+    /// The next byte, as `Inlet::next_byte` has it.
+    fn next_byte(&mut self, inlet: &mut Inlet) -> NextByte
+        ensures given { (given : List ℕ) × Consumes (remaining self.old) (remaining self.new) given
+            × GivesByte inlet.old given result inlet.new (remaining self.new) }
+        ensures same { (contents self.new ≡ contents self.old) × (names self.new ≡ names self.old) };
+
+    /// The next line, as `Inlet::next_line` has it.
+    fn next_line<A: Allocator>(
+        &mut self,
+        inlet: &mut Inlet,
+        line: &mut Vec<u8, A>,
+        is_long: &mut bool,
+    ) -> NextLine
+        requires { longest_line ≤ vec_capacity line.old }
+        ensures line { (part : List ℕ) → KeepsLine part line.old.items is_long.old
+            → (given : List ℕ) × Consumes (remaining self.old) (remaining self.new) given
+            × GivesLine inlet.old given part result line.new.items is_long.new inlet.new (remaining self.new) }
+        ensures room { vec_capacity line.old ≤ vec_capacity line.new }
+        ensures same { (contents self.new ≡ contents self.old) × (names self.new ≡ names self.old) };
+
+    /// Writes some of the bytes, as `Write::write` does.
+    fn write(&mut self, buf: &[u8]) -> io::Result<usize>
+        ensures bound { WritesAtMost result buf.now }
+        ensures bytes { WriteAppends (contents self.old) (contents self.new) result buf.now }
+        ensures same { (remaining self.new ≡ remaining self.old) × (names self.new ≡ names self.old) };
+
+    /// There is news of it, and whether its client sends no more than what is there.
+    fn wake(&mut self, _is_ending: bool)
+        ensures same { (remaining self.new ≡ remaining self.old) × (contents self.new ≡ contents self.old) × (names self.new ≡ names self.old) }
+    {}
+
+    /// A new round begins: it may give as many bytes again as it may in one round.
+    fn begin_round(&mut self)
+        ensures same { (remaining self.new ≡ remaining self.old) × (contents self.new ≡ contents self.old) × (names self.new ≡ names self.old) }
+    {}
+
+    /// Whether it gave as many bytes as it may in one round, and may have more.
+    fn is_spent(&self) -> bool {
+        false
+    }
+}
+
+/// A reader, as what is heard of a connection.
+pub(crate) struct Ear<'a, R> {
+    pub reader: &'a mut R,
+}
+
+/// A reader and a writer apart, as one connection.
+pub(crate) struct Joined<'a, 'b, R, W> {
+    pub ear: Ear<'a, R>,
+    pub writer: &'b mut W,
+}
+
+impl<R: Read, W: Write> Connection for Joined<'_, '_, R, W> {
+    ghost remaining = { λ j. R.remaining j.ear.reader.now };
+
+    ghost contents = { λ j. W.contents j.writer.now };
+
+    ghost names = { λ j. (j.ear.reader.ghost_name, j.writer.ghost_name) };
+
+    fn next_byte(&mut self, inlet: &mut Inlet) -> NextByte {
+        inlet.next_byte(&mut *self.ear.reader)
+    }
+
+    fn next_line<A: Allocator>(
+        &mut self,
+        inlet: &mut Inlet,
+        line: &mut Vec<u8, A>,
+        is_long: &mut bool,
+    ) -> NextLine {
+        inlet.next_line(&mut *self.ear.reader, line, is_long)
+    }
+
+    fn write(&mut self, buf: &[u8]) -> io::Result<usize> {
+        self.writer.write(buf)
+    }
+}

@@ -1,0 +1,450 @@
+//! One connection's conversation, from its first byte to its report: what serves is what is proved.
+ghost use Rattle.std.specs.Prelude.{◌≡◌, ◌≤◌, ◌↔◌, ℕ, Bool, true, false, List, Option, IfOk, IfErr, length};
+ghost use Rattle.line_inlet.specs.Inflow.{Inflow};
+ghost use Rattle.vault_sessions.specs.Serving.{most_lines, HeardAll, SpeaksFor, session_of, CountsAll, WritesAll, QuitsBy};
+ghost use Rattle.vault_sessions.specs.Talking.{Stands, StandsAt};
+ghost use Rattle.vault_sessions.specs.Dialogues.{IsDone, StandsIn, TalksOn, is_done, has_ended};
+ghost use Rattle.vault_sessions.specs.declared.report.Out.{Out};
+ghost use Rattle.vault_sessions.specs.declared.tally.Totals.{Totals};
+ghost use Rattle.vault_sessions.specs.declared.turn.Turn.TheVariants as turns;
+ghost use Rattle.vault_sessions.specs.declared.turn.Next.TheVariants as nexts;
+ghost use Rattle.vault_sessions.specs.declared.dialogue.Step.TheVariants as steps;
+ghost use Rattle.vault_sessions.specs.declared.dialogue.Awaits.TheVariants as awaited;
+
+use crate::connection::Connection;
+use crate::conversation::Conversation;
+use crate::gate::Gate;
+use crate::report::{Ended, Finished};
+use crate::tally::{Share, Tally};
+use crate::turn::{Next, Telling, Turn, tell};
+use crate::worker::Worker;
+use group_commit::Ticket;
+use std::alloc::Allocator;
+use std::marker::Model;
+use std::mem;
+use std::snapshot::Snapshot;
+use std::sync::Wait;
+use vault_device::Device;
+
+/// What a step came to.
+#[derive(Debug, Clone, Copy, PartialEq, Eq)]
+pub enum Step {
+    /// It was taken, and there may be a next one.
+    Went,
+    /// A reply isn't known yet, or there is no room for a last leave.
+    Waits,
+    /// There is no whole line for now.
+    Dry,
+    /// The connection takes no more for now.
+    Full,
+    /// There is no step any more.
+    Over,
+}
+
+/// What the next step is for.
+#[derive(Debug, Clone, Copy, PartialEq, Eq)]
+pub enum Awaits {
+    /// To hear a line.
+    Line,
+    /// To look for the reply to a command.
+    Reply,
+    /// To tell an answer.
+    Telling,
+    /// To stage a last leave, if a session stands.
+    Leave,
+    /// There is none.
+    Nothing,
+}
+
+/// One connection's conversation. It owns the connection, and nobody else hears or tells a byte over it. Contracts see what it began with,
+/// and what its connection has to give and holds.
+pub struct Dialogue<C: Connection, S: Tally, T: Tally, A: Allocator> {
+    connection: C,
+    talk: Conversation<S, T, A>,
+    next: Next<A>,
+    // Of no bytes: the connection and the share as they were at the beginning.
+    began: Snapshot<C>,
+    counted: Snapshot<Share<S, T>>,
+}
+
+impl<C: Connection, S: Tally, T: Tally, A: Allocator> Model for Dialogue<C, S, T, A> {
+    ghost use Rattle.vault_sessions.specs.AtTalk.{AtTalk};
+
+    ghost Value = { AtTalk };
+
+    ghost use Rattle.vault_sessions.specs.Dialogues.{TalksOn, is_done, has_ended};
+
+    ghost view = { λ d. record {
+      began = record {
+        remaining = C.remaining d.began.value;
+        contents = C.contents d.began.value;
+        counted = d.counted.value;
+        names = C.names d.connection;
+        keeps = d.talk.answers.is_kept;
+      };
+      remaining = C.remaining d.connection;
+      contents = C.contents d.connection;
+      is_over = is_done d.next;
+      has_ended = has_ended d.next;
+    } };
+
+    // Invariant 7 of lib.rt.
+    ghost invariant = { λ d. TalksOn d.next (C.remaining d.began.value) (C.remaining d.connection) (C.contents d.began.value)
+        (C.contents d.connection) d.counted.value d.talk };
+}
+
+impl<C: Connection, S: Tally, T: Tally, A: Allocator + Copy> Dialogue<C, S, T, A> {
+    /// Nothing was heard. The values of its answers are kept for the report or not: kept ones take memory until the end. Where memory is
+    /// refused, the connection and the share come back.
+    pub fn new(
+        alloc: A,
+        number: u32,
+        connection: C,
+        share: Share<S, T>,
+        keeps: bool,
+    ) -> Result<Dialogue<C, S, T, A>, (C, Share<S, T>)>
+        ensures made { IfOk result (λ dialogue. dialogue ≡ record {
+          began = record {
+            remaining = C.remaining connection;
+            contents = C.contents connection;
+            counted = share;
+            names = C.names connection;
+            keeps = keeps;
+          };
+          remaining = C.remaining connection;
+          contents = C.contents connection;
+          is_over = false;
+          has_ended = false;
+        }) }
+        ensures handed_back { IfErr result (λ back. (back.0 ≡ connection) × (back.1 ≡ share)) }
+    {
+        let began = Snapshot::of(&connection);
+        let counted = Snapshot::of(&share);
+        match Conversation::new(alloc, number, keeps, share) {
+            Ok(talk) => Ok(Dialogue {
+                connection,
+                talk,
+                next: Next::Takes(Turn::Hear),
+                began,
+                counted,
+            }),
+            Err(share) => Err((connection, share)),
+        }
+    }
+
+    /// Takes the next step, where it can be taken now.
+    pub fn step<D: Device, G: Gate, H: Wait>(
+        &mut self,
+        worker: &Worker<'_, D, S, T, A, G, H>,
+    ) -> Step
+        ensures began { self.new.began ≡ self.old.began }
+        ensures over { (result ≡ steps.Over) ↔ (self.new.is_over ≡ true) }
+        ensures ended { result ≡ steps.Over → self.new.has_ended ≡ true }
+    {
+        self.step_on(worker, false)
+    }
+
+    // Takes the next step. Waits for a reply and for room for a last leave, or looks once.
+    #[tactic(auto, using(crate::proofs::Dialogues::done_ended))]
+    pub(crate) fn step_on<D: Device, G: Gate, H: Wait>(
+        &mut self,
+        worker: &Worker<'_, D, S, T, A, G, H>,
+        waits: bool,
+    ) -> Step
+        ensures began { self.new.began ≡ self.old.began }
+        ensures over { (result ≡ steps.Over) ↔ (self.new.is_over ≡ true) }
+        ensures ended { result ≡ steps.Over → self.new.has_ended ≡ true }
+    {
+        let next = mem::replace(&mut self.next, Next::Open);
+        let (next, step) = advance(worker, waits, &mut self.talk, &mut self.connection, next);
+        put_back(&mut self.next, next);
+        step
+    }
+
+    /// Hears and tells nothing more. A reply that is waited for is lost. A session that stands still gets its last leave, by a further step.
+    pub fn give_up<D: Device, G: Gate, H: Wait>(&mut self, worker: &Worker<'_, D, S, T, A, G, H>)
+        ensures same { (self.new.began ≡ self.old.began) × (self.new.is_over ≡ self.old.is_over) }
+        ensures ended { self.new.has_ended ≡ true }
+    {
+        let next = mem::replace(&mut self.next, Next::Open);
+        let next = give_up(worker, next);
+        put_back(&mut self.next, next);
+    }
+
+    /// There is news of its connection, and whether its client sends no more than what is there.
+    pub fn wake(&mut self, is_ending: bool)
+        ensures { self.new ≡ self.old }
+    {
+        self.connection.wake(is_ending);
+    }
+
+    /// A new round begins, in which its connection may give as many bytes again.
+    pub fn begin_round(&mut self)
+        ensures { self.new ≡ self.old }
+    {
+        self.connection.begin_round();
+    }
+
+    /// Whether its connection gave as many bytes as it may in one round, and may have more.
+    pub fn is_spent(&self) -> bool {
+        self.connection.is_spent()
+    }
+
+    /// Whether it speaks for a session.
+    pub fn has_session(&self) -> bool {
+        self.talk.session != 0
+    }
+
+    /// Whether a line has begun that isn't whole yet, as far as it was heard.
+    pub fn is_within_line(&self) -> bool {
+        self.talk.is_long || !self.talk.line.is_empty()
+    }
+
+    /// What its next step is for.
+    pub fn awaits(&self) -> Awaits
+        ensures over { (result ≡ awaited.Nothing) ↔ (self.now.is_over ≡ true) }
+        ensures ended { result ≡ awaited.Nothing → self.now.has_ended ≡ true }
+    {
+        match &self.next {
+            Next::Takes(Turn::Hear) => Awaits::Line,
+            Next::Takes(Turn::Wait(_)) => Awaits::Reply,
+            Next::Takes(Turn::Tell(_)) => Awaits::Telling,
+            Next::Takes(Turn::Over(_)) | Next::GivenUp(_) => Awaits::Leave,
+            Next::Done(_) | Next::Open => Awaits::Nothing,
+        }
+    }
+
+    /// What it came to, and its connection. It is over, or was given up: then a session that stands gets no last leave any more.
+    pub fn finish(self) -> (C, Finished<S, T, A>)
+        requires { self.has_ended ≡ true }
+        ensures connection { (C.remaining result.0 ≡ self.remaining) × (C.contents result.0 ≡ self.contents) × (C.names result.0 ≡ self.began.names) }
+        ensures heard { HeardAll self.began.remaining self.remaining result.1.answers.outs result.1.ended }
+        ensures few { length result.1.answers.outs ≤ most_lines }
+        ensures spoken { SpeaksFor 0 result.1.answers.outs }
+        ensures written { WritesAll result.1.ended self.began.contents self.contents result.1.answers.outs }
+        ensures quit { QuitsBy result.1.ended result.1.answers.outs }
+        ensures counted { CountsAll self.began.counted result.1.answers.outs result.1.ended result.1.share }
+        ensures kept { result.1.answers.is_kept ≡ self.began.keeps }
+    {
+        let Dialogue {
+            connection,
+            talk,
+            next,
+            began: _,
+            counted: _,
+        } = self;
+        let ended = end(next);
+        let Conversation {
+            connection: _,
+            inlet: _,
+            line: _,
+            is_long: _,
+            answers,
+            session: _,
+            share,
+        } = talk;
+        (
+            connection,
+            Finished {
+                answers,
+                share,
+                ended,
+            },
+        )
+    }
+}
+
+// Puts back what comes next.
+fn put_back<A: Allocator>(place: &mut Next<A>, next: Next<A>)
+    requires { place.old ≡ nexts.Open }
+    ensures { place.new ≡ next }
+{
+    match mem::replace(place, next) {
+        Next::Open => {}
+        Next::Takes(_turn) => unreachable!(),
+        Next::GivenUp(_) => unreachable!(),
+        Next::Done(_) => unreachable!(),
+    }
+}
+
+// Takes a step.
+fn advance<D: Device, S: Tally, T: Tally, A: Allocator + Copy, G: Gate, H: Wait, C: Connection>(
+    worker: &Worker<'_, D, S, T, A, G, H>,
+    waits: bool,
+    talk: &mut Conversation<S, T, A>,
+    connection: &mut C,
+    next: Next<A>,
+) -> (Next<A>, Step)
+    requires { talk.old.session ≡ session_of 0 talk.old.answers.outs }
+    ensures stands { (reader_old writer_old : Option (List ℕ)) (counts : Totals)
+        → TalksOn next reader_old (C.remaining connection.old) writer_old (C.contents connection.old) counts talk.old
+        → TalksOn result.0 reader_old (C.remaining connection.new) writer_old (C.contents connection.new) counts talk.new }
+    ensures same { (C.names connection.new ≡ C.names connection.old) × (talk.new.answers.is_kept ≡ talk.old.answers.is_kept) }
+    ensures over { (result.1 ≡ steps.Over) ↔ (is_done result.0 ≡ true) }
+{
+    match next {
+        Next::Takes(Turn::Hear) => hear(worker, talk, connection),
+        Next::Takes(Turn::Wait(ticket)) => settle(worker, waits, talk, ticket),
+        Next::Takes(Turn::Tell(telling)) => tell_on(connection, telling),
+        Next::Takes(Turn::Over(ended)) => leave(worker, waits, talk, ended, false),
+        Next::GivenUp(ended) => leave(worker, waits, talk, ended, true),
+        Next::Done(ended) => (Next::Done(ended), Step::Over),
+        Next::Open => (Next::Open, Step::Over),
+    }
+}
+
+// Hears a line.
+fn hear<D: Device, S: Tally, T: Tally, A: Allocator + Copy, G: Gate, H: Wait, C: Connection>(
+    worker: &Worker<'_, D, S, T, A, G, H>,
+    talk: &mut Conversation<S, T, A>,
+    connection: &mut C,
+) -> (Next<A>, Step)
+    ensures stands { (reader_old writer_old : Option (List ℕ)) (counts : Totals)
+        → StandsAt turns.Hear reader_old (C.remaining connection.old) writer_old (C.contents connection.old) counts talk.old
+        → TalksOn result.0 reader_old (C.remaining connection.new) writer_old (C.contents connection.new) counts talk.new }
+    ensures same { (C.names connection.new ≡ C.names connection.old) × (talk.new.answers.is_kept ≡ talk.old.answers.is_kept) }
+    ensures over { (result.1 ≡ steps.Over) ↔ (is_done result.0 ≡ true) }
+{
+    match worker.hear(talk, connection) {
+        Turn::Hear => (Next::Takes(Turn::Hear), Step::Dry),
+        turn => (Next::Takes(turn), Step::Went),
+    }
+}
+
+// Answers the command that a ticket is for, once its fate is known.
+fn settle<D: Device, S: Tally, T: Tally, A: Allocator + Copy, G: Gate, H: Wait>(
+    worker: &Worker<'_, D, S, T, A, G, H>,
+    waits: bool,
+    talk: &mut Conversation<S, T, A>,
+    ticket: Ticket<A>,
+) -> (Next<A>, Step)
+    ensures stands { (reader_old reader_new writer_old writer_new : Option (List ℕ)) (counts : Totals)
+        → StandsAt (turns.Wait ticket) reader_old reader_new writer_old writer_new counts talk.old
+        → TalksOn result.0 reader_old reader_new writer_old writer_new counts talk.new }
+    ensures kept { talk.new.answers.is_kept ≡ talk.old.answers.is_kept }
+    ensures over { (result.1 ≡ steps.Over) ↔ (is_done result.0 ≡ true) }
+{
+    match worker.settle(talk, ticket, waits) {
+        Turn::Wait(ticket) => (Next::Takes(Turn::Wait(ticket)), Step::Waits),
+        turn => (Next::Takes(turn), Step::Went),
+    }
+}
+
+// Tells an answer.
+fn tell_on<A: Allocator, C: Connection>(connection: &mut C, telling: Telling<A>) -> (Next<A>, Step)
+    ensures stands { (reader_old writer_old : Option (List ℕ)) (counts : Totals) (inflow : Inflow) (kept : List ℕ) (is_long : Bool)
+        (outs : List (Out A)) (session : ℕ) (share : Totals)
+        → Stands (turns.Tell telling) reader_old (C.remaining connection.old) writer_old (C.contents connection.old) counts inflow kept is_long outs session share
+        → StandsIn result.0 reader_old (C.remaining connection.new) writer_old (C.contents connection.new) counts inflow kept is_long outs session share }
+    ensures same { C.names connection.new ≡ C.names connection.old }
+    ensures over { (result.1 ≡ steps.Over) ↔ (is_done result.0 ≡ true) }
+{
+    match tell(connection, telling) {
+        Turn::Tell(telling) => (Next::Takes(Turn::Tell(telling)), Step::Full),
+        turn => (Next::Takes(turn), Step::Went),
+    }
+}
+
+// Stages a last leave of the session that stands, if one does.
+fn leave<D: Device, S: Tally, T: Tally, A: Allocator + Copy, G: Gate, H: Wait>(
+    worker: &Worker<'_, D, S, T, A, G, H>,
+    waits: bool,
+    talk: &mut Conversation<S, T, A>,
+    ended: Ended,
+    is_given_up: bool,
+) -> (Next<A>, Step)
+    requires { talk.old.session ≡ session_of 0 talk.old.answers.outs }
+    ensures stands { (reader_old reader_new writer_old writer_new : Option (List ℕ)) (counts : Totals)
+        → StandsAt (turns.Over ended) reader_old reader_new writer_old writer_new counts talk.old
+        → TalksOn result.0 reader_old reader_new writer_old writer_new counts talk.new }
+    ensures kept { talk.new.answers.is_kept ≡ talk.old.answers.is_kept }
+    ensures over { (result.1 ≡ steps.Over) ↔ (is_done result.0 ≡ true) }
+{
+    if talk.session == 0 {
+        return (Next::Done(ended), Step::Over);
+    }
+    if waits {
+        worker.leave(&talk.answers, talk.session, &mut talk.share);
+        return (Next::Done(ended), Step::Over);
+    }
+    if worker.try_leave(&talk.answers, talk.session, &mut talk.share) {
+        return (Next::Done(ended), Step::Over);
+    }
+    if is_given_up {
+        (Next::GivenUp(ended), Step::Waits)
+    } else {
+        (Next::Takes(Turn::Over(ended)), Step::Waits)
+    }
+}
+
+// How a conversation ends that is given up at this turn.
+fn end_turn<D: Device, S: Tally, T: Tally, A: Allocator + Copy, G: Gate, H: Wait>(
+    worker: &Worker<'_, D, S, T, A, G, H>,
+    turn: Turn<A>,
+) -> Ended
+    ensures { (reader_old reader_new writer_old writer_new : Option (List ℕ)) (counts : Totals) (inflow : Inflow) (kept : List ℕ) (is_long : Bool)
+        (outs : List (Out A)) (session : ℕ) (share : Totals)
+        → Stands turn reader_old reader_new writer_old writer_new counts inflow kept is_long outs session share
+        → Stands {A = A} (turns.Over result) reader_old reader_new writer_old writer_new counts inflow kept is_long outs session share }
+{
+    match turn {
+        Turn::Hear => Ended::Read,
+        Turn::Wait(ticket) => {
+            worker.forget(ticket);
+            Ended::NoMemory
+        }
+        Turn::Tell(telling) => end_telling(&telling),
+        Turn::Over(ended) => ended,
+    }
+}
+
+// The same where an answer is being told: one that is told whole is told.
+fn end_telling<A: Allocator>(telling: &Telling<A>) -> Ended
+    ensures { (reader_old reader_new writer_old writer_new : Option (List ℕ)) (counts : Totals) (inflow : Inflow) (kept : List ℕ) (is_long : Bool)
+        (outs : List (Out A)) (session : ℕ) (share : Totals)
+        → Stands (turns.Tell telling.now) reader_old reader_new writer_old writer_new counts inflow kept is_long outs session share
+        → Stands {A = A} (turns.Over result) reader_old reader_new writer_old writer_new counts inflow kept is_long outs session share }
+{
+    if telling.written < telling.text.len() {
+        return Ended::Write;
+    }
+    if telling.is_left {
+        return Ended::Quit;
+    }
+    Ended::Read
+}
+
+// What comes next where it is given up.
+fn give_up<D: Device, S: Tally, T: Tally, A: Allocator + Copy, G: Gate, H: Wait>(
+    worker: &Worker<'_, D, S, T, A, G, H>,
+    next: Next<A>,
+) -> Next<A>
+    ensures stands { (reader_old reader_new writer_old writer_new : Option (List ℕ)) (counts : Totals) (inflow : Inflow) (kept : List ℕ) (is_long : Bool)
+        (outs : List (Out A)) (session : ℕ) (share : Totals)
+        → StandsIn next reader_old reader_new writer_old writer_new counts inflow kept is_long outs session share
+        → StandsIn result reader_old reader_new writer_old writer_new counts inflow kept is_long outs session share }
+    ensures ended { (has_ended result ≡ true) × (is_done result ≡ is_done next) }
+{
+    match next {
+        Next::Takes(turn) => Next::GivenUp(end_turn(worker, turn)),
+        Next::GivenUp(ended) => Next::GivenUp(ended),
+        Next::Done(ended) => Next::Done(ended),
+        Next::Open => Next::Open,
+    }
+}
+
+// How it ended.
+fn end<A: Allocator>(next: Next<A>) -> Ended
+    requires { has_ended next ≡ true }
+    ensures { (reader_old reader_new writer_old writer_new : Option (List ℕ)) (counts : Totals) (inflow : Inflow) (kept : List ℕ) (is_long : Bool)
+        (outs : List (Out A)) (session : ℕ) (share : Totals)
+        → StandsIn next reader_old reader_new writer_old writer_new counts inflow kept is_long outs session share
+        → IsDone {A = A} result reader_old reader_new writer_old writer_new counts outs session share }
+{
+    match next {
+        Next::Takes(_turn) => unreachable!(),
+        Next::GivenUp(ended) => ended,
+        Next::Done(ended) => ended,
+        Next::Open => Ended::Read,
+    }
+}
