@@ -27,7 +27,7 @@ from typing import Callable, Dict, Iterator, List, Optional
 from endless_check import Designer, Difference, Search, Talk, compare_counts
 from endless_load import BUSY, MEETING, PARTS, PATIENCE, Crowd, Figures, Work
 from measure import ALLOCATOR, arguments, head, megabytes, prepared, sized, table
-from vault_files import Claim, Report
+from vaultd_tools.files import Claim, Report
 
 # All sessions that may stand at once.
 SESSIONS = WORKERS = 64

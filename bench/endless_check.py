@@ -4,9 +4,9 @@ import sys
 from dataclasses import dataclass
 from typing import Dict, Generator, List, Optional, Sequence, Tuple
 
-sys.path.insert(0, os.path.join(os.path.dirname(os.path.abspath(__file__)), os.pardir, "tools"))
+sys.path.insert(0, os.path.join(os.path.dirname(os.path.abspath(__file__)), os.pardir, "python", "vaultd_tools", "src"))
 
-from vault_files import Claim, Report  # noqa: E402
+from vaultd_tools.files import Claim, Report  # noqa: E402
 
 # What is said on a connection: it yields a line and is sent the reply. Its end says what is sent before the client hangs up without
 # waiting, and whether it hangs up by a reset.

@@ -6,6 +6,7 @@ import re
 import subprocess
 import tempfile
 import time
+from typing import Iterable, List, Optional, Sequence, Tuple
 
 PROGRAM = "crates/vaultd/out/vaultd"
 TIME = "/usr/bin/time"
@@ -13,7 +14,7 @@ TIME = "/usr/bin/time"
 ALLOCATOR = {"GLIBC_TUNABLES": "glibc.malloc.arena_max=1:glibc.malloc.tcache_count=0:glibc.malloc.mmap_threshold=131072"}
 
 
-def arguments(about):
+def arguments(about: str) -> argparse.ArgumentParser:
     """The arguments that every program of this folder has."""
     parser = argparse.ArgumentParser(description=about)
     parser.add_argument("--program", default=PROGRAM, help=f"the built program, {PROGRAM} where it isn't given")
@@ -22,7 +23,7 @@ def arguments(about):
     return parser
 
 
-def prepared(options):
+def prepared(options: argparse.Namespace) -> Tuple[str, str]:
     """The program's absolute path, and the folder for files."""
     program = os.path.abspath(options.program)
     if not os.access(program, os.X_OK):
@@ -30,11 +31,11 @@ def prepared(options):
     return program, options.folder or tempfile.mkdtemp(prefix="vaultd-bench-")
 
 
-def sized(count, options):
+def sized(count: int, options: argparse.Namespace) -> int:
     return max(1, count // 100) if options.tiny else count
 
 
-def run_once(program, words, given=b""):
+def run_once(program: str, words: List[str], given: bytes = b"") -> Tuple[float, Optional[int], bytes]:
     """Runs the program, and answers its wall time in seconds, its greatest resident memory in kilobytes, and what it printed.
 
     The memory is that of /usr/bin/time, since a process that Python starts is counted with what Python had; without it, None.
@@ -50,18 +51,18 @@ def run_once(program, words, given=b""):
     return wall, int(memory[-1]) if memory else None, done.stdout
 
 
-def megabytes(kilobytes):
+def megabytes(kilobytes: Optional[float]) -> str:
     return "not measured" if kilobytes is None else f"{kilobytes / 1000:.1f} MB"
 
 
-def head(program, what):
+def head(program: str, what: str) -> None:
     """One line above each table: what was measured, when, and how busy the machine was."""
     now = datetime.datetime.now().strftime("%d %B %Y, %H:%M")
     print(f"{what}. {now}; load of the machine {os.getloadavg()[0]:.1f}; program {os.path.basename(program)}, "
           f"{os.path.getsize(program):,} bytes.\n")
 
 
-def table(columns, rows):
+def table(columns: Sequence[str], rows: Iterable[Sequence[str]]) -> None:
     print("| " + " | ".join(columns) + " |")
     print("|" + "---|" * len(columns))
     for row in rows:

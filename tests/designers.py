@@ -3,13 +3,12 @@
 import json
 import os
 import subprocess
-import sys
 import tempfile
 import unittest
 from pathlib import Path
-from typing import Any, Dict, List
+from typing import Any, Dict, List, Sequence
 
-from servers import MEMORY, TOP, Cutter, Server
+from servers import MEMORY, Cutter, Limits, Server, program
 
 from vault import Client
 
@@ -21,7 +20,7 @@ class WithServer(unittest.TestCase):
     disk."""
 
     def setUp(self) -> None:
-        self.server = Server(folder=MEMORY)
+        self.server = Server("--workers", "16", folder=MEMORY)
         self.addCleanup(self.server.close)
         self.server.start()
         self.cutter = Cutter(self.server.port)
@@ -56,12 +55,16 @@ class WithServer(unittest.TestCase):
         """How often a line reached the server."""
         return sum(line.startswith(word) for line in self.cutter.lines)
 
-    def vault(self, *words: str, status: int = 0, given: bytes = b"") -> bytes:
-        """Runs the program as anna, and answers what it printed."""
-        environment = {**os.environ, "XDG_STATE_HOME": self.folder.name}
-        environment.pop("VAULT_AS", None)
-        done = subprocess.run([sys.executable, str(TOP / "clients" / "vault.py"), *words], env=environment, input=given,
-                              capture_output=True, timeout=60, check=False)
+    def environment(self) -> Dict[str, str]:
+        """What the program `vault` runs with."""
+        kept = {**os.environ, "XDG_STATE_HOME": self.folder.name, "XDG_CACHE_HOME": self.folder.name}
+        kept.pop("VAULT_AS", None)
+        return kept
+
+    def vault(self, *words: str, status: int = 0, given: bytes = b"", limits: Limits = Limits(), before: Sequence[str] = ()) -> bytes:
+        """Runs the program as anna, and answers what it printed; the words before it name a program that starts it."""
+        done = subprocess.run([*before, *program("vault"), *words], env=self.environment(), input=given, capture_output=True, timeout=60,
+                              check=False, preexec_fn=limits.take_effect)
         self.assertEqual(done.returncode, status, (words, done.stdout, done.stderr))
         return done.stdout if status == 0 or "--json" in words else done.stderr
 

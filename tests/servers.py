@@ -1,23 +1,50 @@
-"""A server on real files for tests, and what stands between it and a client."""
+"""A server on real files for tests, what stands between it and a client, and the programs of the packages."""
 
 import contextlib
 import os
 import resource
+import select
 import signal
 import socket
 import subprocess
 import sys
 import tempfile
 import threading
+import time
+import tomllib
+from dataclasses import dataclass, field
 from pathlib import Path
-from typing import Callable, List, Optional
+from typing import Callable, Dict, List, Optional, Sequence, Tuple
 
 TOP = Path(__file__).resolve().parent.parent
-VAULTD = os.environ.get("VAULTD") or str(TOP / "crates" / "vaultd" / "out" / "vaultd")
+VAULTD = os.path.abspath(os.environ.get("VAULTD") or str(TOP / "crates" / "vaultd" / "out" / "vaultd"))
 # A folder in memory, where syncs take no time, for what doesn't ask about them.
 MEMORY = "/dev/shm" if os.access("/dev/shm", os.W_OK) else None
-sys.path.insert(0, str(TOP / "clients"))
-sys.path.insert(0, str(TOP / "tools"))
+PACKAGES = sorted(path.parent for path in (TOP / "python").glob("*/pyproject.toml"))
+sys.path[:0] = [str(package / "src") for package in PACKAGES]
+
+
+def scripts() -> Dict[str, str]:
+    """The programs of the packages by their names, each as an installation writes it."""
+    found: Dict[str, str] = {}
+    for package in PACKAGES:
+        for name, start in tomllib.loads((package / "pyproject.toml").read_text("utf-8"))["project"]["scripts"].items():
+            module, _, function = start.partition(":")
+            found[name] = (f"import sys\nsys.path[:0] = {[str(each / 'src') for each in PACKAGES]!r}\n"
+                           f"from {module} import {function}\nsys.exit({function}())\n")
+    return found
+
+
+def program(name: str) -> List[str]:
+    """The words that begin a command line of a program of the packages."""
+    return [sys.executable, "-c", scripts()[name]]
+
+
+def lay_programs(folder: Path) -> None:
+    """Writes the programs of the packages into a folder for a shell's path."""
+    for name, text in scripts().items():
+        (folder / name).write_text(f"#!{sys.executable}\n{text}", "utf-8")
+        (folder / name).chmod(0o755)
 
 
 def free_port() -> int:
@@ -27,45 +54,94 @@ def free_port() -> int:
         return int(listener.getsockname()[1])
 
 
+@dataclass(frozen=True)
+class Limits:
+    """What a program starts with: standard streams that are closed, how many descriptors, and how long its files may grow, as on a disk
+    that is full then."""
+
+    closed: Sequence[int] = ()
+    descriptors: Optional[int] = None
+    file_bytes: Optional[int] = None
+
+    def take_effect(self) -> None:
+        """Is called in the new process; the signals that end a program do so, whatever the tests' own process has."""
+        for sign in (signal.SIGTERM, signal.SIGINT, signal.SIGHUP):
+            signal.signal(sign, signal.SIG_DFL)
+        for stream in self.closed:
+            os.close(stream)
+        if self.descriptors is not None:
+            resource.setrlimit(resource.RLIMIT_NOFILE, (self.descriptors, self.descriptors))
+        if self.file_bytes is not None:
+            signal.signal(signal.SIGXFSZ, signal.SIG_IGN)
+            resource.setrlimit(resource.RLIMIT_FSIZE, (self.file_bytes, self.file_bytes))
+
+
 class Server:
-    """A vault in two files and its server, which can be killed and started again at one address."""
+    """A server over two files, those of a new vault where none are named, which can be killed and started again at one address."""
 
-    def __init__(self, workers: int = 16, folder: Optional[str] = None):
+    def __init__(self, *words: str, folder: Optional[str] = None, files: Optional[Tuple[str, str]] = None):
         self.folder = tempfile.TemporaryDirectory(prefix="vault-test-", dir=folder)
-        self.path = Path(self.folder.name)
-        self.files = [str(self.path / "a"), str(self.path / "b")]
-        self.port, self.workers = free_port(), workers
+        self.files: Tuple[str, str] = files or (os.path.join(self.folder.name, "a"), os.path.join(self.folder.name, "b"))
+        self.port, self.words = free_port(), words
         self.process: Optional["subprocess.Popen[bytes]"] = None
-        subprocess.run([VAULTD, "create", *self.files], check=True, stdout=subprocess.DEVNULL)
+        self.said = b""
+        if files is None:
+            subprocess.run([VAULTD, "create", *self.files], check=True, stdout=subprocess.DEVNULL)
 
-    def start(self, file_bytes: Optional[int] = None) -> None:
-        """Starts the server and waits until it listens. Its files grow to so many bytes at most, as on a disk that is full then."""
-        def limit() -> None:
-            if file_bytes is not None:
-                signal.signal(signal.SIGXFSZ, signal.SIG_IGN)
-                resource.setrlimit(resource.RLIMIT_FSIZE, (file_bytes, file_bytes))
-
-        address = f"127.0.0.1:{self.port}"
-        self.process = subprocess.Popen([VAULTD, "serve", *self.files, address, "--workers", str(self.workers)],
-                                        stdout=subprocess.PIPE, stderr=subprocess.STDOUT, preexec_fn=limit)
+    def start(self, limits: Limits = Limits()) -> None:
+        """Starts the server and waits until it listens."""
+        self.process = subprocess.Popen([VAULTD, "serve", *self.files, f"127.0.0.1:{self.port}", *self.words], stdin=subprocess.DEVNULL,
+                                        stdout=subprocess.PIPE, stderr=subprocess.PIPE, preexec_fn=limits.take_effect)
         assert self.process.stdout is not None
-        said = self.process.stdout.readline()
-        if said != b"listening\n":
-            raise AssertionError(f"the server said {said!r}")
+        if 1 in limits.closed:
+            self._wait_for_an_answer()
+            return
+        self.said = self.process.stdout.readline()
+        if self.said != b"listening\n":
+            _, out, errors = self.end()
+            raise AssertionError(f"the server said {out!r}, {errors!r}")
+
+    def _wait_for_an_answer(self) -> None:
+        for _ in range(200):
+            try:
+                self.connect().close()
+                return
+            except OSError:
+                time.sleep(0.05)
+        raise AssertionError("no server answers")
+
+    def connect(self) -> socket.socket:
+        """A connection to the server."""
+        return socket.create_connection(("127.0.0.1", self.port), timeout=30)
 
     def kill(self) -> None:
         """Kills the server as a power cut would."""
         if self.process is not None:
             self.process.send_signal(signal.SIGKILL)
-            self.process.wait()
-            assert self.process.stdout is not None
-            self.process.stdout.close()
+            self.process.communicate()
             self.process = None
+
+    def end(self) -> Tuple[Optional[int], str, str]:
+        """Waits until it ends by itself: its status, its output and its errors."""
+        assert self.process is not None
+        try:
+            out, errors = self.process.communicate(timeout=20)
+        except subprocess.TimeoutExpired:
+            return None, "", "it went on for twenty seconds"
+        status, self.process = self.process.returncode, None
+        return status, (self.said + out).decode(), errors.decode()
 
     def close(self) -> None:
         """Kills the server and takes its files away."""
         self.kill()
         self.folder.cleanup()
+
+
+def end_accepting(listener: socket.socket, accepts: threading.Thread) -> None:
+    """Ends a listener and the thread that accepts by it. One that is closed under its thread would accept by the next that has its number."""
+    listener.shutdown(socket.SHUT_RDWR)
+    accepts.join()
+    listener.close()
 
 
 class Cutter:
@@ -79,11 +155,12 @@ class Cutter:
         self.after: List[bytes] = []
         self.lines: List[bytes] = []
         self.meanwhile: Callable[[], None] = lambda: None
-        threading.Thread(target=self._accept, daemon=True).start()
+        self.accepts = threading.Thread(target=self._accept, daemon=True)
+        self.accepts.start()
 
     def close(self) -> None:
         """Takes no more connections."""
-        self.listener.close()
+        end_accepting(self.listener, self.accepts)
 
     def _accept(self) -> None:
         while True:
@@ -115,3 +192,57 @@ class Cutter:
             self.meanwhile()
             return True
         return False
+
+
+@dataclass
+class Heard:
+    """What a client sent on a connection, what it was told, and whether the server has ended it."""
+
+    sent: bytearray = field(default_factory=bytearray)
+    told: bytearray = field(default_factory=bytearray)
+    ended: threading.Event = field(default_factory=threading.Event)
+
+
+class Tap:
+    """Hands bytes on between clients and a server as they come, and keeps what was said on each connection."""
+
+    def __init__(self, server_port: int):
+        self.server_port = server_port
+        self.listener = socket.create_server(("127.0.0.1", 0))
+        self.port = int(self.listener.getsockname()[1])
+        self.heard: List[Heard] = []
+        self.accepts = threading.Thread(target=self._accept, daemon=True)
+        self.accepts.start()
+
+    def close(self) -> None:
+        """Takes no more connections."""
+        end_accepting(self.listener, self.accepts)
+
+    def _accept(self) -> None:
+        with contextlib.suppress(OSError):
+            while True:
+                client, _ = self.listener.accept()
+                server = socket.create_connection(("127.0.0.1", self.server_port))
+                self.heard.append(Heard())
+                threading.Thread(target=hand_on, args=(client, server, self.heard[-1]), daemon=True).start()
+
+
+def hand_on(client: socket.socket, server: socket.socket, heard: Heard) -> None:
+    """Hands on what comes to the end of both sides; behind the server's end the client has a moment to end, too."""
+    ways = {client: (server, heard.sent), server: (client, heard.told)}
+    with client, server:
+        while ways:
+            ready = select.select(list(ways), [], [], None if server in ways else 1)[0]
+            for source in ready:
+                sink, kept = ways[source]
+                piece = b""
+                with contextlib.suppress(OSError):
+                    piece = source.recv(65536)
+                kept += piece
+                with contextlib.suppress(OSError):
+                    sink.sendall(piece) if piece else sink.shutdown(socket.SHUT_WR)
+                if not piece:
+                    del ways[source]
+            if not ready:
+                break
+    heard.ended.set()

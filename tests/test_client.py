@@ -4,7 +4,6 @@ import json
 import os
 import random
 import subprocess
-import sys
 import time
 import unittest
 from pathlib import Path
@@ -12,11 +11,15 @@ from typing import Any, Callable, Iterator, List
 from unittest import mock
 
 from designers import PART, WithServer
-from servers import TOP, free_port
+from servers import Limits, free_port, program
 
-import vault
-from vault import COMMANDS, Client, Misused, NotKnown, Refused, Unreachable
-from vault_connection import Patience
+from vault import Client, Misused, NotKnown, Refused, Unreachable, claim_commands
+from vault.command_line import command_line
+from vault.claim_commands import KEPT_OPEN_SECONDS
+from vault.commands import COMMANDS
+from vault.connection import Patience
+from vault.memory import Command
+from vault.output import Output
 
 
 class Lost(WithServer):
@@ -208,14 +211,13 @@ class NoServer(WithServer):
     @staticmethod
     def command() -> Any:
         """A command under way."""
-        from vault_memory import Command
         return Command("", "")
 
     def test_a_full_disk(self) -> None:
         """A command that was answered 82 is not known to be done, until the server was started again."""
         self.anna.checkout(["w:" + PART])
         self.server.kill()
-        self.server.start(file_bytes=400)
+        self.server.start(Limits(file_bytes=400))
         short = self.client("anna", patience=0.2)
         with self.assertRaises(NotKnown) as unknown:
             short.put(PART, b"x" * 1000)
@@ -325,33 +327,38 @@ class Program(WithServer):
     def test_waiting_while_the_server_is_away(self) -> None:
         """A wait tells once that the server is away, goes on behind its restart, and has no connection in a long pause."""
         self.anna.checkout(["w:/engine"])
-        ben, output = self.client("ben", patience=0.1), vault.Output("wait", True)
+        ben, output = self.client("ben", patience=0.1), Output("wait", True)
         claim = ben.checkout(["r:/engine"]).claim
-        words = vault.command_line().parse_args(["wait", claim])
+        words = command_line().parse_args(["wait", claim])
         moments: Iterator[Callable[[], None]] = iter([self.server.kill, lambda: None, self.server.start, lambda: self.anna.abandon("c1")])
 
         def pause(client: Client, _patience: object) -> None:
             next(moments)()
 
-        with mock.patch("vault.pause", pause):
-            self.assertEqual(vault.wait(ben, words, output)[0], f"{claim} is held.")
+        with mock.patch("vault.claim_commands.pause", pause):
+            self.assertEqual(claim_commands.wait(ben, words, output)[0], f"{claim} is held.")
         self.assertEqual(len(output.notices), 2, output.notices)
         self.assertIn("goes on", output.notices[1])
-        long = Patience(60.0, vault.KEPT_OPEN_SECONDS + 1)
+        long = Patience(60.0, KEPT_OPEN_SECONDS + 1)
         with mock.patch("time.sleep"):
-            vault.pause(ben, long)
+            claim_commands.pause(ben, long)
         self.assertIsNone(ben.link.connection)
 
     def test_every_command_in_json(self) -> None:
         """Each prints one object on a line; a hold prints a second one, once it holds."""
         drawing, state = Path(self.folder.name) / "drawing", Path(self.folder.name) / "vault"
         drawing.write_bytes(b"bore 80")
+        work = Path(self.folder.name) / "work"
         notes = [["note", "c1", "mine"], ["give", "c1", "ben"], ["hello", f"ben@127.0.0.1:{self.server.port}"], ["mine", "c1"]]
         said = [["hello", f"anna@127.0.0.1:{self.server.port}"], ["tree"], ["make", "/engine/block/rod"],
-                ["nest", "/engine/block/valve"], ["checkout", "w:" + PART], ["wait", "c1"], ["extend", "c1", "w:/engine/block/rod"], ["put", PART, str(drawing)], ["drafts", "c1", str(state / "kept")],
+                ["nest", "/engine/block/valve"], ["checkout", "w:" + PART], ["wait", "c1"], ["extend", "c1", "w:/engine/block/rod"],
+                ["put", PART, str(drawing)], ["drafts", "c1", str(state / "kept")],
                 *(notes if self.gives() else []), ["checkin", "c1"], ["get", PART], ["history", PART], ["checkout", "r:/"],
-                ["abandon", "c2"], ["forget", "c2"], ["mine"], ["hold", "r:/"]]
+                ["abandon", "c2"], ["forget", "c2"], ["mine"], ["hold", "r:/"], ["store"],
+                ["get", "/engine", "--to", str(work)], ["status", str(work)], ["add", str(work / "block" / "Bolzen 20")]]
         for words in said:
+            if words[0] == "add":
+                Path(words[1]).write_bytes(b"pin")
             told = [json.loads(line) for line in self.vault("--json", *words).splitlines()]
             self.assertEqual([(one["command"], one["done"]) for one in told],
                              [(words[0], False)] * (words[0] == "hold") + [(words[0], True)])
@@ -378,7 +385,7 @@ class Program(WithServer):
     def started(self, *words: str) -> "subprocess.Popen[bytes]":
         """The program, under way."""
         environment = {**os.environ, "XDG_STATE_HOME": self.folder.name}
-        return subprocess.Popen([sys.executable, str(TOP / "clients" / "vault.py"), *words], env=environment,
+        return subprocess.Popen([*program("vault"), *words], env=environment,
                                 stdout=subprocess.DEVNULL, stderr=subprocess.DEVNULL)
 
     def test_errors(self) -> None:

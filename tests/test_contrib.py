@@ -12,12 +12,12 @@ import unittest
 from pathlib import Path
 from typing import List
 
-from servers import MEMORY, TOP, VAULTD, Server
+from servers import MEMORY, TOP, VAULTD, Limits, Server
 
 sys.path.insert(0, str(TOP / "bench"))
 
-import vault  # noqa: E402
 from measure import ALLOCATOR  # noqa: E402
+from vault.program import main  # noqa: E402
 
 CONTRIB = TOP / "contrib"
 
@@ -26,7 +26,7 @@ def helped(*words: str) -> str:
     """What the client's help says."""
     said = io.StringIO()
     with contextlib.redirect_stdout(said), contextlib.suppress(SystemExit):
-        vault.main([*words, "--help"])
+        main([*words, "--help"])
     return said.getvalue()
 
 
@@ -60,17 +60,54 @@ class Contrib(unittest.TestCase):
         server.start()
         os.environ["XDG_STATE_HOME"] = str(self.root / "state")
         self.addCleanup(os.environ.pop, "XDG_STATE_HOME")
-        client = str(self.root / "usr" / "bin" / "vault")
-        self.said(sys.executable, client, "hello", f"anna@127.0.0.1:{server.port}")
-        self.said(sys.executable, client, "make", "/engine")
-        backup = self.root / "usr" / "sbin" / "vaultd-backup"
-        for program in (Path(client), backup):
-            self.assertTrue(os.access(program, os.X_OK))
+        os.environ["PYTHONPATH"] = str(self.root / "usr" / "lib" / "python3" / "dist-packages")
+        self.addCleanup(os.environ.pop, "PYTHONPATH")
+        client, backup = self.root / "usr" / "bin" / "vault", self.root / "usr" / "sbin" / "vaultd-backup"
+        self.said(str(client), "hello", f"anna@127.0.0.1:{server.port}")
+        self.said(str(client), "make", "/engine")
+        for program in [client] + sorted((self.root / "usr" / "sbin").glob("vaultd-*")):
             self.assertEqual(program.read_text("utf-8").partition("\n")[0], "#!/usr/bin/python3")
-        self.assertIn("places 2", self.said(sys.executable, str(backup), "--vaultd", VAULTD, *server.files, str(self.root / "kept")))
+            self.assertIn("usage: " + program.name, self.said(str(program), "--help"))
+        self.assertIn("places 2", self.said(str(backup), "--vaultd", VAULTD, *server.files, str(self.root / "kept")))
         for page in ("man1/vault.1.gz", "man5/vault-files.5.gz", "man8/vaultd.8.gz", "man8/vaultd-board.8.gz"):
             self.assertTrue((self.root / "usr" / "share" / "man" / page).exists(), page)
         self.assertIn("usage", self.said(str(CONTRIB / "install"), "--destdir", status=2))
+
+    def test_replicated(self) -> None:
+        """What is settled has the same bytes, never beside a server; and a server serves where it tells a check-out."""
+        settle, serves = str(CONTRIB / "replicated" / "settle"), str(CONTRIB / "replicated" / "serves")
+        server = Server(folder=MEMORY)
+        self.addCleanup(server.close)
+        address = f"127.0.0.1:{server.port}"
+        self.said(serves, address, "1", status=1)
+        server.start()
+        for _ in range(2):
+            self.said(serves, address)
+        self.assertEqual(self.said(settle, *server.files, status=1), "vault in use\n")
+        server.kill()
+        before = [Path(file).read_bytes() for file in server.files]
+        os.utime(server.files[0], (0, 0))
+        self.assertEqual(self.said(settle, *server.files), "")
+        self.assertGreater(os.stat(server.files[0]).st_mtime, 0)
+        self.assertEqual([Path(file).read_bytes() for file in server.files], before)
+        self.assertIn("nothing is lost", self.said(settle, *server.files[:1], "/nowhere/b", status=1))
+        server.start(Limits(file_bytes=len(before[0])))
+        self.said(serves, address, "5", status=1)
+
+    @unittest.skipUnless(shutil.which("systemd-analyze"), "needs systemd-analyze")
+    def test_replicated_units(self) -> None:
+        """The unit with what is added on a machine of two, and the mount."""
+        units = self.root / "units"
+        (units / "vaultd.service.d").mkdir(parents=True)
+        program = self.root / "vaultd"
+        shutil.copy("/bin/true", program)
+        shutil.copy(CONTRIB / "replicated" / "var-lib-vaultd.mount", units)
+        for source, kept in ((CONTRIB / "systemd" / "vaultd.service", "vaultd.service"),
+                             (CONTRIB / "replicated" / "replicated.conf", "vaultd.service.d/replicated.conf")):
+            text = source.read_text("utf-8").replace("/usr/sbin/vaultd", str(program))
+            (units / kept).write_text(text.replace("/usr/share/vaultd/replicated/settle", str(program)), "utf-8")
+        self.assertEqual(self.said("systemd-analyze", "verify", "--man=no", str(units / "vaultd.service"),
+                                   str(units / "var-lib-vaultd.mount")), "")
 
     @unittest.skipUnless(shutil.which("systemd-analyze"), "needs systemd-analyze")
     def test_units(self) -> None:
@@ -135,10 +172,14 @@ class Contrib(unittest.TestCase):
     def test_completion(self) -> None:
         offered = self.completed("vault", "_vault", "vault", "")
         for word in self.client_words():
-            command = "get" if word == "--to" else "wait" if word == "--at-most" else "put" if word == "--claim" else ""
+            command = {"--to": "get", "--at-most": "wait", "--claim": "put", "--read": "store"}.get(word, "")
             self.assertIn(word, self.completed("vault", "_vault", "vault", command, "--") if command else offered)
         self.assertEqual(self.completed("vault", "_vault", "vault", "--as", "anna@h:1", "che"), ["checkout", "checkin"])
         self.assertEqual(self.completed("vault", "_vault", "vault", "put", "/e/b/p", str(CONTRIB) + "/inst"), [str(CONTRIB) + "/install"])
+        self.assertEqual(self.completed("vault", "_vault", "vault", "store", "s"), ["set"])
+        self.assertEqual(self.completed("vault", "_vault", "vault", "add", str(CONTRIB) + "/inst"), [str(CONTRIB) + "/install"])
+        self.assertEqual(self.completed("vault", "_vault", "vault", "status", str(CONTRIB) + "/ma"), [str(CONTRIB) + "/man"])
+        self.assertEqual(self.completed("vault", "_vault", "vault", "checkin", "c1", "-"), ["-m"])
         self.assertEqual(self.completed("vaultd", "_vaultd", "vaultd", "se"), ["serve"])
         self.assertEqual(self.completed("vaultd", "_vaultd", "vaultd", "serve", "a", "b", "x", "--w"), ["--workers"])
 

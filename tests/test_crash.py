@@ -22,6 +22,8 @@ from vault import Client, Refused
 SEED = int(os.environ.get("VAULT_SEED", "34"))
 MOMENTS = int(os.environ.get("VAULT_MOMENTS", "200"))
 SECONDS = float(os.environ.get("VAULT_SECONDS", "60"))
+# A kill and a start take some tenths of a second: even a slow machine does so many.
+LEAST_KILLS = int(min(MOMENTS, SECONDS / 3))
 DESIGNERS = ("anna", "ben", "carl", "dora")
 SHARED = "/plant/hall/crane"
 
@@ -80,7 +82,7 @@ class Crash(unittest.TestCase):
     """No draft lost, none twice, each client ends by itself with the right word."""
 
     def setUp(self) -> None:
-        self.server = Server()
+        self.server = Server("--workers", "16")
         self.addCleanup(self.server.close)
         self.server.start()
         self.folder = tempfile.TemporaryDirectory(prefix="vault-test-")
@@ -107,6 +109,7 @@ class Crash(unittest.TestCase):
         for designer in designers:
             designer.start()
         kills = self.kill_at_moments(random.Random(SEED))
+        self.assertGreaterEqual(kills, LEAST_KILLS, f"the server was killed {kills} times in {SECONDS} seconds")
         for designer in designers:
             designer.stop.set()
         for designer in designers:

@@ -5,13 +5,14 @@ import sys
 import tempfile
 import unittest
 from pathlib import Path
+from typing import List, Tuple
 
 from servers import TOP, VAULTD, free_port
 
 sys.path.insert(0, str(TOP / "bench"))
 
 from endless_check import Change, CheckOut, Designer, Difference, Search  # noqa: E402
-from vault_files import Claim  # noqa: E402
+from vaultd_tools.files import Claim  # noqa: E402
 
 # A program that serves an older copy of the files, once it is started again: all that was told since is lost.
 FORGETFUL = """#!/bin/sh
@@ -71,12 +72,14 @@ class Settling(unittest.TestCase):
 
     def test_nothing_under_way(self) -> None:
         with_check_out().settle([stands("w:/s1/a1/p0"), Claim("c6", "d2", None, ("w:/s2/a2/p0",))])
-        for standing in ([], [stands("w:/s1/a1/p0", "r:/s1/a1")], [stands("w:/s1/a1/p0"), Claim("c7", "d1", None, ("w:/s1/a1/p0",))]):
+        others: List[List[Claim]] = [[], [stands("w:/s1/a1/p0", "r:/s1/a1")], [stands("w:/s1/a1/p0"), Claim("c7", "d1", None, ("w:/s1/a1/p0",))]]
+        for standing in others:
             with self.assertRaises(Difference):
                 with_check_out().settle(standing)
 
     def test_extension(self) -> None:
-        for items in (("w:/s1/a1/p0",), ("w:/s1/a1/p0", "r:/s1/a1")):
+        kept: List[Tuple[str, ...]] = [("w:/s1/a1/p0",), ("w:/s1/a1/p0", "r:/s1/a1")]
+        for items in kept:
             designer = with_check_out()
             designer.under_way = Change("extend", items=("r:/s1/a1",))
             designer.settle([stands(*items)])

@@ -10,12 +10,11 @@ from vault import Client, Misused, NotKnown, Refused
 
 
 class Knowing(WithServer):
-    """A server that knows `give` and `note`; elsewhere these tests are left out."""
+    """A server that knows `give` and `note`."""
 
     def setUp(self) -> None:
         super().setUp()
-        if not self.gives():
-            self.skipTest("this server has no `give` and no `note`")
+        self.assertTrue(self.gives(), "this server has no `give` and no `note`")
         self.ben = self.client("ben")
         self.claim = self.anna.checkout(["w:" + PART]).claim
 

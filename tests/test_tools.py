@@ -11,33 +11,23 @@ import threading
 import time
 import unittest
 from html.parser import HTMLParser
-from importlib.machinery import SourceFileLoader
 from pathlib import Path
-from types import ModuleType
 from typing import Any, List, Tuple
 
-from servers import MEMORY, TOP, VAULTD, Server
+from servers import MEMORY, TOP, VAULTD, Server, program
 
 from vault import Client
+from vaultd_tools import board, files
 
 PART = "/engine/block/piston"
 VOID = {"meta", "path", "circle"}
-
-
-def load_tool(name: str) -> Any:
-    """A tool as a module."""
-    loader = SourceFileLoader(name.partition(".")[0], str(TOP / "tools" / name))
-    module = ModuleType(loader.name)
-    sys.modules[loader.name] = module
-    loader.exec_module(module)
-    return module
 
 
 class WithVault(unittest.TestCase):
     """A vault with one version and two check-outs, its server, and a folder."""
 
     def setUp(self) -> None:
-        self.server = Server(folder=MEMORY)
+        self.server = Server("--workers", "16", folder=MEMORY)
         self.addCleanup(self.server.close)
         self.server.start()
         folder = tempfile.TemporaryDirectory(prefix="vault-test-", dir=MEMORY)
@@ -52,7 +42,7 @@ class WithVault(unittest.TestCase):
 
     def tool(self, name: str, *words: str, status: int = 0) -> str:
         """Runs a tool on the vault, and answers what it said."""
-        done = subprocess.run([sys.executable, str(TOP / "tools" / name), "--vaultd", VAULTD, *self.server.files, *words],
+        done = subprocess.run([*program("vaultd-" + name), "--vaultd", VAULTD, *self.server.files, *words],
                               capture_output=True, text=True, timeout=60, check=False)
         self.assertEqual(done.returncode, status, done.stdout + done.stderr)
         return done.stdout if status == 0 else done.stderr
@@ -189,9 +179,8 @@ class Salvage(WithVault):
 
     def whole(self) -> Any:
         """What the program says of a copy of the vault."""
-        tools = load_tool("vault_files.py")
         with tempfile.TemporaryDirectory(prefix="vault-test-", dir=MEMORY) as folder:
-            return tools.inspect(VAULTD, tools.copy_vault(*self.server.files, Path(folder)))
+            return files.inspect(VAULTD, files.copy_vault(*self.server.files, Path(folder)))
 
     def test_nothing_to_salvage(self) -> None:
         damage(self.first, 24, 0, b"\xff" * 8)
@@ -248,7 +237,7 @@ class Board(WithVault):
 
     def test_as_the_server_says(self) -> None:
         """Each claim waits behind the first before it that overlaps it, which the page works out for itself."""
-        board, moments = load_tool("board"), random.Random(34)
+        moments = random.Random(34)
         for place in ("/engine/gear", "/engine/gear/wheel", "/engine/block/rod", "/wing"):
             self.anna.make(place)
         places = ["/"] + list(self.anna.tree("/"))
@@ -264,11 +253,11 @@ class Board(WithVault):
 
     def test_a_note(self) -> None:
         """A note of the report is shown as text, and is no item."""
-        report = load_tool("vault_files.py").Report("file a: open\nfile b: closed\nplaces 2, versions 0, claims 1, drafts 0\n"
-                                                   "c1 anna queued behind c2 w:/e r:/e/b note 3c623e\n")
+        report = files.Report("file a: open\nfile b: closed\nplaces 2, versions 0, claims 1, drafts 0\n"
+                              "c1 anna queued behind c2 w:/e r:/e/b note 3c623e\n")
         claim = report.claims()[0]
         self.assertEqual((claim.behind, claim.items, claim.note), ("c2", ("w:/e", "r:/e/b"), b"<b>"))
-        self.assertIn("note: <q>&lt;b&gt;</q>", load_tool("board").page(report, "x"))
+        self.assertIn("note: <q>&lt;b&gt;</q>", board.page(report, "x"))
 
     def test_a_given_check_out(self) -> None:
         self.anna.set_note("c1", "<bore> 80".encode())

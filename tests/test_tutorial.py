@@ -11,9 +11,10 @@ import unittest
 from pathlib import Path
 from typing import Dict, List, Tuple
 
-from servers import TOP, VAULTD, free_port
+from servers import TOP, VAULTD, free_port, lay_programs
 
 SHOWN_PORTS = ("7070", "7071")
+SHOWN_STORE = "/srv/vault-store"
 PROMPT = re.compile(r"(?P<who>anna|ben|)\$ (?P<line>.*)")
 DONE = "line-is-done"
 
@@ -23,7 +24,8 @@ class Shell:
 
     def __init__(self, folder: Path, programs: Path):
         folder.mkdir(exist_ok=True)
-        environment = {**os.environ, "PATH": f"{programs}:{os.environ['PATH']}", "XDG_STATE_HOME": str(folder / "state")}
+        environment = {**os.environ, "PATH": f"{programs}:{os.environ['PATH']}", "XDG_STATE_HOME": str(folder / "state"),
+                       "XDG_CACHE_HOME": str(folder / "cache")}
         environment.pop("VAULT_AS", None)
         self.process = subprocess.Popen(["bash", "--norc"], cwd=folder, env=environment, stdin=subprocess.PIPE,
                                         stdout=subprocess.PIPE, stderr=subprocess.STDOUT, text=True, bufsize=1)
@@ -86,9 +88,9 @@ class Pages(unittest.TestCase):
         self.folder = Path(folder.name)
         programs = self.folder / "programs"
         programs.mkdir()
-        for name, program in (("vaultd", Path(VAULTD)), ("vault", TOP / "clients" / "vault.py"),
-                              ("vaultd-backup", TOP / "tools" / "backup"), ("vaultd-board", TOP / "tools" / "board")):
-            (programs / name).symlink_to(program)
+        lay_programs(programs)
+        (programs / "vaultd").symlink_to(VAULTD)
+        self.meant = {**{shown: str(free_port()) for shown in SHOWN_PORTS}, SHOWN_STORE: str(self.folder / "vault-store")}
         self.shells: Dict[str, Shell] = {}
         for who in ("", "anna", "ben"):
             self.shells[who] = Shell(self.folder / (who or "server"), programs)
@@ -98,15 +100,19 @@ class Pages(unittest.TestCase):
         for shell in self.shells.values():
             shell.close()
 
+    def adapted(self, _who: str, text: str) -> str:
+        """A text of a page, with ports that are free and a store in a folder of the test's."""
+        for shown, instead in self.meant.items():
+            text = text.replace(shown, instead)
+        return text
+
     def run_page(self, page: str) -> None:
-        """Runs every line of a page, at ports that are free."""
+        """Runs every line of a page, at ports that are free and with a store in a folder of the test's."""
         text = (TOP / "docs" / page).read_text("utf-8")
-        ports = {shown: str(free_port()) for shown in SHOWN_PORTS}
         done = steps(text)
         self.assertEqual(len(done), len(re.findall(r"^(?:anna|ben|)\$ ", text, re.MULTILINE)))
         for who, line, wanted in done:
-            for shown, port in ports.items():
-                line, wanted = line.replace(shown, port), [said.replace(shown, port) for said in wanted]
+            line, wanted = self.adapted(who, line), [self.adapted(who, said) for said in wanted]
             with self.subTest(who=who, line=line):
                 self.assertEqual(self.shells[who].run(line, len(wanted)), wanted)
         print(f"{page}: {len(done)} lines", file=sys.stderr)

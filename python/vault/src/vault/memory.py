@@ -1,16 +1,16 @@
 """The client's own file: the check-outs, copies of the drafts that were sent, and the command under way."""
 
 import contextlib
-import fcntl
 import json
-import os
-import tempfile
 import time
 from dataclasses import asdict, dataclass, field
 from pathlib import Path
 from typing import Callable, Dict, Iterator, List, Optional, Tuple
 
-from vault_words import Reply, VaultError
+from filelock import FileLock, Timeout
+
+from vault.files import write_whole
+from vault.words import Reply, VaultError
 
 
 @dataclass
@@ -53,24 +53,29 @@ class Memory:
         self.last_number = 0
         self.claims: Dict[str, Claim] = {}
         self.under_way: Optional[Command] = None
+        self.store = ""
 
     @contextlib.contextmanager
     def locked(self, waiting: Callable[[], None]) -> Iterator[None]:
         """Keeps other clients of this designer on this machine away, and reads the file anew."""
         self.path.parent.mkdir(mode=0o700, parents=True, exist_ok=True)
-        with open(self.path.with_name(self.path.name + ".lock"), "w", encoding="ascii") as lock:
-            try:
-                fcntl.flock(lock, fcntl.LOCK_EX | fcntl.LOCK_NB)
-            except BlockingIOError:
-                waiting()
-                fcntl.flock(lock, fcntl.LOCK_EX)
+        lock = FileLock(self.path.with_name(self.path.name + ".lock"))
+        try:
+            lock.acquire(timeout=0)
+        except Timeout:
+            waiting()
+            lock.acquire()
+        try:
             self._load()
             yield
+        finally:
+            lock.release()
 
     def _load(self) -> None:
         try:
             kept = json.loads(self.path.read_text("utf-8"))
             self.last_number = kept["last_number"]
+            self.store = kept.get("store", "")
             self.claims = {
                 name: Claim(claim["items"], {place: Draft(**draft) for place, draft in claim["drafts"].items()},
                             claim.get("given", ""))
@@ -78,7 +83,7 @@ class Memory:
             }
             self.under_way = Command(**kept["under_way"]) if kept["under_way"] else None
         except FileNotFoundError:
-            self.last_number, self.claims, self.under_way = 0, {}, None
+            self.last_number, self.claims, self.under_way, self.store = 0, {}, None, ""
         except (ValueError, KeyError, TypeError, AttributeError) as error:
             raise VaultError(f"The file {self.path} can't be read. It keeps copies of drafts, so move it away"
                              " rather than delete it, and run the command again.") from error
@@ -87,6 +92,7 @@ class Memory:
         """Puts the file on disk, whole or not at all."""
         kept = {
             "last_number": self.last_number,
+            "store": self.store,
             "claims": {name: asdict(claim) for name, claim in self.claims.items()},
             "under_way": asdict(self.under_way) if self.under_way else None,
         }
@@ -127,25 +133,6 @@ class Memory:
             del self.claims[claim]
 
 
-def write_whole(path: Path, content: bytes) -> None:
-    """Writes a file beside its place, puts it on disk and then into its place."""
-    descriptor, beside = tempfile.mkstemp(dir=str(path.parent), prefix="." + path.name)
-    try:
-        with os.fdopen(descriptor, "wb") as file:
-            file.write(content)
-            file.flush()
-            os.fsync(file.fileno())
-        os.replace(beside, path)
-    except BaseException:
-        os.unlink(beside)
-        raise
-    folder = os.open(str(path.parent), os.O_RDONLY)
-    try:
-        os.fsync(folder)
-    finally:
-        os.close(folder)
-
-
 def by_number(entry: Tuple[str, Claim]) -> int:
     """The order of check-outs."""
     return int(entry[0][1:])
@@ -156,9 +143,3 @@ def shown(command: Command) -> str:
     if command.kind == "put":
         return f"put {command.place}"
     return f"note {command.claim}" if command.kind == "note" else command.line
-
-
-def state_folder() -> Path:
-    """Where the client keeps its files."""
-    base = os.environ.get("XDG_STATE_HOME") or os.path.join(os.path.expanduser("~"), ".local", "state")
-    return Path(base) / "vault"

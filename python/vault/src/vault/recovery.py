@@ -2,9 +2,9 @@
 
 from typing import Callable, List, Optional
 
-from vault_connection import Link
-from vault_memory import Claim, Command, Memory, shown
-from vault_words import ITEMS, NotKnown, Refused, Reply
+from vault.connection import Link
+from vault.memory import Claim, Command, Memory, shown
+from vault.words import ITEMS, NotKnown, Refused, Reply, word_in
 
 LOOK_AHEAD = 64
 SENT_AGAIN = ("put", "extend")
@@ -64,7 +64,7 @@ class Recovery:
             return self._found_given(command)
         if command.kind == "note":
             noted = self.link.read("note " + command.claim)
-            return Reply(True, ("noted",)) if noted.ok and noted.words[1] == command.line.split()[2] else None
+            return Reply(True, ("noted",)) if noted.ok and word_in(noted, 1) == command.line.split()[2] else None
         return None
 
     def told_again(self, command: Command, reply: Reply) -> Reply:
@@ -101,7 +101,7 @@ class Recovery:
             if draft.versions is None:
                 return False
             reply = self.link.read(f"fetch {place} {draft.versions + 1}")
-            if not reply.ok or reply.words[1] != (draft.content or "-"):
+            if not reply.ok or word_in(reply, 1) != (draft.content or "-"):
                 return False
         return True
 

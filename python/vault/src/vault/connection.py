@@ -5,12 +5,16 @@ import socket
 import time
 from typing import Callable, List, Optional
 
-from vault_words import Lost, Reply, Unreachable, read_reply
+from vault import transport
+from vault.words import Lost, Reply, Unreachable, read_reply
 
 LINES_OF_A_CONNECTION = 4000
 CONNECT_SECONDS = 10.0
 GREETING_SECONDS = 15.0
 REPLY_SECONDS = 60.0
+FULL = 80
+FULL_PAUSE_SECONDS = 0.5
+REPLY_BYTES = 1 << 20
 
 
 class Connection:
@@ -18,14 +22,14 @@ class Connection:
 
     def __init__(self, host: str, port: int, designer: str):
         self.lines = 0
-        try:
-            self.socket = socket.create_connection((host, port), timeout=CONNECT_SECONDS)
-        except OSError as error:
-            raise Lost(error.strerror or str(error)) from error
+        self.stream = transport.opened(host, port, CONNECT_SECONDS)
+        self.socket = self.stream.socket
         self.socket.settimeout(GREETING_SECONDS)
-        self.socket.setsockopt(socket.IPPROTO_TCP, socket.TCP_NODELAY, 1)
         self.reader = self.socket.makefile("rb")
-        self.greeting = self.ask("hello " + designer)
+        try:
+            self.greeting = self.ask("hello " + designer)
+        except Lost as lost:
+            raise self.stream.explained(lost, designer) from lost
         self.socket.settimeout(REPLY_SECONDS)
         if not self.greeting.ok:
             self.drop()
@@ -51,7 +55,7 @@ class Connection:
             raise
 
     def _reply(self) -> Reply:
-        line = self.reader.readline()
+        line = self.reader.readline(REPLY_BYTES)
         if not line.endswith(b"\n"):
             raise Lost("the connection ended")
         return read_reply(line)
@@ -66,7 +70,7 @@ class Connection:
         """Ends the connection."""
         with contextlib.suppress(OSError):
             self.reader.close()
-            self.socket.close()
+        self.stream.close()
 
 
 class Patience:
@@ -126,12 +130,17 @@ class Link:
                 connection = Connection(self.host, self.port, self.designer)
                 if connection.greeting.ok:
                     return connection
+                if connection.greeting.code == transport.NOT_YOURS:
+                    raise transport.not_as(self.designer, self.host, self.port)
                 why = str(connection.greeting.refusal())
+                if connection.greeting.code == FULL:
+                    why = f"The server at {self.host}:{self.port} is full at this moment. Ask whoever runs it for room, if it stays so."
+                    patience.next = max(patience.next, FULL_PAUSE_SECONDS)
             except Lost as lost:
-                why = f"No server answers at {self.host}:{self.port} ({lost}). Ask whoever runs it whether it runs."
+                why = f"No server answers at {transport.shown(self.host, self.port)} ({lost}). Ask whoever runs it whether it runs."
             if patience.over():
                 raise Unreachable(why)
-            self.progress(why + " Trying again.")
+            self.progress(f"{why} Trying again in {patience.next:.1f} seconds.")
             patience.pause()
 
     def read_all(self, lines: List[str]) -> List[Reply]:

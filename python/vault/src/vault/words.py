@@ -2,7 +2,7 @@
 
 import re
 from dataclasses import dataclass
-from typing import Dict, List, Optional, Tuple
+from typing import Any, Dict, List, Optional, Tuple
 
 CONTENT_BYTES = 1024
 NOTE_BYTES = 64
@@ -15,6 +15,8 @@ PLACE = re.compile(r"/|(/[a-z0-9_-]{1,32}){1,%d}" % NAMES)
 ITEM = re.compile(r"[rw]:(/|(/[a-z0-9_-]{1,32}){1,%d})" % NAMES)
 CLAIM = re.compile(r"[ch][1-9][0-9]{0,9}")
 CHECKOUT = re.compile(r"c[1-9][0-9]{0,9}")
+SHOWN = re.compile(r"claim (?P<claim>%s) (?P<owner>%s) (?P<held>held|queued behind %s)(?P<items>( %s)+)" % (
+    CLAIM.pattern, NAME.pattern, CLAIM.pattern, ITEM.pattern))
 
 SENTENCES: Dict[int, str] = {
     10: "The server does not know this command: it is older than this client. Ask whoever runs it for a newer one; nothing was"
@@ -27,7 +29,7 @@ SENTENCES: Dict[int, str] = {
         " to six names.",
     23: "{claim} covers the place above it. Wait until it is gone, or, if it is yours, add `--claim {claim}`.",
     30: "There is no such check-out: it was checked in or given up. `vault mine` shows yours.",
-    31: "That check-out is another designer's. `vault mine` shows yours.",
+    31: "That check-out is another designer's, or your ssh key only lets you look. `vault mine` shows yours.",
     32: "That check-out is queued, not held. `vault wait` waits for it.",
     33: "{claim} is in the way. Wait until it is gone, or ask its designer; nothing was changed.",
     34: "The check-out does not take in this place for change. `vault extend` asks for it.",
@@ -49,6 +51,7 @@ class VaultError(Exception):
     def __init__(self, sentence: str, code: Optional[int] = None):
         super().__init__(sentence)
         self.code = code
+        self.fields: Dict[str, Any] = {}
 
 
 class Misused(VaultError):
@@ -69,6 +72,12 @@ class Unreachable(VaultError):
 
 class NotKnown(VaultError):
     """It isn't known yet whether the command was done; the client's file remembers to find out."""
+
+    status = 3
+
+
+class NotUnderstood(VaultError):
+    """The server said what this client can't read."""
 
     status = 3
 
@@ -102,7 +111,8 @@ class Reply:
 
 def read_reply(line: bytes) -> Reply:
     """Takes a line of the server apart; a line that is none ends the connection."""
-    words = line.decode("ascii", "replace").split()
+    text = line.decode("ascii", "replace").rstrip("\n")
+    words = text.split() if text.isascii() and text.isprintable() else []
     if len(words) >= 2 and words[0] == "OK":
         return Reply(True, tuple(words[1:]))
     if len(words) >= 2 and words[0] == "ERR" and words[1].isdigit():
@@ -130,9 +140,76 @@ class Standing:
         return f"{self.claim} is held." if self.held else f"{self.claim} is queued behind {self.behind}."
 
 
+def number_in(reply: Reply, at: int) -> int:
+    """The number that is such a word of a reply."""
+    word = word_in(reply, at)
+    if not re.fullmatch(r"[0-9]{1,10}", word):
+        raise odd(reply)
+    return int(word)
+
+
+def word_in(reply: Reply, at: int) -> str:
+    """A word of a reply."""
+    if at >= len(reply.words):
+        raise odd(reply)
+    return reply.words[at]
+
+
+def content_in(reply: Reply) -> bytes:
+    """The bytes that a reply tells, of a version or of a note."""
+    if not reply.ok:
+        raise reply.refusal()
+    word = word_in(reply, 1)
+    if word == "-":
+        return b""
+    if not re.fullmatch(r"([0-9a-f]{2}){1,%d}" % CONTENT_BYTES, word):
+        raise odd(reply)
+    return bytes.fromhex(word)
+
+
+def names_in(reply: Reply) -> Tuple[str, ...]:
+    """The names that a reply lists."""
+    if not reply.ok:
+        raise reply.refusal()
+    names = reply.words[2:]
+    if number_in(reply, 1) != len(names) or not all(NAME.fullmatch(name) for name in names):
+        raise odd(reply)
+    return names
+
+
+@dataclass(frozen=True)
+class Holder:
+    """A claim with whose it is, whether it is held, and what it asked for."""
+
+    claim: str
+    owner: str
+    held: bool
+    items: Tuple[str, ...]
+
+    def changes(self, place: str) -> bool:
+        """Whether the claim takes in a place for change."""
+        return any(item[0] == "w" and under(place, item[2:]) for item in self.items)
+
+
+def holder_in(reply: Reply) -> Holder:
+    """The claim that a reply shows."""
+    found = SHOWN.fullmatch(" ".join(reply.words))
+    if found is None:
+        raise odd(reply)
+    return Holder(found["claim"], found["owner"], found["held"] == "held", tuple(found["items"].split()))
+
+
+def odd(reply: Reply) -> NotUnderstood:
+    """Says that a reply is none of the protocol."""
+    said = " ".join(reply.words)[:60]
+    return NotUnderstood(f"The server said {said!a}, which this client does not know: it may be newer than the client, or no vault server.")
+
+
 def standing_of(reply: Reply) -> Standing:
     """The standing that a reply tells."""
     named = reply.claims()
+    if not named:
+        raise odd(reply)
     return Standing(named[0], reply.words[0] == "held", named[1] if len(named) > 1 else "")
 
 
@@ -150,7 +227,8 @@ def checked(pattern: "re.Pattern[str]", word: str, what: str) -> str:
 
 def place_word(word: str) -> str:
     """A place as it is written."""
-    return checked(PLACE, word, "place: write `/` or up to seven names of a-z, 0-9, _ and -, as /engine/block/piston")
+    return checked(PLACE, word, "place: write `/`, or up to seven names of 1 to 32 characters each, of a-z, 0-9, _ and -, as /engine/block/piston."
+                   " `vault add` makes a part of a file with any name")
 
 
 def claim_word(word: str) -> str:

@@ -5,19 +5,23 @@ done, by questions that change nothing, before it says anything twice.
 """
 
 import contextlib
+import os
 import time
 from copy import deepcopy
 from dataclasses import replace
 from pathlib import Path
 from typing import Callable, Dict, Iterator, List, Optional, Sequence, Tuple
 
-from vault_connection import Connection, Link, Patience, quiet
-from vault_memory import Claim, Command, Draft, Memory, by_number, shown, state_folder
-from vault_recovery import ANOTHERS, GONE, MINE, SENT_AGAIN, Recovery, not_known, whose
-from vault_words import (CONTENT_BYTES, GREATEST, NAME, NAMES, NOTE_BYTES, SENTENCES, Lost, Misused, Refused, Reply, Standing, Unreachable,
-                         checked, checkout_word, claim_word, item_words, place_word, standing_of, under)
+from vault.connection import Connection, Link, Patience, quiet
+from vault.folders import state_folder
+from vault.memory import Claim, Command, Draft, Memory, by_number, shown
+from vault.recovery import ANOTHERS, GONE, MINE, NO_PART, SENT_AGAIN, Recovery, not_known, whose
+from vault.words import (CONTENT_BYTES, GREATEST, NAME, NAMES, NOTE_BYTES, SENTENCES, Holder, Lost, Misused, Refused, Reply, Standing,
+                         Unreachable, checked, checkout_word, claim_word, content_in, holder_in, item_words, names_in, number_in,
+                         place_word, standing_of, under)
 
 READ_AT_ONCE = 64
+UNKNOWN_COMMAND = 10
 
 
 class Client:
@@ -26,7 +30,7 @@ class Client:
     def __init__(self, designer: str, host: str, port: int, state: Optional[Path] = None, patience: float = 30.0,
                  settling: float = 1.0, notice: Callable[[str], None] = quiet, progress: Callable[[str], None] = quiet):
         self.designer, self.host, self.port = checked(NAME, designer, "designer's name"), host, port
-        self.memory = Memory((state or state_folder()) / f"{designer}@{host}:{port}.json")
+        self.memory = Memory((state or state_folder()) / memory_name(designer, host, port))
         self.patience, self.settling = patience, settling
         self.notice, self.progress = notice, progress
         self.link = Link(designer, host, port, patience, progress, self.memory.saw)
@@ -62,8 +66,9 @@ class Client:
         line = " ".join(["extend", claim_word(claim)] + item_words(items))
         return standing_of(self._change(Command("extend", line, claim, items=items)))
 
-    def put(self, place: str, content: bytes, claim: str = "", source: str = "") -> str:
-        """Saves a draft of a part, keeps a copy of it, and answers the check-out that it belongs to."""
+    def put(self, place: str, content: bytes, claim: str = "", source: Optional[str] = None) -> str:
+        """Saves a draft of a part, keeps a copy of it, and answers the check-out that it belongs to. Where no source is given, the one of
+        the draft before stays."""
         place_word(place)
         if len(content) > CONTENT_BYTES:
             raise Misused(f"The content has {len(content):,} bytes, and a part has at most {CONTENT_BYTES:,}."
@@ -71,12 +76,13 @@ class Client:
         with self._alone():
             claim = checkout_word(claim) if claim else self._claim_for(place)
             counted = self.link.read("count " + place)
-            versions = int(counted.words[1]) if counted.ok else None
+            versions = number_in(counted, 1) if counted.ok else None
             line = f"save {claim} {place} {content.hex() or '-'}"
             command = Command("put", line, claim, place)
             before = deepcopy(self.memory.claims.get(claim))
             kept = self.memory.claims.setdefault(claim, Claim([]))
-            kept.drafts[place] = Draft(content.hex(), source, versions)
+            earlier = kept.drafts[place].source if place in kept.drafts else ""
+            kept.drafts[place] = Draft(content.hex(), earlier if source is None else source, versions)
             try:
                 self._carry_out(command)
             except (Refused, Unreachable):
@@ -84,8 +90,31 @@ class Client:
                 raise
         return claim
 
+    def claim_for(self, place: str, claim: str = "") -> str:
+        """The check-out that a draft of a part would belong to: the one that is named, or else the one remembered that takes it in for
+        change. It is asked for, so that nobody sends long files in vain."""
+        place_word(place)
+        with self._alone():
+            self._count(place)
+            found = checkout_word(claim) if claim else self._claim_for(place)
+            whose_it_is = self.link.read(whose(found))
+            if whose_it_is.code != MINE[0]:
+                raise whose_it_is.refusal()
+        return found
+
     def get(self, place: str, version: Optional[int] = None) -> bytes:
         """A version of a part, the last one where none is named."""
+        return self.version(place, version)[1]
+
+    def last(self, place: str) -> Optional[Tuple[int, bytes]]:
+        """The last version of a part with its number, or nothing where there is no such part, or no version of it."""
+        with self._alone():
+            counted = self.link.read("count " + place_word(place))
+            number = number_in(counted, 1) if counted.ok else 0
+            return (number, content_in(self.link.read(f"fetch {place} {number}"))) if number else None
+
+    def version(self, place: str, version: Optional[int] = None) -> Tuple[int, bytes]:
+        """A version of a part with its number, the last one where none is named."""
         place_word(place)
         if version is not None and not 1 <= version <= GREATEST:
             raise Misused(f"`{version}` is no version: versions of a part are 1, 2 and so on.")
@@ -93,7 +122,18 @@ class Client:
             number = self._count(place) if version is None else version
             if version is None and number == 0:
                 raise Refused(f"{place} has no version yet. One comes with a `vault put` and a `vault checkin`.", 40)
-            return content_of(self.link.read(f"fetch {place} {number}"))
+            return number, content_in(self.link.read(f"fetch {place} {number}"))
+
+    def confirmed_store(self) -> str:
+        """The address of a store that this designer has confirmed here, or nothing."""
+        with self._alone():
+            return self.memory.store
+
+    def confirm_store(self, address: str) -> None:
+        """Remembers the address of a store that this designer follows from now on."""
+        with self._alone():
+            self.memory.store = address
+            self.memory.save()
 
     def history(self, place: str) -> Iterator[Tuple[int, bytes]]:
         """Each version of a part with its number, from 1 on."""
@@ -105,7 +145,7 @@ class Client:
                 if first > 1:
                     self.progress(f"{first - 1:,} of {count:,} versions so far")
                 replies = self.link.read_all([f"fetch {place} {number}" for number in numbers])
-                yield from ((number, content_of(reply)) for number, reply in zip(numbers, replies))
+                yield from ((number, content_in(reply)) for number, reply in zip(numbers, replies))
 
     def tree(self, place: str = "/") -> Iterator[str]:
         """The places beneath one, each behind the one that it stands in."""
@@ -113,9 +153,55 @@ class Client:
         with self._alone():
             yield from self._beneath(place)
 
+    def holders(self, place: str) -> List[Holder]:
+        """The claims at a place or at one under it, in their order; none where the server is older and doesn't tell."""
+        with self._alone():
+            told = self.link.read("claims " + place_word(place))
+            if told.code == UNKNOWN_COMMAND:
+                return []
+            if not told.ok:
+                raise told.refusal()
+            replies = self._asked("show", told.claims())
+        return [holder_in(reply) for reply in replies if reply.ok]
+
+    def is_assembly(self, place: str) -> bool:
+        """Whether a place is there, and is no part."""
+        with self._alone():
+            return self.link.read("count " + place_word(place)).code == NO_PART
+
+    def names(self, place: str) -> List[str]:
+        """The names of the places right beneath one."""
+        with self._alone():
+            return list(names_in(self.link.read("list " + place_word(place))))
+
+    def survey(self, place: str) -> Tuple[List[str], Dict[str, int]]:
+        """The assemblies from a place on, itself first, and the parts in them, each with the number of its versions."""
+        assemblies: List[str] = []
+        parts: Dict[str, int] = {}
+        level = [place_word(place)]
+        with self._alone():
+            while level:
+                inner = []
+                for name, reply in zip(level, self._asked("count", level)):
+                    if reply.ok:
+                        parts[name] = number_in(reply, 1)
+                    elif reply.code == NO_PART:
+                        inner.append(name)
+                    else:
+                        raise reply.refusal()
+                assemblies += inner
+                level = [place_word(above.rstrip("/") + "/" + name) for above, reply in zip(inner, self._asked("list", inner))
+                         for name in names_in(reply)]
+        return assemblies, parts
+
+    def contents(self, wanted: Sequence[Tuple[str, int]]) -> List[bytes]:
+        """The contents of some versions, each named by its part and its number."""
+        with self._alone():
+            return [content_in(reply) for reply in self._asked("fetch", [f"{place} {number}" for place, number in wanted])]
+
     def checkin(self, claim: str) -> int:
         """Makes versions of a check-out's drafts, answers how many, and gives the check-out up."""
-        return int(self._end(Command("checkin", "checkin " + checkout_word(claim), claim)).words[2])
+        return number_in(self._end(Command("checkin", "checkin " + checkout_word(claim), claim)), 2)
 
     def abandon(self, claim: str) -> None:
         """Gives a check-out up, with its drafts."""
@@ -149,7 +235,7 @@ class Client:
     def note(self, claim: str) -> bytes:
         """The note on anyone's check-out."""
         with self._alone():
-            return content_of(self.link.read("note " + checkout_word(claim)))
+            return content_in(self.link.read("note " + checkout_word(claim)))
 
     def mine(self, named: Sequence[str] = ()) -> List[Tuple[Standing, Claim]]:
         """The check-outs that this client remembers, each asked again, and those that are named, which are remembered from then on
@@ -351,25 +437,28 @@ class Client:
         words = [kind, place_word(place)] + ([checkout_word(claim)] if claim else [])
         self._change(Command(kind, " ".join(words), claim, place))
 
+    def _asked(self, command: str, words: Sequence[str]) -> List[Reply]:
+        """The replies to a question about each of some things."""
+        replies: List[Reply] = []
+        for first in range(0, len(words), READ_AT_ONCE):
+            replies += self.link.read_all([f"{command} {word}" for word in words[first:first + READ_AT_ONCE]])
+        return replies
+
     def _count(self, place: str) -> int:
         reply = self.link.read("count " + place)
         if not reply.ok:
             raise reply.refusal()
-        return int(reply.words[1])
+        return number_in(reply, 1)
 
     def _beneath(self, place: str) -> Iterator[str]:
-        reply = self.link.read("list " + place)
-        if not reply.ok:
-            raise reply.refusal()
-        for name in reply.words[2:]:
+        for name in names_in(self.link.read("list " + place)):
             child = place.rstrip("/") + "/" + name
             yield child
             if child.count("/") < NAMES:
                 yield from self._beneath(child)
 
 
-def content_of(reply: Reply) -> bytes:
-    """The bytes that a reply tells, of a version or of a note."""
-    if not reply.ok:
-        raise reply.refusal()
-    return b"" if reply.words[1] == "-" else bytes.fromhex(reply.words[1])
+def memory_name(designer: str, host: str, port: int) -> str:
+    """The name of the client's own file for a designer at a server; Windows has no colon in names."""
+    name = f"{designer}@{host}:{port}.json"
+    return name.replace(":", "_") if os.name == "nt" else name

@@ -1,0 +1,232 @@
+"""A working folder: files of parts, and what the client remembers of each, in `.vault` in that folder.
+
+Nothing outside the folder is ever written, whatever stands in `.vault` or in a card, and no link is followed.
+"""
+
+import contextlib
+import json
+import os
+import stat
+import time
+import uuid
+from dataclasses import asdict, dataclass
+from pathlib import Path
+from typing import IO, Any, Dict, Iterator, List, Optional
+
+from filelock import FileLock, Timeout
+
+from vault.files import write_whole
+from vault.names import folded, usable
+from vault.parts import give_new_name
+from vault.transfer import hash_of
+from vault.words import CHECKOUT, PLACE, Misused, VaultError
+
+OWN = ".vault"
+FORM = "vault working folder 1"
+# For how long behind a file's time it may have been changed again without another time: where times are of whole seconds, and else.
+COARSE, FINE = 2_000_000_000, 50_000_000
+
+
+@dataclass
+class Entry:
+    """What is remembered of a part's file: the version that it was, and how it looked then, with its time and when that was set; the name
+    that its card says; and the draft that was put of it since."""
+
+    place: str
+    version: int
+    sha256: str
+    size: int = -1
+    time: int = 0
+    set_at: int = 0
+    looked: int = 0
+    name: str = ""
+    draft: str = ""
+    claim: str = ""
+
+
+class Folder:
+    """A working folder of an assembly. Files are named by their path in it, with `/` between names."""
+
+    def __init__(self, path: Path, place: str, server: str):
+        self.path, self.place, self.server = path, place, server
+        self.files: Dict[str, Entry] = {}
+        self.folders: Dict[str, str] = {"": place}
+
+    # What is remembered.
+
+    @contextlib.contextmanager
+    def locked(self) -> Iterator[None]:
+        """Keeps other clients away from this folder."""
+        own = self.path / OWN
+        self._real(own).mkdir(exist_ok=True)
+        lock = FileLock(own / "lock")
+        try:
+            lock.acquire(timeout=0)
+        except Timeout as error:
+            raise Misused(f"Another `vault` works in {self.path}. Wait until it has ended.") from error
+        try:
+            yield
+        finally:
+            lock.release()
+
+    def save(self) -> None:
+        """Puts what is remembered on disk."""
+        kept = {"form": FORM, "place": self.place, "server": self.server, "folders": self.folders,
+                "files": {name: asdict(entry) for name, entry in sorted(self.files.items())}}
+        write_whole(self._real(self.path / OWN) / "folder.json", json.dumps(kept, indent=1).encode("utf-8"))
+
+    # Files.
+
+    def at(self, name: str) -> Path:
+        """The path of a file. Its folder has to be in this one, and no link on the way."""
+        path = self.path.joinpath(*name.split("/"))
+        if not is_safe(name):
+            raise Misused(f"`{name!a}` is no file of a working folder.")
+        self._real(path.parent)
+        return path
+
+    def make_folder(self, name: str) -> None:
+        """Makes the folder of an assembly."""
+        path = self.at(name)
+        if path.is_symlink() or (path.exists() and not path.is_dir()):
+            raise Misused(f"{path} is in the way of an assembly's folder. Move it away.")
+        path.mkdir(exist_ok=True)
+        self._real(path)
+
+    def is_changed(self, name: str) -> bool:
+        """Whether a file isn't as it is remembered. One that is missing isn't changed; one that is a link or a folder is."""
+        entry, seen = self.files[name], self.seen(name)
+        if seen is None:
+            return False
+        if not stat.S_ISREG(seen.st_mode) or (entry.size >= 0 and seen.st_size != entry.size):
+            return True
+        unsure = COARSE if seen.st_mtime_ns % 1_000_000_000 == 0 else FINE
+        same = entry.size >= 0 and (seen.st_mtime_ns, seen.st_ctime_ns) == (entry.time, entry.set_at)
+        if same and seen.st_mtime_ns + unsure < entry.looked:
+            return False
+        if self.hash(name) != entry.sha256:
+            return True
+        self.remember_look(name, seen)
+        return False
+
+    def seen(self, name: str) -> Optional[os.stat_result]:
+        """How a file looks, or nothing where it isn't there."""
+        try:
+            return os.lstat(self.at(name))
+        except FileNotFoundError:
+            return None
+
+    def hash(self, name: str) -> str:
+        """The hash of a file's bytes."""
+        return hash_of(self.at(name))[0]
+
+    def remember_look(self, name: str, seen: os.stat_result) -> None:
+        """Remembers how a file looks whose bytes are known."""
+        entry = self.files[name]
+        entry.size, entry.time, entry.set_at, entry.looked = seen.st_size, seen.st_mtime_ns, seen.st_ctime_ns, time.time_ns()
+
+    @contextlib.contextmanager
+    def new_file(self) -> Iterator[IO[bytes]]:
+        """A file under a name of its own, which is gone behind this."""
+        path = self._real(self.path / OWN) / f"new-{uuid.uuid4().hex}"
+        try:
+            with open(path, "xb") as file:
+                yield file
+        finally:
+            with contextlib.suppress(OSError):
+                os.unlink(path)
+
+    def bring(self, file: IO[bytes], name: str, entry: Entry, before: Optional[os.stat_result]) -> None:
+        """Gives a new file its name, in the place of one that looks as it did before, or of none, and remembers it. Its time is a little in
+        the past, so that whoever changes it changes that, too."""
+        file.flush()
+        os.fsync(file.fileno())
+        file.close()
+        earlier = time.time_ns() - 2 * COARSE
+        os.utime(file.name, ns=(earlier, earlier))
+        path = self.at(name)
+        if before is None:
+            give_new_name(Path(file.name), path)
+        else:
+            now = os.lstat(path)
+            if (now.st_size, now.st_mtime_ns, now.st_ino) != (before.st_size, before.st_mtime_ns, before.st_ino):
+                raise Misused(f"{path} was changed right now, and is left as it is.")
+            os.replace(file.name, path)
+        self.files[name] = entry
+        self.remember_look(name, os.lstat(path))
+
+    def others(self) -> List[str]:
+        """The files of the folder that belong to no part, as far as they can be put."""
+        found = []
+        for folder, inner, files in os.walk(self.path):
+            above = Path(folder).relative_to(self.path).as_posix()
+            inner[:] = sorted(name for name in inner if self.joined(above, name) in self.folders)
+            found += [self.joined(above, name) for name in sorted(files) if self.joined(above, name) not in self.files and usable(name)]
+        return found
+
+    @staticmethod
+    def joined(above: str, name: str) -> str:
+        """A name in a folder of the working folder."""
+        return name if above in ("", ".") else f"{above}/{name}"
+
+    def taken(self, above: str) -> Dict[str, str]:
+        """The names that are given in a folder, folded, each with its own form."""
+        names = [name for name in (*self.files, *self.folders) if name and name.rpartition("/")[0] == above]
+        return {folded(name.rpartition("/")[2]): name for name in names}
+
+    def _real(self, path: Path) -> Path:
+        """A path, where neither it nor what stands above it in this folder is a link."""
+        top = os.path.realpath(self.path)
+        wanted = os.path.join(top, *path.relative_to(self.path).parts)
+        if os.path.realpath(path) != wanted:
+            raise Misused(f"{path} is a link, or beneath one, so nothing is written there. Put a folder in its place.")
+        return path
+
+
+def is_safe(name: str) -> bool:
+    """Whether a path is one of a working folder."""
+    return all(usable(part) for part in name.split("/"))
+
+
+def read_folder(path: Path) -> Optional[Folder]:
+    """What is remembered of a working folder, or nothing where it is none."""
+    kept = path / OWN / "folder.json"
+    try:
+        return folder_of(path, json.loads(kept.read_text("utf-8")))
+    except (FileNotFoundError, NotADirectoryError):
+        return None
+    except (ValueError, KeyError, TypeError, AttributeError) as error:
+        raise VaultError(f"{kept} can't be read: {error}. Move {path} away, and get the assembly again; then copy your changed files"
+                         " over it.") from error
+
+
+def folder_of(path: Path, kept: Dict[str, Any]) -> Folder:
+    """A working folder by what is remembered, which anybody may have written."""
+    if kept["form"] != FORM or not PLACE.fullmatch(kept["place"]) or not isinstance(kept["server"], str):
+        raise ValueError("it is of another form")
+    folder = Folder(path, kept["place"], kept["server"])
+    folder.files = {name: Entry(**entry) for name, entry in kept["files"].items()}
+    folder.folders = dict(kept["folders"])
+    odd = [name for name in (*folder.files, *folder.folders) if name and not is_safe(name)]
+    odd += [name for name, entry in folder.files.items() if not is_entry(entry)]
+    odd += [name for name, place in folder.folders.items() if not PLACE.fullmatch(place)]
+    if odd:
+        raise ValueError(f"{odd[0]!a} is no file of it")
+    return folder
+
+
+def is_entry(entry: Entry) -> bool:
+    """Whether what is remembered of a file has its form."""
+    numbers = (entry.version, entry.size, entry.time, entry.set_at, entry.looked)
+    return bool(PLACE.fullmatch(entry.place) and all(isinstance(number, int) for number in numbers) and isinstance(entry.sha256, str)
+                and isinstance(entry.draft, str) and isinstance(entry.name, str) and (entry.claim == "" or CHECKOUT.fullmatch(entry.claim)))
+
+
+def find_folder(path: Path) -> Folder:
+    """The working folder that a path stands in, or is."""
+    path = Path(os.path.abspath(path))
+    for above in (path, *path.parents):
+        found = read_folder(above)
+        if found is not None:
+            return found
+    raise Misused(f"{path} is in no working folder. `vault get PLACE --to FOLDER` makes one.")

@@ -1,0 +1,109 @@
+"""Commands of the program `vault` for working folders."""
+
+import os
+from pathlib import Path
+from typing import Any, Dict, List
+
+from vault.card import shown
+from vault.client import Client
+from vault.folder import find_folder
+from vault.output import Output, Told, Words
+from vault.parts import Parts, parts_of_program
+from vault.setting import quoted
+from vault.words import Misused
+from vault.working import Done, State, Working, folder_for
+
+
+def get_folder(parts: Parts, words: Words, output: Output) -> Told:
+    """Brings a working folder up to the vault."""
+    path = Path(words.to)
+    folder = folder_for(parts, words.place, path)
+    with folder.locked():
+        done = Working(parts, folder).get()
+        count = len(folder.files)
+    tell_left(done, output)
+    fetched = f"{len(done.files)} of {count} files were fetched" if done.files else "nothing was fetched"
+    return f"{words.to} has {words.place}: {fetched}.", {"place": words.place, "folder": words.to, **fields_of(done), "all": count}
+
+
+def put_folder(client: Client, words: Words, output: Output) -> Told:
+    """Puts the changed files of a working folder."""
+    folder = find_folder(Path(words.place))
+    with folder.locked():
+        done = Working(parts_of_program(client, output.meter), folder).put(words.claim)
+    tell_left(done, output)
+    lines = [f"{shown(name)} is a draft of {folder.files[name].place} in {folder.files[name].claim}"
+             f"{' already' if name in done.drafts else ''}." for name in sorted(done.files + done.drafts)]
+    return "\n".join(lines or ["Nothing was put."]), fields_of(done)
+
+
+def checkin_folder(client: Client, words: Words, output: Output) -> Told:
+    """Puts the changed files of a working folder, and checks them in."""
+    folder = find_folder(Path(words.claim))
+    with folder.locked():
+        done = Working(parts_of_program(client, output.meter), folder).checkin(words.note)
+    tell_left(done, output)
+    made = f"{done.versions} new version{'' if done.versions == 1 else 's'}"
+    sentence = f"{' and '.join(done.claims)} {'is' if len(done.claims) == 1 else 'are'} checked in: {made}."
+    return sentence, {**fields_of(done), "claims": done.claims, "versions": done.versions}
+
+
+def status(client: Client, words: Words, output: Output) -> Told:
+    """Shows how the files of a working folder stand."""
+    folder = find_folder(Path(words.folder))
+    with folder.locked():
+        states = Working(Parts(client), folder).states()
+        others = folder.others()
+    lines = [f"{shown(state.file)}: {said}." for state in states if (said := state_in_words(state))]
+    lines += [f"{shown(name)}: not in the vault; `vault add {quoted(shown(os.path.normpath(os.path.join(words.folder, name))))}` makes a part"
+              " of it." for name in others]
+    fields = {"place": folder.place, "files": [vars(state) for state in states], "others": others}
+    return "\n".join(lines or [f"Nothing is changed in {words.folder}, and nothing is newer in the vault."]), fields
+
+
+def state_in_words(state: State) -> str:
+    """How a file stands, where there is something to say."""
+    said: List[str] = []
+    if state.missing:
+        said.append("missing here")
+    if state.changed:
+        said.append("put" if state.draft else "changed here" if state.version else "new")
+    if state.newest != state.version:
+        said.append(f"version {state.newest} is in the vault, and this was version {state.version}")
+    if state.claim:
+        said.append(f"checked out by you in {state.claim}")
+    if state.others:
+        said.append("checked out by " + " and ".join(state.others))
+    return ", ".join(said)
+
+
+def add(client: Client, words: Words, _output: Output) -> Told:
+    """Makes parts of files in a working folder."""
+    made: Dict[str, str] = {}
+    for file in words.files:
+        path = Path(os.path.abspath(file))
+        folder = find_folder(path.parent)
+        with folder.locked():
+            made[file] = Working(Parts(client), folder).add(path.relative_to(folder.path).as_posix())
+    lines = [f"{shown(file)} is {place}." for file, place in made.items()]
+    return "\n".join(lines), {"made": made}
+
+
+def tell_left(done: Done, output: Output) -> None:
+    """Tells which files were left, and why."""
+    for name, reason in done.left:
+        output.notice(f"{shown(name)} {reason}.")
+
+
+def fields_of(done: Done) -> Dict[str, Any]:
+    """What was done, for --json."""
+    return {"files": done.files, "drafts": done.drafts, "left": [{"file": name, "reason": reason} for name, reason in done.left]}
+
+
+def is_folder(word: str) -> bool:
+    """Whether a word names a folder and no check-out."""
+    if os.path.isdir(word):
+        return True
+    if os.sep in word:
+        raise Misused(f"There is no folder {word}.")
+    return False

@@ -1,0 +1,218 @@
+"""A store in a folder, on a disk of this machine or on a share."""
+
+import contextlib
+import errno
+import os
+import re
+import stat
+import time
+import uuid
+from pathlib import Path
+from typing import IO, Iterator, Optional
+
+from vault.address import FolderAddress
+from vault.files import sync_folder
+from vault.store import MARK, MARK_NAME, Kept, StoreAway, StoreFault, Wrong, compare, place_of, unsafe_name, why
+from vault.transfer import Meter, Own, copy_through_hash, hash_of, steady
+from vault.words import Misused
+
+INCOMING = "incoming"
+OWN = ("sha256", INCOMING, "lost+found")
+CAME = re.compile(r"[0-9a-f]{32}")
+
+
+class FolderStore:
+    """Bytes come in under a name of their own, are put on disk, and only then get the name by which they are found."""
+
+    def __init__(self, address: FolderAddress):
+        self.address, self.folder = address.text, address.folder
+
+    def prepare(self) -> None:
+        """Makes the store in a new or an empty folder."""
+        try:
+            with contextlib.suppress(FileExistsError):
+                self.folder.mkdir()
+            if not self._is_marked():
+                if any(path.name not in OWN for path in self.folder.iterdir()):
+                    raise Misused(f"{self.folder} has files, but is no store. Name a new folder, or an empty one.")
+                self._write_mark()
+            trial = self._new_file()
+            os.unlink(trial.name)
+            trial.close()
+        except OSError as error:
+            raise self._fault(error) from error
+
+    def add(self, source: Path, meter: Meter, follow: bool = True) -> Kept:
+        """Copies a file into the store while it is hashed; where its bytes are there, they are looked through and made young."""
+        self._look()
+        with steady(source, follow) as opened, meter(source.name, os.fstat(opened.fileno()).st_size) as moved:
+            try:
+                file = self._new_file()
+                with file, taken_away_again(Path(file.name)):
+                    kept = Kept(*copy_through_hash(opened, file, moved), time.time())
+                    if not self._is_there(kept):
+                        file.flush()
+                        os.fsync(file.fileno())
+                        self._give_name(file, kept)
+            except OSError as error:
+                raise self._fault(error) from error
+        return kept
+
+    def find(self, sha256: str) -> Optional[Kept]:
+        """What the store has under a name."""
+        try:
+            found = os.stat(self._path(sha256))
+        except FileNotFoundError:
+            self._look()
+            return None
+        except OSError as error:
+            raise self._fault(error) from error
+        return Kept(sha256, found.st_size if stat.S_ISREG(found.st_mode) else -1, found.st_mtime)
+
+    def fetch(self, sha256: str, size: int, target: Own, meter: Meter) -> None:
+        """Writes bytes into a file while they are hashed."""
+        kept = self.find(sha256)
+        if kept is None:
+            raise Wrong("the store has nothing of that name")
+        compare(sha256, size, sha256, kept.size)
+        try:
+            with open(self._path(sha256), "rb", buffering=0) as source, meter(sha256[:12], size) as moved:
+                compare(sha256, size, *copy_through_hash(source, target, moved))
+        except OSError as error:
+            raise self._fault(error) from error
+
+    def all(self) -> Iterator[Kept]:
+        """All that the store has, folder by folder."""
+        self._look()
+        try:
+            for path in sorted(self.folder.glob("sha256/??/??/*")):
+                if not unsafe_name(path.name):
+                    kept = self.find(path.name)
+                    if kept is not None:
+                        yield kept
+        except OSError as error:
+            raise self._fault(error) from error
+
+    def remove(self, kept: Kept, before: float) -> bool:
+        """Takes bytes away that are still older than that: their age is looked at again right before."""
+        found = self.find(kept.sha256)
+        if found is None or found.since >= before:
+            return False
+        try:
+            os.unlink(self._path(kept.sha256))
+        except OSError as error:
+            raise self._fault(error) from error
+        return True
+
+    def leftovers(self, before: float) -> int:
+        """Takes away what clients that were killed left under names of their own."""
+        removed = 0
+        incoming = self.folder / INCOMING
+        for path in list(incoming.iterdir()) if incoming.is_dir() and not incoming.is_symlink() else []:
+            with contextlib.suppress(FileNotFoundError):
+                if CAME.fullmatch(path.name) and path.lstat().st_mtime < before:
+                    path.unlink()
+                    removed += 1
+        return removed
+
+    def near(self, folder: Path) -> bool:
+        """Whether the store is on the disk of a folder, or of what that will stand in."""
+        above = next(path for path in (folder, *folder.parents) if path.exists())
+        with contextlib.suppress(OSError):
+            return self.folder.stat().st_dev == above.stat().st_dev
+        return False
+
+    # How it is done.
+
+    def _path(self, sha256: str) -> Path:
+        return self.folder / place_of(sha256)
+
+    def _is_marked(self) -> bool:
+        try:
+            return (self.folder / MARK_NAME).read_bytes() == MARK
+        except FileNotFoundError:
+            return False
+
+    def _look(self) -> None:
+        """Refuses a folder that isn't the store: where a disk isn't mounted, an empty folder may stand in its place."""
+        try:
+            marked = self._is_marked()
+        except OSError as error:
+            raise self._fault(error) from error
+        if not marked:
+            raise StoreAway(f"The store {self.address} is not there: {self.folder} has no file {MARK_NAME}. Mount its disk or its share,"
+                            " or ask whoever runs the vault.")
+
+    def _write_mark(self) -> None:
+        with open(self.folder / MARK_NAME, "xb") as file:
+            file.write(MARK)
+            file.flush()
+            os.fsync(file.fileno())
+        sync_folder(self.folder)
+
+    def _new_file(self) -> IO[bytes]:
+        """A new file under a name of its own."""
+        folder = self.folder / INCOMING
+        if folder.is_symlink():
+            raise StoreFault(f"The store {self.address} has a link in the place of its folder {INCOMING}, so nothing was put. Ask whoever"
+                             " runs it.")
+        folder.mkdir(exist_ok=True)
+        return open(folder / uuid.uuid4().hex, "xb")
+
+    def _is_there(self, kept: Kept) -> bool:
+        """Whether bytes are there, which are looked through and made young, so that no sweep takes them. Where they are another's file,
+        which can't be touched, they count as missing: the same bytes take its place."""
+        path, there = self._path(kept.sha256), self.find(kept.sha256)
+        if there is None:
+            return False
+        try:
+            compare(kept.sha256, kept.size, kept.sha256, there.size)
+            compare(kept.sha256, kept.size, *hash_of(path))
+            os.utime(path)
+        except (FileNotFoundError, PermissionError):
+            return False
+        except Wrong as wrong:
+            raise StoreFault(f"The store {self.address} has damaged bytes under {place_of(kept.sha256)}: {wrong}. Nothing was put. Whoever"
+                             " runs the store has to take that file away; then put again.") from wrong
+        self._sync_above(path)
+        return True
+
+    def _give_name(self, file: IO[bytes], kept: Kept) -> None:
+        """Gives bytes that are on disk the name by which they are found, and puts that on disk, too."""
+        path = self._path(kept.sha256)
+        path.parent.mkdir(parents=True, exist_ok=True)
+        file.close()
+        read_only(Path(file.name))
+        os.replace(file.name, path)
+        self._sync_above(path)
+
+    def _sync_above(self, path: Path) -> None:
+        for folder in (path.parent, path.parent.parent, path.parent.parent.parent, self.folder):
+            sync_folder(folder)
+
+    def _fault(self, error: OSError) -> StoreFault:
+        """Why the system refused something."""
+        if error.errno in (errno.ENOSPC, errno.EDQUOT, errno.EFBIG):
+            advice = "Make room there, and try again"
+        elif error.errno in (errno.EROFS, errno.EACCES, errno.EPERM):
+            advice = "Ask whoever runs it for the right to write and to read there"
+        else:
+            advice = "Ask whoever runs it"
+        return StoreFault(f"The store {self.address} can't be used: {why(error)}. {advice}; no version was made of it.")
+
+
+@contextlib.contextmanager
+def taken_away_again(path: Path) -> Iterator[None]:
+    """A file that is gone behind this in any case, where it has no other name by then."""
+    try:
+        yield
+    finally:
+        with contextlib.suppress(OSError):
+            os.unlink(path)
+
+
+def read_only(path: Path) -> None:
+    """Takes the right to write away from a file, where the system has that."""
+    if os.name != "nt":
+        with contextlib.suppress(OSError):
+            path.chmod(path.stat().st_mode & 0o444)

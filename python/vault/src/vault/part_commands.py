@@ -1,0 +1,93 @@
+"""Commands of the program `vault` for files: they are put, got and listed, and copies of drafts are written."""
+
+import shutil
+import sys
+import tempfile
+from pathlib import Path
+from typing import List
+
+from vault.card import shown
+from vault.client import Client
+from vault.folder_commands import get_folder, put_folder
+from vault.output import Output, Told, Words
+from vault.parts import Version, fields_of, parts_of_program
+from vault.words import Misused, Refused
+
+SHOWN_BYTES = 1 << 20
+
+
+def put(client: Client, words: Words, output: Output) -> Told:
+    """Puts a file as the draft of a part."""
+    if words.file is None:
+        return put_folder(client, words, output)
+    done = parts_of_program(client, output.meter).put(words.place, Path(words.file), words.claim)
+    return (f"{done.size:,} bytes are a draft of {words.place} in {done.claim}. `vault checkin {done.claim}` makes it a version.",
+            {"claim": done.claim, "place": words.place, "bytes": done.size, "sha256": done.sha256})
+
+
+def get(client: Client, words: Words, output: Output) -> Told:
+    """Writes a version to standard output, or into a new file."""
+    parts = parts_of_program(client, output.meter)
+    if words.to and words.version is None and client.is_assembly(words.place):
+        return get_folder(parts, words, output)
+    version = parts.get(words.place, words.version)
+    fields = fields_of(version)
+    if words.to:
+        parts.write_new(version, Path(words.to))
+        return f"{fields['bytes']:,} bytes are in {words.to}.", {**fields, "file": words.to}
+    with tempfile.TemporaryFile() as file:
+        parts.write(version, file, "Nothing")
+        file.seek(0)
+        if not output.as_json:
+            shutil.copyfileobj(file, sys.stdout.buffer)
+            sys.stdout.buffer.flush()
+            return "", fields
+        if fields["bytes"] > SHOWN_BYTES:
+            raise Misused(f"{words.place} has {fields['bytes']:,} bytes, too many for one line of JSON. Add `--to FILE`.")
+        return "", {**fields, "content": file.read().hex()}
+
+
+def history(client: Client, words: Words, output: Output) -> Told:
+    """Lists the versions of a part."""
+    versions = list(parts_of_program(client, output.meter).history(words.place))
+    found = [fields_of(version) for version in versions]
+    rows = [history_row(version) for version in versions]
+    if not rows:
+        sentence = f"{words.place} has no version yet."
+    elif output.tables and any(version.card for version in versions):
+        output.table(("version", "bytes", "sha256", "name", "by", "at", "note"), rows)
+        sentence = ""
+    else:
+        sentence = "\n".join(history_line(row) for row in rows)
+    return sentence, {"place": words.place, "versions": found}
+
+
+def history_row(version: Version) -> List[str]:
+    """A version in columns."""
+    card, row = version.card, [str(version.number), f"{version.size:,}", version.sha256[:12]]
+    if card is None:
+        return row + ["", "", "", ""]
+    return row + [shown(card.name), card.by, card.at.replace("T", " ").replace("Z", " UTC"), shown(card.note)]
+
+
+def history_line(row: List[str]) -> str:
+    """A version in words."""
+    number, size, sha256, name, by, at, note = row
+    about = f", {name}, {by}, {at}" if name else ""
+    return f"version {number}: {size} bytes, sha256 {sha256}{about}" + (f": {note}" if note else "")
+
+
+def drafts(client: Client, words: Words, output: Output) -> Told:
+    """Writes the copies of drafts into files."""
+    parts = parts_of_program(client, output.meter)
+    kept = parts.kept_drafts(words.claim)
+    if not kept:
+        raise Refused(f"No copy of a draft is kept for {words.claim}. `vault mine` shows the check-outs from here.")
+    folder = Path(words.folder)
+    folder.mkdir(parents=True, exist_ok=True)
+    written = []
+    for draft in kept:
+        path = folder / draft.place.strip("/").replace("/", ".")
+        parts.write_new(draft, path)
+        written.append(str(path))
+    return "\n".join(written), {"claim": words.claim, "files": written}

@@ -1,0 +1,85 @@
+"""Which store a vault names for the bytes of its parts, and whether this client's designer follows it."""
+
+from typing import Callable, Optional
+
+from vault.address import Address, FolderAddress, read_store_address
+from vault.card import shown
+from vault.client import Client
+from vault.folder_store import FolderStore
+from vault.rclone_store import RcloneStore
+from vault.store import Store
+from vault.words import Misused, Refused
+
+STORE_PLACE = "/vault/settings/store"
+
+
+def open_store(address: Address) -> Store:
+    """The store at an address."""
+    if isinstance(address, FolderAddress):
+        return FolderStore(address)
+    return RcloneStore(address)
+
+
+class Setting:
+    """The part in which a vault names its store. Anybody can change a part, so an address is followed once the designer confirmed it."""
+
+    def __init__(self, client: Client, opened: Callable[[Address], Store] = open_store):
+        self.client, self.opened = client, opened
+
+    def named(self) -> str:
+        """The address that the vault names, or nothing."""
+        last = self.client.last(STORE_PLACE)
+        return last[1].decode("utf-8", "backslashreplace").removesuffix("\n") if last else ""
+
+    def store(self) -> Optional[Store]:
+        """The vault's store, or nothing where it names none."""
+        named = self.named()
+        if not named:
+            return None
+        try:
+            address = read_store_address(named)
+        except Misused as error:
+            raise Refused(f"What the vault names as its store is none. {error} Then say `vault store set` with it.") from error
+        if self.client.confirmed_store() != named:
+            raise Refused(f"The vault keeps its files at {named}, which you have not confirmed. Ask whoever runs the vault whether that is"
+                          f" right; then `vault store confirm {quoted(named)}` follows it.")
+        return self.opened(address)
+
+    def confirm(self, text: str) -> None:
+        """Follows an address from now on, which the vault names."""
+        address, named = read_store_address(text), self.named()
+        if address.text != named:
+            raise Misused(f"The vault names {shown(named) or 'no store'}, not {address.text}. `vault store` shows it.")
+        self.client.confirm_store(named)
+
+    def set(self, text: str) -> str:
+        """Tries an address, has the vault name it, and follows it. Answers the address that the vault named before."""
+        address, before = read_store_address(text), self.named()
+        self.opened(address).prepare()
+        if before != address.text:
+            self._make_places()
+            self._check_in((address.text + "\n").encode("utf-8"))
+        self.client.confirm_store(address.text)
+        return before
+
+    def _make_places(self) -> None:
+        names = STORE_PLACE.split("/")
+        for count in range(2, len(names) + 1):
+            try:
+                self.client.make("/".join(names[:count]))
+            except Refused as refused:
+                if refused.code != 21:
+                    raise
+
+    def _check_in(self, content: bytes) -> None:
+        standing = self.client.checkout(["w:" + STORE_PLACE])
+        if not standing.held:
+            self.client.abandon(standing.claim)
+            raise Refused(f"{STORE_PLACE} can't be changed now: {standing.behind} is in the way. Wait until it is gone, or ask its designer.")
+        self.client.put(STORE_PLACE, content, standing.claim)
+        self.client.checkin(standing.claim)
+
+
+def quoted(word: str) -> str:
+    """A word as a shell takes it."""
+    return word if all(letter.isalnum() or letter in "@%+=:,./_-" for letter in word) else "'" + word.replace("'", "'\\''") + "'"

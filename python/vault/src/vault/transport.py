@@ -1,0 +1,199 @@
+"""The way to a server: its address over TCP, or `ssh:HOST`, where a program behind sshd speaks to the server for one designer."""
+
+import contextlib
+import re
+import socket
+import subprocess
+import threading
+from typing import IO, List, Optional, Tuple
+
+from vault.words import Lost, Unreachable
+
+SSH = "ssh:"
+TCP_HOST = re.compile(r"[A-Za-z0-9._:%-]{1,255}")
+SSH_HOST = re.compile(r"[A-Za-z0-9][A-Za-z0-9._-]{0,254}|\[[0-9A-Fa-f:.]{2,45}(%[A-Za-z0-9._-]{1,32})?\]")
+SSH_USER = re.compile(r"[A-Za-z0-9_][A-Za-z0-9._-]{0,63}")
+PORT = re.compile(r"[0-9]{1,5}")
+# What the server is asked to run: a key of the gate has a command of its own, which sshd runs in the place of this.
+GATE = "vaultd-gate"
+OPTIONS = ("BatchMode=yes", "ClearAllForwardings=yes", "ForwardAgent=no", "ForwardX11=no", "PermitLocalCommand=no", "RequestTTY=no",
+           "ServerAliveInterval=15", "ServerAliveCountMax=4")
+NOT_YOURS = 31
+SAID_BYTES = 4096
+PIECE = 65536
+
+
+class NotLetIn(Unreachable):
+    """ssh, or the gate behind it, doesn't let this designer in. Asking again changes nothing."""
+
+    status = 1
+
+
+def read_server(word: str) -> Optional[Tuple[str, int]]:
+    """Host and port of a server's address, of ssh's with 0 where none is named; None where the word is none."""
+    if word.startswith(SSH):
+        return read_ssh(word)
+    host, colon, port = word.rpartition(":")
+    if not (TCP_HOST.fullmatch(host.strip("[]")) and colon and is_port(port)):
+        return None
+    return host.strip("[]"), int(port)
+
+
+def read_ssh(word: str) -> Optional[Tuple[str, int]]:
+    """The same of an address as ssh:vault@vault.example.org:22, of which user and port may be missing."""
+    user, _, rest = word[len(SSH):].rpartition("@")
+    host, colon, port = rest.rpartition(":") if not rest.endswith("]") else (rest, "", "")
+    if not colon:
+        host = rest
+    if not SSH_HOST.fullmatch(host) or (colon and not is_port(port)) or ("@" in word and not SSH_USER.fullmatch(user)):
+        return None
+    return SSH + (user + "@" if user else "") + host, int(port) if colon else 0
+
+
+def is_port(word: str) -> bool:
+    """Whether a word is the number of a port."""
+    return PORT.fullmatch(word) is not None and 0 < int(word) < 65536
+
+
+def shown(host: str, port: int) -> str:
+    """A server's address as a person writes it."""
+    return f"{host}:{port}" if port else host
+
+
+class Stream:
+    """A stream to a server: its two directions are one socket."""
+
+    def __init__(self, stream: socket.socket):
+        self.socket = stream
+
+    def explained(self, lost: Lost, _designer: str) -> Exception:
+        """Why the server didn't greet, as far as more is known than that the connection ended."""
+        return lost
+
+    def close(self) -> None:
+        """Ends the stream."""
+        with contextlib.suppress(OSError):
+            self.socket.close()
+
+
+class SshStream(Stream):
+    """A stream by a program `ssh`, between whose pipes and a socket two threads carry; a third hears what it says of itself."""
+
+    def __init__(self, host: str, port: int, seconds: float):
+        ours, self.other = socket.socketpair()
+        super().__init__(ours)
+        self.host, self.port, self.said = host, port, b""
+        try:
+            self.process = subprocess.Popen(ssh_words(host, port, seconds), stdin=subprocess.PIPE, stdout=subprocess.PIPE,
+                                            stderr=subprocess.PIPE)
+        except OSError as error:
+            self.close_sockets()
+            raise NotLetIn(f"The program ssh can't be started: {error.strerror}. Install OpenSSH's client.") from error
+        assert self.process.stdin is not None and self.process.stdout is not None and self.process.stderr is not None
+        self.threads = [threading.Thread(target=work, args=(pipe,), daemon=True) for work, pipe in (
+            (self._carry_out, self.process.stdin), (self._carry_in, self.process.stdout), (self._hear, self.process.stderr))]
+        for thread in self.threads:
+            thread.start()
+
+    def _carry_out(self, pipe: IO[bytes]) -> None:
+        with contextlib.suppress(OSError, ValueError):
+            while piece := self.other.recv(PIECE):
+                pipe.write(piece)
+                pipe.flush()
+        with contextlib.suppress(OSError, ValueError):
+            pipe.close()
+
+    def _carry_in(self, pipe: IO[bytes]) -> None:
+        with contextlib.suppress(OSError, ValueError):
+            while piece := pipe.read1(PIECE):  # type: ignore[attr-defined]
+                self.other.sendall(piece)
+        with contextlib.suppress(OSError):
+            self.other.shutdown(socket.SHUT_RDWR)
+
+    def _hear(self, pipe: IO[bytes]) -> None:
+        with contextlib.suppress(OSError, ValueError):
+            while piece := pipe.read1(PIECE):  # type: ignore[attr-defined]
+                self.said = (self.said + piece)[-SAID_BYTES:]
+
+    def explained(self, lost: Lost, designer: str) -> Exception:
+        """Why ssh, or the gate behind it, ended."""
+        with contextlib.suppress(subprocess.TimeoutExpired):
+            self.process.wait(2)
+        self.threads[2].join(2)
+        told = "".join(mark if mark.isprintable() or mark == "\n" else "?" for mark in self.said.decode("utf-8", "replace"))
+        lines = [line.strip() for line in told.splitlines() if line.strip()]
+        sentence = refusal(told, self.host, self.port, designer)
+        if sentence:
+            return NotLetIn(sentence)
+        return Lost(lines[-1].rstrip(".")) if lines else lost
+
+    def close_sockets(self) -> None:
+        """Ends both ends of the socket."""
+        super().close()
+        with contextlib.suppress(OSError):
+            self.other.close()
+
+    def close(self) -> None:
+        """Ends the stream, and the program where it doesn't end by that."""
+        with contextlib.suppress(OSError):
+            self.socket.shutdown(socket.SHUT_RDWR)
+        super().close()
+        try:
+            self.process.wait(2)
+        except subprocess.TimeoutExpired:
+            self.process.terminate()
+            self.process.wait()
+        self.close_sockets()
+        for thread, pipe in zip(self.threads, (self.process.stdin, self.process.stdout, self.process.stderr)):
+            thread.join(0.5)
+            if pipe is not None and not thread.is_alive():
+                with contextlib.suppress(OSError):
+                    pipe.close()
+
+
+def ssh_words(host: str, port: int, seconds: float) -> List[str]:
+    """The command line of ssh: options first, and what comes from an address behind them, where nothing is an option."""
+    user, _, name = host[len(SSH):].rpartition("@")
+    words = ["ssh", "-T"]
+    for option in (*OPTIONS, f"ConnectTimeout={max(1, int(seconds))}"):
+        words += ["-o", option]
+    words += ["-p", str(port)] if port else []
+    words += ["-l", user] if user else []
+    return [*words, "--", name.strip("[]"), GATE]
+
+
+def refusal(told: str, host: str, port: int, designer: str) -> str:
+    """What ssh said, in a sentence with what to do, where asking again would change nothing."""
+    place, by_hand = shown(host, port), "ssh" + (f" -p {port}" if port else "") + f" {host[len(SSH):]}"
+    if "REMOTE HOST IDENTIFICATION HAS CHANGED" in told:
+        return (f"{place} doesn't have the key by which ssh knows it: it was set up anew, or something else answers there. Ask whoever runs"
+                " it, before you go on.")
+    if "Host key verification failed" in told:
+        return (f"ssh doesn't know {place} yet. Say `{by_hand}` once, compare the fingerprint that it shows with the one that you have from"
+                " whoever runs it, and say `yes`.")
+    if "Permission denied" in told:
+        return (f"{place} takes none of your ssh keys. Send the public one, as ~/.ssh/id_ed25519.pub, to whoever runs it, who writes it"
+                f" down for {designer}; a key with a passphrase has to be in ssh-agent.")
+    if "Could not resolve hostname" in told:
+        return f"No host is known by the name in {place}. Mend the address."
+    if GATE + ": not found" in told or GATE + ": command not found" in told or "arguments are required: --as" in told:
+        return f"Your ssh key at {place} has no gate to the vault. Ask whoever runs it to write the gate's command beside it."
+    return ""
+
+
+def opened(host: str, port: int, seconds: float) -> Stream:
+    """A new stream to a server."""
+    if host.startswith(SSH):
+        return SshStream(host, port, seconds)
+    try:
+        stream = socket.create_connection((host, port), timeout=seconds)
+        stream.setsockopt(socket.IPPROTO_TCP, socket.TCP_NODELAY, 1)
+    except OSError as error:
+        raise Lost(error.strerror or str(error)) from error
+    return Stream(stream)
+
+
+def not_as(designer: str, host: str, port: int) -> NotLetIn:
+    """A gate doesn't let this key speak for this name."""
+    return NotLetIn(f"Your ssh key at {shown(host, port)} doesn't speak for {designer}. Say hello with the name that whoever runs the server"
+                    " wrote down for your key.", NOT_YOURS)

@@ -1,0 +1,98 @@
+"""What the client makes of a server that says what no vault server says: a sentence, and nothing done by half."""
+
+import contextlib
+import socket
+import tempfile
+import threading
+import unittest
+from pathlib import Path
+from typing import Callable, Dict, List
+
+import servers  # noqa: F401
+from vault import Client, Refused, VaultError
+from vault.parts import Parts
+from vault.working import Working, folder_for
+
+
+class Odd:
+    """A server that answers each line by its first word, as it is told."""
+
+    def __init__(self) -> None:
+        self.listener = socket.create_server(("127.0.0.1", 0))
+        self.port = int(self.listener.getsockname()[1])
+        self.replies: Dict[bytes, bytes] = {}
+        threading.Thread(target=self._accept, daemon=True).start()
+
+    def _accept(self) -> None:
+        with contextlib.suppress(OSError):
+            while True:
+                client, _ = self.listener.accept()
+                threading.Thread(target=self._answer, args=(client,), daemon=True).start()
+
+    def _answer(self, client: socket.socket) -> None:
+        with client, contextlib.suppress(OSError):
+            for line in client.makefile("rb"):
+                word = line.split()[0]
+                client.sendall(self.replies.get(word, b"OK session 1" if word == b"hello" else b"OK left") + b"\n")
+
+
+class OddReplies(unittest.TestCase):
+    """Replies of other forms."""
+
+    def setUp(self) -> None:
+        self.server = Odd()
+        self.addCleanup(self.server.listener.close)
+        self.folder = Path(self.enterContext(tempfile.TemporaryDirectory(prefix="vault-test-")))
+        self.client = Client("anna", "127.0.0.1", self.server.port, self.folder / "state", 0.1, 0.0)
+        self.addCleanup(self.client.close)
+
+    def refused(self, asked: Callable[[], object], **replies: bytes) -> None:
+        """Whatever is asked ends with a sentence that can be shown."""
+        self.server.replies = {word.encode(): reply for word, reply in replies.items()}
+        with self.assertRaises(VaultError, msg=str(replies)) as refused:
+            asked()
+        self.assertTrue(str(refused.exception).isprintable(), replies)
+
+    def test_forms(self) -> None:
+        anna, part = self.client, "/e/b/p"
+        odd: List[bytes] = [b"OK", b"", b"OK content", b"OK versions", b"\x1b[2J", b"OK versions \x1b[2J", b"OK versions -1", b"OK versions 1e3",
+                            b"OK versions 99999999999", b"ERR x", b"OK " + b"x" * (2 << 20), b"\xff"]
+        for reply in odd:
+            self.refused(lambda: anna.version(part), count=reply)
+            self.refused(lambda: anna.survey("/e"), count=b"ERR 22", list=reply)
+            self.refused(lambda: list(anna.tree("/e")), list=reply)
+            self.refused(lambda: anna.state("c1"), state=reply)
+        for reply in (b"OK content 0", b"OK content zz", b"OK content " + b"00" * 1025, b"OK content AB", b"OK x \xc3\xa4"):
+            self.refused(lambda: anna.version(part, 1), fetch=reply)
+        for reply in (b"OK list 1 ..", b"OK list 1 A", b"OK list 2 a", b"OK list 1 a/b", b"OK list 1 " + b"a" * 33):
+            self.refused(lambda: list(anna.tree("/e")), list=reply)
+            self.refused(lambda: anna.survey("/e"), count=b"ERR 22", list=reply)
+
+    def test_holders(self) -> None:
+        """An older server doesn't know the question; an odd one is told as such."""
+        self.server.replies = {b"claims": b"ERR 10"}
+        self.assertEqual(self.client.holders("/e"), [])
+        for reply in (b"OK claim c1 Anna held w:/e", b"OK claim c1 anna held", b"OK claim c1 anna queued w:/e", b"OK claim c1 anna held x:/e",
+                      b"OK claim c1 anna held w:/../x"):
+            self.refused(lambda: self.client.holders("/e"), claims=b"OK claims 1 c1", show=reply)
+
+    def test_unknown_refusal(self) -> None:
+        with self.assertRaises(Refused) as refused:
+            self.server.replies = {b"count": b"ERR 99 what"}
+            self.client.version("/e/b/p")
+        self.assertIn("99 what", str(refused.exception))
+
+    def test_a_tree_without_end(self) -> None:
+        """A server that lists places beneath all others: the client stops where a path has no more names."""
+        self.refused(lambda: self.client.survey("/e"), count=b"ERR 22", list=b"OK list 1 a")
+
+    def test_nothing_is_written(self) -> None:
+        """Names and contents of such a server lead to no file."""
+        parts = Parts(self.client)
+        for reply in (b"OK list 1 ..", b"OK list 1 ../x"):
+            self.refused(lambda: Working(parts, folder_for(parts, "/e", self.folder / "work")).get(), count=b"ERR 22", list=reply)
+        self.assertEqual(list((self.folder / "work").iterdir()), [])
+
+
+if __name__ == "__main__":
+    unittest.main()

@@ -1,0 +1,254 @@
+"""What is kept around a store: the check of it, the sweep, and the client's cache."""
+
+import os
+import subprocess
+import tempfile
+import time
+import unittest
+from dataclasses import replace
+from pathlib import Path
+from typing import Iterator
+from unittest import mock
+
+from servers import VAULTD, Server, program
+from stores import PART, ROD, WithStore
+
+from vault import Misused, VaultError
+from vault.cache import MOST_BYTES, Cache, most_bytes
+from vault.card import Card
+from vault.checking import check_store
+from vault.parts import Parts
+from vault.store import Kept as InStore
+from vaultd_tools.sweep import sweep
+
+OLD = 40 * 86400
+YOUNG = 20 * 86400
+
+
+class WithFiles(WithStore):
+    """A vault with two versions, whose bytes are old."""
+
+    def setUp(self) -> None:
+        super().setUp()
+        self.first = self.put_version()
+        self.fill(b"bore 81")
+        self.second = self.put_version()
+        for card in (self.first, self.second):
+            self.age(card)
+
+    def age(self, card: Card, seconds: int = OLD) -> None:
+        """Gives bytes an age."""
+        os.utime(self.path_of(card), (time.time() - seconds,) * 2)
+
+    def loose(self, about: bytes, seconds: int = OLD) -> str:
+        """Puts bytes into the store that nobody names, of such an age, and answers their name."""
+        self.fill(about)
+        store = self.parts.store()
+        assert store is not None
+        kept = store.add(self.file, self.parts.meter)
+        self.age(replace(self.first, sha256=kept.sha256), seconds)
+        return kept.sha256
+
+
+class Check(WithFiles):
+    """Whether each version has its bytes."""
+
+    def test_whole(self) -> None:
+        for read in (False, True):
+            found = check_store(self.parts, read)
+            self.assertEqual((found.versions, found.files, found.bad), (3, 2, []))
+
+    def test_missing_cut_and_changed(self) -> None:
+        path = self.path_of(self.second)
+        path.chmod(0o600)
+        whole = path.read_bytes()
+        for bad, reason in ((None, "nothing of that name"), (whole[:-1], "have to be"), (b"x" + whole[1:], "SHA-256")):
+            path.unlink(missing_ok=True)
+            if bad is not None:
+                path.write_bytes(bad)
+            found = check_store(self.parts, True)
+            self.assertEqual([version.number for version, _ in found.bad], [2])
+            self.assertIn(reason, found.bad[0][1])
+            self.assertEqual(len(check_store(self.parts, False).bad), int("SHA" not in reason))
+
+    def test_program(self) -> None:
+        self.as_program()
+        self.assertEqual(self.as_json("store", "check")["files"], 2)
+        self.assertIn(b"with the right hash; 1 version is no file.", self.vault("store", "check", "--read"))
+        self.path_of(self.first).unlink()
+        said = self.vault("store", "check", status=1).decode()
+        self.assertIn(f"version 1 of {PART}", said)
+        self.assertIn(self.first.sha256, said)
+        bad = self.as_json("store", "check", status=1)["bad"]
+        self.assertEqual([(each["place"], each["version"], each["sha256"]) for each in bad], [(PART, 1, self.first.sha256)])
+
+
+class Sweep(WithFiles):
+    """What nobody names and what is old is taken away, and nothing else."""
+
+    def sweep(self, *words: str, status: int = 0) -> str:
+        """Runs the sweep, and answers what it said."""
+        done = subprocess.run([*program("vaultd-sweep"), "--vaultd", VAULTD, *self.server.files, self.address(), *words], capture_output=True,
+                              text=True, timeout=60, check=False)
+        self.assertEqual(done.returncode, status, done.stdout + done.stderr)
+        return done.stdout + done.stderr
+
+    def test_swept(self) -> None:
+        """Old bytes that nobody names go, and what was never finished; versions, drafts of anybody and young bytes stay."""
+        old = self.loose(b"old")
+        size, young = self.file.stat().st_size, self.loose(b"young", YOUNG)
+        self.fill(b"draft of ben")
+        ben = self.another()
+        self.anna.make(ROD)
+        put = ben.put(ROD, self.file, ben.client.checkout(["w:" + ROD]).claim)
+        self.age(replace(self.first, sha256=put.sha256))
+        left, other = self.store / "incoming" / ("ab" * 16), self.store / "incoming" / "other"
+        other.write_bytes(b"x")
+        os.utime(other, (1000, 1000))
+        left.write_bytes(b"x")
+        os.utime(left, (1000, 1000))
+        self.assertIn(f"{old}\n1 file of {size:,} bytes would be taken away, and 0 that", self.sweep("--only-look"))
+        self.assertIn(old, self.entries())
+        self.assertIn("was taken away, and 1 that", self.sweep())
+        self.assertEqual(self.entries(), sorted([self.first.sha256, self.second.sha256, put.sha256, young]))
+        self.assertEqual((left.exists(), other.exists()), (False, True))
+        self.assertIn("0 files of 0 bytes", self.sweep())
+        self.assertEqual(self.sweep("--days", "15").splitlines()[0], young)
+
+    def test_beside_a_server_with_much_to_write(self) -> None:
+        """Versions that a snapshot has, and drafts behind it, are all found."""
+        claim = self.anna.checkout(["w:" + PART]).claim
+        lines = [f"save {claim} {PART} {number:04x}{'00' * 1022}" for number in range(1100)]
+        for first in range(0, len(lines), 50):
+            self.anna.link.read_all(lines[first:first + 50])
+        self.anna.abandon(claim)
+        old = self.loose(b"old")
+        self.assertEqual(self.sweep().splitlines()[0], old)
+        self.assertEqual(self.names_what_is_there(), 2)
+
+    def test_wanted_again_in_between(self) -> None:
+        """A designer puts bytes again that were about to go: they are young then, and stay."""
+        name, store, parts = self.loose(b"old"), self.parts.store(), self.parts
+        assert store is not None
+        claim = self.anna.checkout(["w:" + PART]).claim
+        listed = store.all
+
+        def wanted_again() -> Iterator[InStore]:
+            """The list, behind which the bytes are put."""
+            found = list(listed())
+            parts.put(PART, self.file, claim)
+            return iter(found)
+
+        with mock.patch.object(store, "all", wanted_again):
+            gone, _ = sweep(store, {self.first.sha256}, time.time() - 30 * 86400, False)
+        self.assertEqual([each.sha256 for each in gone], [self.second.sha256])
+        self.assertEqual(self.anna.checkin(claim), 1)
+        self.assertIn(name, self.entries())
+
+    def test_another_vault(self) -> None:
+        """By the files of another vault nothing is taken; two that share a store are both named."""
+        other = Server("--workers", "16")
+        self.addCleanup(other.close)
+        old = self.loose(b"old")
+        done = subprocess.run([*program("vaultd-sweep"), "--vaultd", VAULTD, *other.files, self.address()], capture_output=True, text=True,
+                              timeout=60, check=False)
+        self.assertEqual(done.returncode, 1)
+        self.assertIn("another vault's store", done.stderr)
+        self.assertIn(old, self.entries())
+        self.assertEqual(self.sweep("--also", *other.files).splitlines()[0], old)
+
+    def test_links(self) -> None:
+        """A link in the place of the store's own folder leads nobody elsewhere."""
+        elsewhere = self.root / "elsewhere"
+        elsewhere.mkdir()
+        file = elsewhere / ("ab" * 16)
+        file.write_bytes(b"x")
+        os.utime(file, (1000, 1000))
+        (self.store / "incoming").rmdir()
+        (self.store / "incoming").symlink_to(elsewhere)
+        self.sweep("--days", "1")
+        with self.assertRaises(VaultError):
+            self.put()
+        self.assertEqual(os.listdir(elsewhere), [file.name])
+
+    def test_refused(self) -> None:
+        self.assertIn("error: --days", self.sweep("--days", "0", status=2))
+        self.server.kill()
+        Path(self.server.files[0]).write_bytes(b"\1NOVAULT" + b"\xff" * 100)
+        Path(self.server.files[1]).write_bytes(b"")
+        self.loose(b"old")
+        self.assertIn("no copy of the vault opens", self.sweep(status=1))
+        self.assertEqual(len(self.entries()), 3)
+
+
+class Kept(WithFiles):
+    """The cache: bytes of a store on another disk come from it the second time, and are compared."""
+
+    def setUp(self) -> None:
+        super().setUp()
+        self.elsewhere = Path(self.enterContext(tempfile.TemporaryDirectory(prefix="vault-test-")))
+        if os.stat(self.elsewhere).st_dev == os.stat(self.store).st_dev:
+            self.skipTest("needs two disks, as /tmp and /dev/shm are")
+        self.cache = self.elsewhere / "vault"
+        self.cached = Parts(self.anna, cache=Cache(self.cache, 1_000_000))
+
+    def get(self, number: int, parts: Parts) -> bytes:
+        """Gets a version into a new file, and answers its bytes."""
+        path = self.root / "back"
+        path.unlink(missing_ok=True)
+        parts.write_new(parts.get(PART, number), path)
+        return path.read_bytes()
+
+    def test_from_the_cache(self) -> None:
+        content = self.get(1, self.cached)
+        self.assertEqual((os.listdir(self.cache), self.cache.stat().st_mode & 0o777), ([self.first.sha256], 0o700))
+        (self.cache / self.first.sha256).chmod(0o600)
+        path = self.path_of(self.first)
+        path.rename(self.root / "away")
+        self.assertEqual(self.get(1, self.cached), content)
+        (self.root / "away").rename(path)
+
+    def test_damaged(self) -> None:
+        """What is wrong here is taken away, and the store is asked; where that is wrong, too, nothing is written."""
+        content = self.get(1, self.cached)
+        for bad in (b"", content[:-1], content + b"x", b"x" + content[1:]):
+            (self.cache / self.first.sha256).write_bytes(bad)
+            self.assertEqual(self.get(1, self.cached), content)
+        self.assertEqual((self.cache / self.first.sha256).read_bytes(), content)
+        (self.cache / self.first.sha256).write_bytes(b"x")
+        self.path_of(self.first).unlink()
+        with self.assertRaises(VaultError):
+            self.get(1, self.cached)
+        self.assertEqual((os.listdir(self.cache), (self.root / "back").exists()), ([], False))
+
+    def test_bounded(self) -> None:
+        """There are never more bytes than may be, and those that were used last stay; a file that is too long isn't kept."""
+        for number in range(3, 16):
+            self.fill(b"bore %d" % number)
+            self.put_version()
+            self.get(number, self.cached)
+            self.assertLessEqual(sum(path.stat().st_size for path in self.cache.iterdir()), 1_000_000)
+        last = self.parts.get(PART).card
+        assert last is not None
+        self.assertIn(last.sha256, os.listdir(self.cache))
+        self.assertGreater(len(os.listdir(self.cache)), 5)
+        self.fill(b"bore 99", 400_000)
+        long = self.put_version()
+        self.get(16, self.cached)
+        self.assertNotIn(long.sha256, os.listdir(self.cache))
+
+    def test_no_cache(self) -> None:
+        """Where none can be made, the store alone serves; and one on the store's own disk is left out."""
+        (self.elsewhere / "file").write_bytes(b"")
+        self.assertTrue(self.get(1, Parts(self.anna, cache=Cache(self.elsewhere / "file" / "vault"))))
+        self.assertTrue(self.get(1, Parts(self.anna, cache=Cache(self.root / "near"))))
+        self.assertFalse((self.root / "near").exists())
+
+    def test_words(self) -> None:
+        self.assertEqual((most_bytes(None), most_bytes("0")), (MOST_BYTES, 0))
+        with self.assertRaises(Misused):
+            most_bytes("-1")
+
+
+if __name__ == "__main__":
+    unittest.main()

@@ -1,0 +1,464 @@
+"""Working folders: a whole assembly as files, by the names that their cards say, and nothing lost or written elsewhere."""
+
+import hashlib
+import json
+import os
+import random
+import time
+import unicodedata
+import unittest
+from pathlib import Path
+from typing import Any, Dict, List, Optional
+
+from stepping import Stepper
+from stores import NAME, PART, ROD, WithStore
+
+from vault import Client, Misused, VaultError
+from vault.card import Card, now
+from vault.folder import find_folder, read_folder
+from vault.names import candidates, choose_name, folded, part_name, usable
+from vault.parts import Parts
+from vault.working import Done, State, Working, folder_for
+
+VALVE = "/engine/block/head/valve"
+ENGINE = "/engine"
+
+
+class Names(unittest.TestCase):
+    """What may be a file's name, on every system."""
+
+    def test_usable(self) -> None:
+        for name in (NAME, "a", "\u00fc" * 127, "a.b.c", "-rf", "Kolben (rod).prt", "console.txt", "com10", "\u6d3b\u585e.prt"):
+            self.assertTrue(usable(name), name)
+        for name in ("", ".", "..", "../x", "a/b", "a\\b", "/etc/passwd", "C:x", "a:b", "a?", "a*", "a|b", "<a>", 'a"b', ".vault", ".VAULT",
+                     ".bashrc", "VAULT~1", "vault~12", "CON", "con.txt", "Nul", "aux .prt", "COM1", "lpt9.x", "com\u00b9", "CONIN$", "a.", "a ", " a",
+                     "a\n",
+                     "a\x7f", "a\u202eb", "a\u200db", ".v\u200cault", "\udc80", "\u00fc" * 128):
+            self.assertFalse(usable(name), name)
+
+    def test_chosen(self) -> None:
+        """Where a name can't be, or is taken, whatever the capitals and the spelling of umlauts, the part's own stands in or beside it."""
+        taken = {folded("kolben.PRT"), folded(unicodedata.normalize("NFD", "St\u00fcck"))}
+        for wanted, chosen in (("Kolben.prt", "Kolben (rod).prt"), ("../x", "rod"), ("St\u00fcck", "St\u00fcck (rod)"), ("STRASSE", "STRASSE"),
+                               ("x" * 255, "x" * 255)):
+            self.assertEqual(choose_name(wanted, "rod", taken), chosen)
+        self.assertEqual(choose_name("con", "con", set()), "con_2")
+        names = candidates("x" * 255, "rod")
+        self.assertEqual(choose_name("x" * 255, "rod", {folded(next(names)), folded("rod")}), "rod_2")
+        self.assertEqual(folded("STRASSE"), folded("stra\u00dfe"))
+
+    def test_parts(self) -> None:
+        """A part's name has what a place's may have, and is another than those that are taken."""
+        for file, name in ((NAME, "kolben_80_sldprt"), ("a", "a"), ("\u00fc", "__"), ("x" * 40 + ".prt", "x" * 32)):
+            self.assertEqual(part_name(file, set()), name)
+        self.assertEqual(part_name("a.b", {"a_b", "a_b_2"}), "a_b_3")
+        self.assertEqual(part_name("x" * 40, {"x" * 32}), "x" * 30 + "_2")
+
+
+class WithFolder(WithStore):
+    """An assembly of three parts, one in an assembly inside it, with a version each; and a working folder of it."""
+
+    def setUp(self) -> None:
+        super().setUp()
+        self.anna.nest("/engine/block/head")
+        for place in (ROD, VALVE):
+            self.anna.make(place)
+        self.contents = {PART: b"bore 80" * 1000, ROD: b"length 144" * 1000, VALVE: b"lift 9" * 1000}
+        for place, name in ((PART, NAME), (ROD, "Pleuel.SLDPRT"), (VALVE, "Ventil links.SLDPRT")):
+            self.version(place, name, self.contents[place])
+        self.work = self.root / "work"
+        self.got()
+
+    def version(self, place: str, name: str, content: bytes) -> None:
+        """Makes a version of a file by such a name, which is written by hand into its card where no file has it."""
+        self.file.write_bytes(content)
+        claim = self.anna.checkout(["w:" + place]).claim
+        put = self.parts.put(place, self.file, claim)
+        self.anna.put(place, Card(put.sha256, put.size, name, "anna", now()).spell(), claim)
+        self.anna.checkin(claim)
+
+    def working(self, parts: Optional[Parts] = None, place: str = ENGINE + "/block", work: Optional[Path] = None) -> Working:
+        """The working folder, as a run of the program has it."""
+        return Working(parts or self.parts, folder_for(parts or self.parts, place, work or self.work))
+
+    def got(self, place: str = ENGINE + "/block", work: Optional[Path] = None) -> Done:
+        """Gets the assembly."""
+        working = self.working(place=place, work=work)
+        with working.folder.locked():
+            return working.get()
+
+    def states(self) -> Dict[str, State]:
+        """How the files stand."""
+        return {state.file: state for state in self.working().states()}
+
+    def files(self, folder: Optional[Path] = None) -> Dict[str, bytes]:
+        """The files of a folder but for the client's own."""
+        top = folder or self.work
+        return {path.relative_to(top).as_posix(): path.read_bytes() for path in sorted(top.rglob("*"))
+                if path.is_file() and ".vault" not in path.relative_to(top).parts}
+
+
+class Get(WithFolder):
+    """An assembly comes as files, and what was changed here stays."""
+
+    def test_whole(self) -> None:
+        wanted = {NAME: self.contents[PART], "Pleuel.SLDPRT": self.contents[ROD], "head/Ventil links.SLDPRT": self.contents[VALVE]}
+        self.assertEqual(self.files(), wanted)
+        engine = self.root / "engine"
+        self.assertEqual(len(self.got(ENGINE, engine).files), 3)
+        self.assertEqual(self.files(engine), {"block/" + name: content for name, content in wanted.items()})
+        self.assertEqual(sorted(os.listdir(self.work / ".vault")), ["folder.json", "lock"])
+
+    def test_nothing_changed(self) -> None:
+        """A second get asks for counts alone, and reads no file."""
+        time.sleep(0.1)
+        self.got()
+        self.cutter.lines.clear()
+        began = {name: os.stat(self.work / name).st_atime_ns for name in self.files()}
+        done = self.got()
+        self.assertEqual((done.files, done.left, self.sent(b"fetch")), ([], [], 0))
+        self.assertEqual({name: os.stat(self.work / name).st_atime_ns for name in began}, began)
+
+    def test_newer_and_missing(self) -> None:
+        (self.work / "Pleuel.SLDPRT").unlink()
+        self.version(PART, NAME, b"bore 81")
+        self.assertEqual(sorted(self.got().files), [NAME, "Pleuel.SLDPRT"])
+        self.assertEqual(self.files()[NAME], b"bore 81")
+        self.assertEqual(self.got().files, [])
+
+    def test_changed_here(self) -> None:
+        """It stays, whether there is a newer version or not; where it has the same bytes as that, it is that."""
+        (self.work / NAME).write_bytes(b"mine")
+        self.assertEqual(self.got().left, [])
+        self.version(PART, NAME, b"bore 81")
+        left = self.got().left
+        self.assertEqual((left[0][0], self.files()[NAME]), (NAME, b"mine"))
+        self.assertIn("version 2", left[0][1])
+        (self.work / NAME).write_bytes(b"bore 81")
+        self.assertEqual(self.got().left, [])
+        self.assertEqual((self.states()[NAME].version, self.states()[NAME].changed), (2, False))
+
+    def test_changed_without_another_time(self) -> None:
+        """A file of as many bytes and the same time is looked into, since it shows when that time was set."""
+        path = self.work / NAME
+        seen = path.stat()
+        path.write_bytes(b"BORE 80" * 1000)
+        os.utime(path, ns=(seen.st_atime_ns, seen.st_mtime_ns))
+        self.assertTrue(self.states()[NAME].changed)
+
+    def test_in_the_way(self) -> None:
+        """A file that was there before stays, unless it has the version's bytes."""
+        other = self.root / "other"
+        other.mkdir()
+        (other / "note").write_bytes(b"x")
+        with self.assertRaises(Misused):
+            self.got(work=other)
+        self.anna.make("/engine/block/pin")
+        self.version("/engine/block/pin", "Bolzen.SLDPRT", b"pin")
+        (self.work / "Bolzen.SLDPRT").write_bytes(b"mine")
+        self.assertIn("is there already", self.got().left[0][1])
+        (self.work / "Bolzen.SLDPRT").write_bytes(b"pin")
+        self.assertEqual(self.got().left, [])
+        self.assertEqual(self.states()["Bolzen.SLDPRT"].version, 1)
+
+    def test_renamed_in_the_vault(self) -> None:
+        """The file has the new name then; one that was changed here keeps the old one."""
+        self.version(PART, "Kolben 81.SLDPRT", b"bore 81")
+        (self.work / "Pleuel.SLDPRT").write_bytes(b"mine")
+        self.version(ROD, "Pleuel 2.SLDPRT", b"length 145")
+        self.got()
+        self.assertEqual(sorted(self.files()), ["Kolben 81.SLDPRT", "Pleuel.SLDPRT", "head/Ventil links.SLDPRT"])
+        self.assertEqual(self.files()["Pleuel.SLDPRT"], b"mine")
+
+    def test_contents_that_are_no_cards(self) -> None:
+        claim = self.anna.checkout(["w:" + PART]).claim
+        self.anna.put(PART, b"bore 82", claim)
+        self.anna.checkin(claim)
+        self.got()
+        self.assertEqual(self.files()["piston"], b"bore 82")
+
+    def test_damaged_bytes(self) -> None:
+        """What is refused of one part leaves what was there."""
+        before = self.files()
+        self.version(PART, NAME, b"bore 81")
+        self.version(ROD, "Pleuel.SLDPRT", b"length 145")
+        card = self.parts.get(PART).card
+        assert card is not None
+        self.path_of(card).unlink()
+        with self.assertRaises(VaultError) as refused:
+            self.got()
+        self.assertIn(f"version 2 of {PART}", str(refused.exception))
+        self.assertEqual(self.files(), before)
+        self.file.write_bytes(b"bore 81")
+        self.put()
+        self.assertEqual(len(self.got().files), 2)
+
+    def test_killed_at_each_step(self) -> None:
+        """At whichever step a get is killed, each file is one version or the other, whole, and the next get goes through."""
+        self.as_program()
+        stepper = Stepper(self.environment())
+        self.addCleanup(stepper.close)
+        office = self.root / "office"
+        words = ["get", ENGINE + "/block", "--to", str(office)]
+        self.vault(*words)
+        step, ended, number = 0, "killed", 0
+        while ended == "killed":
+            before = self.files(office)
+            number += 1
+            self.version(PART, NAME, b"bore %d" % number)
+            self.version(VALVE, "Ventil links.SLDPRT", b"lift %d" % number)
+            ended = stepper.run(step, "--patience", "5", *words)
+            found = self.files(office)
+            self.assertEqual(sorted(found), sorted(before))
+            self.assertIn(found[NAME], (before[NAME], b"bore %d" % number))
+            self.vault(*words)
+            found = self.files(office)
+            self.assertEqual((found[NAME], found["head/Ventil links.SLDPRT"]), (b"bore %d" % number, b"lift %d" % number))
+            step += 5
+        self.assertGreater(step, 30)
+
+
+class Hostile(WithFolder):
+    """Cards, links and what is remembered, made to write elsewhere."""
+
+    def outside(self) -> Dict[str, Any]:
+        """All that stands beside the working folder and the store."""
+        return {str(path): (path.lstat().st_mtime_ns, path.is_symlink()) for path in sorted(self.root.rglob("*"))
+                if self.work not in path.parents and path != self.work and self.store not in path.parents and ".json" not in path.name
+                and path not in (self.store, self.file)}
+
+    def test_names(self) -> None:
+        """A name that leads elsewhere, or is no file's, gives way to the part's own."""
+        names = ["../evil", "../../evil", "/tmp/evil", "..", ".bashrc", ".vault", "VAULT~1", "head", "HEAD", "CON", "nul.prt", "C:\\evil", "a:b",
+                 "x.", "\u202egpj.exe", "kolben 80.sldprt", unicodedata.normalize("NFD", "St\u00fcck"), "St\u00fcck", "\u00fc" * 127,
+                 "pleuel", "p0", "p1"]
+        before = self.outside()
+        for number, name in enumerate(names):
+            self.anna.make(f"/engine/block/p{number}")
+            self.version(f"/engine/block/p{number}", name, b"%d" % number)
+        self.assertEqual(len(self.got().files), len(names))
+        self.assertEqual(self.outside(), before)
+        found = self.files()
+        self.assertEqual(len({folded(name) for name in found}), len(names) + 3)
+        self.assertTrue(all(usable(part) for name in found for part in name.split("/")), found)
+        for number in range(len(names)):
+            self.assertIn(b"%d" % number, found.values())
+        self.assertEqual(self.got().files, [])
+
+    def test_links(self) -> None:
+        """A link is never written through: neither in a file's place, nor in a folder's, nor in that of the client's own."""
+        target = self.root / "target"
+        target.mkdir()
+        (target / "file").write_bytes(b"theirs")
+        self.version(PART, NAME, b"bore 81")
+        (self.work / NAME).unlink()
+        (self.work / NAME).symlink_to(target / "file")
+        self.assertEqual(self.got().left[0][0], NAME)
+        self.version(VALVE, "Ventil links.SLDPRT", b"lift 10")
+        (self.work / "head").rename(self.root / "head")
+        (self.work / "head").symlink_to(target)
+        with self.assertRaises(Misused):
+            self.got()
+        (self.work / "head").unlink()
+        (self.work / ".vault").rename(self.root / "own")
+        (self.work / ".vault").symlink_to(self.root / "own")
+        with self.assertRaises(Misused):
+            self.got()
+        self.assertEqual(self.files(target), {"file": b"theirs"})
+
+    def test_a_link_is_not_put(self) -> None:
+        (self.root / "secret").write_bytes(b"secret")
+        (self.work / NAME).unlink()
+        (self.work / NAME).symlink_to(self.root / "secret")
+        claim = self.anna.checkout(["w:" + PART]).claim
+        with self.assertRaises(Misused):
+            self.working().put()
+        self.assertEqual(self.anna.kept_drafts(claim), {})
+
+    def test_remembered_elsewhere(self) -> None:
+        """What `.vault` says is read as strictly as what a stranger wrote."""
+        kept = self.work / ".vault" / "folder.json"
+        whole = json.loads(kept.read_text("utf-8"))
+        entry = whole["files"][NAME]
+        files: List[Dict[str, Any]] = [{"../evil": entry}, {"/etc/passwd": entry}, {"a/../../b": entry}, {".vault/lock": entry}, {"a//b": entry},
+                                       {NAME: {**entry, "place": "../x"}}, {NAME: {**entry, "size": "x"}}, {NAME: {}}, {NAME: {**entry, "x": 1}},
+                                       {NAME: {**entry, "claim": "c1 x"}}]
+        changes: List[Dict[str, Any]] = [{"files": each} for each in files]
+        changes += [{"folders": {"..": PART}}, {"folders": {"head": "x"}}, {"place": "engine"}, {"form": "x"}, {"server": 1}, {"files": []}]
+        for change in changes:
+            kept.write_text(json.dumps({**whole, **change}), "utf-8")
+            with self.assertRaises(VaultError, msg=str(change)):
+                read_folder(self.work)
+        for text in ("", "[]", "{", "\udcff"):
+            kept.write_bytes(text.encode("utf-8", "surrogateescape"))
+            with self.assertRaises(VaultError):
+                read_folder(self.work)
+
+    def test_random_names(self) -> None:
+        """Whatever cards say, each part has a file of its own, and nothing is written elsewhere."""
+        moments, before = random.Random(65), self.outside()
+        letters = "aA.\u00e4\u0308/\\:~ 01\u202econCON\u00df"
+        for number in range(25):
+            self.anna.make(f"/engine/block/q{number}")
+            name = "".join(moments.choice(letters) for _ in range(moments.randint(1, 5)))
+            self.version(f"/engine/block/q{number}", name, b"q%d" % number)
+        self.got()
+        self.assertEqual((len(self.files()), self.outside()), (28, before))
+
+
+class Status(WithFolder):
+    """Who has what checked out."""
+
+    def test_by_others(self) -> None:
+        """For change, and held: whoever looks, waits or has another part has it not."""
+        ben, carl = self.client("ben"), self.client("carl")
+        claim = ben.checkout(["w:" + PART]).claim
+        carl.checkout(["r:" + ROD])
+        carl.checkout(["w:/engine"])
+        states = self.states()
+        self.assertEqual([states[name].others for name in (NAME, "Pleuel.SLDPRT", "head/Ventil links.SLDPRT")], [[f"ben in {claim}"], [], []])
+        self.as_program()
+        office = str(self.root / "office")
+        self.vault("get", "/engine/block", "--to", office)
+        self.assertEqual(self.vault("status", office), f"{NAME}: checked out by ben in {claim}.\n".encode())
+
+
+class PutAndCheckin(WithFolder):
+    """Changed files are put where a held check-out takes them in, and checked in with a note."""
+
+    def put(self, place: str = PART, claim: str = "") -> str:
+        """Checks a part out and puts the file; answers the check-out."""
+        return super().put(place)
+
+    def test_a_round(self) -> None:
+        claim = self.anna.checkout(["w:" + PART]).claim
+        (self.work / NAME).write_bytes(b"bore 81")
+        (self.work / "Pleuel.SLDPRT").write_bytes(b"length 145")
+        self.assertEqual((self.states()[NAME].changed, self.states()[NAME].claim), (True, claim))
+        done = self.working().put()
+        self.assertEqual((done.files, [name for name, _ in done.left]), ([NAME], ["Pleuel.SLDPRT"]))
+        self.assertIn(f"vault checkout w:{ROD}", done.left[0][1])
+        self.assertEqual(self.working().put().drafts, [NAME])
+        self.assertTrue(self.states()[NAME].draft)
+        (self.work / NAME).write_bytes(b"bore 82")
+        done = self.working().checkin("larger bore")
+        self.assertEqual((done.files, done.claims, done.versions), ([NAME], [claim], 1))
+        card = self.parts.get(PART).card
+        assert card is not None
+        self.assertEqual((card.note, card.name, card.sha256), ("larger bore", NAME, hashlib.sha256(b"bore 82").hexdigest()))
+        self.assertEqual((self.states()[NAME].changed, self.states()[NAME].version), (False, 2))
+        self.assertEqual(self.got().files, [])
+
+    def test_over_a_newer_version(self) -> None:
+        """What was made of an older version isn't put over a newer one."""
+        (self.work / NAME).write_bytes(b"mine")
+        self.version(PART, NAME, b"bore 81")
+        self.anna.checkout(["w:" + PART])
+        done = self.working().put()
+        self.assertEqual(done.files, [])
+        self.assertIn("version 2 is in the vault", done.left[0][1])
+        with self.assertRaises(VaultError):
+            self.working().checkin(None)
+        self.assertEqual(len(list(self.anna.history(PART))), 2)
+
+    def test_two_check_outs(self) -> None:
+        """With two that take it in one has to be named; a queued one, and another designer's, take nothing in."""
+        (self.work / NAME).write_bytes(b"mine")
+        first = self.anna.checkout(["w:" + PART]).claim
+        queued = self.anna.checkout(["w:/engine"]).claim
+        with self.assertRaises(Misused):
+            self.working().put(queued)
+        self.assertEqual(self.working().put(first).files, [NAME])
+        self.assertEqual(self.working(self.another()).put().files, [])
+
+    def test_a_lost_check_in(self) -> None:
+        """Its answer is lost, and what became of it is found out."""
+        for number, cut in enumerate(self.both()):
+            self.anna.checkout(["w:" + PART])
+            (self.work / NAME).write_bytes(b"mine %d" % number)
+            cut.append(b"checkin")
+            self.assertEqual(self.working().checkin(None).versions, 1)
+            self.assertFalse(self.states()[NAME].changed)
+
+    def test_checked_in_by_its_number(self) -> None:
+        """A check-in that the folder wasn't told of: the next get knows the file for that version."""
+        claim = self.anna.checkout(["w:" + PART]).claim
+        (self.work / NAME).write_bytes(b"mine")
+        self.working().put()
+        self.anna.checkin(claim)
+        self.assertEqual((self.got().files, self.got().left), ([], []))
+        self.assertEqual((self.states()[NAME].version, self.states()[NAME].changed), (2, False))
+
+    def test_add(self) -> None:
+        """A part is made by a name that a place can have, also in an assembly that is checked out, and put with the others."""
+        claim = self.anna.checkout(["w:/engine/block"]).claim
+        (self.work / "Bolzen 20.SLDPRT").write_bytes(b"pin")
+        (self.work / "head" / "Bolzen 20.SLDPRT").write_bytes(b"pin in the head")
+        (self.work / "bolzen_20.sldprt").write_bytes(b"another pin")
+        for name, place in (("Bolzen 20.SLDPRT", "bolzen_20_sldprt"), ("bolzen_20.sldprt", "bolzen_20_sldprt_2"),
+                            ("head/Bolzen 20.SLDPRT", "head/bolzen_20_sldprt")):
+            self.assertEqual(self.working().add(name), "/engine/block/" + place)
+        self.assertEqual(self.working().checkin("pins").versions, 3)
+        self.assertEqual(claim, "c5")
+        other = self.root / "other"
+        self.got(work=other)
+        self.assertEqual(self.files(other), self.files())
+
+    def test_what_can_not_be_added(self) -> None:
+        self.got(ENGINE, self.root / "engine")
+        (self.root / "engine" / "Bild.SLDPRT").write_bytes(b"x")
+        (self.work / "new").mkdir()
+        (self.work / "new" / "x").write_bytes(b"x")
+        (self.work / "link").symlink_to(self.file)
+        (self.work / "a:b").write_bytes(b"x")
+        for name in (NAME, "none", "new/x", "link", "a:b", "../x", ".vault/lock"):
+            with self.assertRaises(Misused, msg=name):
+                self.working().add(name)
+        with self.assertRaises(Misused):
+            self.working(place=ENGINE, work=self.root / "engine").add("Bild.SLDPRT")
+
+    def test_at_another_server(self) -> None:
+        ben = Client("ben", "127.0.0.1", self.server.port, self.root)
+        self.addCleanup(ben.close)
+        with self.assertRaises(Misused):
+            Working(Parts(ben), find_folder(self.work))
+
+
+class Program(WithFolder):
+    """The program's words for working folders."""
+
+    def setUp(self) -> None:
+        super().setUp()
+        self.as_program()
+        self.folder_of_program = self.root / "office"
+
+    def test_a_day(self) -> None:
+        work = str(self.folder_of_program)
+        said = self.as_json("get", "/engine/block", "--to", work)
+        self.assertEqual((len(said["files"]), said["all"], said["left"]), (3, 3, []))
+        self.assertEqual(self.vault("get", "/engine/block", "--to", work), f"{work} has /engine/block: nothing was fetched.\n".encode())
+        self.assertIn(b"Nothing is changed", self.vault("status", work))
+        self.vault("checkout", "w:/engine/block")
+        (self.folder_of_program / NAME).write_bytes(b"bore 90")
+        (self.folder_of_program / "Bolzen 20.SLDPRT").write_bytes(b"pin")
+        said_so = self.vault("status", work).decode()
+        self.assertIn(f"{NAME}: changed here, checked out by you in c5.\n", said_so)
+        self.assertIn("Bolzen 20.SLDPRT: not in the vault; `vault add", said_so)
+        self.assertEqual(self.as_json("status", work)["others"], ["Bolzen 20.SLDPRT"])
+        self.assertIn(b"is /engine/block/bolzen_20_sldprt.\n", self.vault("add", work + "/Bolzen 20.SLDPRT"))
+        self.assertIn(b"Bolzen 20.SLDPRT is a draft of /engine/block/bolzen_20_sldprt in c5.\n", self.vault("put", work))
+        self.assertEqual(self.vault("checkin", work, "-m", "larger bore"), b"c5 is checked in: 2 new versions.\n")
+        self.assertEqual(self.as_json("history", PART)["versions"][-1]["note"], "larger bore")
+        self.assertIn(b"No file of", self.vault("checkin", work, status=1))
+
+    def test_wrong_words(self) -> None:
+        self.assertIn(b"is in no working folder", self.vault("status", str(self.root), status=2))
+        self.assertIn(b"is in no working folder", self.vault("put", str(self.root), status=2))
+        self.assertIn(b"There is no folder", self.vault("checkin", "./none", status=2))
+        self.assertIn(b"1 to 32 characters each", self.vault("make", "/engine/Kolben 80.SLDPRT", status=2))
+        self.vault("get", "/engine/block", "--to", str(self.folder_of_program))
+        self.assertIn(b"is a working folder of /engine/block", self.vault("get", "/engine", "--to", str(self.folder_of_program), status=2))
+
+
+if __name__ == "__main__":
+    unittest.main()
