@@ -1,0 +1,246 @@
+"""A way to the server for one designer, whom sshd knows by a key: the name is fixed, whatever is sent.
+
+sshd starts it by the key's forced command. It looks at every line, sends on what its designer may say, and answers the rest itself:
+ERR 10 to what is no command, ERR 31 to another's name and to what the key may not do, ERR 80 where the log can't be written.
+"""
+
+from __future__ import annotations
+
+import argparse
+import os
+import select
+import socket
+
+from vaultd_tools.gate_log import Log, Unwritten, address_of, keys_of, plain
+from vaultd_tools.lines import Command, Lines, command_of, name
+
+READ_BYTES = 8192
+WRITE_BYTES = 4096
+LONGEST_REPLY = 65536
+MOST_LINES = 4096
+MOST_BYTES = 16777216
+CONNECT_SECONDS = 10
+REPLY_SECONDS = 60
+TAKE_SECONDS = 600
+CLIENT_IN, CLIENT_OUT = 0, 1
+GONE = select.POLLHUP | select.POLLERR | select.POLLNVAL
+
+
+class Over(Exception):
+    """The conversation has ended."""
+
+
+class Role:
+    """What a key may do: speak for one name, or for any; change, or only ask."""
+
+    def __init__(self, designer: bytes, only_asks: bool, any_name: bool):
+        self.designer, self.only_asks, self.any_name = designer, only_asks, any_name
+
+    def refuses(self, command: Command) -> bool:
+        """Whether the key may not say this."""
+        anothers = command.keyword == b"hello" and not self.any_name and command.words[0] != self.designer
+        return anothers or self.only_asks and not command.asks
+
+    def is_logged(self, command: Command) -> bool:
+        """Whether this has its lines in the log: a change, and whom an administrator speaks for."""
+        return command.changes or self.any_name and command.keyword == b"hello"
+
+
+class Client:
+    """Who speaks through the gate, by sshd's two streams."""
+
+    def __init__(self) -> None:
+        self.writes = select.poll()
+        self.writes.register(CLIENT_OUT, select.POLLOUT)
+
+    def tell(self, text: bytes) -> None:
+        """Writes something to the client, who has to take it in time. No write is larger than what a stream takes at once."""
+        while text:
+            ready = self.writes.poll(TAKE_SECONDS * 1000)
+            if not ready or ready[0][1] & GONE:
+                raise Over("the client takes nothing")
+            text = text[os.write(CLIENT_OUT, text[:WRITE_BYTES]):]
+
+
+class Server:
+    """The connection to the server, on which one command at a time is under way."""
+
+    def __init__(self, host: str, port: int):
+        self.socket = socket.create_connection((host, port), CONNECT_SECONDS)
+        self.socket.settimeout(None)
+        self.socket.setsockopt(socket.IPPROTO_TCP, socket.TCP_NODELAY, 1)
+        self.idle, self.asked = select.poll(), select.poll()
+        for poll in (self.idle, self.asked):
+            poll.register(self.socket, select.POLLIN)
+            poll.register(CLIENT_OUT, 0)
+        self.idle.register(CLIENT_IN, select.POLLIN)
+        self.alone = select.poll()
+        self.alone.register(self.socket, select.POLLIN)
+
+    def next_piece(self, client: Client) -> bytes:
+        """Waits for what the client says next. Where the server says something unasked, that is its last word."""
+        ready = dict(self.idle.poll())
+        if self.socket.fileno() in ready:
+            client.tell(self.socket.recv(LONGEST_REPLY))
+            raise Over("the server ended the connection")
+        if CLIENT_IN in ready:
+            return os.read(CLIENT_IN, READ_BYTES)
+        raise Over("the client is gone")
+
+    def reply(self, command: Command, to_the_end: bool) -> bytes:
+        """Sends a command and waits for its reply. Where the client goes meanwhile, only a reply that is for the log is still waited
+        for."""
+        told, poll, limit = b"", self.asked, None
+        try:
+            self.socket.sendall(command.line)
+            while not told.endswith(b"\n"):
+                ready = dict(poll.poll(limit))
+                if self.socket.fileno() in ready:
+                    more = self.socket.recv(LONGEST_REPLY)
+                    told += more
+                    if not more or len(told) > LONGEST_REPLY or b"\n" in told[:-1]:
+                        raise Over("the server ended the connection")
+                elif not ready or not to_the_end:
+                    raise Over("the client is gone")
+                else:
+                    poll, limit = self.alone, REPLY_SECONDS * 1000
+        except OSError as error:
+            raise Over("the server ended the connection") from error
+        return told
+
+
+class Gate:
+    """A conversation through the gate, from its first line to its end."""
+
+    def __init__(self, role: Role, client: Client, server: Server, log: Log, number: str):
+        self.role, self.client, self.server, self.log, self.number = role, client, server, log, number
+        self.name = role.designer.decode("ascii")
+        self.lines = self.bytes = 0
+
+    def run(self) -> None:
+        """Answers line by line until somebody ends it."""
+        lines = Lines()
+        try:
+            while piece := self.server.next_piece(self.client):
+                for line in lines.ended_by(piece):
+                    self._answer(line)
+                self.bytes += len(piece)
+                if self.bytes >= MOST_BYTES:
+                    return
+        except (Over, OSError):
+            return
+
+    def _answer(self, line: bytes) -> None:
+        self.lines += 1
+        command = command_of(line)
+        if command is None:
+            self.client.tell(b"ERR 10\n")
+        elif self.role.refuses(command):
+            self._refuse(command)
+        else:
+            self._hand_on(command)
+        if self.lines >= MOST_LINES:
+            raise Over("a connection has no more lines")
+
+    def _refuse(self, command: Command) -> None:
+        try:
+            self._note("refused", command.shown + " -> ERR 31")
+        except Unwritten as error:
+            say(str(error))
+        self.client.tell(b"ERR 31\n")
+
+    def _hand_on(self, command: Command) -> None:
+        """Sends a command on and tells its reply. A change is in the log before the server hears of it."""
+        logged = self.role.is_logged(command)
+        try:
+            if logged:
+                self._note("asks", command.shown)
+        except Unwritten as error:
+            say(f"{error}. Nothing was sent on; ask whoever runs the server")
+            self.client.tell(b"ERR 80\n")
+            return
+        reply = self._reply(command, logged)
+        if command.keyword == b"hello" and reply.startswith(b"OK "):
+            self.name = command.words[0].decode("ascii")
+        self.client.tell(reply)
+        if command.keyword == b"quit" and reply.startswith(b"OK "):
+            raise Over("the client left")
+
+    def _reply(self, command: Command, logged: bool) -> bytes:
+        try:
+            reply = self.server.reply(command, logged)
+        except Over:
+            self._note_outcome(logged, "lost", command.shown)
+            raise
+        self._note_outcome(logged, "told", f"{command.shown} -> {plain(reply[:-1])}")
+        return reply
+
+    def _note_outcome(self, logged: bool, kind: str, what: str) -> None:
+        """What became of a command that was sent: it is told, whether or not the log takes its line."""
+        try:
+            if logged:
+                self._note(kind, what)
+        except Unwritten as error:
+            say(str(error))
+
+    def _note(self, kind: str, what: str) -> None:
+        self.log.write(f"{self.number}.{self.lines}", self.name, kind, what)
+
+
+def say(sentence: str) -> None:
+    """Says something to whoever sees standard error: behind ssh that is the client."""
+    try:
+        os.write(2, f"vaultd-gate: {sentence}.\n".encode("utf-8", "replace"))
+    except OSError:
+        pass
+
+
+def designer(word: str) -> bytes:
+    """A name on the command line."""
+    found = name(os.fsencode(word))
+    if found is None:
+        raise argparse.ArgumentTypeError("a name has 1 to 32 of a-z, 0-9, _ and -")
+    return found
+
+
+def address(word: str) -> tuple[str, int]:
+    """A server's address on the command line."""
+    host, colon, port = word.rpartition(":")
+    if not (host and colon and port.isascii() and port.isdigit() and 0 < int(port) < 65536) or any(mark <= " " for mark in word):
+        raise argparse.ArgumentTypeError("an address is HOST:PORT, as 127.0.0.1:7070")
+    return host.strip("[]"), int(port)
+
+
+def words(given: list[str] | None = None) -> argparse.Namespace:
+    """The command line, which stands beside a key in sshd's authorized_keys."""
+    parser = argparse.ArgumentParser(prog="vaultd-gate", description=__doc__, allow_abbrev=False,
+                                     formatter_class=argparse.RawDescriptionHelpFormatter)
+    parser.add_argument("--as", dest="designer", required=True, type=designer, metavar="NAME", help="the designer that this key is")
+    parser.add_argument("--read", action="store_true", help="let only questions through")
+    parser.add_argument("--any-name", action="store_true", help="let `hello` through with any name: an administrator's key")
+    parser.add_argument("--server", type=address, default=("127.0.0.1", 7070), metavar="HOST:PORT", help="where the server is (127.0.0.1:7070)")
+    parser.add_argument("--log", metavar="FILE",
+                        help="a file that the log is added to, too; a change whose line it does not take is not sent on")
+    parser.add_argument("--sync", action="store_true", help="put each line of that file on disk before going on")
+    parser.add_argument("--syslog", default="/dev/log", metavar="SOCKET", help="where the system's log takes lines (/dev/log)")
+    return parser.parse_args(given)
+
+
+def main() -> int:
+    """0 once the conversation has ended, 1 where there is no server or no log, 2 where the command line is wrong."""
+    asked = words()
+    host, port = asked.server
+    by, key = asked.designer.decode("ascii"), keys_of(os.environ.get("SSH_USER_AUTH"))
+    who = f"vault={host}:{port} from={address_of(os.environ.get('SSH_CONNECTION'))} key={key} by={by}"
+    try:
+        log = Log(who, asked.log, asked.sync, asked.syslog, say)
+    except OSError as error:
+        say(f"the log {asked.log} can't be opened: {error.strerror}. Ask whoever runs the server")
+        return 1
+    try:
+        server = Server(host, port)
+    except OSError as error:
+        say(f"no server answers at {host}:{port}: {error.strerror or error}")
+        return 1
+    Gate(Role(asked.designer, asked.read, asked.any_name), Client(), server, log, os.urandom(8).hex()).run()
+    return 0

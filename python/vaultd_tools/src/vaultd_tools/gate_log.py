@@ -1,0 +1,132 @@
+"""The gate's log: who asked for which change, and what was answered.
+
+A change has a line before it is sent to the server (`asks`) and one behind it: `told` with the reply, or `lost` where the connection
+ended without one. What the gate itself refuses has one line, `refused`. Whatever comes from outside is one of the protocol's words,
+or is escaped, so no line can be made up.
+"""
+
+from __future__ import annotations
+
+import os
+import re
+import socket
+import time
+from collections.abc import Callable
+
+KEY = re.compile(rb"publickey ([a-z0-9@.-]{1,64}) ([A-Za-z0-9+/=]{1,65536})")
+FINGERPRINT = re.compile(r"SHA256:[A-Za-z0-9+/]{43}")
+ADDRESS = re.compile(r"[0-9A-Fa-f:.]{2,45}(%[A-Za-z0-9._-]{1,32})?")
+AUTHPRIV_INFO = 10 * 8 + 6
+SYSLOG_SECONDS = 1.0
+LONGEST_SHOWN = 512
+
+
+def plain(text: bytes) -> str:
+    """What a server said, for one line of a log."""
+    return "".join(chr(byte) if 32 <= byte < 127 and byte != 92 else f"\\x{byte:02x}" for byte in text[:LONGEST_SHOWN])
+
+
+def fingerprint_of(key: bytes) -> str:
+    """The fingerprint of a public key as sshd's own log has it, or `-`. ssh-keygen says it: a library of hashes is larger than the
+    gate."""
+    given, giving = os.pipe()
+    told, telling = os.pipe()
+    try:
+        process = os.posix_spawn("/usr/bin/ssh-keygen", ["ssh-keygen", "-l", "-E", "sha256", "-f", "-"], {"PATH": "/usr/bin:/bin"}, file_actions=[
+            (os.POSIX_SPAWN_DUP2, given, 0), (os.POSIX_SPAWN_DUP2, telling, 1), (os.POSIX_SPAWN_OPEN, 2, os.devnull, os.O_WRONLY, 0)])
+        os.close(telling)
+        telling = -1
+        os.write(giving, key[:60000] + b"\n")
+        os.close(giving)
+        giving = -1
+        said = os.read(told, 4096).decode("ascii", "replace")
+        os.waitpid(process, 0)
+    except OSError:
+        return "-"
+    finally:
+        for end in (given, giving, told, telling):
+            if end >= 0:
+                os.close(end)
+    found = FINGERPRINT.search(said)
+    return found[0] if found else "-"
+
+
+def keys_of(path: str | None) -> str:
+    """The fingerprints of the keys by which sshd let this connection in, from the file that its ExposeAuthInfo writes, or `-`."""
+    try:
+        with open(path or "", "rb") as file:
+            lines = file.read(200000).splitlines()
+    except OSError:
+        return "-"
+    found = [KEY.fullmatch(line) for line in lines]
+    return ",".join(fingerprint_of(match[1] + b" " + match[2]) for match in found if match) or "-"
+
+
+def address_of(connection: str | None) -> str:
+    """Where a connection comes from, by sshd's SSH_CONNECTION, or `-`."""
+    word = (connection or "-").split(" ")[0]
+    return word if ADDRESS.fullmatch(word) else "-"
+
+
+def now() -> str:
+    """The time, to the microsecond."""
+    seconds, nanoseconds = divmod(time.time_ns(), 10 ** 9)
+    return time.strftime("%Y-%m-%dT%H:%M:%S", time.gmtime(seconds)) + f".{nanoseconds // 1000:06d}Z"
+
+
+class Unwritten(Exception):
+    """A line can't be written into the log's file; says why."""
+
+
+class Log:
+    """Writes each line to the system's log, where there is one, and to a file, where one is named. A file is only added to, each line by
+    one write."""
+
+    def __init__(self, who: str, file: str | None, synced: bool, syslog: str, say: Callable[[str], None]):
+        self.who, self.synced, self.say = who, synced, say
+        self.syslog, self.syslog_path, self.file = self._system_log(syslog), syslog, -1
+        self.torn = False
+        if file is not None:
+            self.file = os.open(file, os.O_WRONLY | os.O_APPEND | os.O_CREAT | os.O_CLOEXEC | os.O_NOCTTY, 0o640)
+
+    def _system_log(self, path: str) -> socket.socket | None:
+        log = socket.socket(socket.AF_UNIX, socket.SOCK_DGRAM)
+        log.settimeout(SYSLOG_SECONDS)
+        try:
+            log.connect(path)
+            return log
+        except OSError as error:
+            log.close()
+            self.say(f"no system log takes lines at {path}: {error.strerror}")
+            return None
+
+    def write(self, number: str, name: str, kind: str, what: str) -> None:
+        """Writes a line. Raises where the file doesn't take it; the system's log may be away."""
+        line = f"{now()} id={number} {self.who} as={name} {kind} {what}"
+        if self.file >= 0:
+            self._to_file(line)
+        if self.syslog is not None:
+            self._to_system_log(line)
+
+    def _to_file(self, line: str) -> None:
+        text = (("\n" if self.torn else "") + line + "\n").encode("ascii")
+        try:
+            written = os.write(self.file, text)
+            self.torn = self.torn and written == 0 or 0 < written < len(text)
+            if written < len(text):
+                raise Unwritten("the log's disk is full")
+            if self.synced:
+                os.fdatasync(self.file)
+        except OSError as error:
+            raise Unwritten(f"the log can't be written: {error.strerror}") from error
+
+    def _to_system_log(self, line: str) -> None:
+        assert self.syslog is not None
+        stamp = time.strftime("%b %e %H:%M:%S")
+        try:
+            self.syslog.send(f"<{AUTHPRIV_INFO}>{stamp} vaultd-gate[{os.getpid()}]: {line}".encode("ascii"))
+        except OSError as error:
+            self.syslog.close()
+            self.syslog = self._system_log(self.syslog_path)
+            if self.syslog is not None:
+                self.say(f"the system's log didn't take a line: {error.strerror or error}")

@@ -1,0 +1,206 @@
+"""Says who took, gave away, abandoned or checked in a place, and when, from the log of the gate.
+
+A check-out concerns a place if one of its items is that place, stands above it or beneath it. What a number of a check-out stands for
+is read from the log itself, from the reply to its check-out and to its extensions.
+"""
+
+import argparse
+import pwd
+import re
+import subprocess
+import sys
+from dataclasses import dataclass, field
+from pathlib import Path
+from typing import Dict, Iterable, Iterator, List, Optional, Tuple
+
+from vaultd_tools.files import ToolError, say_error
+
+RECORD = re.compile(r"(?P<time>\d{4}-\d\d-\d\dT\d\d:\d\d:\d\d\.\d{6}Z) id=(?P<id>[0-9a-f]{16}\.\d+) vault=(?P<vault>\S+) from=(?P<origin>\S+)"
+                    r" key=(?P<key>\S+) by=(?P<by>[a-z0-9_-]{1,32}) as=(?P<name>[a-z0-9_-]{1,32}) (?P<kind>asks|told|lost|refused)"
+                    r" (?P<command>[^>]+?)(?: -> (?P<reply>.+))?")
+GATE_USER = "vaultd-gate"
+PLACE = re.compile(r"/|(/[a-z0-9_-]{1,32}){1,7}")
+ENDS = ("checkin", "abandon", "release")
+SENTENCES = {"checkin": "checked in", "abandon": "abandoned", "release": "released", "make": "made", "nest": "nested", "save": "saved",
+             "note": "noted on"}
+
+
+@dataclass(frozen=True)
+class Record:
+    """One line of the log, taken apart."""
+
+    time: str
+    id: str
+    vault: str
+    key: str
+    by: str
+    name: str
+    kind: str
+    words: Tuple[str, ...]
+    reply: str
+
+    @property
+    def done(self) -> Optional[bool]:
+        """Whether it was done; None where that isn't known."""
+        return None if self.kind in ("asks", "lost") or self.reply.startswith("ERR 82") else self.reply.startswith("OK ")
+
+
+@dataclass
+class Claims:
+    """What each claim was asked for, as far as the log has it."""
+
+    items: Dict[str, List[str]] = field(default_factory=dict)
+
+    def learn(self, record: Record) -> None:
+        """Takes in what a command that was done says of a claim."""
+        said = record.reply.split()
+        if record.done and record.words[0] in ("checkout", "hold") and len(said) > 2:
+            self.items[said[2]] = list(record.words[1:])
+        elif record.done and record.words[0] == "extend":
+            self.items.setdefault(record.words[1], []).extend(record.words[2:])
+
+    def places(self, record: Record) -> Optional[List[str]]:
+        """The places that a command concerns; None where the log doesn't have its claim."""
+        keyword, rest = record.words[0], record.words[1:]
+        if keyword in ("checkout", "hold"):
+            return [item[2:] for item in rest]
+        if keyword in ("make", "nest"):
+            return [rest[0]]
+        if keyword == "save":
+            return [rest[1]]
+        items = self.items.get(rest[0], []) + (list(rest[1:]) if keyword == "extend" else [])
+        return [item[2:] for item in items] or None
+
+
+def records(lines: Iterable[str], damaged: List[str]) -> Iterator[Record]:
+    """The records of a log. One that begins behind the torn end of another is read; other lines are handed back as damaged."""
+    for line in lines:
+        found = None
+        for start in re.finditer(r"\d{4}-\d\d-\d\dT", line):
+            found = RECORD.fullmatch(line.rstrip("\n"), start.start()) or found
+        if found is None:
+            damaged.append(line)
+            continue
+        yield Record(found["time"], found["id"], found["vault"], found["key"], found["by"], found["name"], found["kind"],
+                     tuple(found["command"].split()), found["reply"] or "")
+
+
+def outcomes(found: Iterable[Record]) -> List[Record]:
+    """Each command once, by what became of it: its reply, or that there was none."""
+    last: Dict[str, Record] = {}
+    for record in found:
+        last.pop(record.id, None)
+        last[record.id] = record
+    return [record for record in last.values() if record.kind != "refused" and record.words[0] != "hello"]
+
+
+def under(place: str, above: str) -> bool:
+    """Whether a place is another one or stands beneath it."""
+    return above == "/" or place == above or place.startswith(above + "/")
+
+
+def concerns(places: Optional[List[str]], asked: str) -> bool:
+    """Whether a command about these places concerns the one that is asked about. The library stands for all, known or not."""
+    return asked == "/" or any(under(place, asked) or under(asked, place) for place in places or [])
+
+
+def item_in_words(item: str) -> str:
+    """An item in words."""
+    return ("change " if item[0] == "w" else "look at ") + item[2:]
+
+
+def sentence(record: Record, claims: Claims) -> str:
+    """What was done, in words."""
+    keyword, rest, said = record.words[0], record.words[1:], record.reply.split()
+    if keyword in ("checkout", "hold"):
+        took = f"{'took' if said[1:2] == ['held'] else 'asked for'} {said[2]}" if record.done else f"asked for a {keyword}"
+        standing = " ".join(said[1:2] + said[3:]) if record.done else "not known whether it was done"
+        return f"{took} to {', '.join(map(item_in_words, rest))}: {standing}"
+    if keyword == "extend":
+        what = f"extended {rest[0]} to {', '.join(map(item_in_words, rest[1:]))}"
+    elif keyword == "give":
+        what = f"gave {rest[0]} to {rest[1]}"
+    elif keyword == "save":
+        what = f"saved {' '.join(rest[1:])} in {rest[0]}"
+    else:
+        what = f"{SENTENCES[keyword]} {' in '.join(rest[:2]) if keyword in ('make', 'nest') else rest[0]}"
+    counted = f": {said[3]} new version{'' if said[3] == '1' else 's'}" if record.done and keyword == "checkin" else ""
+    items = f" ({', '.join(map(item_in_words, claims.items[rest[0]]))})" if keyword in ENDS + ("give",) and rest[0] in claims.items else ""
+    return what + items + (counted if record.done else ": not known whether it was done")
+
+
+def told(found: Iterable[Record], place: str, everything: bool) -> Iterator[str]:
+    """What the log has of a place, line by line. What was refused was not done, and isn't told."""
+    claims = Claims()
+    for record in found:
+        shown = everything or record.words[0] not in ("save", "note")
+        if record.done is not False and shown and concerns(claims.places(record), place):
+            who = record.name if record.name == record.by else f"{record.by} as {record.name}"
+            yield f"{record.time[:19].replace('T', ' ')} UTC  {who} {sentence(record, claims)}"
+        claims.learn(record)
+
+
+def lines_of(files: List[str]) -> Iterator[str]:
+    """The lines of these files, in their order, or of the system's journal where none is named."""
+    for file in files:
+        with Path(file).open(encoding="ascii", errors="backslashreplace", newline="\n") as log:
+            yield from log
+    if not files:
+        yield from journal()
+
+
+def journal() -> Iterator[str]:
+    """The lines in the system's journal that the gate's user wrote: anybody can write some under the gate's word, but not as this user."""
+    try:
+        user = pwd.getpwnam(GATE_USER).pw_uid
+        done = subprocess.run(["journalctl", "--quiet", "--no-pager", "-t", "vaultd-gate", f"_UID={user}", "-o", "cat"], capture_output=True,
+                              check=False)
+    except KeyError as error:
+        raise ToolError(f"There is no user {GATE_USER} here, whose lines the journal has. Name the gate's file with --log.") from error
+    except FileNotFoundError as error:
+        raise ToolError("There is no journalctl here. Name the gate's file with --log.") from error
+    if done.returncode != 0:
+        raise ToolError(f"journalctl said: {done.stderr.decode('utf-8', 'replace').strip()}. Name the gate's file with --log.")
+    yield from done.stdout.decode("ascii", "backslashreplace").splitlines()
+
+
+def of_one_vault(found: List[Record], named: Optional[str]) -> List[Record]:
+    """The records of the vault that is named, or of the only one."""
+    vaults = sorted({record.vault for record in found})
+    if named is None and len(vaults) > 1:
+        raise ToolError(f"The log is of {len(vaults)} vaults: name one of {', '.join(vaults)} with --server.")
+    return [record for record in found if named in (None, record.vault)]
+
+
+def place_word(word: str) -> str:
+    """A place on the command line."""
+    if PLACE.fullmatch(word):
+        return word
+    raise argparse.ArgumentTypeError(f"`{word}` is no place: write `/` or up to seven names, as /engine/block/piston")
+
+
+def words() -> argparse.Namespace:
+    """The command line."""
+    parser = argparse.ArgumentParser(prog="vaultd-log", description=__doc__, formatter_class=argparse.RawDescriptionHelpFormatter)
+    parser.add_argument("place", metavar="PATH", type=place_word, help="as /engine/block/piston; `/` is everything")
+    parser.add_argument("--log", metavar="FILE", action="append", default=[],
+                        help="a file of the gate, the oldest first where there are more; without it the system's journal is read")
+    parser.add_argument("--server", metavar="HOST:PORT", help="of which vault, where gates to more than one write this log")
+    parser.add_argument("--all", action="store_true", help="drafts that were saved and notes, too")
+    return parser.parse_args()
+
+
+def main() -> int:
+    """0 where the log could be read, else 1."""
+    asked = words()
+    damaged: List[str] = []
+    try:
+        found = of_one_vault(list(records(lines_of(asked.log), damaged)), asked.server)
+    except (ToolError, OSError) as error:
+        return say_error("vaultd-log", error)
+    known = outcomes(found)
+    for line in told(known, asked.place, asked.all):
+        print(line)
+    if damaged:
+        print(f"vaultd-log: {len(damaged)} lines aren't the gate's, and were left out.", file=sys.stderr)
+    return 0

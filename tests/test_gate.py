@@ -1,0 +1,490 @@
+"""The gate: whatever is sent, a key speaks for its own name, does what it may, and has its lines in the log. Behind a real sshd."""
+
+import os
+import random
+import re
+import signal
+import socket
+import subprocess
+import time
+import tomllib
+import unittest
+from pathlib import Path
+from typing import Any, Dict, List, Sequence, Tuple
+
+from doors import Door
+from servers import MEMORY, TOP, VAULTD, Cutter, Limits, Server
+from tries import heard, told
+
+from vaultd_tools.gate_keys import complaints_of
+from vaultd_tools.lines import LONGEST_LINE, Lines, command_of
+from vaultd_tools.log import outcomes, records
+
+ATTACKS: List[Dict[str, Any]] = tomllib.loads((TOP / "tests" / "data" / "gate-attacks.toml").read_text("utf-8"))["attack"]
+TIMES = re.compile(r"<(\d+) ([^>]+)>", re.DOTALL)
+PART = "/engine/block/piston"
+VALID = (b"hello anna", b"make /a/b", b"make /a/b/c c1", b"nest /a/b/c", b"nest /a/b/c c12", b"checkout r:/a w:/b/c", b"extend c1 w:/a",
+         b"extend h1 r:/", b"save c1 /a/b/c 00fF", b"save c1 / -", b"checkin c1", b"abandon c4294967295", b"hold r:/a/b/c/d/e/f/g",
+         b"release h7", b"state c1", b"state h1", b"list /", b"fetch /a/b/c 0", b"fetch /a/b/c 4294967295", b"count /a/b/c", b"give c1 ben",
+         b"note c1", b"note c1 -", b"note c1 0aB1")
+# Of a server that knows them, too.
+QUESTIONS = (b"show c1", b"show h1", b"claims /a/b", b"drafts c1", b"draft c1 /a/b/c", b"wait c1", b"wait h1")
+MARKS = (b" ", b"  ", b"\t", b"\r", b"\0", b"\x0b", b"\xa0", b"\xff", b"-", b"_", b"/", b"//", b"c", b"h", b"r:", b"w:", b":", b"0", b"1",
+         b"9", b"+", b"A", b"Z", b"a", b"f", b"g", b"quit", b"note", b"4294967296", b"00", b".", b"@", b"x" * 32, b"/x" * 7)
+
+
+def mutated(chance: random.Random, valid: Sequence[bytes] = VALID) -> bytes:
+    """A line of the protocol, with up to three small changes, few of which leave it one."""
+    line = bytearray(chance.choice(valid))
+    for _ in range(chance.randrange(4)):
+        at = chance.randrange(len(line) + 1)
+        kind = chance.randrange(4)
+        if kind == 0:
+            line[at:at] = chance.choice(MARKS)
+        elif kind == 1:
+            del line[at:at + chance.randrange(1, 4)]
+        elif kind == 2:
+            line[at:at + 1] = chance.choice(MARKS)
+        else:
+            line += b" " + chance.choice(chance.choice(VALID).split(b" "))
+    return bytes(line).replace(b"\n", b"")
+
+
+def expanded(text: str) -> str:
+    """A text of the attacks, in which <N x> stands for N times x."""
+    return TIMES.sub(lambda found: int(found[1]) * found[2], text)
+
+
+def wanted(replies: List[str]) -> List[str]:
+    """The replies of an attack."""
+    found: List[str] = []
+    for reply in replies:
+        many = TIMES.fullmatch(reply)
+        found += int(many[1]) * [many[2]] if many else [reply]
+    return found
+
+
+def replies(text: bytes) -> List[str]:
+    """What was told, but for the numbers of sessions."""
+    return [re.sub(r"^OK session \d+$", "OK session", line) for line in text.decode("ascii").splitlines()]
+
+
+class ReadAlike(unittest.TestCase):
+    """The gate takes a line for a command if, and only if, the server does."""
+
+    def test_random_lines(self) -> None:
+        server = Server(folder=MEMORY)
+        self.addCleanup(server.close)
+        server.start()
+        chance, counted = random.Random(66), {True: 0, False: 0}
+        with server.connect() as connection:
+            valid = VALID + (QUESTIONS if told(connection, b"show c1\n", 1) == b"ERR 11\n" else ())
+        for _ in range(4):
+            lines = [line for line in (mutated(chance, valid) for _ in range(4000)) if line != b"quit"]
+            with server.connect() as connection:
+                # Nobody says hello, so a command is answered 11, and a hello is left out of what is sent.
+                lines = [line for line in lines if command_of(line) is None or not line.startswith(b"hello")]
+                said = told(connection, b"".join(line + b"\n" for line in lines), len(lines)).split(b"\n")
+            for line, reply in zip(lines, said):
+                command = command_of(line)
+                self.assertEqual(reply, b"ERR 10" if command is None else b"ERR 11", line)
+                counted[command is not None] += 1
+                if command is not None:
+                    self.assertEqual(command.line.lower(), line.lower() + b"\n")
+                    again = command_of(command.line[:-1])
+                    self.assertEqual(again.line if again else b"", command.line)
+        self.assertGreater(min(counted.values()), 3000, counted)
+
+    def test_hellos(self) -> None:
+        """The same of lines that begin with hello, each on a connection of its own."""
+        server = Server("--workers", "8", folder=MEMORY)
+        self.addCleanup(server.close)
+        server.start()
+        for name in (b"anna", b"a", b"a" * 32, b"a" * 33, b"-", b"_", b"0", b"", b" anna", b"anna ", b"Anna", b"an na", b"ann\xe9", b"anna\r",
+                     b"anna\0", b"an.na", b"/anna", b"anna/", b"a\tb"):
+            with server.connect() as connection:
+                reply = told(connection, b"hello " + name + b"\n", 1)
+            self.assertEqual(reply == b"ERR 10\n", command_of(b"hello " + name) is None, name)
+
+    def test_longest_line(self) -> None:
+        server = Server(folder=MEMORY)
+        self.addCleanup(server.close)
+        server.start()
+        for size in (LONGEST_LINE - 1, LONGEST_LINE, LONGEST_LINE + 1, LONGEST_LINE + 2):
+            line = b"checkout" + b" r:/" * ((size - 8) // 4) + b"x" * ((size - 8) % 4)
+            self.assertEqual(len(line), size)
+            with server.connect() as connection:
+                reply = told(connection, line + b"\n", 1)
+            self.assertEqual(reply, b"ERR 10\n" if size > LONGEST_LINE else b"ERR 11\n", size)
+            self.assertEqual(command_of(line) is None, size > LONGEST_LINE, size)
+
+    def test_pieces(self) -> None:
+        """However the bytes come, the lines are the same, but for what a line has beyond the longest."""
+        chance = random.Random(67)
+        for _ in range(300):
+            text = b"\n".join(mutated(chance) * chance.choice((1, 1, 1, 400)) for _ in range(chance.randrange(1, 9)))
+            whole = [line[:LONGEST_LINE + 1] for line in text.split(b"\n")[:-1]]
+            lines, found, at = Lines(), [], 0
+            while at < len(text):
+                size = chance.choice((1, 2, 7, 4096, 8192))
+                found += [line[:LONGEST_LINE + 1] for line in lines.ended_by(text[at:at + size])]
+                at += size
+                self.assertLessEqual(len(lines.begun), LONGEST_LINE + 1)
+            self.assertEqual(found, whole)
+
+
+class WithDoor(unittest.TestCase):
+    """A server with a part, a check-out of ben's with a draft, what records each line that reaches the server, and sshd before that."""
+
+    def setUp(self) -> None:
+        self.server = Server("--workers", "16", folder=MEMORY)
+        self.addCleanup(self.server.close)
+        self.server.start()
+        with self.server.connect() as ben:
+            said = told(ben, f"hello ben\nmake /engine\nmake /engine/block\nmake {PART}\ncheckout w:{PART}\nsave c1 {PART} 00\nquit\n".encode(), 7)
+        self.assertEqual(said.count(b"OK"), 7, said)
+        self.recorder = Cutter(self.server.port)
+        self.addCleanup(self.recorder.close)
+        self.door = Door(self.recorder.port)
+        self.addCleanup(self.door.close)
+        self.door.admit("anna")
+        self.door.admit("guest", "--read")
+        self.door.admit("eva", "--any-name")
+        self.door.start()
+
+    def files(self) -> Tuple[bytes, ...]:
+        """The vault as it is on disk."""
+        return tuple(Path(path).read_bytes() for path in self.server.files)
+
+    def conversation(self, key: str, text: bytes, slowly: bool = False) -> List[str]:
+        """What is told to all that is sent, up to the end of the stream."""
+        with self.door.ssh_again(key) as process:
+            assert process.stdin is not None
+            for piece in [text[at:at + 1] for at in range(len(text))] if slowly else [text]:
+                process.stdin.write(piece)
+                process.stdin.flush()
+                time.sleep(0.005 if slowly else 0)
+            said, _ = process.communicate(timeout=60)
+        return replies(said)
+
+    def kinds(self, command: str) -> List[str]:
+        """The kinds of the lines that the log has of a command, with the replies."""
+        found = [re.search(rf" (asks|told|lost|refused) {re.escape(command)}( -> (.*))?$", line) for line in self.door.logged()]
+        return [match[1] + (" " + match[3] if match[3] else "") for match in found if match]
+
+
+class Attacks(WithDoor):
+    """Each line and byte string of tests/data/gate-attacks.toml."""
+
+    def test_attacks(self) -> None:
+        self.assertGreaterEqual(len(ATTACKS), 30)
+        before = self.files()
+        for attack in ATTACKS:
+            with self.subTest(attack["name"]):
+                self.recorder.lines.clear()
+                key = attack.get("key", "anna")
+                said = self.conversation(key, expanded(attack["sent"]).encode("latin-1"), attack.get("slowly", False))
+                self.assertEqual(said, wanted(attack["told"]))
+                for line in self.recorder.lines:
+                    command = command_of(line[:-1])
+                    self.assertEqual(command.line if command else b"", line)
+                    self.assertIn(line if line.startswith(b"hello") else b"", (b"", b"hello " + key.encode() + b"\n"))
+                    self.assertTrue(key == "anna" or command and command.asks, line)
+        self.assertEqual(self.files(), before)
+        self.assertEqual([line for line in self.door.logged() if " told " in line and " -> OK" in line], [])
+
+    def test_broken_vault(self) -> None:
+        """Behind a hello that a broken vault refuses, another's name is refused by the gate."""
+        broken = Server("--workers", "4", folder=MEMORY)
+        self.addCleanup(broken.close)
+        broken.start(Limits(file_bytes=120))
+        with broken.connect() as first:
+            said = told(first, b"hello ben\n" + b"".join(b"make /p%d\n" % number for number in range(20)), 21)
+            self.assertIn(b"ERR 82", said)
+        self.recorder.server_port = broken.port
+        self.assertEqual(self.conversation("anna", b"hello anna\nhello ben\nhello anna\n"), ["ERR 82", "ERR 31", "ERR 82"])
+
+
+class Roles(WithDoor):
+    """What each kind of key may do, and in what order it is told."""
+
+    def test_own_name(self) -> None:
+        said = self.conversation("anna", b"hello anna\nmake /a\nhello ben\ncheckout w:/a\nbad\nlist /\nnote c2\nquit\n")
+        self.assertEqual(said, ["OK session", "OK place 4", "ERR 31", "OK held c2", "ERR 10", "OK list 2 engine a", "OK note -", "OK left"])
+
+    def test_questions(self) -> None:
+        text = f"hello guest\nstate c1\nlist /\ncount {PART}\nfetch {PART} 1\nnote c1\nquit\n".encode()
+        self.assertEqual(self.conversation("guest", text),
+                         ["OK session", "OK held c1", "OK list 1 engine", "OK versions 0", "ERR 40", "OK note -", "OK left"])
+
+    def test_new_questions(self) -> None:
+        """Questions that servers learn later are sent on."""
+        questions = [b"show c1\n", b"claims /engine\n", b"drafts c1\n", f"draft c1 {PART}\n".encode(), b"wait c1\n"]
+        self.conversation("guest", b"hello guest\n" + b"".join(questions) + b"quit\n")
+        self.assertEqual(self.recorder.lines, [b"hello guest\n", *questions, b"quit\n"])
+
+    def test_any_name(self) -> None:
+        self.assertEqual(self.conversation("eva", b"hello ben\nabandon c1\nquit\n"), ["OK session", "OK abandoned", "OK left"])
+        self.assertEqual(self.kinds("hello ben"), ["asks", "told OK session 2"])
+        done = [line for line in self.door.logged() if line.endswith("told abandon c1 -> OK abandoned")]
+        self.assertIn(f" key={self.door.keys['eva']} by=eva as=ben ", done[0])
+
+    def test_spelled_anew(self) -> None:
+        """A content is sent on in lower case, so what reaches the server has one spelling."""
+        self.conversation("eva", f"hello ben\nsave c1 {PART} 0aFF\nquit\n".encode())
+        self.assertIn(f"save c1 {PART} 0aff\n".encode(), self.recorder.lines)
+
+
+class Logged(WithDoor):
+    """Each change is in the log once, with who did it, and nothing is there as done that wasn't."""
+
+    def test_each_change_once(self) -> None:
+        said = self.conversation("anna", b"hello anna\nmake /a\nmake /a\ncheckout w:/a\nabandon c1\nsave c1 / -\nlist /\nnote c2 00\n"
+                                         b"abandon c2\nquit\n")
+        self.assertEqual(said, ["OK session", "OK place 4", "ERR 21", "OK held c2", "ERR 31", "ERR 31", "OK list 2 engine a", "OK noted",
+                                "OK abandoned", "OK left"])
+        self.assertEqual(self.kinds("make /a"), ["asks", "told OK place 4", "asks", "told ERR 21"])
+        self.assertEqual(self.kinds("checkout w:/a"), ["asks", "told OK held c2"])
+        self.assertEqual(self.kinds("abandon c1"), ["asks", "told ERR 31"])
+        self.assertEqual(self.kinds("note c2 (1 bytes)"), ["asks", "told OK noted"])
+        self.assertEqual(self.kinds("abandon c2"), ["asks", "told OK abandoned"])
+        lines = self.door.logged()
+        self.assertEqual(len(lines), 12)
+        for line in lines:
+            self.assertIn(f" vault=127.0.0.1:{self.recorder.port} from=127.0.0.1 key={self.door.keys['anna']} by=anna as=anna ", line)
+
+    def test_client_killed(self) -> None:
+        """A client that is killed while its change is under way: the log says what became of it, and the session ends."""
+        process = self.door.ssh("anna")
+        assert process.stdin is not None and process.stdout is not None and self.server.process is not None
+        process.stdin.write(b"hello anna\nhold r:/engine\n")
+        process.stdin.flush()
+        self.assertEqual([process.stdout.readline()[:4] for _ in range(2)], [b"OK s", b"OK q"])
+        self.server.process.send_signal(signal.SIGSTOP)
+        process.stdin.write(b"make /late\nmake /later\n")
+        process.stdin.flush()
+        self.until(lambda: self.kinds("make /late") == ["asks"])
+        process.kill()
+        process.communicate()
+        self.server.process.send_signal(signal.SIGCONT)
+        self.until(lambda: self.kinds("make /late") == ["asks", "told OK place 4"])
+        with self.server.connect() as other:
+            self.until(lambda: told(other, b"hello anna\nstate h1\n", 2).endswith(b"ERR 30\n"))
+            later = told(other, b"list /\n", 1).endswith(b" later\n")
+        # The second line had come, too: whether sshd or the reply was quicker, the log has what the vault has.
+        self.assertEqual(self.kinds("make /later"), ["asks", "told OK place 5"] if later else [])
+
+    def test_server_killed(self) -> None:
+        """A server that is killed while a change is under way: the log says that its reply was lost, and the client sees the end."""
+        process = self.door.ssh("anna")
+        assert process.stdin is not None and process.stdout is not None and self.server.process is not None
+        process.stdin.write(b"hello anna\n")
+        process.stdin.flush()
+        self.assertEqual(process.stdout.readline()[:4], b"OK s")
+        self.server.process.send_signal(signal.SIGSTOP)
+        process.stdin.write(b"make /late\n")
+        process.stdin.flush()
+        self.until(lambda: self.kinds("make /late") == ["asks"])
+        self.server.kill()
+        self.assertEqual(process.communicate(timeout=30)[0], b"")
+        self.assertEqual(self.kinds("make /late"), ["asks", "lost"])
+
+    def until(self, holds: Any) -> None:
+        """Waits for something."""
+        for _ in range(200):
+            if holds():
+                return
+            time.sleep(0.05)
+        self.fail(self.door.logged())
+
+    def test_asked_of(self) -> None:
+        """`vaultd-log` says who took, gave away, abandoned and checked in a place, of each line of the log."""
+        self.conversation("anna", b"hello anna\nmake /a\ncheckout w:/a\nextend c2 r:/engine\ngive c2 ben\nabandon c2\ncheckout r:/a\nquit\n")
+        self.conversation("eva", b"hello ben\nsave c1 /engine/block/piston 01\ncheckin c1\nabandon c2\nquit\n")
+        self.assertEqual(self.asked("/a"), [
+            "anna made /a", "anna took c2 to change /a: held", "anna gave c2 to ben (change /a)",
+            "anna asked for c3 to look at /a: queued behind c2", "eva as ben abandoned c2 (change /a)"])
+        self.assertEqual(self.asked(PART), [])
+        self.assertIn("eva as ben checked in c1: 1 new version", self.asked("/"))
+        self.assertIn(f"eva as ben saved {PART} (1 bytes) in c1", self.asked(PART, "--all"))
+
+    def asked(self, place: str, *words: str) -> List[str]:
+        """What `vaultd-log` prints, without times."""
+        done = subprocess.run([str(self.door.programs / "vaultd-log"), place, "--log", str(self.door.log), *words], capture_output=True,
+                              text=True, check=True)
+        self.assertEqual(done.stderr, "")
+        return [line.split(" UTC  ")[1] for line in done.stdout.splitlines()]
+
+
+class Alone(unittest.TestCase):
+    """A gate without sshd, on one socket, as sshd gives it."""
+
+    def setUp(self) -> None:
+        self.server = Server("--workers", "4", folder=MEMORY)
+        self.addCleanup(self.server.close)
+        self.server.start()
+        self.door = Door(self.server.port)
+        self.addCleanup(self.door.close)
+
+    def gate(self, *words: str) -> Tuple["subprocess.Popen[bytes]", socket.socket]:
+        """A gate, and the client's end of its socket."""
+        ours, theirs = socket.socketpair()
+        process = subprocess.Popen([*self.door.gate("anna"), *words], stdin=theirs.fileno(), stdout=theirs.fileno(),
+                                   stderr=subprocess.PIPE)
+        theirs.close()
+        self.addCleanup(self.end, process)
+        self.addCleanup(ours.close)
+        return process, ours
+
+    def end(self, process: "subprocess.Popen[bytes]") -> None:
+        """Ends a gate that goes on."""
+        process.kill()
+        process.wait()
+        assert process.stderr is not None
+        process.stderr.close()
+
+    def test_memory(self) -> None:
+        """15 MB at most, also behind many lines and long ones."""
+        process, client = self.gate()
+        text = b"hello anna\n" + b"make /a\nlist /\n" * 100 + b"x" * 100000 + b"\n"
+        self.assertTrue(told(client, text, 202).endswith(b"ERR 10\n"))
+        found = re.search(r"^VmHWM:\s+(\d+) kB", Path(f"/proc/{process.pid}/status").read_text("ascii"), re.MULTILINE)
+        self.assertIsNotNone(found)
+        self.assertLess(int(found[1]) if found else 0, 15000)
+
+    def test_full_log(self) -> None:
+        """A change isn't sent on where the log doesn't take its line; questions are."""
+        self.door.log.symlink_to("/dev/full")
+        process, client = self.gate()
+        self.assertEqual(replies(told(client, b"hello anna\nmake /a\nlist /\nquit\n", 4)), ["OK session", "ERR 80", "OK list 0", "OK left"])
+        self.assertIn(b"the log can't be written: No space left on device. Nothing was sent on", process.communicate(timeout=20)[1])
+
+    def test_no_log(self) -> None:
+        process, client = self.gate("--log", "/nowhere/log")
+        self.assertEqual(heard(client), b"")
+        said = process.communicate(timeout=20)[1]
+        self.assertEqual((process.returncode, b"/nowhere/log can't be opened" in said), (1, True))
+
+    def test_system_log(self) -> None:
+        """Each line goes to the system's log, too; where there is none, that is said once."""
+        path = str(self.door.folder / "syslog")
+        with socket.socket(socket.AF_UNIX, socket.SOCK_DGRAM) as system:
+            system.bind(path)
+            process, client = self.gate("--syslog", path)
+            told(client, b"hello anna\nmake /a\nquit\n", 3)
+            self.assertEqual(process.communicate(timeout=20)[1], b"")
+            lines = [system.recv(65536).decode("ascii") for _ in range(2)]
+        for line, written in zip(lines, self.door.logged()):
+            self.assertRegex(line, r"^<86>[A-Z][a-z]{2} [ \d]\d \d\d:\d\d:\d\d vaultd-gate\[\d+\]: ")
+            self.assertTrue(line.endswith("]: " + written), (line, written))
+        process, client = self.gate("--syslog", path + "-none")
+        told(client, b"hello anna\nmake /b\nquit\n", 3)
+        self.assertEqual(process.communicate(timeout=20)[1].count(b"no system log takes lines"), 1)
+
+    def test_ends_with_the_connection(self) -> None:
+        """The gate ends with its client, with its server, behind 4,096 lines, and behind 16 MiB."""
+        process, client = self.gate()
+        told(client, b"hello anna\n", 1)
+        client.close()
+        self.assertEqual(process.wait(20), 0)
+        process, client = self.gate()
+        self.assertEqual(heard_all(client, b"\n" * 5000).count(b"ERR 10\n"), 4096)
+        process, client = self.gate()
+        client.settimeout(60)
+        with self.assertRaises(OSError):
+            for _ in range(400):
+                client.sendall(b"x" * 65536)
+        self.assertEqual(process.wait(20), 0)
+        process, client = self.gate()
+        told(client, b"hello anna\n", 1)
+        self.server.kill()
+        self.assertEqual((heard(client), process.wait(20)), (b"", 0))
+        process, client = self.gate()
+        self.assertEqual(heard(client), b"")
+        self.assertIn(b"no server answers at 127.0.0.1", process.communicate(timeout=20)[1])
+
+    def test_pipes(self) -> None:
+        """A gate whose input ends tells what was asked before that."""
+        done = subprocess.run(self.door.gate("anna"), input=b"hello anna\nlist /\n", capture_output=True, timeout=20, check=True)
+        self.assertEqual(replies(done.stdout), ["OK session", "OK list 0"])
+
+    def test_command_line(self) -> None:
+        wrong: List[List[str]] = [["--as", "Anna"], ["--as", ""], ["--as", "an na"], [], ["--as", "anna", "--server", "x"],
+                                  ["--as", "anna", "ben"], ["--as", "anna", "--rea"]]
+        for words in wrong:
+            done = subprocess.run([self.door.gate("anna")[0], *words], capture_output=True, timeout=20, check=False)
+            self.assertEqual(done.returncode, 2, words)
+
+
+def heard_all(connection: socket.socket, text: bytes) -> bytes:
+    """Sends a text while it listens, and answers all that is told."""
+    connection.sendall(text)
+    return b"".join(iter(lambda: taken(connection), b""))
+
+
+def taken(connection: socket.socket) -> bytes:
+    """What comes next, nothing at the end, however it ends."""
+    try:
+        return connection.recv(65536)
+    except ConnectionResetError:
+        return b""
+
+
+class LogLines(unittest.TestCase):
+    """What `vaultd-log` makes of lines that a log should not have."""
+
+    def test_damaged(self) -> None:
+        damaged: List[str] = []
+        before = "2026-11-27T20:53:02.500685Z id=bd8cc6d4a12f03e7.3 vault=h:1 from=- key=- by=anna as=anna "
+        found = list(records([before + "asks make /e\n", before[:44] + before + "told make /e -> OK place 1\n", before + "told make\n", "\n",
+                              before + "says make /e\n", before.replace("anna", "An")], damaged))
+        self.assertEqual([(record.kind, record.words, record.reply) for record in found],
+                         [("asks", ("make", "/e"), ""), ("told", ("make", "/e"), "OK place 1"), ("told", ("make",), "")])
+        self.assertEqual(len(damaged), 3)
+        self.assertEqual([record.done for record in outcomes(found[:2])], [True])
+        self.assertEqual([record.done for record in outcomes(found[:1])], [None])
+
+
+class Keys(unittest.TestCase):
+    """What `vaultd-gate-keys` says of a file of keys: the example of contrib/gate, and lines that tie a key to no name."""
+
+    GOOD = 'restrict,command="/usr/sbin/vaultd-gate --as anna --log /var/log/g" '
+    KEY = "ssh-ed25519 AAAAC3NzaC1lZDI1NTE5AAAAIAAAAAAAAAAAAAAAAAAAAAAAAAAAAAAAAAAAAAAAAAAA"
+
+    def test_example(self) -> None:
+        lines = (TOP / "contrib" / "gate" / "authorized_keys").read_text("utf-8").splitlines()
+        told, wrong = complaints_of(lines)
+        self.assertEqual([sentence.partition(": ")[0] for sentence in told], ["anna", "anna", "guest, only asks", "eva or anybody"])
+        self.assertEqual(wrong, [])
+
+    def test_complaints(self) -> None:
+        no_gate = "none that the gate takes"
+        for options, complaint in (
+                ("", "it has no command"), ("restrict ", "it has no command"), (self.GOOD.replace("restrict,", ""), "it has no `restrict`"),
+                (self.GOOD.replace("restrict,", "restrict,pty,"), "it has `pty`"), (self.GOOD.replace(" --as anna", ""), no_gate),
+                (self.GOOD.replace("restrict,", "restrict,port-forwarding,"), "it has `port-forwarding`"),
+                (self.GOOD.replace("restrict,", 'restrict,environment="PYTHONPATH=/tmp",'), "it has `environment`"),
+                (self.GOOD.replace("anna", "Anna"), no_gate), (self.GOOD.replace("vaultd-gate", "sh"), "its command is not the gate"),
+                (self.GOOD.replace("/usr/sbin/", ""), "its command is not the gate"), (self.GOOD.replace('/g"', '/g;sh"'), "a shell reads"),
+                (self.GOOD.replace("anna", "$SSH_ORIGINAL_COMMAND"), no_gate), ("cert-authority," + self.GOOD, "cert-authority"),
+                (self.GOOD.replace(" --log", '",command="sh'), "it can't be read"), ("restrict,command=vaultd-gate ", "it can't be read")):
+            with self.subTest(options):
+                _, wrong = complaints_of([options + self.KEY])
+                self.assertIn(complaint, "".join(wrong[:1]))
+        self.assertEqual(complaints_of([self.GOOD + self.KEY])[1], [])
+        self.assertIn("the key of line 1", complaints_of([self.GOOD + self.KEY, self.GOOD.replace("anna", "ben") + self.KEY])[1][0])
+
+
+@unittest.skipUnless(os.getuid() == 0, "needs root, for namespaces of its own")
+class SetUp(unittest.TestCase):
+    """The gate as it is installed, in namespaces of its own: users, sshd's settings, the rule by user."""
+
+    def test_try(self) -> None:
+        done = subprocess.run([str(TOP / "contrib" / "gate" / "try"), VAULTD], stdin=subprocess.DEVNULL, stdout=subprocess.PIPE,
+                              stderr=subprocess.STDOUT, text=True, timeout=240, check=False)
+        self.assertEqual(done.returncode, 0, done.stdout)
+        self.assertRegex(done.stdout, r"\n[3-9]\d passed, 0 failed\n$")
+
+
+if __name__ == "__main__":
+    unittest.main()
