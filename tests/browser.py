@@ -1,0 +1,83 @@
+"""A real browser for tests, headless, and a server of the pages that it is to open."""
+
+import functools
+import http.server
+import shutil
+import tempfile
+import threading
+from pathlib import Path
+from typing import Any
+
+from selenium import webdriver
+from selenium.common.exceptions import WebDriverException
+from selenium.webdriver.chrome.service import Service
+
+SECONDS = 20
+WORDS = (
+    "--headless=new", "--no-sandbox", "--disable-gpu", "--disable-dev-shm-usage", "--no-first-run", "--disable-background-networking",
+    "--disable-component-update", "--disable-sync", "--host-resolver-rules=MAP * ~NOTFOUND, EXCLUDE 127.0.0.1")
+
+
+def needed(name: str) -> str:
+    """Where a program is that a test needs. One that is missing fails the test."""
+    path = shutil.which(name)
+    if path is None:
+        raise AssertionError(f"there is no `{name}` on the path: run tools/prepare")
+    return path
+
+
+class Pages:
+    """Serves the files of a folder on a port of its own, which makes them another origin than any other server's."""
+
+    def __init__(self, folder: Path):
+        handler = functools.partial(QuietHandler, directory=str(folder))
+        self.server = http.server.ThreadingHTTPServer(("127.0.0.1", 0), handler)
+        self.origin = f"http://127.0.0.1:{self.server.server_port}"
+        threading.Thread(target=self.server.serve_forever, daemon=True).start()
+
+    def close(self) -> None:
+        """Serves no more."""
+        self.server.shutdown()
+        self.server.server_close()
+
+
+class QuietHandler(http.server.SimpleHTTPRequestHandler):
+    """Hands out files and says nothing of it."""
+
+    def log_message(self, format: str, *words: Any) -> None:
+        """Says nothing."""
+
+
+class Browser:
+    """Chromium with a profile of its own, which finds no host but 127.0.0.1."""
+
+    def __init__(self) -> None:
+        self.profile = tempfile.TemporaryDirectory(prefix="vault-browser-", ignore_cleanup_errors=True)
+        options = webdriver.ChromeOptions()
+        options.binary_location = needed("chromium")
+        for word in (*WORDS, f"--user-data-dir={self.profile.name}"):
+            options.add_argument(word)  # type: ignore[no-untyped-call]
+        self.driver = webdriver.Chrome(options=options, service=Service(needed("chromedriver")))
+        self.driver.set_page_load_timeout(SECONDS)
+        self.driver.set_script_timeout(SECONDS)
+
+    def close(self) -> None:
+        """Ends it."""
+        self.driver.quit()
+        self.profile.cleanup()
+
+    def open(self, address: str) -> None:
+        """Opens a page, which has to load."""
+        self.driver.get(address)
+
+    def try_to_open(self, address: str) -> None:
+        """Opens an address, as a person would by its line at the top, whatever comes of it."""
+        try:
+            self.driver.get(address)
+        except WebDriverException:
+            pass
+
+    def value(self, expression: str) -> Any:
+        """What an expression of JavaScript comes to in the page, awaited where it is a promise."""
+        script = f"const told = arguments[0]; Promise.resolve({expression}).then(told, error => told('failed: ' + error));"
+        return self.driver.execute_async_script(script)
