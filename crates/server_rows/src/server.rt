@@ -1,5 +1,7 @@
 //! A server over TCP on this machine, and its clients. The clients' lines wait for it.
 
+ghost use Rattle.std.specs.Prelude.{◌<◌, ◌≤◌, IfSome};
+
 use crate::devices::{Devices, Piece, Sender};
 use crate::filling::{Begun, CREATION, Start, begun};
 use crate::holding::{Holding, Rule, TURNS};
@@ -73,12 +75,16 @@ pub struct Serving {
 }
 
 impl Serving {
-    fn workers(&self) -> usize {
+    fn workers(&self) -> usize
+        ensures { (0 < result) × (result ≤ 64) }
+    {
         if self.has_two_workers { 2 } else { 1 }
     }
 
     // What it keeps to, where it is no server as any other.
-    fn terms(&self) -> Option<Terms> {
+    fn terms(&self) -> Option<Terms>
+        ensures { IfSome result (λ terms. (0 < terms.workers) × (terms.workers ≤ 64)) }
+    {
         let is_plain = self.idle.is_none()
             && self.hello.is_none()
             && self.line.is_none()

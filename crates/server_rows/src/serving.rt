@@ -4,6 +4,12 @@ use crate::devices::{Piece, is_text};
 use crate::filling::CREATION;
 use crate::holding::Rule;
 use crate::server::{Client, ENDED, HEAD, Outcome, PLAIN, Serving, served};
+use std::alloc::Global;
+use std::net::{Net, TcpListener, TcpStream};
+use std::process::Abort;
+use std::sync::Wait;
+use std::thread::Threads;
+use std::time::Clock;
 use test_memory::Refusing;
 use vault_server::ServerError;
 use vault_sessions::{Point, Totals};
@@ -137,7 +143,7 @@ const SHARED_TWICE: &[&[Piece]] = &[
     )],
 ];
 
-static SERVINGS: [Serving; 20] = [
+static SERVINGS: [Serving; 7] = [
     Serving {
         name: "a round over tcp",
         has_two_workers: true,
@@ -267,6 +273,10 @@ static SERVINGS: [Serving; 20] = [
         },
         ..PLAIN
     },
+];
+
+// More of them.
+static MORE_SERVINGS: [Serving; 7] = [
     // Each holding of the lock makes one step: a commit with an effect takes four, of one device call each, and one without takes one.
     Serving {
         name: "one pump a holding",
@@ -392,6 +402,10 @@ static SERVINGS: [Serving; 20] = [
         },
         ..PLAIN
     },
+];
+
+// And the last ones.
+static LAST_SERVINGS: [Serving; 6] = [
     // Nothing is staged, and nothing is told.
     Serving {
         name: "another protocol's first line ends a connection",
@@ -523,15 +537,38 @@ fn is_one_of(text: &[u8], texts: &'static [&'static [Piece]]) -> bool {
     false
 }
 
+// Whether a server comes to what its row says.
+fn comes_as_said<
+    R: Net<Listener = TcpListener, Stream = TcpStream> + Threads + Wait + Clock + Sync + Abort,
+>(rt: &R, global: Global, memory: &Refusing<Global>, serving: &Serving) {
+    let (came, heard, pumps) = served(rt, global, memory, serving, 0);
+    let is_right = came == serving.came
+        && is_one_of(heard.as_bytes(), serving.hears)
+        && (pumps == serving.pumps || serving.pumps.is_none() && pumps.is_some());
+    assert!(rt; is_right, "{}: {came:?} {pumps:?} {heard}", serving.name);
+    drop(heard);
+}
+
 #[test]
 fn each_server_comes_to_what_its_row_says(rt: HostRuntime) {
     let memory = Refusing::new(rt.alloc());
     for serving in &SERVINGS {
-        let (came, heard, pumps) = served(&rt, rt.alloc(), &memory, serving, 0);
-        let is_right = came == serving.came
-            && is_one_of(heard.as_bytes(), serving.hears)
-            && (pumps == serving.pumps || serving.pumps.is_none() && pumps.is_some());
-        assert!(rt; is_right, "{}: {came:?} {pumps:?} {heard}", serving.name);
-        drop(heard);
+        comes_as_said(&rt, rt.alloc(), &memory, serving);
+    }
+}
+
+#[test]
+fn each_further_server_comes_to_what_its_row_says(rt: HostRuntime) {
+    let memory = Refusing::new(rt.alloc());
+    for serving in &MORE_SERVINGS {
+        comes_as_said(&rt, rt.alloc(), &memory, serving);
+    }
+}
+
+#[test]
+fn each_last_server_comes_to_what_its_row_says(rt: HostRuntime) {
+    let memory = Refusing::new(rt.alloc());
+    for serving in &LAST_SERVINGS {
+        comes_as_said(&rt, rt.alloc(), &memory, serving);
     }
 }
