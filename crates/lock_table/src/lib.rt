@@ -13,7 +13,7 @@
 //!    beside it, of exactly these and of the held ones.
 //! 5. `Table`: beside each entry stands what it waits for.
 //!
-//! Only measured: how long a call takes (docs/MAP.md, "Speed").
+//! Only measured: how long a call takes (bench/RESULTS.md).
 //! Start at: specs/ClaimModes.antt and locks.rt, `lock_set`; then table.rt, and waits.rt for who waits for whom.
 #![tactic(auto)]
 
