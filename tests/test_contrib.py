@@ -69,7 +69,7 @@ class Contrib(unittest.TestCase):
             self.assertEqual(program.read_text("utf-8").partition("\n")[0], "#!/usr/bin/python3")
             self.assertIn("usage: " + program.name, self.said(str(program), "--help"))
         self.assertIn("places 2", self.said(str(backup), "--vaultd", VAULTD, *server.files, str(self.root / "kept")))
-        for page in ("man1/vault.1.gz", "man5/vault-files.5.gz", "man8/vaultd.8.gz", "man8/vaultd-board.8.gz"):
+        for page in ("man1/vault.1.gz", "man5/vault-files.5.gz", "man8/vaultd.8.gz", "man8/vaultd-board.8.gz", "man8/vaultd-watch.8.gz"):
             self.assertTrue((self.root / "usr" / "share" / "man" / page).exists(), page)
         self.assertIn("usage", self.said(str(CONTRIB / "install"), "--destdir", status=2))
 
@@ -104,25 +104,25 @@ class Contrib(unittest.TestCase):
         shutil.copy(CONTRIB / "replicated" / "var-lib-vaultd.mount", units)
         for source, kept in ((CONTRIB / "systemd" / "vaultd.service", "vaultd.service"),
                              (CONTRIB / "replicated" / "replicated.conf", "vaultd.service.d/replicated.conf")):
-            text = source.read_text("utf-8").replace("/usr/sbin/vaultd", str(program))
+            text = re.sub("/usr/sbin/vaultd(-watch)?", str(program), source.read_text("utf-8"))
             (units / kept).write_text(text.replace("/usr/share/vaultd/replicated/settle", str(program)), "utf-8")
         self.assertEqual(self.said("systemd-analyze", "verify", "--man=no", str(units / "vaultd.service"),
                                    str(units / "var-lib-vaultd.mount")), "")
 
     @unittest.skipUnless(shutil.which("systemd-analyze"), "needs systemd-analyze")
     def test_units(self) -> None:
-        """Both units are accepted, and rated as the page on operating says."""
-        program = self.root / "vaultd"
-        self.root.mkdir()
-        shutil.copy("/bin/true", program)
-        units = []
-        for name, kept in (("vaultd.service", "vaultd.service"), ("vaultd@.service", "vaultd@plant.service")):
-            text = (CONTRIB / "systemd" / name).read_text("utf-8").replace("/usr/sbin/vaultd", str(program))
-            (self.root / kept).write_text(text, "utf-8")
-            units.append(str(self.root / kept))
+        """All units are accepted as they are installed, and the server's are rated as the page on operating says."""
+        self.install()
+        folder = self.root / "usr" / "lib" / "systemd" / "system"
+        for unit in list(folder.iterdir()):
+            unit.write_text(unit.read_text("utf-8").replace("/usr/sbin/", str(self.root / "usr" / "sbin") + "/"), "utf-8")
+            if "@" in unit.name:
+                shutil.copy(unit, folder / unit.name.replace("@", "@plant"))
+        units = sorted(str(unit) for unit in folder.iterdir() if "@." not in unit.name)
+        self.assertGreaterEqual(len(units), 14)
         self.assertEqual(self.said("systemd-analyze", "verify", "--man=no", *units), "")
-        for unit in units:
-            rated = self.said("systemd-analyze", "security", "--offline=true", "--no-pager", unit)
+        for unit in (folder / "vaultd.service", folder / "vaultd@plant.service"):
+            rated = self.said("systemd-analyze", "security", "--offline=true", "--no-pager", str(unit))
             found = re.search(r"Overall exposure level for .*: ([0-9.]+)", rated)
             self.assertIsNotNone(found)
             rating = found.group(1) if found else ""

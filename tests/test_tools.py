@@ -80,6 +80,39 @@ class Backup(WithVault):
         self.assertGreater(told[0], 0)
         self.assertEqual(len(list(kept.iterdir())), 5)
 
+    def test_keep(self) -> None:
+        """The newest stay, with the new one among them, whatever its name; what is no backup of this tool's stays, too."""
+        kept = self.folder / "kept"
+        for name in ("2026-01-01T000000.000000Z", "2026-01-02T000000.000000Z", "9999-01-01T000000.000000Z", "2026-01-03T000000.000000Z"):
+            (kept / name).mkdir(parents=True)
+            for file in "ab":
+                (kept / name / file).touch()
+        (kept / "2026-01-03T000000.000000Z" / "note").touch()
+        (kept / "mine").mkdir()
+        for name in (".partial-old", ".partial-new"):
+            (kept / name).mkdir()
+        os.utime(kept / ".partial-old", (0, 0))
+        said = self.tool("backup", str(kept), "--keep", "2")
+        new = Path(said.partition(": ")[0]).name
+        self.assertEqual({path.name for path in kept.iterdir()},
+                         {new, "9999-01-01T000000.000000Z", "2026-01-03T000000.000000Z", "mine", ".partial-new"})
+        self.assertEqual(said.count("was taken away"), 2)
+        newest = Path(self.tool("backup", str(kept), "--keep", "1").partition(": ")[0]).name
+        self.assertEqual({path.name for path in kept.iterdir() if len(list(path.iterdir())) == 2}, {newest, "9999-01-01T000000.000000Z"})
+        for wrong in ("0", "-1", "x"):
+            self.tool("backup", str(kept), "--keep", wrong, status=2)
+
+    def test_keep_where_none_was_made(self) -> None:
+        """A backup that fails takes none away."""
+        kept = self.folder / "kept"
+        for _ in range(2):
+            self.tool("backup", str(kept))
+        before = sorted(kept.iterdir())
+        self.server.kill()
+        damage(Path(self.server.files[0]), 34, 1, b"\xff" * 4)
+        self.tool("backup", str(kept), "--tries", "1", "--keep", "1", status=1)
+        self.assertEqual(sorted(kept.iterdir()), before)
+
     def test_of_a_damaged_vault(self) -> None:
         self.server.kill()
         damage(Path(self.server.files[0]), 34, 1, b"\xff" * 4)

@@ -1,27 +1,36 @@
-"""Copies the two files of a vault while its server runs, looks whether the copy opens, and tries again where it doesn't, or where the
-server wrote a snapshot over the copied file meanwhile.
+"""Copies the two files of a vault while its server runs, looks whether a server would serve the copy, and tries again where it wouldn't,
+or where the server wrote a snapshot over the copied file meanwhile.
 """
 
 import argparse
 import os
+import re
 import shutil
 import tempfile
 import time
 from datetime import datetime, timezone
 from pathlib import Path
+from typing import List, Tuple
 
-from vaultd_tools.files import ToolError, copy_vault, find_vaultd, has_head_of, inspect, say_error, sync_folder
+from vaultd_tools.files import ToolError, check, copy_vault, find_vaultd, has_head_of, inspect, say_error, sync_folder
+
+KEPT = re.compile(r"\d{4}-\d\d-\d\dT\d{6}\.\d{6}Z")
+PARTIAL = ".partial-"
+PARTIAL_SECONDS = 86400
 
 
-def one_try(vaultd: str, first: str, second: str, folder: Path) -> str:
-    """Copies once into a new folder beside the backups; answers what is kept, or raises."""
+def one_try(vaultd: str, first: str, second: str, folder: Path) -> Tuple[Path, str]:
+    """Copies once into a new folder beside the backups; answers where that is, and what is kept, or raises."""
     begun = datetime.now(timezone.utc)
-    partial = Path(tempfile.mkdtemp(prefix=".partial-", dir=str(folder)))
+    partial = Path(tempfile.mkdtemp(prefix=PARTIAL, dir=str(folder)))
     try:
         copies = copy_vault(first, second, partial)
         report = inspect(vaultd, copies)
         if report.counts is None:
             raise ToolError("the copy does not open:\n" + report.text.rstrip())
+        checked = check(vaultd, str(copies["a"]), str(copies["b"]))
+        if not checked.get("served"):
+            raise ToolError(f"a server wouldn't serve the copy: {checked.get('reason')}")
         active = report.active() or "a"
         if not has_head_of(first if active == "a" else second, copies[active]):
             raise ToolError(f"file {active} was written anew while it was copied")
@@ -32,7 +41,41 @@ def one_try(vaultd: str, first: str, second: str, folder: Path) -> str:
         shutil.rmtree(partial, ignore_errors=True)
         raise
     told = f"What was told before {begun.strftime('%H:%M:%S')} UTC is in it; of what came later, a first part may be."
-    return f"{kept}: {report.counts}\n{told}"
+    return kept, f"{kept}: {report.counts}\n{told}"
+
+
+def whole(folder: Path) -> bool:
+    """Whether a folder is a backup that was made here: by its name, and by what is in it."""
+    return KEPT.fullmatch(folder.name) is not None and not folder.is_symlink() and sorted(os.listdir(folder)) == ["a", "b"]
+
+
+def take_away(folder: Path) -> None:
+    """Takes a folder away. It loses its name first, so a half of it is never taken for a backup."""
+    hidden = folder.with_name(f"{PARTIAL}{folder.name.lstrip('.')}")
+    if hidden != folder:
+        os.rename(folder, hidden)
+        sync_folder(folder.parent)
+    shutil.rmtree(hidden)
+
+
+def thin_out(folder: Path, keep: int, new: Path) -> List[Path]:
+    """Takes away all backups but the newest ones by their names, and what killed runs left a day ago or earlier; answers the backups that
+    went. The new one stays also where an earlier one has a later name, as behind a clock that was wrong."""
+    for partial in folder.glob(PARTIAL + "*"):
+        if partial.is_dir() and time.time() - partial.stat().st_mtime > PARTIAL_SECONDS:
+            shutil.rmtree(partial)
+    backups = sorted(path for path in folder.iterdir() if path.is_dir() and whole(path))
+    old = [path for path in backups[:-keep] if path != new]
+    for path in old:
+        take_away(path)
+    return old
+
+
+def how_many(word: str) -> int:
+    """How many backups are kept."""
+    if not (word.isascii() and word.isdigit() and int(word) > 0):
+        raise argparse.ArgumentTypeError("it is a number from 1 on")
+    return int(word)
 
 
 def words() -> argparse.Namespace:
@@ -42,24 +85,34 @@ def words() -> argparse.Namespace:
     parser.add_argument("second", metavar="B", help="the vault's second file")
     parser.add_argument("folder", metavar="FOLDER", help="where backups are kept, each in a folder named after its time")
     parser.add_argument("--tries", type=int, default=5, metavar="N", help="how often a copy that is no good is made again (5)")
+    parser.add_argument("--keep", type=how_many, metavar="N", help="take away all backups in FOLDER but the newest N, once a new one is there")
     parser.add_argument("--vaultd", metavar="PROGRAM", help="the program vaultd")
     return parser.parse_args()
 
 
+def made(vaultd: str, asked: argparse.Namespace, folder: Path) -> Tuple[Path, str]:
+    """Makes a backup, in as many tries as were asked for; answers where it is, and what was kept."""
+    failed = ""
+    for number in range(max(1, asked.tries)):
+        time.sleep(0.2 * number)
+        try:
+            return one_try(vaultd, asked.first, asked.second, folder)
+        except ToolError as error:
+            failed = str(error)
+    raise ToolError(f"no backup was made: {failed}\nIf the server is stopped, the vault itself is damaged: keep both files, take"
+                    " the last backup, and see vaultd-salvage.")
+
+
 def main() -> int:
-    """0 where a backup was made, 1 where none was."""
-    asked, failed = words(), ""
+    """0 where a backup was made, and no more are kept than were asked for, else 1."""
+    asked = words()
     try:
         vaultd, folder = find_vaultd(asked.vaultd), Path(asked.folder)
         folder.mkdir(mode=0o750, parents=True, exist_ok=True)
-        for number in range(max(1, asked.tries)):
-            time.sleep(0.2 * number)
-            try:
-                print(one_try(vaultd, asked.first, asked.second, folder))
-                return 0
-            except ToolError as error:
-                failed = str(error)
-        raise ToolError(f"no backup was made: {failed}\nIf the server is stopped, the vault itself is damaged: keep both files, take"
-                        " the last backup, and see vaultd-salvage.")
+        new, said = made(vaultd, asked, folder)
+        print(said, flush=True)
+        for path in thin_out(folder, asked.keep, new) if asked.keep else []:
+            print(f"{path} was taken away")
+        return 0
     except (ToolError, OSError) as error:
         return say_error("vaultd-backup", error)

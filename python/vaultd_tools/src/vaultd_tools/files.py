@@ -1,5 +1,6 @@
-"""What the tools around vaultd share: copies of a vault's two files, and what `vaultd inspect` says of them."""
+"""What the tools around vaultd share: copies of a vault's two files, and what `vaultd inspect` and `vaultd check` say of them."""
 
+import json
 import os
 import re
 import shutil
@@ -8,7 +9,7 @@ import sys
 import time
 from dataclasses import dataclass
 from pathlib import Path
-from typing import Dict, List, Optional, Tuple
+from typing import Any, Dict, List, Optional, Tuple
 
 PIECE = 65536
 HEAD = 24
@@ -74,6 +75,19 @@ def inspect(vaultd: str, files: Dict[str, Path]) -> Report:
         raise ToolError(f"`vaultd inspect` said: {done.stderr.strip() or done.returncode}. Look at the rights and the disk of"
                         f" {files['a']} and {files['b']}.")
     return Report(done.stdout)
+
+
+def check(vaultd: str, first: str, second: str) -> Dict[str, Any]:
+    """What `vaultd check --json` says of two files, which it only reads: `served` says whether a server would start."""
+    done = subprocess.run([vaultd, "check", "--json", first, second], capture_output=True, text=True, errors="replace", check=False)
+    try:
+        found = json.loads(done.stdout)
+    except ValueError:
+        found = None
+    if done.returncode not in (0, 1) or not isinstance(found, dict):
+        raise ToolError(f"`vaultd check --json` said: {done.stderr.strip().partition(chr(10))[0] or done.returncode}. Look at the rights and the"
+                        f" disk of {first} and {second}.")
+    return found
 
 
 def copy_vault(first: str, second: str, folder: Path) -> Dict[str, Path]:

@@ -1,0 +1,163 @@
+"""The watch over a server, and the figures of a vault, on real servers that serve, are busy, deaf, broken or away."""
+
+import contextlib
+import os
+import re
+import signal
+import socket
+import subprocess
+import threading
+import unittest
+from pathlib import Path
+from typing import Dict, List, Tuple
+
+from servers import MEMORY, VAULTD, Limits, Server, program
+from test_tools import WithVault, damage, gates
+from tries import told
+
+from vault import Client
+
+
+class Watch(WithVault):
+    """What is found of a server, and the marks."""
+
+    def asked(self, port: int = 0, patience: float = 5.0) -> Tuple[int, str]:
+        """The status and the line of a look at the server."""
+        done = subprocess.run([*program("vaultd-watch"), "ask", f"127.0.0.1:{port or self.server.port}", "--patience", str(patience)],
+                              capture_output=True, text=True, timeout=60, check=False)
+        self.assertEqual(done.stderr, "")
+        return done.returncode, done.stdout
+
+    def acted(self, kind: str, status: str, unit: str = "vaultd.service") -> Tuple[int, str]:
+        """The status of what follows from a look, and what it says. No service manager is asked here."""
+        done = subprocess.run([*program("vaultd-watch"), kind, unit, "--marks", str(self.folder / "marks")], capture_output=True, text=True,
+                              timeout=60, check=False, env={**os.environ, "EXIT_STATUS": status, "PATH": "/nowhere"})
+        return done.returncode, done.stderr
+
+    def test_serves(self) -> None:
+        self.assertEqual(self.asked(), (0, f"127.0.0.1:{self.server.port} serves.\n"))
+        self.server.kill()
+        self.assertEqual(self.asked(), (5, f"nobody listens at 127.0.0.1:{self.server.port}.\n"))
+
+    def test_deaf(self) -> None:
+        """A server that is stopped in its tracks gives no answer; the same one that goes on does."""
+        assert self.server.process is not None
+        self.server.process.send_signal(signal.SIGSTOP)
+        status, said = self.asked(patience=1)
+        self.assertEqual((status, "is deaf: it gave no answer in 1 seconds" in said), (3, True))
+        self.server.process.send_signal(signal.SIGCONT)
+        self.assertEqual(self.asked()[0], 0)
+
+    def test_busy(self) -> None:
+        """A server that says `ERR 80`, or that no session is free, isn't deaf."""
+        server = Server("--workers", "1", "--full", "1", folder=MEMORY)
+        self.addCleanup(server.close)
+        server.start()
+        with server.connect() as first:
+            told(first, b"hello anna\n", 1)
+            status, said = self.asked(server.port, 10)
+        self.assertEqual((status, "is busy: it said ERR 80" in said), (0, True))
+
+    def test_broken(self) -> None:
+        self.server.kill()
+        self.server.start(Limits(file_bytes=Path(self.server.files[0]).stat().st_size))
+        with self.server.connect() as other:
+            self.assertIn(b"ERR 82", told(other, b"hello ben\nmake /x\n", 2))
+        status, said = self.asked()
+        self.assertEqual((status, "is broken: it said ERR 82" in said), (4, True))
+        self.assertEqual(self.acted("act", "4")[0], 0)
+        self.assertTrue((self.folder / "marks" / "vaultd.broken").read_text("utf-8").endswith("its server said ERR 82\n"))
+        self.assertIn("is deaf, and isn't restarted", self.acted("act", "3")[1])
+
+    def test_something_else(self) -> None:
+        """What is no vault's server is neither deaf nor broken."""
+        for answer in (b"", b"HTTP/1.1 400 Bad Request\r\n", b"x" * 5000, b"OK session 1\nERR 11\n"):
+            with socket.create_server(("127.0.0.1", 0)) as listener:
+                listening = threading.Thread(target=answer_once, args=(listener, answer))
+                listening.start()
+                self.assertEqual(self.asked(int(listener.getsockname()[1]))[0], 1, answer)
+                listening.join()
+
+    def test_no_mark(self) -> None:
+        """What is well, busy, stopped or unknown is left alone, and a unit's name leads nowhere else."""
+        for status in ("0", "1", "5", "", "TERM"):
+            self.assertEqual(self.acted("act", status), (0, ""))
+        self.assertFalse((self.folder / "marks").exists())
+        for unit in ("../vaultd.service", "/etc/passwd", ".service", "..", ""):
+            self.assertEqual(self.acted("act", "4", unit)[0], 1, unit)
+        self.assertEqual(list(self.folder.glob("*.broken")), [])
+
+
+def answer_once(listener: socket.socket, answer: bytes) -> None:
+    """Takes a connection, says something whatever it hears, and ends it."""
+    connection, _ = listener.accept()
+    with connection:
+        connection.recv(100)
+        connection.sendall(answer)
+        connection.shutdown(socket.SHUT_WR)
+        with contextlib.suppress(ConnectionResetError):
+            while connection.recv(100):
+                pass
+
+
+class Metrics(WithVault):
+    """The file for Prometheus."""
+
+    LINE = re.compile(r'(vaultd_[a-z_]+)\{vault="plant"(?:,limit="([a-z-]+)")?\} ([0-9.e+-]+)')
+
+    def figures(self, status: int = 0) -> Dict[str, float]:
+        """What is written of the vault, each with its name."""
+        file = self.folder / "vault.prom"
+        done = subprocess.run([*program("vaultd-metrics"), "--vaultd", VAULTD, "--name", "plant", *self.server.files,
+                               f"127.0.0.1:{self.server.port}", str(file)], capture_output=True, text=True, timeout=60, check=False)
+        self.assertEqual(done.returncode, status, done.stderr)
+        self.assertEqual([path for path in self.folder.iterdir() if path.name.startswith(".")], [])
+        self.assertEqual(file.stat().st_mode & 0o777, 0o644)
+        samples = [line for line in file.read_text("utf-8").splitlines() if not line.startswith("#")]
+        found = [self.LINE.fullmatch(line) for line in samples]
+        self.assertNotIn(None, found, samples)
+        return {match[1] + (":" + match[2] if match[2] else ""): float(match[3]) for match in found if match}
+
+    def test_of_a_running_vault(self) -> None:
+        """Each figure is the vault's, and the same once more where nothing happened."""
+        ben = Client("ben", "127.0.0.1", self.server.port, self.folder / "state")
+        self.addCleanup(ben.close)
+        ben.checkout(["r:/engine"])
+        found = self.figures()
+        wanted = {"up": 1, "broken": 0, "check_ok": 1, "places": 4, "versions": 0, "drafts": 1, "claims": 2, "held": 1, "waiting": 1,
+                  "generation": 1, "weight": len(b"bore 80") + 8, "limit:places": 4096, "limit_used:places": 4}
+        self.assertEqual({name: found.get("vaultd_" + name) for name in wanted}, wanted)
+        length = sum(5 + size for size in self.frames())
+        self.assertEqual(found["vaultd_journal"], length)
+        self.assertLess(found["vaultd_last_commit_age_seconds"], 60)
+        self.assertEqual(self.figures()["vaultd_journal"], length)
+
+    def frames(self) -> List[int]:
+        """How long the frames of the first file are."""
+        data = Path(self.server.files[0]).read_bytes()
+        return [int.from_bytes(data[gate + 1:gate + 5], "big") for gate in gates(Path(self.server.files[0]))]
+
+    def test_of_a_stopped_vault(self) -> None:
+        self.server.kill()
+        found = self.figures()
+        self.assertEqual((found["vaultd_up"], found["vaultd_broken"], found["vaultd_places"]), (0, 0, 4))
+
+    def test_of_a_broken_vault(self) -> None:
+        self.server.kill()
+        self.server.start(Limits(file_bytes=Path(self.server.files[0]).stat().st_size))
+        with self.server.connect() as other:
+            told(other, b"hello ben\nmake /x\n", 2)
+        found = self.figures()
+        self.assertEqual((found["vaultd_up"], found["vaultd_broken"], found["vaultd_places"]), (1, 1, 4))
+
+    def test_of_a_damaged_vault(self) -> None:
+        """What isn't known is left out."""
+        self.server.kill()
+        damage(Path(self.server.files[0]), 34, 1, b"\xff" * 4)
+        found = self.figures(status=1)
+        self.assertEqual((found["vaultd_up"], found["vaultd_check_ok"]), (0, 0))
+        self.assertNotIn("vaultd_places", found)
+
+
+if __name__ == "__main__":
+    unittest.main()
