@@ -1,0 +1,104 @@
+"""The two packages for Debian: what is in them, and a Debian of its own in which they are installed, used by the commands of the page on
+operating, and removed."""
+
+import re
+import shutil
+import subprocess
+import tempfile
+import unittest
+from pathlib import Path
+from typing import Dict, List
+
+import machines
+from servers import TOP, VAULTD
+
+OPERATING = (TOP / "docs" / "OPERATING.md").read_text("utf-8")
+# The first command of each block that the machine runs.
+BLOCKS = {"start.sh": "contrib/install", "broken.sh": "journalctl -u vaultd -n 20", "metrics.sh": "apt-get install prometheus-node-exporter",
+          "gate.sh": "apt-get install openssh-server nftables"}
+# There is no network in the machine, and the packages are there.
+PREAMBLE = "set -eux\napt-get() { true; }\ncontrib/install() { true; }\n"
+MACHINE_SECONDS = 300
+
+
+def block_of(first: str) -> str:
+    """The block of the page that begins with a command."""
+    found = [block for block in re.findall(r"```sh\n(.*?)```", OPERATING, re.DOTALL) if block.startswith(first)]
+    assert len(found) == 1, (first, len(found))
+    return str(found[0])
+
+
+@unittest.skipUnless(shutil.which("dpkg-shlibdeps"), "needs dpkg-dev")
+class Packages(unittest.TestCase):
+    """The packages of the program that is tested."""
+
+    folder: Path
+    packages: List[Path]
+
+    @classmethod
+    def setUpClass(cls) -> None:
+        folder = tempfile.TemporaryDirectory(prefix="vault-test-")
+        cls.addClassCleanup(folder.cleanup)
+        cls.folder = Path(folder.name)
+        cls.make(cls.folder)
+        cls.packages = sorted(cls.folder.glob("*.deb"))
+
+    @staticmethod
+    def make(folder: Path) -> None:
+        """Makes both packages in a folder."""
+        subprocess.run([str(TOP / "contrib" / "package"), "--vaultd", VAULTD, "--to", str(folder)], check=True, timeout=120,
+                       stdout=subprocess.DEVNULL)
+
+    def said(self, *words: str, status: int = 0) -> str:
+        """What a command prints, on either stream."""
+        done = subprocess.run(words, stdout=subprocess.PIPE, stderr=subprocess.STDOUT, text=True, timeout=120, check=False)
+        self.assertEqual(done.returncode, status, done.stdout)
+        return done.stdout
+
+    def test_names(self) -> None:
+        """Two packages, with the program's version, and the same bytes each time."""
+        version = self.said(VAULTD, "--version").split()[1]
+        architecture = self.said("dpkg", "--print-architecture").strip()
+        self.assertEqual([path.name for path in self.packages], [f"vault_{version}_all.deb", f"vaultd_{version}_{architecture}.deb"])
+        again = self.folder / "again"
+        self.make(again)
+        for package in self.packages:
+            self.assertEqual((again / package.name).read_bytes(), package.read_bytes(), package.name)
+
+    def test_all_that_is_installed(self) -> None:
+        """Each file that the script installs is in one of the two."""
+        root = self.folder / "root"
+        self.said(str(TOP / "contrib" / "install"), "--destdir", str(root), "--vaultd", VAULTD)
+        wanted = {path.name for path in root.rglob("*") if not path.is_dir()}
+        held = [line.split()[5] for package in self.packages for line in self.said("dpkg-deb", "-c", str(package)).splitlines()]
+        names = [Path(path).name for path in held if not path.endswith("/")]
+        self.assertEqual(wanted - set(names), set())
+        self.assertEqual(len(names), len(set(held) - {path for path in held if path.endswith("/")}))
+
+    @unittest.skipUnless(shutil.which("lintian"), "needs lintian")
+    def test_lintian(self) -> None:
+        """The tool that reads packages over finds no error."""
+        said = self.said("lintian", "--fail-on", "error", "--allow-root", *map(str, self.packages))
+        self.assertEqual([line for line in said.splitlines() if line.startswith("E:")], [])
+
+    def test_refusals(self) -> None:
+        script = str(TOP / "contrib" / "package")
+        self.assertIn("there is no program at /nowhere", self.said(script, "--vaultd", "/nowhere", status=1))
+        self.assertIn("usage", self.said(script, "--vaultd", status=2))
+        self.assertIn("usage", self.said(script, "--from", "x", status=2))
+
+    @unittest.skipIf(machines.wanting(), machines.wanting())
+    def test_in_a_machine(self) -> None:
+        """Installed, used, and removed, with systemd as the first process and its journal."""
+        files: Dict[str, Path] = {package.name: package for package in self.packages}
+        for name, first in BLOCKS.items():
+            files[name] = self.folder / name
+            files[name].write_text(PREAMBLE + block_of(first), "utf-8")
+        files["script"] = TOP / "tests" / "data" / "in-a-machine"
+        status, said = machines.run_in_machine(files, MACHINE_SECONDS)
+        self.assertEqual(status, 0, said)
+        self.assertRegex(said, r"\n\d\d passed, 0 failed\n$")
+
+
+if __name__ == "__main__":
+    unittest.main()
