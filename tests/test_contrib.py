@@ -128,10 +128,9 @@ class Contrib(unittest.TestCase):
             rating = found.group(1) if found else ""
             self.assertIn(f"rates {rating} of 10", (TOP / "docs" / "OPERATING.md").read_text("utf-8"))
 
-    def test_the_page_prints_the_unit(self) -> None:
-        """The page on operating has the unit whole, and the template differs from it in its names alone."""
+    def test_the_template_is_the_unit(self) -> None:
+        """The template differs from the unit in its names alone."""
         unit = (CONTRIB / "systemd" / "vaultd.service").read_text("utf-8")
-        self.assertIn(f"```ini\n{unit}```\n", (TOP / "docs" / "OPERATING.md").read_text("utf-8"))
         template = (CONTRIB / "systemd" / "vaultd@.service").read_text("utf-8").splitlines()
         other = [line.partition("=")[0] for line in set(unit.splitlines()) ^ set(template)]
         self.assertEqual(set(other), {"Description", "Environment", "EnvironmentFile", "StateDirectory", "ExecStart"})
