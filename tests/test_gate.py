@@ -3,8 +3,10 @@
 import os
 import random
 import re
+import select
 import signal
 import socket
+import statistics
 import subprocess
 import time
 import tomllib
@@ -223,6 +225,28 @@ class Roles(WithDoor):
         self.conversation("guest", b"hello guest\n" + b"".join(questions) + b"quit\n")
         self.assertEqual(self.recorder.lines, [b"hello guest\n", *questions, b"quit\n"])
 
+    def test_drafts_that_were_given(self) -> None:
+        """Who may only look reads the drafts of a check-out that was given to that name, and still changes nothing of it."""
+        self.assertEqual(self.conversation("eva", b"hello ben\ngive c1 guest\nquit\n"), ["OK session", "OK given", "OK left"])
+        text = f"hello guest\ndrafts c1\ndraft c1 {PART}\nsave c1 {PART} 01\ncheckin c1\nabandon c1\ngive c1 anna\nnote c1 00\nquit\n".encode()
+        self.assertEqual(self.conversation("guest", text), ["OK session", f"OK drafts 1 {PART}", "OK content 00", *5 * ["ERR 31"], "OK left"])
+
+    def test_wait(self) -> None:
+        """A wait through a gate is answered once the claim is held, and meanwhile other gates, and the log, go on."""
+        self.conversation("eva", b"hello anna\ncheckout w:/engine\nquit\n")
+        with self.door.ssh_again("guest") as waiting:
+            assert waiting.stdin is not None and waiting.stdout is not None
+            for line, reply in ((b"hello guest\n", b"OK s"), (b"wait c2\n", b"")):
+                waiting.stdin.write(line)
+                waiting.stdin.flush()
+                self.assertEqual(waiting.stdout.readline()[:4] if reply else b"", reply)
+            early = select.select([waiting.stdout], [], [], 2)[0]
+            self.assertEqual(self.conversation("eva", b"hello ben\nabandon c1\nquit\n"), ["OK session", "OK abandoned", "OK left"])
+            self.assertEqual(waiting.stdout.readline(), b"OK queued c2 behind c1\n" if early else b"OK held c2\n")
+        self.assertEqual([line for line in self.door.logged() if " wait " in line], [])
+        if early:
+            self.skipTest("this server answers `wait` at once, so nothing waited")
+
     def test_any_name(self) -> None:
         self.assertEqual(self.conversation("eva", b"hello ben\nabandon c1\nquit\n"), ["OK session", "OK abandoned", "OK left"])
         self.assertEqual(self.kinds("hello ben"), ["asks", "told OK session 2"])
@@ -351,6 +375,41 @@ class Alone(unittest.TestCase):
         found = re.search(r"^VmHWM:\s+(\d+) kB", Path(f"/proc/{process.pid}/status").read_text("ascii"), re.MULTILINE)
         self.assertIsNotNone(found)
         self.assertLess(int(found[1]) if found else 0, 15000)
+
+    def test_time(self) -> None:
+        """A gate that runs adds 1 ms at most to a command: the medians of many, at the server and through the gate by turns."""
+        for line in (b"list /\n", b"make /a\n"):
+            added = min(self.median_of_gate(line) - self.median_of(self.server.connect(), line) for _ in range(5))
+            self.assertLess(added, 0.001, line)
+
+    def median_of_gate(self, line: bytes) -> float:
+        """How long a reply takes through the gate."""
+        _, client = self.gate()
+        return self.median_of(client, line)
+
+    def median_of(self, connection: socket.socket, line: bytes) -> float:
+        """How long a reply takes on a connection, in seconds."""
+        took = []
+        with connection:
+            told(connection, b"hello anna\nmake /a\n", 2)
+            for _ in range(300):
+                began = time.perf_counter()
+                told(connection, line, 1)
+                took.append(time.perf_counter() - began)
+        return statistics.median(took)
+
+    def test_client_ends_while_it_waits(self) -> None:
+        """Where a client ends whose question is under way, its gate does, too, and frees the server's place."""
+        assert self.server.process is not None
+        process, client = self.gate()
+        told(client, b"hello anna\n", 1)
+        self.server.process.send_signal(signal.SIGSTOP)
+        client.sendall(b"wait c1\n")
+        time.sleep(0.5)
+        self.assertIsNone(process.poll())
+        client.close()
+        self.assertEqual(process.wait(20), 0)
+        self.server.process.send_signal(signal.SIGCONT)
 
     def test_full_log(self) -> None:
         """A change isn't sent on where the log doesn't take its line; questions are."""
