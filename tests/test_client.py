@@ -282,7 +282,7 @@ class Words(WithServer):
         self.anna.checkout(["w:/engine"])
         with self.assertRaises(Refused) as refused:
             self.client("ben").make("/engine/gear")
-        self.assertIn("c1 covers", str(refused.exception))
+        self.assertIn("The place above it is in c1, which anna holds: w:/engine.", str(refused.exception))
         with self.assertRaises(Refused):
             self.anna.put("/engine/block/none", b"x")
         self.assertEqual(self.anna.kept_drafts("c1"), {})
@@ -312,20 +312,21 @@ class Program(WithServer):
         self.assertIn(b"is left as it is", self.vault("get", PART, "--to", str(drawing), status=2))
         self.assertIn(b"version 1: 8 bytes", self.vault("history", PART))
         self.assertEqual(self.vault("tree"), b"/\n  engine\n    block\n      piston\n")
-        self.assertEqual(self.vault("mine"), b"You have no check-outs from here.\n")
+        self.assertEqual(self.vault("mine"), b"You have no check-outs.\n")
 
     def test_waiting(self) -> None:
         self.vault("hello", f"anna@127.0.0.1:{self.server.port}")
         self.anna.checkout(["w:/engine"])
         self.assertIn(b"queued behind c1", self.vault("checkout", "r:/engine"))
-        self.assertIn(b"c2 is queued behind c1, c1 is held", self.vault("wait", "c2", "--at-most", "0", status=1))
+        self.assertIn(b"c2 is queued behind c1, which you hold: w:/engine.", self.vault("wait", "c2", "--at-most", "0", status=1))
         self.assertIn(b"no check-out", self.vault("checkin", "h1", status=2))
         self.anna.abandon("c1")
         self.assertEqual(self.vault("wait", "c2"), b"c2 is held.\n")
         self.assertIn(b"was held", self.vault("hold", "r:/engine"))
 
     def test_waiting_while_the_server_is_away(self) -> None:
-        """A wait tells once that the server is away, goes on behind its restart, and has no connection in a long pause."""
+        """A wait tells once that the server is away, goes on behind its restart, and has no connection in a long pause. This one isn't let wait
+        for an answer."""
         self.anna.checkout(["w:/engine"])
         ben, output = self.client("ben", patience=0.1), Output("wait", True)
         claim = ben.checkout(["r:/engine"]).claim
@@ -335,7 +336,7 @@ class Program(WithServer):
         def pause(client: Client, _patience: object) -> None:
             next(moments)()
 
-        with mock.patch("vault.claim_commands.pause", pause):
+        with mock.patch("vault.claim_commands.pause", pause), mock.patch.object(ben, "turn", lambda *_: None):
             self.assertEqual(claim_commands.wait(ben, words, output)[0], f"{claim} is held.")
         self.assertEqual(len(output.notices), 2, output.notices)
         self.assertIn("goes on", output.notices[1])
@@ -352,7 +353,7 @@ class Program(WithServer):
         notes = [["note", "c1", "mine"], ["give", "c1", "ben"], ["hello", f"ben@127.0.0.1:{self.server.port}"], ["mine", "c1"]]
         said = [["hello", f"anna@127.0.0.1:{self.server.port}"], ["tree"], ["make", "/engine/block/rod"],
                 ["nest", "/engine/block/valve"], ["checkout", "w:" + PART], ["wait", "c1"], ["extend", "c1", "w:/engine/block/rod"],
-                ["put", PART, str(drawing)], ["drafts", "c1", str(state / "kept")],
+                ["put", PART, str(drawing)], ["drafts", "c1"], ["drafts", "c1", str(state / "kept")], ["draft", "c1", PART], ["who"],
                 *(notes if self.gives() else []), ["checkin", "c1"], ["get", PART], ["history", PART], ["checkout", "r:/"],
                 ["abandon", "c2"], ["forget", "c2"], ["mine"], ["hold", "r:/"], ["store"],
                 ["get", "/engine", "--to", str(work)], ["status", str(work)], ["add", str(work / "block" / "Bolzen 20")]]

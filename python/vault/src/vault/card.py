@@ -15,6 +15,7 @@ compared with the bytes, and its name is no path (see `names`).
 """
 
 import re
+import time
 from dataclasses import dataclass
 from datetime import datetime, timezone
 from typing import Optional
@@ -92,7 +93,12 @@ def note_word(note: str) -> str:
 
 def now() -> str:
     """The time, as a card says it."""
-    return datetime.now(timezone.utc).strftime(TIME)
+    return moment(time.time())
+
+
+def moment(seconds: float) -> str:
+    """A time in seconds, as a card says it."""
+    return datetime.fromtimestamp(seconds, timezone.utc).strftime(TIME)
 
 
 def shown(text: str) -> str:

@@ -3,8 +3,10 @@
 import os
 import sys
 import threading
-from typing import Any, Callable, Dict, List
+import time
+from typing import Callable, List
 
+from vault.card import moment
 from vault.client import Client
 from vault.connection import Patience
 from vault.folder_commands import checkin_folder, is_folder
@@ -12,34 +14,32 @@ from vault.memory import Claim
 from vault.output import Output, Told, Words
 from vault.parts import Parts
 from vault.transport import NotLetIn
-from vault.words import CHECKOUT, Refused, Standing, Unreachable
+from vault.words import CHECKOUT, Holder, Refused, Standing, Unreachable, who_does
 
 ASKED_WHILE_HOLDING_SECONDS = 30.0
 FIRST_PAUSE_SECONDS = 1.0
 LONGEST_PAUSE_SECONDS = 60.0
 KEPT_OPEN_SECONDS = 5.0
+# How long the answer to `wait` may take before it is asked anew, and what is no waiting.
+ANSWERED_WITHIN_SECONDS = 90.0
+SOON_SECONDS = 1.0
 
 
-def standing_fields(standing: Standing) -> Dict[str, Any]:
-    """A standing for --json."""
-    return {"claim": standing.claim, "standing": "gone" if standing.gone else "held" if standing.held else "queued",
-            "behind": standing.behind or None, "anothers": standing.anothers}
-
-
-def told_standing(standing: Standing) -> Told:
-    """A standing, and what to do where it is queued."""
-    wait = "" if standing.held else f" `vault wait {standing.claim}` waits."
-    return standing.sentence() + wait, standing_fields(standing)
+def told_standing(standing: Standing, designer: str) -> Told:
+    """A standing, who is in the way, and what to do where it is queued."""
+    wait = "" if standing.held else f"`vault wait {standing.claim}` waits."
+    said = (standing.sentence(designer), standing.ring_in_words(designer), wait)
+    return " ".join(filter(None, said)), standing.fields()
 
 
 def checkout(client: Client, words: Words, _output: Output) -> Told:
     """Asks for a check-out."""
-    return told_standing(client.checkout(words.items))
+    return told_standing(client.checkout(words.items), client.designer)
 
 
 def extend(client: Client, words: Words, _output: Output) -> Told:
     """Asks for more items."""
-    return told_standing(client.extend(words.claim, words.items))
+    return told_standing(client.extend(words.claim, words.items), client.designer)
 
 
 def checkin(client: Client, words: Words, output: Output) -> Told:
@@ -65,22 +65,44 @@ def abandon(client: Client, words: Words, _output: Output) -> Told:
 
 
 def wait(client: Client, words: Words, output: Output) -> Told:
-    """Asks with growing pauses until a claim is held, and shows who is before it."""
-    patience, before, line = Patience(words.at_most, FIRST_PAUSE_SECONDS, LONGEST_PAUSE_SECONDS), "", ""
+    """Waits until a claim is held, and shows who is before it, and where designers wait for each other in a ring."""
+    patience, told = Patience(words.at_most, FIRST_PAUSE_SECONDS, LONGEST_PAUSE_SECONDS), ""
     while True:
         standing = asked_again(client, words.claim, patience, output)
         if standing.gone:
             raise Refused(f"{words.claim} is gone: it was checked in or given up.", 30)
         if standing.held:
-            return told_standing(standing)
-        if standing.behind != before:
-            line = in_a_row(client.chain(words.claim))
+            return told_standing(standing, client.designer)
+        line = in_a_row(client, standing)
         if patience.over():
-            raise Refused(f"{line} Nothing was changed; `vault wait {words.claim}` waits on.")
-        if standing.behind != before:
+            raise queued_still(line, standing)
+        if line != told:
             output.notice(line)
-            before = standing.behind
+            told = line
+        wait_a_turn(client, words.claim, patience)
+
+
+def queued_still(line: str, standing: Standing) -> Refused:
+    """Says that a claim is queued at the end of the time for which one waits."""
+    refused = Refused(f"{line} Nothing was changed; `vault wait {standing.claim}` waits on.")
+    refused.fields = standing.fields()
+    return refused
+
+
+def wait_a_turn(client: Client, claim: str, patience: Patience) -> None:
+    """Waits as long as the server lets one wait for an answer. One that tells at once that a claim is queued, as it is older or too many wait
+    already, is asked again behind a growing pause."""
+    began = time.monotonic()
+    try:
+        standing = client.turn(claim, max(0.01, min(patience.left(), ANSWERED_WITHIN_SECONDS)))
+    except Unreachable:
+        standing = None
+    if standing is not None and (standing.held or standing.gone):
+        return
+    if time.monotonic() - began < SOON_SECONDS:
         pause(client, patience)
+    else:
+        patience.next = FIRST_PAUSE_SECONDS
 
 
 def asked_again(client: Client, claim: str, patience: Patience, output: Output) -> Standing:
@@ -88,7 +110,7 @@ def asked_again(client: Client, claim: str, patience: Patience, output: Output) 
     away = False
     while True:
         try:
-            return client.state(claim)
+            return client.standing(claim)
         except Unreachable as error:
             if patience.over() or isinstance(error, NotLetIn):
                 raise
@@ -105,9 +127,12 @@ def pause(client: Client, patience: Patience) -> None:
     patience.pause()
 
 
-def in_a_row(chain: List[Standing]) -> str:
-    """A claim and those before it, in words."""
-    return ", ".join(standing.sentence().rstrip(".") for standing in chain) + "."
+def in_a_row(client: Client, standing: Standing) -> str:
+    """A claim and those before it, in words, as far as the server tells."""
+    if standing.before:
+        said = (standing.chain_in_words(client.designer), standing.ring_in_words(client.designer))
+        return " ".join(filter(None, said))
+    return ", ".join(each.sentence().rstrip(".") for each in client.chain(standing.claim)) + "."
 
 
 def give(client: Client, words: Words, _output: Output) -> Told:
@@ -133,22 +158,57 @@ def readable(note: bytes) -> str:
 
 
 def mine(client: Client, words: Words, _output: Output) -> Told:
-    """Shows the check-outs that are remembered, and remembers those that are named."""
+    """Shows the check-outs of a designer, and those remembered that are gone."""
     found = client.mine(words.claims)
-    fields = [{**standing_fields(standing), "items": claim.items, "drafts": sorted(claim.drafts), "given": claim.given or None}
-              for standing, claim in found]
-    lines = [mine_line(standing, claim) for standing, claim in found]
-    return "\n".join(lines or ["You have no check-outs from here."]), {"claims": fields}
+    fields = [{**standing.fields(), "items": claim.items, "drafts": drafts_of(standing, claim), "kept": sorted(claim.drafts),
+               "given": claim.given or None} for standing, claim in found]
+    lines = [mine_line(standing, claim, client.designer) for standing, claim in found]
+    return "\n".join(lines or [f"You have no check-outs{' from here' if client.line.older else ''}."]), {"claims": fields}
 
 
-def mine_line(standing: Standing, claim: Claim) -> str:
-    """One remembered check-out in words."""
-    drafts = "".join(f", draft of {place}" for place in sorted(claim.drafts))
+def drafts_of(standing: Standing, claim: Claim) -> List[str]:
+    """The parts of which a check-out has drafts, as the server tells, or else of which copies are kept here."""
+    return sorted(claim.drafts) if standing.drafts is None else list(standing.drafts)
+
+
+def mine_line(standing: Standing, claim: Claim, designer: str) -> str:
+    """One check-out in words."""
+    drafts = "".join(f", draft of {place}" for place in drafts_of(standing, claim))
     asked = f" Asked for {' '.join(claim.items)}{drafts}." if claim.items else f" Has{drafts[1:]}." if drafts else ""
     given = f" You gave it to {claim.given}." if claim.given else ""
     kept = (standing.gone or standing.anothers) and claim.drafts
     rest = f" `vault drafts {standing.claim} FOLDER` writes the copies that are kept." if kept else ""
-    return standing.sentence() + given + asked + rest
+    return standing.sentence(designer) + given + asked + rest
+
+
+def who(client: Client, words: Words, output: Output) -> Told:
+    """Shows who holds what at a place, above it or beneath it, and who waits for what."""
+    found = client.who(words.place)
+    fields = [{**holder.fields(), "since": moment(since)} for holder, since in found]
+    if found and output.tables:
+        output.table(("claim", "designer", "standing", "items", "known here since"), [who_row(holder, since) for holder, since in found])
+        sentence = ""
+    else:
+        lines = [who_line(holder, since, client.designer) for holder, since in found]
+        sentence = "\n".join(lines or [f"Nobody has anything at {words.place}, above it or beneath it, and nobody waits for it."])
+    return sentence, {"place": words.place, "claims": fields}
+
+
+def who_row(holder: Holder, since: float) -> List[str]:
+    """A claim in columns."""
+    standing = "held" if holder.held else f"queued behind {holder.behind}"
+    return [holder.claim, holder.owner, standing, " ".join(holder.items), in_clock_words(since)]
+
+
+def who_line(holder: Holder, since: float, designer: str) -> str:
+    """A claim in words."""
+    what = who_does(holder.owner, "hold" if holder.held else "wait", designer) + ("" if holder.held else f" behind {holder.behind} for")
+    return f"{holder.claim}: {what} {' '.join(holder.items)}, known here since {in_clock_words(since)}."
+
+
+def in_clock_words(seconds: float) -> str:
+    """A time in words."""
+    return moment(seconds).replace("T", " ").replace("Z", " UTC")
 
 
 def forget(client: Client, words: Words, _output: Output) -> Told:
@@ -162,12 +222,12 @@ def hold(client: Client, words: Words, output: Output) -> Told:
     standing = client.hold(words.items)
     patience = Patience(float("inf"), 0.2, 10.0)
     while not standing.held:
-        output.progress(standing.sentence())
+        output.progress(standing.sentence(client.designer))
         patience.pause()
         standing = still(client, standing)
     held = standing.sentence() + " It ends with this command: end its standard input to let go."
     if output.as_json:
-        output.say(False, held, standing_fields(standing))
+        output.say(False, held, standing.fields())
     else:
         output.notice(held)
     until_input_ends(lambda: still(client, standing))

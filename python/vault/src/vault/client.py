@@ -7,21 +7,24 @@ done, by questions that change nothing, before it says anything twice.
 import contextlib
 import os
 import time
+from collections import Counter
 from copy import deepcopy
 from dataclasses import replace
 from pathlib import Path
 from typing import Callable, Dict, Iterator, List, Optional, Sequence, Tuple
 
-from vault.connection import Connection, Link, Patience, quiet
+from vault.connection import ASKED_AT_ONCE, Connection, Link, Patience, quiet
 from vault.folders import state_folder
+from vault.line import UNKNOWN_COMMAND, Line, chain, ring
 from vault.memory import Claim, Command, Draft, Memory, by_number, shown
 from vault.recovery import ANOTHERS, GONE, MINE, NO_PART, SENT_AGAIN, Recovery, not_known, whose
-from vault.words import (CONTENT_BYTES, GREATEST, NAME, NAMES, NOTE_BYTES, SENTENCES, Holder, Lost, Misused, Refused, Reply, Standing,
-                         Unreachable, checked, checkout_word, claim_word, content_in, holder_in, item_words, names_in, number_in,
-                         place_word, standing_of, under)
+from vault.words import (CONTENT_BYTES, GREATEST, NAME, NAMES, NOTE_BYTES, PLACE, SENTENCES, Holder, Lost, Misused, Refused, Reply, Standing,
+                         Unreachable, VaultError, checked, checkout_word, claim_word, content_in, item_words, listed_in, names_in,
+                         number_in, place_word, refusal_by, standing_of, under)
 
-READ_AT_ONCE = 64
-UNKNOWN_COMMAND = 10
+NO_DRAFT = 40
+OLDER = ("The server is older than this client, and doesn't tell who holds what, so that is left out here. Ask whoever runs it for a newer"
+         " one.")
 
 
 class Client:
@@ -35,6 +38,7 @@ class Client:
         self.notice, self.progress = notice, progress
         self.link = Link(designer, host, port, patience, progress, self.memory.saw)
         self.recovery = Recovery(self.link, self.memory, notice)
+        self.line, self.told_older = Line(self.link), False
         self.held_on: Optional[Connection] = None
 
     def close(self) -> None:
@@ -59,7 +63,7 @@ class Client:
     def checkout(self, items: List[str]) -> Standing:
         """Asks for a check-out."""
         line = " ".join(["checkout"] + item_words(items))
-        return standing_of(self._change(Command("checkout", line, items=items)))
+        return self._with_way(standing_of(self._change(Command("checkout", line, items=items))))
 
     def extend(self, claim: str, items: List[str]) -> Standing:
         """Asks for more items for a check-out that is held."""
@@ -140,8 +144,8 @@ class Client:
         place_word(place)
         with self._alone():
             count = self._count(place)
-            for first in range(1, count + 1, READ_AT_ONCE):
-                numbers = range(first, min(first + READ_AT_ONCE, count + 1))
+            for first in range(1, count + 1, ASKED_AT_ONCE):
+                numbers = range(first, min(first + ASKED_AT_ONCE, count + 1))
                 if first > 1:
                     self.progress(f"{first - 1:,} of {count:,} versions so far")
                 replies = self.link.read_all([f"fetch {place} {number}" for number in numbers])
@@ -154,15 +158,28 @@ class Client:
             yield from self._beneath(place)
 
     def holders(self, place: str) -> List[Holder]:
-        """The claims at a place or at one under it, in their order; none where the server is older and doesn't tell."""
+        """The claims at a place, above it or beneath it, in the order of the line; none where the server is older and doesn't tell."""
         with self._alone():
-            told = self.link.read("claims " + place_word(place))
-            if told.code == UNKNOWN_COMMAND:
-                return []
-            if not told.ok:
-                raise told.refusal()
-            replies = self._asked("show", told.claims())
-        return [holder_in(reply) for reply in replies if reply.ok]
+            return self._line(place_word(place)) or []
+
+    def who(self, place: str) -> List[Tuple[Holder, float]]:
+        """The claims at a place, above it or beneath it, in the order of the line, and since when this client knows each, in seconds."""
+        with self._alone():
+            line = self.line.at(place_word(place))
+            if line is None:
+                raise Refused(SENTENCES[UNKNOWN_COMMAND], UNKNOWN_COMMAND)
+            self.memory.knows(line, place == "/")
+            self.memory.save()
+            return [(holder, self.memory.known[holder.claim].since) for holder in line]
+
+    def held(self, place: str = "/") -> Dict[str, Sequence[str]]:
+        """The held check-outs of this designer at a place, above it or beneath it, each with its items."""
+        with self._alone():
+            line = self._line(place_word(place))
+            if line is not None:
+                return {holder.claim: holder.items for holder in line if holder.held and holder.is_check_out_of(self.designer)}
+            stand = {name: self._standing_and_whose(name) for name in self.memory.claims}
+            return {name: claim.items for name, claim in self.memory.claims.items() if stand[name].held and not stand[name].anothers}
 
     def is_assembly(self, place: str) -> bool:
         """Whether a place is there, and is no part."""
@@ -182,7 +199,7 @@ class Client:
         with self._alone():
             while level:
                 inner = []
-                for name, reply in zip(level, self._asked("count", level)):
+                for name, reply in zip(level, self.link.asked("count", level)):
                     if reply.ok:
                         parts[name] = number_in(reply, 1)
                     elif reply.code == NO_PART:
@@ -190,14 +207,14 @@ class Client:
                     else:
                         raise reply.refusal()
                 assemblies += inner
-                level = [place_word(above.rstrip("/") + "/" + name) for above, reply in zip(inner, self._asked("list", inner))
+                level = [place_word(above.rstrip("/") + "/" + name) for above, reply in zip(inner, self.link.asked("list", inner))
                          for name in names_in(reply)]
         return assemblies, parts
 
     def contents(self, wanted: Sequence[Tuple[str, int]]) -> List[bytes]:
         """The contents of some versions, each named by its part and its number."""
         with self._alone():
-            return [content_in(reply) for reply in self._asked("fetch", [f"{place} {number}" for place, number in wanted])]
+            return [content_in(reply) for reply in self.link.asked("fetch", [f"{place} {number}" for place, number in wanted])]
 
     def checkin(self, claim: str) -> int:
         """Makes versions of a check-out's drafts, answers how many, and gives the check-out up."""
@@ -213,12 +230,37 @@ class Client:
         with self._alone():
             return self._standing(claim)
 
+    def standing(self, claim: str) -> Standing:
+        """How a claim stands, with who is in its way, as far as the server tells."""
+        return self._with_way(self.state(claim))
+
+    def turn(self, claim: str, seconds: float) -> Optional[Standing]:
+        """How a claim stands, as soon as it is held or gone, or after the time that the server lets one wait; nothing where it tells nothing
+        within some seconds, or doesn't know this question. Other commands of this designer may be said meanwhile."""
+        reply = self.link.read_within("wait " + claim_word(claim), seconds)
+        if reply is not None and reply.code == GONE:
+            return Standing(claim, False, gone=True)
+        return standing_of(reply) if reply is not None and reply.ok else None
+
     def chain(self, claim: str) -> List[Standing]:
         """How a claim stands, and each before it that it waits for in turn."""
         found = [self.state(claim)]
         while found[-1].behind and len(found) < 256:
             found.append(self.state(found[-1].behind))
         return found
+
+    def drafts(self, claim: str) -> List[str]:
+        """The parts of which a check-out of this designer has drafts."""
+        with self._alone():
+            return list(listed_in(self.link.read("drafts " + checkout_word(claim)), PLACE))
+
+    def draft(self, claim: str, place: str) -> bytes:
+        """A draft of a check-out of this designer, as the server has it."""
+        with self._alone():
+            reply = self.link.read(f"draft {checkout_word(claim)} {place_word(place)}")
+        if reply.code == NO_DRAFT:
+            raise Refused(f"{claim} has no draft of {place}. `vault drafts {claim}` shows of which parts it has drafts.", reply.code)
+        return content_in(reply)
 
     def give(self, claim: str, receiver: str) -> None:
         """Gives a check-out to another designer, with its place in the line, its drafts and its note."""
@@ -238,20 +280,15 @@ class Client:
             return content_in(self.link.read("note " + checkout_word(claim)))
 
     def mine(self, named: Sequence[str] = ()) -> List[Tuple[Standing, Claim]]:
-        """The check-outs that this client remembers, each asked again, and those that are named, which are remembered from then on
-        where they are this designer's. One that is gone or another's is forgotten once no copy of a draft is kept for it that isn't
-        a version."""
+        """The check-outs of this designer that stand, wherever they were asked for, and those that this client remembers and that are gone or
+        another's. Such a one is told once, and as long as a copy of a draft is kept for it that isn't a version. At a server that is older
+        these are the ones remembered, and those that are named, which are remembered from then on."""
         with self._alone():
-            for name in named:
-                reply = self.link.read(whose(checkout_word(name)))
-                if reply.code not in MINE:
-                    raise reply.refusal()
-                self.memory.claims.setdefault(name, Claim([]))
-            found = [(self._standing_and_whose(name), claim) for name, claim in sorted(self.memory.claims.items(), key=by_number)]
+            self._take_up(named)
+            line = self._line("/")
+            found = self._remembered() if line is None else self._stand(line)
             for standing, claim in found:
-                if not (standing.gone or standing.anothers):
-                    claim.given = ""
-                elif self.recovery.are_versions(claim):
+                if (standing.gone or standing.anothers) and self.recovery.are_versions(claim):
                     del self.memory.claims[standing.claim]
                     claim.drafts = {}
             self.memory.save()
@@ -281,9 +318,12 @@ class Client:
             except Lost as lost:
                 raise Unreachable(f"The connection ended ({lost}), and the hold with it. Ask again.") from lost
             self.held_on = self.link.connection
-        if not reply.ok:
-            raise reply.refusal()
-        return standing_of(reply)
+            if not reply.ok:
+                raise reply.refusal()
+            standing = standing_of(reply)
+            with contextlib.suppress(VaultError):
+                return replace(standing, before=tuple(self.line.of([standing.behind] if standing.behind else []) or []))
+        return standing
 
     def hold_stands(self, claim: str) -> Standing:
         """How a hold of this client stands. It is asked on the connection of the hold alone, since behind a restart of the server
@@ -335,11 +375,13 @@ class Client:
             self.memory.end()
             raise
         self.memory.saw(reply)
+        if reply.ok and command.kind == "checkout":
+            self._put_aside(reply.claims()[0])
         if reply.ok:
             self.memory.remember(command, reply)
         self.memory.end()
         if not reply.ok:
-            raise reply.refusal()
+            raise self._refusal(reply)
         return reply
 
     def _told(self, command: Command) -> Reply:
@@ -409,15 +451,94 @@ class Client:
         self.memory.save()
 
     def _claim_for(self, place: str) -> str:
-        """The one remembered check-out that takes in a place for change."""
-        fitting = [name for name, claim in self.memory.claims.items()
-                   if not claim.given and any(item[0] == "w" and under(place, item[2:]) for item in claim.items)]
+        """The check-out of this designer that takes in a place for change: the one that is held, or else the first that waits."""
+        line = self._line(place)
+        if line is not None:
+            told = [holder for holder in line if holder.is_check_out_of(self.designer) and holder.changes(place)]
+            fitting = [holder.claim for holder in sorted(told, key=lambda holder: not holder.held)][:1]
+        else:
+            fitting = self._remembered_for(place)
         if len(fitting) == 1:
             return fitting[0]
         if fitting:
             raise Misused(f"{' and '.join(fitting)} take in {place}. Name one with `--claim`.")
+        if line is not None:
+            raise Misused(f"No check-out of yours takes in {place} for change. `vault checkout w:{place}` asks for one.")
         raise Misused(f"No check-out that this client remembers takes in {place} for change. `vault checkout w:{place}` asks"
                       " for one, and `--claim` names one that was made elsewhere.")
+
+    def _remembered_for(self, place: str) -> List[str]:
+        """The check-outs remembered that take in a place for change and stand."""
+        fitting = [name for name, claim in self.memory.claims.items()
+                   if not claim.given and any(item[0] == "w" and under(place, item[2:]) for item in claim.items)]
+        return [name for name in fitting if self.link.read(whose(name)).code in MINE]
+
+    def _line(self, place: str) -> Optional[List[Holder]]:
+        """The claims at a place, in the order of the line, and remembers since when they are known; nothing where the server is older."""
+        found = self.line.at(place)
+        if found is None and not self.told_older:
+            self.told_older = True
+            self.notice(OLDER)
+        if found is not None and self.memory.knows(found, place == "/"):
+            self.memory.save()
+        return found
+
+    def _with_way(self, standing: Standing) -> Standing:
+        """A standing with who is in the way, as far as the server tells."""
+        line = None
+        if standing.behind:
+            with contextlib.suppress(VaultError), self._alone():
+                line = self._line("/")
+        now = [holder for holder in line or [] if holder.claim == standing.claim]
+        if line is None or not now:
+            return standing
+        return replace(standing, held=now[0].held, behind=now[0].behind, before=tuple(chain(line, standing.claim)),
+                       ring=tuple(ring(line, standing.claim)))
+
+    def _refusal(self, reply: Reply) -> Refused:
+        """A refusal, with whose the claim is that is in the way, as far as the server tells."""
+        named: Optional[List[Holder]] = None
+        if reply.claims():
+            with contextlib.suppress(VaultError):
+                named = self.line.of(reply.claims()[:1])
+        return refusal_by(reply, named[0], self.designer) if named else reply.refusal()
+
+    def _take_up(self, named: Sequence[str]) -> None:
+        """Remembers check-outs that are this designer's."""
+        for name in named:
+            reply = self.link.read(whose(checkout_word(name)))
+            if reply.code not in MINE:
+                raise reply.refusal()
+            self.memory.claims.setdefault(name, Claim([]))
+
+    def _put_aside(self, claim: str) -> None:
+        """Forgets a check-out whose number another one has, but for the copies of its drafts."""
+        path = self.memory.put_aside(claim)
+        if path is not None:
+            self.notice(f"{claim} is another check-out than the one that had this number here: the vault came back from a backup, or is another"
+                        f" one. The copies of that one's drafts are in {path}.")
+
+    def _remembered(self) -> List[Tuple[Standing, Claim]]:
+        """The check-outs remembered, each asked again."""
+        found = [(self._standing_and_whose(name), claim) for name, claim in sorted(self.memory.claims.items(), key=by_number)]
+        for standing, claim in found:
+            if not (standing.gone or standing.anothers):
+                claim.given = ""
+        return found
+
+    def _stand(self, line: Sequence[Holder]) -> List[Tuple[Standing, Claim]]:
+        """The check-outs of this designer in the line of all claims, which are remembered from now on, and those remembered that are gone."""
+        named = {holder.claim: holder for holder in line}
+        mine = [holder for holder in line if holder.is_check_out_of(self.designer)]
+        told = dict(zip((holder.claim for holder in mine), self.link.asked("drafts", [holder.claim for holder in mine])))
+        for holder in mine:
+            before = self.memory.claims.get(holder.claim, Claim([]))
+            if Counter(before.items) - Counter(holder.items):
+                self._put_aside(holder.claim)
+            kept = self.memory.claims.setdefault(holder.claim, Claim([]))
+            kept.items, kept.given = list(holder.items), ""
+        return [(standing_in(named, name, self.designer, told.get(name)), claim)
+                for name, claim in sorted(self.memory.claims.items(), key=by_number)]
 
     def _standing(self, claim: str) -> Standing:
         reply = self.link.read("state " + claim)
@@ -437,13 +558,6 @@ class Client:
         words = [kind, place_word(place)] + ([checkout_word(claim)] if claim else [])
         self._change(Command(kind, " ".join(words), claim, place))
 
-    def _asked(self, command: str, words: Sequence[str]) -> List[Reply]:
-        """The replies to a question about each of some things."""
-        replies: List[Reply] = []
-        for first in range(0, len(words), READ_AT_ONCE):
-            replies += self.link.read_all([f"{command} {word}" for word in words[first:first + READ_AT_ONCE]])
-        return replies
-
     def _count(self, place: str) -> int:
         reply = self.link.read("count " + place)
         if not reply.ok:
@@ -456,6 +570,16 @@ class Client:
             yield child
             if child.count("/") < NAMES:
                 yield from self._beneath(child)
+
+
+def standing_in(named: Dict[str, Holder], claim: str, designer: str, drafts: Optional[Reply]) -> Standing:
+    """How a check-out stands among all claims, by their names."""
+    holder = named.get(claim)
+    if holder is None:
+        return Standing(claim, False, gone=True)
+    before = [named[holder.behind]] if holder.behind in named else []
+    return Standing(claim, holder.held, holder.behind, anothers=holder.owner != designer, before=tuple(before),
+                    drafts=listed_in(drafts, PLACE) if drafts and drafts.ok else None)
 
 
 def memory_name(designer: str, host: str, port: int) -> str:

@@ -88,10 +88,15 @@ def add_of_claims(commands: Any) -> None:
         ("text", {"nargs": "?", "metavar": "TEXT", "help": "at most 64 bytes; '' takes the note away"}))
     add(commands, "wait", "waits until a claim is held, and shows who is before it", CLAIM,
         ("--at-most", {"type": seconds, "default": float("inf"), "metavar": "SECONDS"}))
-    add(commands, "mine", "shows the check-outs that were asked for here", ("claims", {
-        "nargs": "*", "metavar": "CLAIM", "help": "one of yours from elsewhere, which is remembered here from now on"}))
+    add(commands, "mine", "shows your check-outs, and those from here that are gone", ("claims", {
+        "nargs": "*", "metavar": "CLAIM", "help": "one of yours from elsewhere, at a server that doesn't tell whose a check-out is"}))
+    add(commands, "who", "shows who holds what at a place, above it or beneath it, and who waits for it",
+        ("place", {"nargs": "?", "default": "/", "metavar": "PLACE"}))
     add(commands, "hold", "keeps items from changing until standard input ends", ITEMS)
-    add(commands, "drafts", "writes the copies of a check-out's drafts into a folder", CLAIM, ("folder", {"metavar": "FOLDER"}))
+    add(commands, "drafts", "shows of which parts a check-out has drafts, or writes the copies that are kept here into a folder", CLAIM,
+        ("folder", {"nargs": "?", "metavar": "FOLDER"}))
+    add(commands, "draft", "writes a draft of one of your check-outs", CLAIM, PLACE,
+        ("--to", {"metavar": "FILE", "help": "a new file, in place of standard output"}))
     add(commands, "forget", "forgets a check-out that is gone, and its copies", CLAIM)
 
 

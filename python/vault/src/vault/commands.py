@@ -2,16 +2,16 @@
 
 from typing import Callable, Dict
 
-from vault.claim_commands import abandon, checkin, checkout, extend, forget, give, hold, mine, note, wait
+from vault.claim_commands import abandon, checkin, checkout, extend, forget, give, hold, mine, note, wait, who
 from vault.client import Client
 from vault.folder_commands import add, status
 from vault.output import Output, Told, Words
-from vault.part_commands import drafts, get, history, put
+from vault.part_commands import draft, drafts, get, history, put
 from vault.place_commands import hello, make, nest, tree
 from vault.store_commands import store
 
 COMMANDS: Dict[str, Callable[[Client, Words, Output], Told]] = {
     "hello": hello, "tree": tree, "make": make, "nest": nest, "checkout": checkout, "extend": extend, "put": put, "get": get,
     "history": history, "checkin": checkin, "abandon": abandon, "give": give, "note": note, "wait": wait, "mine": mine,
-    "hold": hold, "drafts": drafts, "forget": forget, "store": store, "status": status, "add": add,
+    "who": who, "hold": hold, "drafts": drafts, "draft": draft, "forget": forget, "store": store, "status": status, "add": add,
 }

@@ -3,7 +3,7 @@
 import contextlib
 import socket
 import time
-from typing import Callable, List, Optional
+from typing import Callable, List, Optional, Sequence
 
 from vault import transport
 from vault.words import Lost, Reply, Unreachable, read_reply
@@ -15,6 +15,7 @@ REPLY_SECONDS = 60.0
 FULL = 80
 FULL_PAUSE_SECONDS = 0.5
 REPLY_BYTES = 1 << 20
+ASKED_AT_ONCE = 64
 
 
 class Connection:
@@ -54,6 +55,13 @@ class Connection:
             self.drop()
             raise
 
+    def ask_within(self, line: str, seconds: float) -> Reply:
+        """Sends one line whose answer may take so long; behind that the connection ends."""
+        self.socket.settimeout(seconds)
+        reply = self.ask(line)
+        self.socket.settimeout(REPLY_SECONDS)
+        return reply
+
     def _reply(self) -> Reply:
         line = self.reader.readline(REPLY_BYTES)
         if not line.endswith(b"\n"):
@@ -82,7 +90,11 @@ class Patience:
 
     def over(self) -> bool:
         """Whether the time is over."""
-        return time.monotonic() >= self.end
+        return self.left() <= 0.0
+
+    def left(self) -> float:
+        """How many seconds are left."""
+        return self.end - time.monotonic()
 
     def pause(self) -> None:
         """Sleeps a little longer than the time before, and not past the end."""
@@ -165,3 +177,20 @@ class Link:
     def read(self, line: str) -> Reply:
         """The reply to one question that changes nothing."""
         return self.read_all([line])[0]
+
+    def asked(self, command: str, words: Sequence[str]) -> List[Reply]:
+        """The replies to a question about each of some things, which changes nothing."""
+        replies: List[Reply] = []
+        for first in range(0, len(words), ASKED_AT_ONCE):
+            replies += self.read_all([f"{command} {word}" for word in words[first:first + ASKED_AT_ONCE]])
+        return replies
+
+    def read_within(self, line: str, seconds: float) -> Optional[Reply]:
+        """The reply to a question that changes nothing and may be answered late; nothing where none comes in time, or the connection ends, or
+        the server can't answer now."""
+        try:
+            reply = self.connected().ask_within(line, seconds)
+        except Lost:
+            self.drop()
+            return None
+        return None if reply.code in (80, 81, 82) else reply

@@ -5,12 +5,14 @@ import json
 import time
 from dataclasses import asdict, dataclass, field
 from pathlib import Path
-from typing import Callable, Dict, Iterator, List, Optional, Tuple
+from typing import Callable, Dict, Iterator, List, Optional, Sequence, Tuple
 
 from filelock import FileLock, Timeout
 
 from vault.files import write_whole
-from vault.words import Reply, VaultError
+from vault.words import Holder, Reply, VaultError
+
+KNOWN = 1024
 
 
 @dataclass
@@ -29,6 +31,15 @@ class Claim:
     items: List[str]
     drafts: Dict[str, Draft] = field(default_factory=dict)
     given: str = ""
+
+
+@dataclass
+class Known:
+    """A claim that this client was told of: whose it was, what it had, and when it was told of first."""
+
+    owner: str
+    items: List[str]
+    since: float
 
 
 @dataclass
@@ -54,6 +65,7 @@ class Memory:
         self.claims: Dict[str, Claim] = {}
         self.under_way: Optional[Command] = None
         self.store = ""
+        self.known: Dict[str, Known] = {}
 
     @contextlib.contextmanager
     def locked(self, waiting: Callable[[], None]) -> Iterator[None]:
@@ -76,6 +88,7 @@ class Memory:
             kept = json.loads(self.path.read_text("utf-8"))
             self.last_number = kept["last_number"]
             self.store = kept.get("store", "")
+            self.known = {name: Known(**known) for name, known in kept.get("known", {}).items()}
             self.claims = {
                 name: Claim(claim["items"], {place: Draft(**draft) for place, draft in claim["drafts"].items()},
                             claim.get("given", ""))
@@ -83,7 +96,7 @@ class Memory:
             }
             self.under_way = Command(**kept["under_way"]) if kept["under_way"] else None
         except FileNotFoundError:
-            self.last_number, self.claims, self.under_way, self.store = 0, {}, None, ""
+            self.last_number, self.claims, self.under_way, self.store, self.known = 0, {}, None, "", {}
         except (ValueError, KeyError, TypeError, AttributeError) as error:
             raise VaultError(f"The file {self.path} can't be read. It keeps copies of drafts, so move it away"
                              " rather than delete it, and run the command again.") from error
@@ -95,6 +108,7 @@ class Memory:
             "store": self.store,
             "claims": {name: asdict(claim) for name, claim in self.claims.items()},
             "under_way": asdict(self.under_way) if self.under_way else None,
+            "known": {name: asdict(known) for name, known in self.known.items()},
         }
         write_whole(self.path, json.dumps(kept, indent=1).encode("utf-8"))
 
@@ -114,16 +128,40 @@ class Memory:
         numbers = [int(claim[1:]) for claim in reply.claims() if claim[0] == "c"]
         self.last_number = max([self.last_number] + numbers)
 
+    def knows(self, line: Sequence[Holder], all_claims: bool) -> bool:
+        """Remembers claims that were told of, where all that stand were told these alone, and answers whether any is new. One of which neither
+        owner nor items are as before is another of that number, as behind a restart of the server."""
+        found = {}
+        for holder in line:
+            before = self.known.get(holder.claim)
+            same = before is not None and (before.owner == holder.owner or before.items == list(holder.items))
+            found[holder.claim] = Known(holder.owner, list(holder.items), before.since if before is not None and same else time.time())
+        kept = found if all_claims else {**self.known, **found}
+        latest = dict(sorted(kept.items(), key=lambda entry: entry[1].since)[-KNOWN:])
+        changed = latest != self.known
+        self.known = latest
+        return changed
+
     def remember(self, command: Command, reply: Reply) -> None:
         """Keeps what a command that was done means for the check-outs."""
         if command.kind == "checkout":
             self.claims[reply.claims()[0]] = Claim(command.items)
+            self.known[reply.claims()[0]] = Known("", command.items, time.time())
         elif command.kind == "extend" and command.claim in self.claims:
             self.claims[command.claim].items += command.items
         elif command.kind in ("checkin", "abandon"):
             self.claims.pop(command.claim, None)
         elif command.kind == "give" and command.claim in self.claims:
             self._given(command.claim, command.line.split()[2])
+
+    def put_aside(self, name: str) -> Optional[Path]:
+        """Forgets a check-out, and answers the file in which the copies of its drafts are kept, if there are any."""
+        claim = self.claims.pop(name, None)
+        if claim is None or not claim.drafts:
+            return None
+        path = self.path.with_name(f"{self.path.name}.{name}.{time.time_ns()}")
+        write_whole(path, json.dumps(asdict(claim), indent=1).encode("utf-8"))
+        return path
 
     def _given(self, claim: str, receiver: str) -> None:
         """Forgets a check-out that was given away, but not while copies of its drafts are kept."""

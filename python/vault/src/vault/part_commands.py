@@ -10,7 +10,7 @@ from vault.card import shown
 from vault.client import Client
 from vault.folder_commands import get_folder, put_folder
 from vault.output import Output, Told, Words
-from vault.parts import Version, fields_of, parts_of_program
+from vault.parts import Parts, Version, fields_of, parts_of_program
 from vault.words import Misused, Refused
 
 SHOWN_BYTES = 1 << 20
@@ -30,7 +30,19 @@ def get(client: Client, words: Words, output: Output) -> Told:
     parts = parts_of_program(client, output.meter)
     if words.to and words.version is None and client.is_assembly(words.place):
         return get_folder(parts, words, output)
-    version = parts.get(words.place, words.version)
+    return write(parts, parts.get(words.place, words.version), words, output)
+
+
+def draft(client: Client, words: Words, output: Output) -> Told:
+    """Writes a draft to standard output, or into a new file."""
+    parts = parts_of_program(client, output.meter)
+    sentence, fields = write(parts, Version(words.place, 0, client.draft(words.claim, words.place)), words, output)
+    del fields["version"]
+    return sentence, {"claim": words.claim, **fields}
+
+
+def write(parts: Parts, version: Version, words: Words, output: Output) -> Told:
+    """Writes a version or a draft to standard output, or into a new file."""
     fields = fields_of(version)
     if words.to:
         parts.write_new(version, Path(words.to))
@@ -78,11 +90,15 @@ def history_line(row: List[str]) -> str:
 
 
 def drafts(client: Client, words: Words, output: Output) -> Told:
-    """Writes the copies of drafts into files."""
+    """Shows of which parts a check-out has drafts, or writes the copies that are kept here into files."""
+    if words.folder is None:
+        places = client.drafts(words.claim)
+        return "\n".join(places or [f"{words.claim} has no drafts."]), {"claim": words.claim, "drafts": places}
     parts = parts_of_program(client, output.meter)
     kept = parts.kept_drafts(words.claim)
     if not kept:
-        raise Refused(f"No copy of a draft is kept for {words.claim}. `vault mine` shows the check-outs from here.")
+        raise Refused(f"No copy of a draft is kept here for {words.claim}. `vault drafts {words.claim}` shows of which parts the server has"
+                      f" drafts, and `vault draft {words.claim} PLACE --to FILE` writes one.")
     folder = Path(words.folder)
     folder.mkdir(parents=True, exist_ok=True)
     written = []

@@ -75,7 +75,8 @@ class Setting:
         standing = self.client.checkout(["w:" + STORE_PLACE])
         if not standing.held:
             self.client.abandon(standing.claim)
-            raise Refused(f"{STORE_PLACE} can't be changed now: {standing.behind} is in the way. Wait until it is gone, or ask its designer.")
+            way = standing.before[0].in_words(self.client.designer) if standing.before else standing.behind
+            raise Refused(f"{STORE_PLACE} can't be changed now. In the way is {way}. Wait until it is gone, or ask its designer.")
         self.client.put(STORE_PLACE, content, standing.claim)
         self.client.checkin(standing.claim)
 

@@ -15,8 +15,12 @@ PLACE = re.compile(r"/|(/[a-z0-9_-]{1,32}){1,%d}" % NAMES)
 ITEM = re.compile(r"[rw]:(/|(/[a-z0-9_-]{1,32}){1,%d})" % NAMES)
 CLAIM = re.compile(r"[ch][1-9][0-9]{0,9}")
 CHECKOUT = re.compile(r"c[1-9][0-9]{0,9}")
-SHOWN = re.compile(r"claim (?P<claim>%s) (?P<owner>%s) (?P<held>held|queued behind %s)(?P<items>( %s)+)" % (
-    CLAIM.pattern, NAME.pattern, CLAIM.pattern, ITEM.pattern))
+SHOWN = re.compile(r"claim (?P<claim>%s) (?P<owner>%s) (?:held|queued behind (?P<behind>%s))(?P<items>( %s){1,%d})" % (
+    CLAIM.pattern, NAME.pattern, CLAIM.pattern, ITEM.pattern, ITEMS))
+# The refusal of a place beneath one that a claim covers.
+COVERED = 23
+# Replies each of whose words may name a claim; in others a designer or a place may be called c3.
+NAMING = ("held", "queued", "claims")
 
 SENTENCES: Dict[int, str] = {
     10: "The server does not know this command: it is older than this client. Ask whoever runs it for a newer one; nothing was"
@@ -100,7 +104,10 @@ class Reply:
 
     def claims(self) -> List[str]:
         """The claims that the line names."""
-        return [word for word in self.words if CLAIM.fullmatch(word)]
+        words: Tuple[str, ...] = self.words if not self.ok or self.words[0] in NAMING else ()
+        if self.ok and self.words[0] == "claim":
+            words = self.words[1:2] + self.words[5:6] if "behind" in self.words[3:5] else self.words[1:2]
+        return [word for word in words if CLAIM.fullmatch(word)]
 
     def refusal(self) -> Refused:
         """The refusal as an error with a sentence."""
@@ -121,23 +128,111 @@ def read_reply(line: bytes) -> Reply:
 
 
 @dataclass(frozen=True)
+class Holder:
+    """A claim with whose it is, whether it is held or queued behind another, and what it asked for."""
+
+    claim: str
+    owner: str
+    held: bool
+    items: Tuple[str, ...]
+    behind: str = ""
+
+    def changes(self, place: str) -> bool:
+        """Whether the claim takes in a place for change."""
+        return any(item[0] == "w" and under(place, item[2:]) for item in self.items)
+
+    def fields(self) -> Dict[str, Any]:
+        """The claim for --json."""
+        return {"claim": self.claim, "owner": self.owner, "standing": "held" if self.held else "queued", "behind": self.behind or None,
+                "items": list(self.items)}
+
+    def is_check_out_of(self, designer: str) -> bool:
+        """Whether it is a check-out, and this designer's."""
+        return self.owner == designer and CHECKOUT.fullmatch(self.claim) is not None
+
+    def in_words(self, designer: str) -> str:
+        """The claim, whose it is and what it has, as this designer is told."""
+        does = who_does(self.owner, "hold" if self.held else "wait", designer)
+        return f"{self.claim}, {'which' if self.held else 'for which'} {does}: {' '.join(self.items)}"
+
+
+def refusal_by(reply: Reply, holder: Holder, designer: str) -> Refused:
+    """A refusal that names a claim in the way, with whose it is and what it has."""
+    own = holder.owner == designer
+    advice = "Wait until it is gone" + ("" if own else f", or ask {holder.owner}") + "; nothing was changed."
+    if own and reply.code == COVERED and holder.claim[0] == "c":
+        advice = f"Add `--claim {holder.claim}`; nothing was changed."
+    begins = "The place above it is in" if reply.code == COVERED else "In the way is"
+    refused = Refused(f"{begins} {holder.in_words(designer)}. {advice}", reply.code)
+    refused.fields = {"in_the_way": holder.fields()}
+    return refused
+
+
+def who_does(owner: str, what: str, designer: str) -> str:
+    """A designer and what that one does, where it is `you` for the one who is told."""
+    return f"you {what}" if owner == designer else f"{owner} {what}s"
+
+
+@dataclass(frozen=True)
+class Wait:
+    """A claim that another one waits for, by the place of the first at which they meet."""
+
+    before: Holder
+    place: str
+    waiting: Holder
+
+    def fields(self) -> Dict[str, Any]:
+        """The wait for --json."""
+        return {"claim": self.before.claim, "owner": self.before.owner, "place": self.place, "waiting": self.waiting.claim,
+                "waits": self.waiting.owner}
+
+    def in_words(self, designer: str) -> str:
+        """Who holds what, and who waits for it."""
+        held = who_does(self.before.owner, "hold" if self.before.held else "wait", designer)
+        return (f"{held}{'' if self.before.held else ' earlier for'} {self.place}, for which"
+                f" {who_does(self.waiting.owner, 'wait', designer)}")
+
+
+@dataclass(frozen=True)
 class Standing:
     """How a claim stands: held, or queued behind another, or gone where it is neither; and whether it is known to be another
-    designer's."""
+    designer's. As far as the server tells: of one that is queued, each claim before it that it waits for in turn, and where designers wait
+    for each other in a ring; of a check-out of one's own, the parts that it has drafts of."""
 
     claim: str
     held: bool
     behind: str = ""
     gone: bool = False
     anothers: bool = False
+    before: Tuple[Holder, ...] = ()
+    ring: Tuple[Wait, ...] = ()
+    drafts: Optional[Tuple[str, ...]] = None
 
-    def sentence(self) -> str:
-        """The standing in words."""
+    def sentence(self, designer: str = "") -> str:
+        """The standing in words, as this designer is told."""
         if self.gone:
             return f"{self.claim} is gone."
         if self.anothers:
             return f"{self.claim} is another designer's."
-        return f"{self.claim} is held." if self.held else f"{self.claim} is queued behind {self.behind}."
+        if self.held:
+            return f"{self.claim} is held."
+        return f"{self.claim} is queued behind {self.before[0].in_words(designer) if self.before else self.behind}."
+
+    def fields(self) -> Dict[str, Any]:
+        """The standing for --json."""
+        return {"claim": self.claim, "standing": "gone" if self.gone else "held" if self.held else "queued", "behind": self.behind or None,
+                "anothers": self.anothers, "before": [holder.fields() for holder in self.before],
+                "ring": [wait.fields() for wait in self.ring]}
+
+    def chain_in_words(self, designer: str) -> str:
+        """The standing in words, and those of the claims before it that it waits for in turn."""
+        queued = [f"{one.claim} is queued behind {other.in_words(designer)}." for one, other in zip(self.before, self.before[1:])]
+        return " ".join([self.sentence(designer), *queued])
+
+    def ring_in_words(self, designer: str) -> str:
+        """Where designers wait for each other in a ring, if they do."""
+        said = "; ".join(wait.in_words(designer) for wait in self.ring)
+        return said[:1].upper() + said[1:] + "." if said else ""
 
 
 def number_in(reply: Reply, at: int) -> int:
@@ -169,34 +264,27 @@ def content_in(reply: Reply) -> bytes:
 
 def names_in(reply: Reply) -> Tuple[str, ...]:
     """The names that a reply lists."""
+    return listed_in(reply, NAME)
+
+
+def listed_in(reply: Reply, form: "re.Pattern[str]") -> Tuple[str, ...]:
+    """The words that a reply lists, each of that form."""
     if not reply.ok:
         raise reply.refusal()
-    names = reply.words[2:]
-    if number_in(reply, 1) != len(names) or not all(NAME.fullmatch(name) for name in names):
+    found = reply.words[2:]
+    if number_in(reply, 1) != len(found) or not all(form.fullmatch(word) for word in found):
         raise odd(reply)
-    return names
+    return found
 
 
-@dataclass(frozen=True)
-class Holder:
-    """A claim with whose it is, whether it is held, and what it asked for."""
-
-    claim: str
-    owner: str
-    held: bool
-    items: Tuple[str, ...]
-
-    def changes(self, place: str) -> bool:
-        """Whether the claim takes in a place for change."""
-        return any(item[0] == "w" and under(place, item[2:]) for item in self.items)
-
-
-def holder_in(reply: Reply) -> Holder:
-    """The claim that a reply shows."""
+def holder_in(reply: Reply, claim: str) -> Holder:
+    """The claim that a reply shows, which has to be this one."""
+    if not reply.ok:
+        raise reply.refusal()
     found = SHOWN.fullmatch(" ".join(reply.words))
-    if found is None:
+    if found is None or found["claim"] != claim:
         raise odd(reply)
-    return Holder(found["claim"], found["owner"], found["held"] == "held", tuple(found["items"].split()))
+    return Holder(claim, found["owner"], found["behind"] is None, tuple(found["items"].split()), found["behind"] or "")
 
 
 def odd(reply: Reply) -> NotUnderstood:

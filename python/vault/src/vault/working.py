@@ -6,10 +6,9 @@ import os
 import stat
 from dataclasses import dataclass, field
 from pathlib import Path
-from typing import Dict, Iterator, List, Optional, Tuple
+from typing import Dict, Iterator, List, Optional, Sequence, Tuple
 
 from vault.folder import Entry, Folder, read_folder
-from vault.memory import Claim
 from vault.names import choose_name, folded, part_name, usable
 from vault.parts import Parts, Version
 from vault.setting import STORE_PLACE
@@ -90,7 +89,7 @@ class Working:
         """Puts each changed file that a held check-out of this designer takes in, or the one that is named."""
         done, claims = Done(), self._claims()
         if claim and claim not in claims:
-            raise Misused(f"{claim} is no held check-out that this client remembers. `vault mine` shows them.")
+            raise Misused(f"{claim} is no held check-out of yours at {self.folder.place}. `vault mine` shows those that there are.")
         for state in self.states():
             fitting = [name for name in covering(claims, state.place) if name == (claim or name)]
             reason = self._reason_against(state, fitting)
@@ -207,9 +206,9 @@ class Working:
         above = place.rpartition("/")[0]
         return next(name for name, each in self.folder.folders.items() if each == above)
 
-    def _claims(self) -> Dict[str, Claim]:
-        """The held check-outs of this designer that this client remembers."""
-        return {standing.claim: claim for standing, claim in self.client.mine() if standing.held and not standing.anothers}
+    def _claims(self) -> Dict[str, Sequence[str]]:
+        """The held check-outs of this designer at the folder's place, each with its items."""
+        return self.client.held(self.folder.place)
 
     def _reason_against(self, state: State, fitting: List[str]) -> str:
         """Why a changed file isn't put, if there is a reason."""
@@ -264,9 +263,9 @@ def given(moved: Moved) -> Iterator[Moved]:
     yield moved
 
 
-def covering(claims: Dict[str, Claim], place: str) -> List[str]:
+def covering(claims: Dict[str, Sequence[str]], place: str) -> List[str]:
     """The check-outs that take in a place for change."""
-    return [name for name, claim in claims.items() if any(item[0] == "w" and under(place, item[2:]) for item in claim.items)]
+    return [name for name, items in claims.items() if any(item[0] == "w" and under(place, item[2:]) for item in items)]
 
 
 def server_of(parts: Parts) -> str:
