@@ -10,26 +10,30 @@ from unittest import mock
 
 import test_tutorial
 from doors import Door, make_key
-from servers import MEMORY, TOP, Cutter, Server
+from servers import MEMORY, TOP, Cutter, Server, free_port
 
 from vault import Client, Misused, NotKnown
 from vault.session import read_address
-from vault.transport import GATE, SshStream, ssh_words
+from vault.transport import GATE, Address, SshStream, ssh_words
 
-GOOD: Dict[str, Tuple[str, str, int]] = {
-    "anna@ssh:vault.example.org": ("anna", "ssh:vault.example.org", 0),
-    "anna@ssh:vault@vault.example.org:2222": ("anna", "ssh:vault@vault.example.org", 2222),
-    "anna@ssh:hall:22": ("anna", "ssh:hall", 22),
-    "anna@ssh:vault@[::1]": ("anna", "ssh:vault@[::1]", 0),
-    "anna@ssh:[fe80::1%eth0]:22": ("anna", "ssh:[fe80::1%eth0]", 22),
-    "anna@127.0.0.1:7070": ("anna", "127.0.0.1", 7070),
-    "anna@[::1]:7070": ("anna", "::1", 7070),
+GOOD: Dict[str, Tuple[Address, ...]] = {
+    "anna@ssh:vault.example.org": (("ssh:vault.example.org", 0),),
+    "anna@ssh:vault@vault.example.org:2222": (("ssh:vault@vault.example.org", 2222),),
+    "anna@ssh:hall:22": (("ssh:hall", 22),),
+    "anna@ssh:vault@[::1]": (("ssh:vault@[::1]", 0),),
+    "anna@ssh:[fe80::1%eth0]:22": (("ssh:[fe80::1%eth0]", 22),),
+    "anna@127.0.0.1:7070": (("127.0.0.1", 7070),),
+    "anna@[::1]:7070": (("::1", 7070),),
+    "anna@one:7070,two:7070": (("one", 7070), ("two", 7070)),
+    "anna@ssh:vault@one,ssh:vault@two:22,[::1]:7070": (("ssh:vault@one", 0), ("ssh:vault@two", 22), ("::1", 7070)),
 }
 BAD = ("anna@ssh:", "anna@ssh:-oProxyCommand=true", "anna@ssh:-oProxyCommand=true:22", "anna@ssh:-D9@hall", "anna@ssh:-l@hall", "anna@ssh:@hall",
        "anna@ssh:vault@-hall", "anna@ssh:vault@@hall", "anna@ssh:a@b@hall", "anna@ssh:hall;true", "anna@ssh:$(true)", "anna@ssh:`true`",
        "anna@ssh:hall true", "anna@ssh:hall\ntrue", "anna@ssh:hall:0", "anna@ssh:hall:65536", "anna@ssh:hall:", "anna@ssh:hall:ssh",
        "anna@ssh:hall:22:22", "anna@ssh:hall:\N{ARABIC-INDIC DIGIT TWO}2", "anna@ssh:ssh://hall", "anna@ssh:hall/../x", "anna@ssh:[::1",
-       "anna@ssh:[-oProxyCommand=true]", "anna@ssh:%h", "anna@ssh:h\N{LATIN SMALL LETTER A WITH DIAERESIS}ll", "@ssh:hall", "anna@ssh:" + "h" * 300)
+       "anna@ssh:[-oProxyCommand=true]", "anna@ssh:%h", "anna@ssh:h\N{LATIN SMALL LETTER A WITH DIAERESIS}ll", "@ssh:hall", "anna@ssh:" + "h" * 300,
+       "anna@one:7070,", "anna@,one:7070", "anna@one:7070,,two:7070", "anna@one:7070, two:7070", "anna@one:7070,two", "anna@one:7070,one:7070",
+       "anna@one:7070,ssh:-oProxyCommand=true", "anna@one:7070,anna@two:7070", "anna@" + ",".join(f"one:{port}" for port in range(1, 10)))
 
 # What the page has of check-ins and gifts, and what the log has of those that were done. A store is set by a check-in, too.
 GIVEN = re.compile(r"vault (?:--patience 0 )?(checkin|give|store set) ")
@@ -41,7 +45,7 @@ class Addresses(unittest.TestCase):
 
     def test_good(self) -> None:
         for word, found in GOOD.items():
-            self.assertEqual(read_address(word), found)
+            self.assertEqual(read_address(word), ("anna", found))
 
     def test_bad(self) -> None:
         for word in BAD:
@@ -139,6 +143,15 @@ class ThroughTheDoor(unittest.TestCase):
         client.make("/engine/block")
         self.assertEqual(list(client.tree()), ["/engine", "/engine/block"])
         client.close()
+
+    def test_two_addresses(self) -> None:
+        """Through the second gate, where nobody listens at the first; a key that isn't let in at one is told where it isn't at the other, either."""
+        nobody = f"ssh:127.0.0.1:{free_port()}"
+        self.assertEqual(self.vault("hello", f"anna@{nobody},{self.server_word}"),
+                         f"You are anna at {nobody} and {self.server_word}. {self.server_word} answers.\n")
+        self.vault("make", "/engine")
+        other = f"ssh:localhost:{self.door.port}"
+        self.one_sentence(self.vault("hello", f"ben@{self.server_word},{other}", status=1), "doesn't speak for ben")
 
     def test_reply_is_lost(self) -> None:
         """A check-in whose reply is lost behind the gate is found out, and the log has it as lost, and not twice."""

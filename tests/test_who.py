@@ -508,7 +508,8 @@ class Mine(WithDesigners):
     def test_names_that_look_like_claims(self) -> None:
         """A designer or a place called as a claim isn't taken for one: what becomes of a lost check-out is found out all the same."""
         self.anna.make("/c4000000000")
-        list(self.anna.tree())
+        self.cutter.after.append(b"make")
+        self.anna.make("/wing")
         designer = self.elsewhere("c3999999999")
         designer.checkout(["r:/c4000000000"])
         self.anna.who("/")

@@ -5,6 +5,7 @@ done, by questions that change nothing, before it says anything twice.
 """
 
 import contextlib
+import hashlib
 import os
 import time
 from collections import Counter
@@ -18,11 +19,14 @@ from vault.folders import state_folder
 from vault.line import UNKNOWN_COMMAND, Line, chain, ring
 from vault.memory import Claim, Command, Draft, Memory, by_number, shown
 from vault.recovery import ANOTHERS, GONE, MINE, NO_PART, SENT_AGAIN, Recovery, not_known, whose
+from vault.transport import Address
+from vault.transport import shown as address_word
 from vault.words import (CONTENT_BYTES, GREATEST, NAME, NAMES, NOTE_BYTES, PLACE, SENTENCES, Holder, Lost, Misused, Refused, Reply, Standing,
                          Unreachable, VaultError, checked, checkout_word, claim_word, content_in, item_words, listed_in, names_in,
                          number_in, place_word, refusal_by, standing_of, under)
 
 NO_DRAFT = 40
+NAME_LENGTH = 200
 OLDER = ("The server is older than this client, and doesn't tell who holds what, so that is left out here. Ask whoever runs it for a newer"
          " one.")
 
@@ -31,12 +35,14 @@ class Client:
     """A designer at a server. Every method raises a `VaultError` with a sentence where it can't do what it says."""
 
     def __init__(self, designer: str, host: str, port: int, state: Optional[Path] = None, patience: float = 30.0,
-                 settling: float = 1.0, notice: Callable[[str], None] = quiet, progress: Callable[[str], None] = quiet):
-        self.designer, self.host, self.port = checked(NAME, designer, "designer's name"), host, port
-        self.memory = Memory((state or state_folder()) / memory_name(designer, host, port))
+                 settling: float = 1.0, notice: Callable[[str], None] = quiet, progress: Callable[[str], None] = quiet,
+                 others: Sequence[Address] = ()):
+        """The others are further addresses of the same vault: the first that answers is spoken to, for as long as it does."""
+        self.designer, self.servers = checked(NAME, designer, "designer's name"), [(host, port), *others]
+        self.memory = Memory((state or state_folder()) / memory_name(designer, self.servers))
         self.patience, self.settling = patience, settling
         self.notice, self.progress = notice, progress
-        self.link = Link(designer, host, port, patience, progress, self.memory.saw)
+        self.link = Link(designer, self.servers, patience, progress, self.memory.saw)
         self.recovery = Recovery(self.link, self.memory, notice)
         self.line, self.told_older = Line(self.link), False
         self.held_on: Optional[Connection] = None
@@ -348,8 +354,19 @@ class Client:
     def _alone(self) -> Iterator[None]:
         """Works alone on the client's file, and first finds out what became of an earlier command."""
         with self.memory.locked(lambda: self.progress("waiting for another `vault` of this designer")):
-            self._settle()
-            yield
+            self.link.prefer(self.memory.server)
+            try:
+                self._settle()
+                yield
+            finally:
+                self._keep_server()
+
+    def _keep_server(self) -> None:
+        """Remembers which of several servers answered last, so that it is tried first."""
+        server = address_word(*self.link.server)
+        if len(self.servers) > 1 and self.memory.server != server and self.link.connection is not None:
+            self.memory.server = server
+            self.memory.save()
 
     def _change(self, command: Command) -> Reply:
         with self._alone():
@@ -407,6 +424,8 @@ class Client:
                 return reply
             else:
                 lost = True
+                if reply is not None:
+                    self.link.pass_over()
                 self._start_afresh()
                 if patience.over():
                     raise not_known(command, SENTENCES[82] if reply else "The server can't be reached.", 82 if reply else None)
@@ -582,7 +601,9 @@ def standing_in(named: Dict[str, Holder], claim: str, designer: str, drafts: Opt
                     drafts=listed_in(drafts, PLACE) if drafts and drafts.ok else None)
 
 
-def memory_name(designer: str, host: str, port: int) -> str:
-    """The name of the client's own file for a designer at a server; Windows has no colon in names."""
-    name = f"{designer}@{host}:{port}.json"
-    return name.replace(":", "_") if os.name == "nt" else name
+def memory_name(designer: str, servers: Sequence[Address]) -> str:
+    """The name of the client's own file for a designer at a vault's servers, in whatever order; Windows has no colon in names."""
+    name = f"{designer}@" + ",".join(sorted(f"{host}:{port}" for host, port in servers))
+    if len(servers) > 1 and len(name) > NAME_LENGTH:
+        name = name[:NAME_LENGTH // 2] + hashlib.sha256(name.encode("utf-8")).hexdigest()
+    return (name.replace(":", "_") if os.name == "nt" else name) + ".json"

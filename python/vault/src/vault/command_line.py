@@ -41,7 +41,8 @@ def command_line() -> argparse.ArgumentParser:
     parser.add_argument("--patience", type=seconds, default=30.0, metavar="SECONDS", help="how long a lost server is asked for (30)")
     commands = parser.add_subparsers(dest="command", required=True, metavar="COMMAND")
     add(commands, "hello", "remembers who you are, and where",
-        ("who", {"metavar": "NAME@HOST:PORT", "help": "or, through ssh, NAME@ssh:HOST or NAME@ssh:USER@HOST:PORT"}))
+        ("who", {"metavar": "NAME@HOST:PORT", "help": "or, through ssh, NAME@ssh:HOST or NAME@ssh:USER@HOST:PORT; a vault's further addresses"
+                 " stand behind commas, as anna@one:7070,two:7070"}))
     add_of_places(commands)
     add_of_claims(commands)
     add(commands, "store", "shows where the vault keeps its files, names the place, or confirms it",

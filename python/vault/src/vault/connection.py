@@ -13,6 +13,7 @@ CONNECT_SECONDS = 10.0
 GREETING_SECONDS = 15.0
 REPLY_SECONDS = 60.0
 FULL = 80
+BROKEN = 82
 FULL_PAUSE_SECONDS = 0.5
 REPLY_BYTES = 1 << 20
 ASKED_AT_ONCE = 64
@@ -109,11 +110,22 @@ def quiet(_sentence: str) -> None:
 class Link:
     """A designer's way to a server, which outlives its connections."""
 
-    def __init__(self, designer: str, host: str, port: int, patience: float, progress: Callable[[str], None],
+    def __init__(self, designer: str, servers: Sequence[transport.Address], patience: float, progress: Callable[[str], None],
                  saw: Callable[[Reply], None]):
-        self.designer, self.host, self.port = designer, host, port
+        self.designer, self.servers, self.first = designer, list(servers), 0
         self.patience, self.progress, self.saw = patience, progress, saw
         self.connection: Optional[Connection] = None
+
+    @property
+    def server(self) -> transport.Address:
+        """The server that answered last, or that is tried first."""
+        return self.servers[self.first]
+
+    def prefer(self, address: str) -> None:
+        """Tries a server first from now on, by its address as it is shown, unless there is a connection already."""
+        shown = [transport.shown(*server) for server in self.servers]
+        if self.connection is None and address in shown:
+            self.first = shown.index(address)
 
     def close(self) -> None:
         """Leaves the server."""
@@ -127,6 +139,11 @@ class Link:
             self.connection.drop()
             self.connection = None
 
+    def pass_over(self) -> None:
+        """Ends the connection to a server that is broken: the next one is tried first from now on."""
+        self.drop()
+        self.first = (self.first + 1) % len(self.servers)
+
     def connected(self) -> Connection:
         """The connection, made anew where it is spent or lost."""
         if self.connection is not None and self.connection.lines > LINES_OF_A_CONNECTION:
@@ -136,24 +153,39 @@ class Link:
         return self.connection
 
     def _connect(self) -> Connection:
-        patience, why = Patience(self.patience), ""
+        patience = Patience(self.patience)
         while True:
-            try:
-                connection = Connection(self.host, self.port, self.designer)
-                if connection.greeting.ok:
-                    return connection
-                if connection.greeting.code == transport.NOT_YOURS:
-                    raise transport.not_as(self.designer, self.host, self.port)
-                why = str(connection.greeting.refusal())
-                if connection.greeting.code == FULL:
-                    why = f"The server at {self.host}:{self.port} is full at this moment. Ask whoever runs it for room, if it stays so."
-                    patience.next = max(patience.next, FULL_PAUSE_SECONDS)
-            except Lost as lost:
-                why = f"No server answers at {transport.shown(self.host, self.port)} ({lost}). Ask whoever runs it whether it runs."
+            refused: List[Unreachable] = []
+            for _ in self.servers:
+                try:
+                    return self._connect_to(patience)
+                except Unreachable as error:
+                    refused.append(error)
+                    self.first = (self.first + 1) % len(self.servers)
+            if all(isinstance(error, transport.NotLetIn) for error in refused):
+                raise refused[0]
+            why = " ".join(str(error) for error in refused)
             if patience.over():
                 raise Unreachable(why)
             self.progress(f"{why} Trying again in {patience.next:.1f} seconds.")
             patience.pause()
+
+    def _connect_to(self, patience: Patience) -> Connection:
+        """A connection to the server whose turn it is."""
+        host, port = self.server
+        try:
+            connection = Connection(host, port, self.designer)
+        except Lost as lost:
+            raise Unreachable(f"No server answers at {transport.shown(host, port)} ({lost}). Ask whoever runs it whether it runs.") from lost
+        if connection.greeting.ok:
+            return connection
+        if connection.greeting.code == transport.NOT_YOURS:
+            raise transport.not_as(self.designer, host, port)
+        if connection.greeting.code == FULL:
+            patience.next = max(patience.next, FULL_PAUSE_SECONDS)
+            raise Unreachable(f"The server at {transport.shown(host, port)} is full at this moment. Ask whoever runs it for room, if it stays"
+                              " so.")
+        raise Unreachable(str(connection.greeting.refusal()))
 
     def read_all(self, lines: List[str]) -> List[Reply]:
         """The replies to questions that change nothing, asked again until all are told."""
@@ -163,13 +195,15 @@ class Link:
                 replies = self.connected().ask_all(lines)
             except Lost:
                 replies = []
-            outside = [reply for reply in replies if reply.code in (80, 81, 82)]
+            outside = [reply for reply in replies if reply.code in (80, 81, BROKEN)]
             if replies and not outside:
                 for reply in replies:
                     self.saw(reply)
                 return replies
-            if not replies or outside[0].code == 82:
+            if not replies:
                 self.drop()
+            elif outside[0].code == BROKEN:
+                self.pass_over()
             if patience.over():
                 raise Unreachable(str(outside[0].refusal()) if outside else "The server can't be reached.")
             patience.pause()
@@ -193,4 +227,6 @@ class Link:
         except Lost:
             self.drop()
             return None
-        return None if reply.code in (80, 81, 82) else reply
+        if reply.code == BROKEN:
+            self.pass_over()
+        return None if reply.code in (80, 81, BROKEN) else reply

@@ -65,6 +65,7 @@ class Memory:
         self.claims: Dict[str, Claim] = {}
         self.under_way: Optional[Command] = None
         self.store = ""
+        self.server = ""
         self.known: Dict[str, Known] = {}
 
     @contextlib.contextmanager
@@ -87,7 +88,7 @@ class Memory:
         try:
             kept = json.loads(self.path.read_text("utf-8"))
             self.last_number = kept["last_number"]
-            self.store = kept.get("store", "")
+            self.store, self.server = kept.get("store", ""), kept.get("server", "")
             self.known = {name: Known(**known) for name, known in kept.get("known", {}).items()}
             self.claims = {
                 name: Claim(claim["items"], {place: Draft(**draft) for place, draft in claim["drafts"].items()},
@@ -96,7 +97,7 @@ class Memory:
             }
             self.under_way = Command(**kept["under_way"]) if kept["under_way"] else None
         except FileNotFoundError:
-            self.last_number, self.claims, self.under_way, self.store, self.known = 0, {}, None, "", {}
+            self.last_number, self.claims, self.under_way, self.store, self.server, self.known = 0, {}, None, "", "", {}
         except (ValueError, KeyError, TypeError, AttributeError) as error:
             raise VaultError(f"The file {self.path} can't be read. It keeps copies of drafts, so move it away"
                              " rather than delete it, and run the command again.") from error
@@ -106,6 +107,7 @@ class Memory:
         kept = {
             "last_number": self.last_number,
             "store": self.store,
+            "server": self.server,
             "claims": {name: asdict(claim) for name, claim in self.claims.items()},
             "under_way": asdict(self.under_way) if self.under_way else None,
             "known": {name: asdict(known) for name, known in self.known.items()},

@@ -13,7 +13,10 @@ def hello(client: Client, words: Words, _output: Output) -> Told:
     """Remembers the designer and the server, once it answers."""
     client.hello()
     remember_designer(words.who)
-    return f"You are {client.designer} at {shown(client.host, client.port)}.", {"designer": client.designer}
+    servers, answers = [shown(*server) for server in client.servers], shown(*client.link.server)
+    which = "" if len(servers) == 1 else f" {answers} answers."
+    return (f"You are {client.designer} at {' and '.join(servers)}.{which}",
+            {"designer": client.designer, "servers": servers, "answers": answers})
 
 
 def make(client: Client, words: Words, _output: Output) -> Told:

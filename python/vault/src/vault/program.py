@@ -14,8 +14,8 @@ from vault.words import NotKnown, VaultError
 
 def run(words: Words, output: Output) -> None:
     """Does one command and says what came of it."""
-    designer, host, port = read_address(words.who if words.command == "hello" else who(words.designer))
-    client = Client(designer, host, port, patience=words.patience, notice=output.notice, progress=output.progress)
+    designer, servers = read_address(words.who if words.command == "hello" else who(words.designer))
+    client = Client(designer, *servers[0], patience=words.patience, notice=output.notice, progress=output.progress, others=servers[1:])
     try:
         sentence, fields = COMMANDS[words.command](client, words, output)
     finally:

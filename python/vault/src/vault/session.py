@@ -5,18 +5,20 @@ from typing import Optional, Tuple
 
 from vault.files import write_whole
 from vault.folders import state_folder
-from vault.transport import read_server
+from vault.transport import MOST_SERVERS, Address, read_servers
 from vault.words import Misused
 
 
-def read_address(word: str) -> Tuple[str, str, int]:
-    """Designer, host and port of a word as anna@127.0.0.1:7070, or as anna@ssh:vault.example.org, where the port is 0."""
-    designer, _, server = word.partition("@")
-    found = read_server(server)
-    if not designer or found is None:
+def read_address(word: str) -> Tuple[str, Tuple[Address, ...]]:
+    """Designer, and host and port of each server, of a word as anna@127.0.0.1:7070, as anna@one:7070,two:7070, or as
+    anna@ssh:vault.example.org, where the port is 0."""
+    designer, _, servers = word.partition("@")
+    found = read_servers(servers)
+    if not designer or not found:
         raise Misused(f"`{word}` is no designer at a server: write NAME@HOST:PORT, as anna@127.0.0.1:7070, or through ssh"
-                      " NAME@ssh:HOST or NAME@ssh:USER@HOST:PORT.")
-    return designer, *found
+                      " NAME@ssh:HOST or NAME@ssh:USER@HOST:PORT; or a vault's addresses with commas between, each once and at most"
+                      f" {MOST_SERVERS}.")
+    return designer, found
 
 
 def remember_designer(word: str) -> None:

@@ -19,8 +19,13 @@ GATE = "vaultd-gate"
 OPTIONS = ("BatchMode=yes", "ClearAllForwardings=yes", "ForwardAgent=no", "ForwardX11=no", "PermitLocalCommand=no", "RequestTTY=no",
            "ServerAliveInterval=15", "ServerAliveCountMax=4")
 NOT_YOURS = 31
+MOST_SERVERS = 8
 SAID_BYTES = 4096
 PIECE = 65536
+
+
+# A server's host and port.
+Address = Tuple[str, int]
 
 
 class NotLetIn(Unreachable):
@@ -53,6 +58,13 @@ def read_ssh(word: str) -> Optional[Tuple[str, int]]:
 def is_port(word: str) -> bool:
     """Whether a word is the number of a port."""
     return PORT.fullmatch(word) is not None and 0 < int(word) < 65536
+
+
+def read_servers(word: str) -> Tuple[Address, ...]:
+    """The same of some addresses with commas between, each once; none where one of them is none, or where these are too many."""
+    found = [read_server(each) for each in word.split(",")]
+    several = tuple(dict.fromkeys(each for each in found if each is not None))
+    return several if len(several) == len(found) <= MOST_SERVERS else ()
 
 
 def shown(host: str, port: int) -> str:

@@ -51,7 +51,7 @@ class Working:
 
     def __init__(self, parts: Parts, folder: Folder):
         self.parts, self.client, self.folder = parts, parts.client, folder
-        if folder.server != server_of(parts):
+        if not set(folder.server.split(",")) & set(server_of(parts).split(",")):
             raise Misused(f"{folder.path} was got from {folder.server}, and you are at {server_of(parts)}. Name the other by `--as`.")
 
     def get(self) -> Done:
@@ -269,8 +269,8 @@ def covering(claims: Dict[str, Sequence[str]], place: str) -> List[str]:
 
 
 def server_of(parts: Parts) -> str:
-    """The server that files come from."""
-    return f"{parts.client.host}:{parts.client.port}"
+    """The server that files come from, or a vault's servers with commas between."""
+    return ",".join(f"{host}:{port}" for host, port in parts.client.servers)
 
 
 def folder_for(parts: Parts, place: str, path: Path) -> Folder:
