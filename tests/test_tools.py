@@ -1,8 +1,10 @@
 """The tools around the files, backup, salvage and board, on real vaults; and those around a check."""
 
 import hashlib
+import html
 import os
 import random
+import re
 import shutil
 import subprocess
 import sys
@@ -17,10 +19,10 @@ from typing import Any, List, Tuple
 from servers import MEMORY, TOP, VAULTD, Server, program
 
 from vault import Client
-from vaultd_tools import board, files
+from vaultd_tools import board, files, page_line
 
 PART = "/engine/block/piston"
-VOID = {"meta", "path", "circle"}
+VOID = {"meta"}
 
 
 class WithVault(unittest.TestCase):
@@ -243,14 +245,13 @@ class Balanced(HTMLParser):
             self.wrong.append(tag)
 
 
-def row(*cells: str) -> str:
-    """The beginning of a row of the page."""
-    names = ("designer", "claim", "standing", "before it", "wait for it")
-    return "<tr>" + "".join(f'<td title="{name}">{cell}</td>' for name, cell in zip(names, cells))
-
-
 class Board(WithVault):
     """The page."""
+
+    def claims(self, page: str) -> List[str]:
+        """The claims of the line, each as text."""
+        items = page.partition('<ol class="line">')[2].partition("</ol>\n")[0].split('<li id="line:')[1:]
+        return [re.sub(r"\s+", " ", html.unescape(re.sub(r"<[^>]*>", "", item.partition(">")[2]))).strip() for item in items]
 
     def test_a_queue(self) -> None:
         ben = Client("ben", "127.0.0.1", self.server.port, self.folder / "state")
@@ -261,12 +262,13 @@ class Board(WithVault):
         parser = Balanced()
         parser.feed(page)
         self.assertEqual((parser.open, parser.wrong), ([], []))
-        self.assertEqual([parser.counted.count(tag) for tag in ("circle", "path", "tr")], [3, 2, 4])
+        self.assertEqual([parser.counted.count(tag) for tag in ("script", "link", "a", "img", "tr")], [0, 0, 0, 0, 3])
         self.assertIn("<h1>Plant &lt;1&gt;</h1>", page)
         self.assertIn("1 held, 2 waiting; whoever waits for most waits for 2.", page)
-        self.assertIn(row("ben", "c2", "waits behind c1", "1", "1"), page)
-        self.assertIn(row("anna", "c1", "held", "0", "2"), page)
-        self.assertIn(row("anna", "c3", "waits behind c1", "2", "0"), page)
+        self.assertEqual(self.claims(page), [
+            f"ananna c1 held change {PART} 2 wait for it",
+            "beben c2 waits behind c1 (anna) look at /engine look at /engine/block 1 to go before it 1 waits for it",
+            "ananna c3 waits behind c1 (anna) change / 2 to go before it"])
 
     def test_as_the_server_says(self) -> None:
         """Each claim waits behind the first before it that overlaps it, which the page works out for itself."""
@@ -278,26 +280,29 @@ class Board(WithVault):
             self.anna.checkout([moments.choice("rrw") + ":" + moments.choice(places) for _ in range(moments.randint(1, 3))])
         report = board.report_of(VAULTD, *self.server.files, 5)
         claims, parser = report.claims(), Balanced()
-        parser.feed(board.page(report, "61 claims"))
-        self.assertEqual((parser.wrong, parser.counted.count("circle"), parser.counted.count("svg")), ([], 61, 11))
+        page = board.page(report, "61 claims")
+        parser.feed(page)
+        self.assertEqual((parser.wrong, len(self.claims(page))), ([], 61))
         for number, claim in enumerate(claims):
-            first = next((earlier.name for earlier in claims[:number] if board.overlap(earlier, claim)), None)
-            self.assertEqual(first, claim.behind, claim.name)
+            overlapping = [place for place in range(number) if page_line.overlap(claims[place], claim)]
+            self.assertEqual(claims[overlapping[0]].name if overlapping else None, claim.behind, claim.name)
+            waits_for = set(overlapping).union(*(page_line.numbers(page_line.before(claims)[place]) for place in overlapping))
+            self.assertEqual(set(page_line.numbers(page_line.before(claims)[number])), waits_for, claim.name)
 
     def test_a_note(self) -> None:
-        """A note of the report is shown as text, and is no item."""
+        """A note of the report is shown as text, and is no item; what turns the direction of writing is spelled."""
         report = files.Report("file a: open\nfile b: closed\nplaces 2, versions 0, claims 1, drafts 0\n"
-                              "c1 anna queued behind c2 w:/e r:/e/b note 3c623e\n")
+                              "c1 anna queued behind c2 w:/e r:/e/b note 3c623ee280ae\n")
         claim = report.claims()[0]
-        self.assertEqual((claim.behind, claim.items, claim.note), ("c2", ("w:/e", "r:/e/b"), b"<b>"))
-        self.assertIn("note: <q>&lt;b&gt;</q>", board.page(report, "x"))
+        self.assertEqual((claim.behind, claim.items, claim.note), ("c2", ("w:/e", "r:/e/b"), "<b>\u202e".encode()))
+        self.assertIn("<q><bdi>&lt;b&gt;\\u202e</bdi></q>", board.page(report, "x"))
 
     def test_a_given_check_out(self) -> None:
         self.anna.set_note("c1", "<bore> 80".encode())
         self.anna.give("c1", "ben")
         page = self.tool("board")
-        self.assertIn('<td title="designer">ben</td><td title="claim">c1</td><td title="standing">held</td>', page)
-        self.assertIn("note: <q>&lt;bore&gt; 80</q></td>", page)
+        self.assertEqual(self.claims(page), [f"beben c1 held change {PART} Note: <bore> 80"])
+        self.assertIn("<q><bdi>&lt;bore&gt; 80</bdi></q>", page)
 
     def test_an_empty_line(self) -> None:
         self.anna.abandon("c1")

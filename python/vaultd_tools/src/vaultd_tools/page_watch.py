@@ -1,0 +1,430 @@
+"""Watches a vault for the page while somebody looks: all claims twice a second, all places and notes within twenty seconds.
+
+It asks over one connection at a time. A reply that is the same as the last one to its question is looked at no further.
+"""
+
+from __future__ import annotations
+
+import asyncio
+import re
+from collections import deque
+from collections.abc import Callable, Iterable, Sequence
+
+from vault.card import read_card
+from vault.words import CONTENT_BYTES, NAME, NOTE_BYTES, SHOWN
+from vaultd_tools.files import Claim
+from vaultd_tools.page_line import under, ways
+from vaultd_tools.page_model import (
+    MOST_BENEATH, MOST_CLAIMS, MOST_NAMES, MOST_PLACES, Link, Model, Place, Since, Version, depth, now)
+from vaultd_tools.page_wire import Broken, Wire, refused
+
+TURN_SECONDS = 0.45
+CYCLE_SECONDS = 20.0
+LINGER_SECONDS = 5.0
+SLOW_SECONDS = 3.0
+FRESH_SECONDS = 6.0
+FIRST_PAUSE, LONGEST_PAUSE = 0.25, 5.0
+BATCH = 256
+CLAIMS = re.compile(rb"OK claims (\d{1,3})((?: [ch][1-9][0-9]{0,9})*)")
+LISTED = re.compile(rb"OK list (\d{1,2})((?: [a-z0-9_-]{1,32})*)")
+COUNTED = re.compile(rb"OK versions (\d{1,5})")
+BYTES = re.compile(rb"OK (content|note) (-|(?:[0-9a-f]{2})+)")
+ENDED, NO_PLACE, NO_PART, NO_VERSION = b"ERR 30", b"ERR 20", b"ERR 22", b"ERR 40"
+LEARNED_AT_ONCE = 20
+MISSES_A_SECOND = 5.0
+
+
+class Watcher:
+    """Keeps a model of a vault right while somebody looks, and says so whenever it changed."""
+
+    def __init__(self, host: str, port: int, designer: str, publish: Callable[[], None]):
+        self.host, self.port, self.designer, self.publish = host, port, designer, publish
+        self.model = Model()
+        self.streams = 0
+        self.session = 0
+        self.connections = 0
+        self._until = 0.0
+        self._wake, self._settled = asyncio.Event(), asyncio.Event()
+        self._lock = asyncio.Lock()
+        self._wire: Wire | None = None
+        self._said: dict[str, bytes] = {}
+        self._line: list[bytes] = []
+        self._urgent: deque[str] = deque()
+        self._later: deque[str] = deque()
+        self._cycle: deque[str] = deque()
+        self._whole = self._quiet = self._changed = False
+        self._misses = MISSES_A_SECOND
+
+    # Who looks
+
+    def look(self) -> None:
+        """Somebody looks now."""
+        self._until = asyncio.get_running_loop().time() + LINGER_SECONDS
+        self._wake.set()
+
+    def somebody_looks(self) -> bool:
+        """Whether somebody looks, or did a moment ago."""
+        return self.streams > 0 or asyncio.get_running_loop().time() < self._until
+
+    async def fresh(self) -> None:
+        """Waits until the model is right again, or it is known that it can't be now."""
+        self.look()
+        try:
+            await asyncio.wait_for(self._settled.wait(), FRESH_SECONDS)
+        except asyncio.TimeoutError:
+            pass
+
+    # The way to the server
+
+    async def run(self) -> None:
+        """Watches whenever somebody looks, for ever."""
+        pause = FIRST_PAUSE
+        while True:
+            while not self.somebody_looks():
+                self._rest()
+                self._wake.clear()
+                await self._wake.wait()
+            try:
+                await self._watch()
+                pause = FIRST_PAUSE
+            except Broken as error:
+                pause = min(pause * 1.6, LONGEST_PAUSE) if self.model.link.kind == "away" else FIRST_PAUSE
+                self._is_away(str(error))
+                await asyncio.sleep(pause)
+
+    async def close(self) -> None:
+        """Leaves the server."""
+        if self._wire is not None:
+            wire, self._wire = self._wire, None
+            await wire.leave()
+
+    def _rest(self) -> None:
+        self._settled.clear()
+        if self.model.link.kind != "away":
+            self.model.link = Link("resting", now())
+
+    def _is_away(self, why: str) -> None:
+        if self._wire is not None:
+            self._wire.drop()
+            self._wire = None
+        self._doubt()
+        link = self.model.link
+        self.model.link = Link("away", link.since if link.kind in ("away", "slow") else now(), why)
+        self._settled.set()
+        self.publish()
+
+    async def _watch(self) -> None:
+        """Reads everything once, and then on and on while somebody looks."""
+        loop = asyncio.get_running_loop()
+        self._quiet = True
+        async with self._lock:
+            await self._connected(1)
+        await self._read_claims()
+        await self._read_places()
+        self._quiet = False
+        self.model.link, self._changed = Link("live", now()), True
+        self._settled.set()
+        while self.somebody_looks():
+            begun = loop.time()
+            if self._changed:
+                self._changed = False
+                self.publish()
+            await asyncio.sleep(max(0.05, begun + TURN_SECONDS - loop.time()))
+            await self._turn()
+        await self.close()
+
+    async def _turn(self) -> None:
+        """What is asked once every half second. Where it takes long, that is said meanwhile."""
+        turn = asyncio.ensure_future(self._ask_a_turn())
+        try:
+            done, _ = await asyncio.wait({turn}, timeout=SLOW_SECONDS)
+            if not done:
+                self.model.link = Link("slow", self.model.as_of or now())
+                self.publish()
+            await turn
+        finally:
+            turn.cancel()
+        if self.model.link.kind != "live":
+            self.model.link, self._changed = Link("live", now()), True
+
+    async def _ask_a_turn(self) -> None:
+        await self._read_claims()
+        if not self._cycle:
+            self._cycle.extend(self._questions())
+        count = 1 + int(len(self._said) * TURN_SECONDS / CYCLE_SECONDS)
+        await self._read([self._cycle.popleft() for _ in range(min(count, len(self._cycle)))])
+        await self._drain(BATCH)
+        await self._read([self._later.popleft() for _ in range(min(BATCH, len(self._later)))])
+        self._misses = min(MISSES_A_SECOND, self._misses + MISSES_A_SECOND * TURN_SECONDS)
+
+    async def _connected(self, count: int) -> Wire:
+        """The connection, with room for so many lines; a spent one is left first."""
+        if self._wire is not None and not self._wire.has_room_for(count):
+            wire, self._wire = self._wire, None
+            await wire.leave()
+        if self._wire is None:
+            self._wire = await Wire.opened(self.host, self.port, self.designer)
+            self.connections += 1
+            if self._wire.session <= self.session:
+                self._doubt()
+            self.session = self._wire.session
+        return self._wire
+
+    async def ask(self, questions: Sequence[str]) -> list[bytes]:
+        """The replies to some questions, at most as many as go at once."""
+        async with self._lock:
+            wire = await self._connected(len(questions))
+            try:
+                return await wire.ask(questions)
+            except BaseException:
+                wire.drop()
+                self._wire = None
+                raise
+
+    # Claims
+
+    def _doubt(self) -> None:
+        """The server may have been started again meanwhile: holds have the numbers of others then, and a backup may have been put in place."""
+        for name in [name for name in self.model.since if name[0] == "h"]:
+            del self.model.since[name]
+        self._line.clear()
+        self._said.clear()
+        self.model.versions.clear()
+        for place in self.model.places.values():
+            place.latest = None
+
+    async def _read_claims(self) -> None:
+        """Asks for the line and for each claim in it. Where that is what was told before, nothing is done."""
+        names = [claim.name for claim in self.model.claims]
+        replies = await self.ask(["claims /"] + ["show " + name for name in names])
+        if replies != self._line:
+            listed = claims_in(replies[0])
+            shown = dict(zip(names, replies[1:]))
+            new = [name for name in listed if name not in shown]
+            if new:
+                shown.update(zip(new, await self.ask(["show " + name for name in new])))
+            self._line = [replies[0]] + [shown[name] for name in listed]
+            self._take_claims([(name, shown[name]) for name in listed if shown[name] != ENDED])
+        self.model.as_of = now()
+
+    def _take_claims(self, shown: list[tuple[str, bytes]]) -> None:
+        """Puts the line in the place of the one before, and says what is different."""
+        notes = {claim.name: claim.note for claim in self.model.claims}
+        old = {claim.name: claim for claim in self.model.claims}
+        claims = [claim_in(name, reply, notes.get(name, b"")) for name, reply in shown]
+        for claim in claims:
+            self.model.since.setdefault(claim.name, Since(now(), not self._quiet))
+            if claim.name not in old and claim.name[0] == "c":
+                self._urgent.append("note " + claim.name)
+        if claims == self.model.claims:
+            return
+        self.model.claims, self._changed = claims, True
+        standing = {claim.name for claim in claims}
+        for name in [name for name in self.model.since if name not in standing]:
+            del self.model.since[name]
+            self._said.pop("note " + name, None)
+        self._look_for_versions([claim for claim in old.values() if claim.name not in standing])
+        if not self._quiet:
+            self._tell_of_claims(old, claims)
+
+    def _look_for_versions(self, gone: Iterable[Claim]) -> None:
+        """A check-out that is gone may have been checked in: the parts that it had for change are counted next."""
+        places = [item[2:] for claim in gone for item in claim.items if item[0] == "w"]
+        for place in places:
+            self._urgent.extend("count " + found.path for found in self.model.walk(place) if found.part)
+
+    def _tell_of_claims(self, old: dict[str, Claim], claims: list[Claim]) -> None:
+        tell, standing = self.model.tell, {claim.name for claim in claims}
+        for claim in old.values():
+            if claim.name not in standing:
+                tell(claim.owner, f"is done with {claim.name}", claim.items[0][2:])
+        for claim in claims:
+            before, what = old.get(claim.name), "to change" if claim.items[0][0] == "w" else "to look at"
+            if before is None:
+                stands = f"took {claim.name}" if claim.behind is None else f"waits with {claim.name} behind {claim.behind}"
+                tell(claim.owner, f"{stands} {what}", claim.items[0][2:])
+            elif before.owner != claim.owner:
+                tell(claim.owner, f"was given {claim.name} by {before.owner}")
+            elif before.behind is not None and claim.behind is None:
+                tell(claim.owner, f"holds {claim.name} now {what}", claim.items[0][2:])
+            elif before.items != claim.items:
+                tell(claim.owner, f"asked for more in {claim.name}:", claim.items[-1][2:])
+
+    # Places, notes and versions
+
+    def _questions(self) -> list[str]:
+        """All that is asked again and again beside the line."""
+        places = [("count " if place.part else "list ") + place.path for place in self.model.places.values() if place.part is not None]
+        return places + ["note " + claim.name for claim in self.model.claims if claim.name[0] == "c"]
+
+    async def _read_places(self) -> None:
+        """Reads all places."""
+        self._cycle.clear()
+        self._urgent.extend(self._questions() if self._whole else ["list /"])
+        await self._drain(None)
+        self._whole = True
+
+    async def _drain(self, most: int | None) -> None:
+        """Asks what is to be asked first, so much of it or all."""
+        while self._urgent and (most is None or most > 0):
+            questions = [self._urgent.popleft() for _ in range(min(BATCH, len(self._urgent)))]
+            await self._read(questions)
+            most = None if most is None else most - len(questions)
+
+    async def _read(self, questions: Sequence[str]) -> None:
+        """Asks, and takes in what isn't what was told before."""
+        if not questions:
+            return
+        for question, reply in zip(questions, await self.ask(questions)):
+            if self._said.get(question) != reply:
+                self._take(question, reply)
+                if not question.startswith("fetch "):
+                    self._said[question] = reply
+
+    def _take(self, question: str, reply: bytes) -> None:
+        keyword, path = question.split(" ")[:2]
+        if reply == NO_PLACE:
+            self._begin_anew()
+        elif keyword == "list":
+            self._take_list(path, reply)
+        elif keyword == "count":
+            self._take_count(path, reply)
+        elif keyword == "note":
+            self._take_note(path, reply)
+        else:
+            self._take_version(path, int(question.split(" ")[2]), reply)
+
+    def _begin_anew(self) -> None:
+        """A place is gone, which no vault loses: it is another vault that answers here now."""
+        if "/" in self.model.places:
+            self.model.places.clear()
+            self.model.versions.clear()
+            self._said.clear()
+            self._cycle.clear()
+            self._later.clear()
+            self._urgent.clear()
+            self._urgent.append("list /")
+            self._changed = True
+
+    def _take_list(self, path: str, reply: bytes) -> None:
+        found = LISTED.fullmatch(reply)
+        names = found[2].decode("ascii").split() if found else []
+        if found is None or len(names) != int(found[1]) or len(names) > MOST_BENEATH or len(set(names)) != len(names):
+            raise refused(reply)
+        place = self.model.places.get(path) or self.model.add(path)
+        children = [path.rstrip("/") + "/" + name for name in names]
+        for child in children:
+            if child not in self.model.places:
+                self._add(child)
+        place.part, place.children, self._changed = False, children, True
+
+    def _add(self, path: str) -> None:
+        if depth(path) > MOST_NAMES or len(self.model.places) >= MOST_PLACES:
+            raise Broken("lists more places than a vault has; it is no vault server")
+        part = self.model.add(path).part
+        self._urgent.append(("list " if part is False else "count ") + path)
+        if not self._quiet:
+            self.model.tell("", "is new", path)
+
+    def _take_count(self, path: str, reply: bytes) -> None:
+        place, found = self.model.places.get(path), COUNTED.fullmatch(reply)
+        if place is None:
+            return
+        self._changed = True
+        if reply == NO_PART and place.part is None:
+            place.part = False
+            self._urgent.append("list " + path)
+        elif reply == NO_PART or found and int(found[1]) < place.versions:
+            self._begin_anew()
+        elif found is None:
+            raise refused(reply)
+        else:
+            self._take_versions(place, int(found[1]))
+
+    def _take_versions(self, place: Place, count: int) -> None:
+        """A part has so many versions: those that are new are read, of one that wasn't known the last alone."""
+        first = max(place.versions, count - LEARNED_AT_ONCE) if place.latest else count - 1
+        if not self._quiet and count > place.versions:
+            self.model.tell("", f"has version {count}", place.path)
+        place.part, place.versions, place.latest = True, count, self.model.versions.get((place.path, count))
+        self._later.extend(f"fetch {place.path} {number}" for number in range(first + 1, count + 1) if number > 0)
+
+    def _take_note(self, name: str, reply: bytes) -> None:
+        if reply == ENDED:
+            return
+        note = bytes_in(reply, b"note", NOTE_BYTES)
+        self.model.claims = [Claim(claim.name, claim.owner, claim.behind, claim.items, note) if claim.name == name else claim
+                             for claim in self.model.claims]
+        self._changed = True
+
+    def _take_version(self, path: str, number: int, reply: bytes) -> None:
+        if reply in (NO_VERSION, NO_PART):
+            return
+        content = bytes_in(reply, b"content", CONTENT_BYTES)
+        card = read_card(content)
+        self.model.keep(path, Version(number, card.size if card else len(content), card), len(content))
+        self._changed = True
+
+    # What a page asks for beside
+
+    async def learn_versions(self, path: str, wanted: Sequence[int]) -> None:
+        """Reads these versions of a part, where they aren't known. Where the server is away they stay unknown."""
+        missing = [number for number in wanted if (path, number) not in self.model.versions]
+        await self._try_to_read([f"fetch {path} {number}" for number in missing])
+
+    async def learn_place(self, path: str) -> None:
+        """Asks for a place that isn't known, and for those above it: it may be younger than the last look. Not for any number of them."""
+        if path in self.model.places or self._misses < 1 or not self._whole:
+            return
+        self._misses -= 1
+        for above in sorted(ways(path), key=len)[:-1]:
+            if self.model.places.get(above) and not self.model.places[above].part:
+                await self._try_to_read(["list " + above])
+                await self._try_to_read([self._urgent.popleft() for _ in range(min(BATCH, len(self._urgent)))])
+
+    async def _try_to_read(self, questions: Sequence[str]) -> None:
+        try:
+            if self.model.link.kind == "live":
+                await self._read(questions)
+        except Broken:
+            pass
+        if self._changed:
+            self._changed = False
+            self.publish()
+
+
+def claims_in(reply: bytes) -> list[str]:
+    """The claims that a reply lists."""
+    found = CLAIMS.fullmatch(reply)
+    names = found[2].decode("ascii").split() if found else []
+    if found is None or len(names) != int(found[1]) or len(names) > MOST_CLAIMS or len(set(names)) != len(names):
+        raise refused(reply)
+    return names
+
+
+def claim_in(name: str, reply: bytes, note: bytes) -> Claim:
+    """The claim that a reply shows, with the note that is known."""
+    found = SHOWN.fullmatch(reply[3:].decode("ascii", "replace")) if reply.startswith(b"OK ") else None
+    if found is None or found["claim"] != name:
+        raise refused(reply)
+    behind = None if found["held"] == "held" else found["held"].rpartition(" ")[2]
+    return Claim(name, found["owner"], behind, tuple(found["items"].split()), note)
+
+
+def bytes_in(reply: bytes, what: bytes, most: int) -> bytes:
+    """The bytes that a reply tells."""
+    found = BYTES.fullmatch(reply)
+    content = b"" if found is None or found[2] == b"-" else bytes.fromhex(found[2].decode("ascii"))
+    if found is None or found[1] != what or len(content) > most:
+        raise refused(reply)
+    return content
+
+
+def concerns(claim: Claim, path: str) -> bool:
+    """Whether a claim takes in a place, or has something beneath it."""
+    return any(under(path, item[2:]) or under(item[2:], path) for item in claim.items)
+
+
+def is_place(path: str) -> bool:
+    """Whether a text is the path of a place."""
+    return path == "/" or path[:1] == "/" and 0 < depth(path) <= MOST_NAMES and all(NAME.fullmatch(name) for name in path[1:].split("/"))

@@ -1,0 +1,367 @@
+"""Hands the page out by HTTP, and tells open pages of changes as they are seen. No request changes anything.
+
+Whoever can reach it isn't trusted: names of hosts are looked at, streams and connections are bounded, and who takes nothing is dropped.
+"""
+
+from __future__ import annotations
+
+import asyncio
+import contextlib
+import json
+import re
+import secrets
+import socket
+from collections import deque
+from collections.abc import Callable, Iterable
+from typing import Any
+from urllib.parse import parse_qsl
+
+from aiohttp import web
+
+from vaultd_tools.page_render import STATIC, Pieces, Renderer, fingerprint, static
+from vaultd_tools.page_model import News
+from vaultd_tools.page_views import Source, View, view_at
+from vaultd_tools.page_watch import Watcher
+
+MOST_STREAMS = 256
+MOST_CONNECTIONS = 1024
+MOST_WAITING = 32
+MOST_PIPELINED = 16
+MOST_FIELDS = 16
+BEAT_SECONDS = 10.0
+TAKE_SECONDS = 20.0
+FIRST_SECONDS = 15.0
+SENTENCES = 4
+HOST = re.compile(r"([a-z0-9._-]{1,255}|\[[0-9a-f:.]{2,45}\])(:[0-9]{1,5})?")
+HEADERS = {
+    "Content-Security-Policy": "default-src 'none'; script-src 'self'; style-src 'self'; img-src 'self'; connect-src 'self'; form-action 'self';"
+                               " base-uri 'none'; frame-ancestors 'none'",
+    "X-Content-Type-Options": "nosniff",
+    "X-Frame-Options": "DENY",
+    "Referrer-Policy": "no-referrer",
+    "Cross-Origin-Resource-Policy": "same-origin",
+    "Cross-Origin-Opener-Policy": "same-origin",
+    "Server": "vaultd-page",
+}
+NOT_KEPT, KEPT = "no-store", "public, max-age=31536000, immutable"
+
+
+class Refusal(Exception):
+    """A request that is refused, with why."""
+
+    def __init__(self, status: int, words: str, **headers: str):
+        super().__init__(words)
+        self.status, self.words, self.headers = status, words, headers
+
+
+class Stream:
+    """What an open page is still to be told."""
+
+    def __init__(self) -> None:
+        self.messages: deque[bytes] = deque()
+        self.wake = asyncio.Event()
+        self.over = False
+
+    def push(self, message: bytes) -> None:
+        """Tells the page something. One that takes nothing is dropped."""
+        self.messages.append(message)
+        if len(self.messages) > MOST_WAITING:
+            self.end()
+        self.wake.set()
+
+    def end(self) -> None:
+        """Tells it no more."""
+        self.over = True
+        self.wake.set()
+
+    async def next(self) -> bytes:
+        """What is to be told next, or that there is nothing."""
+        if not self.messages and not self.over:
+            self.wake.clear()
+            with contextlib.suppress(asyncio.TimeoutError):
+                await asyncio.wait_for(self.wake.wait(), BEAT_SECONDS)
+        return self.messages.popleft() if self.messages else b"event: beat\ndata: \n\n"
+
+
+class Channel:
+    """All streams of one page, and what they were told last."""
+
+    def __init__(self, view: View, source: Source, revision: int):
+        self.view, self.source, self.changed_at = view, source, revision
+        self.pieces = view.pieces(source)
+        self.streams: set[Stream] = set()
+
+    def update(self, revision: int, sentences: list[str]) -> None:
+        """Tells all of them what is different now."""
+        old, self.pieces = self.pieces, self.view.pieces(self.source)
+        changed = difference(old, self.pieces, lambda path: self.view.branch(self.source, path))
+        if changed == {}:
+            return
+        self.changed_at = revision
+        message = AGAIN if changed is None else event({**changed, "revision": revision, "say": sentences})
+        for stream in list(self.streams):
+            stream.push(message)
+
+
+def event(words: dict[str, Any]) -> bytes:
+    """A message of a stream."""
+    return b"data: " + json.dumps(words, separators=(",", ":")).encode("ascii") + b"\n\n"
+
+
+AGAIN = b"event: again\ndata: \n\n"
+
+
+def difference(old: Pieces, new: Pieces, branch: Callable[[str], str]) -> dict[str, Any] | None:
+    """What an open page has to put in place, nothing where it is right, or None where it has to be read as a whole again."""
+    if old.lists.keys() != new.lists.keys() or any(
+            path not in new.branches or new.branches[path][:len(children)] != children for path, children in old.branches.items()):
+        return None
+    if old.texts.keys() - new.texts.keys() or {name for name in new.texts.keys() - old.texts.keys() if not name.startswith("row:")}:
+        return None
+    changed: dict[str, Any] = {}
+    texts = {name: html for name, html in new.texts.items() if name in old.texts and old.texts[name] != html}
+    if texts.keys() - {"pill"}:
+        changed["texts"] = texts
+    lists = {name: {"order": list(items), "items": {key: html for key, html in items.items() if old.lists[name].get(key) != html}}
+             for name, items in new.lists.items() if list(old.lists[name].items()) != list(items.items())}
+    if lists:
+        changed["lists"] = lists
+    added = [["under:" + path, branch(child)] for path, children in new.branches.items() if path in old.branches
+             for child in children[len(old.branches[path]):]]
+    if added:
+        changed["added"] = added
+    return changed
+
+
+class Door(web.RequestHandler):
+    """A connection of a browser. One that says nothing for long, or too much at once, is ended."""
+
+    def __init__(self, manager: Doors, **words: Any):
+        super().__init__(manager, **words)
+        self.doors = manager
+        self.on_lost: Callable[[], None] = lambda: None
+
+    def connection_made(self, transport: asyncio.BaseTransport) -> None:
+        """Takes a connection, where there is room for one more."""
+        if len(self.doors.connections) >= MOST_CONNECTIONS and isinstance(transport, asyncio.Transport):
+            transport.abort()
+            return
+        super().connection_made(transport)
+        end = transport.get_extra_info("socket")
+        if end is not None and hasattr(socket, "TCP_USER_TIMEOUT"):
+            end.setsockopt(socket.IPPROTO_TCP, socket.TCP_USER_TIMEOUT, int(TAKE_SECONDS * 1000))
+        self._loop.call_later(FIRST_SECONDS, self._end_where_silent)
+
+    def _end_where_silent(self) -> None:
+        if self._request_count == 0:
+            self.force_close()
+
+    def data_received(self, data: bytes) -> None:
+        """Takes bytes; requests that wait behind others are few."""
+        super().data_received(data)
+        if len(self._messages) > MOST_PIPELINED:
+            self.force_close()
+
+    def connection_lost(self, error: BaseException | None) -> None:
+        """The browser is gone."""
+        self.on_lost()
+        super().connection_lost(error)
+
+    def handle_error(self, request: web.BaseRequest, status: int = 500, exc: BaseException | None = None,
+                     message: str | None = None) -> web.StreamResponse:
+        """Answers what is no request, or what went wrong here, with nothing of either in it."""
+        if status == 500:
+            self.log_exception("A request was answered 500", exc_info=exc)
+        response = web.Response(status=status, text="This is no request that the page understands.\n" if status < 500 else
+                                "The page failed. Its log says how.\n", headers={**HEADERS, "Cache-Control": NOT_KEPT})
+        response.force_close()
+        return response
+
+
+class Doors(web.Server):
+    """The connections of browsers."""
+
+    def __call__(self) -> Door:
+        """A new one."""
+        return Door(self, loop=self._loop, **self._kwargs)
+
+
+class Page:
+    """The page of one vault."""
+
+    def __init__(self, host: str, port: int, designer: str, hosts: Iterable[str], title: str, most_streams: int = MOST_STREAMS):
+        self.watcher = Watcher(host, port, designer, self.publish)
+        server = f"[{host}]:{port}" if ":" in host else f"{host}:{port}"
+        self.source = Source(Renderer(links=True), self.watcher.model, server, title)
+        self.hosts = frozenset(name.lower() for name in hosts)
+        self.most_streams = most_streams
+        self.run_name, self.revision = secrets.token_hex(8), 1
+        self.channels: dict[View, Channel] = {}
+        self.static = {name: static(name).encode("utf-8") for name in STATIC}
+        self.told: News | None = None
+
+    # What is seen is told
+
+    def publish(self) -> None:
+        """Tells all open pages what changed."""
+        self.revision += 1
+        sentences = self._sentences()
+        for channel in list(self.channels.values()):
+            channel.update(self.revision, sentences)
+
+    def _sentences(self) -> list[str]:
+        """What is new, for who listens to the page: not all of it where it is much."""
+        found: list[str] = []
+        for news in self.watcher.model.news:
+            if news is self.told:
+                break
+            found.append(" ".join(word for word in (news.owner or news.place, news.does, news.place if news.owner else "") if word))
+        self.told = next(iter(self.watcher.model.news), None)
+        return [*found[:SENTENCES], f"and {len(found) - SENTENCES} more changes"] if len(found) > SENTENCES else found
+
+    # What is asked
+
+    async def answer(self, request: web.BaseRequest) -> web.StreamResponse:
+        """Answers any request."""
+        try:
+            path, query = self._read(request)
+            if path == "/.events":
+                return await self._stream(request, query)
+            response = self._static(path, query) if path.startswith("/.static/") else await self._show(path, query)
+        except Refusal as refusal:
+            response = self._refuse(request, refusal)
+        return await self._send(request, response)
+
+    async def _send(self, request: web.BaseRequest, response: web.Response) -> web.StreamResponse:
+        try:
+            await response.prepare(request)
+            await asyncio.wait_for(response.write_eof(), TAKE_SECONDS)
+        except asyncio.TimeoutError:
+            if request.transport is not None:
+                request.transport.abort()
+        return response
+
+    def _read(self, request: web.BaseRequest) -> tuple[str, dict[str, str]]:
+        """The address that is asked for, where the request is one that is answered at all."""
+        self._look_at(request)
+        path, _, query = request.raw_path.partition("?")
+        if not path.startswith("/") or not request.raw_path.isascii():
+            raise Refusal(400, "This is no address of the page.")
+        try:
+            return path, dict(parse_qsl(query, keep_blank_values=True, max_num_fields=MOST_FIELDS, errors="replace"))
+        except ValueError as error:
+            raise Refusal(400, "This asks for too much at once.") from error
+
+    def _look_at(self, request: web.BaseRequest) -> None:
+        """Refuses what comes by a foreign name, from a foreign page, or asks for more than to read."""
+        headers = request.headers
+        named = [name.strip().lower() for name in headers.getall("Host", [])]
+        found = HOST.fullmatch(named[0]) if len(named) == 1 else None
+        if found is None or found[1] not in self.hosts:
+            raise Refusal(421, "The page isn't served by this name. Whoever runs it can name it with --host.")
+        if request.method != "GET":
+            raise Refusal(405, "The page can only be read.", Allow="GET")
+        if "Upgrade" in headers or "Transfer-Encoding" in headers:
+            raise Refusal(400, "The page speaks HTTP alone, and takes nothing.")
+        origin, site, mode = headers.get("Origin"), headers.get("Sec-Fetch-Site", "none"), headers.get("Sec-Fetch-Mode", "")
+        if origin is not None and origin.lower() not in (f"http://{named[0]}", f"https://{named[0]}"):
+            raise Refusal(403, "Another page can't read this one.")
+        if site in ("cross-site", "same-site") and (mode != "navigate" or headers.get("Sec-Fetch-Dest", "document") != "document"):
+            raise Refusal(403, "Another page can't read this one.")
+
+    def _refuse(self, request: web.BaseRequest, refusal: Refusal) -> web.Response:
+        if refusal.status == 404 or refusal.status == 503 and "Retry-After" not in refusal.headers:
+            response = self._html("message.html", refusal.status, heading="Not here" if refusal.status == 404 else "Not known",
+                                  words=refusal.words, title=self.source.vault, texts=self.source.common().texts)
+        else:
+            response = self._response(refusal.status, f"{refusal.words}\n", "text/plain", NOT_KEPT)
+        response.headers.update(refusal.headers)
+        if refusal.status not in (404, 503):
+            response.force_close()
+        return response
+
+    def _response(self, status: int, body: str | bytes, kind: str, kept: str) -> web.Response:
+        return web.Response(status=status, body=body.encode("utf-8") if isinstance(body, str) else body, content_type=kind, charset="utf-8",
+                            headers={**HEADERS, "Cache-Control": kept})
+
+    def _html(self, template: str, status: int, **words: Any) -> web.Response:
+        return self._response(status, self.source.renderer.page(template, vault=self.source.vault, **words), "text/html", NOT_KEPT)
+
+    def _static(self, path: str, query: dict[str, str]) -> web.Response:
+        name = path[len("/.static/"):]
+        if name not in self.static:
+            raise Refusal(404, "There is no such file.")
+        return self._response(200, self.static[name], STATIC[name], KEPT if fingerprint() in query else "no-cache")
+
+    def _view(self, path: str, query: dict[str, str]) -> View:
+        view = view_at(path, query)
+        if view is None:
+            raise Refusal(404, "No place and no page can have this address. The address of a place is its path.")
+        return view
+
+    async def _show(self, path: str, query: dict[str, str]) -> web.Response:
+        """A whole page."""
+        view, model = self._view(path, query), self.watcher.model
+        await self.watcher.fresh()
+        await view.prepare(self.watcher)
+        if not view.is_there(model):
+            if not model.places:
+                raise Refusal(503, "The vault can't be read now, so the page doesn't know whether there is such a place.")
+            raise Refusal(404, "The vault has no such place, or had none a moment ago.")
+        pieces = self.channels[view].pieces if view in self.channels else view.pieces(self.source)
+        return self._html(view.template, 200, **{"live": view.live, "watch": view.address, "revision": self.revision, "run": self.run_name,
+                                                 "texts": {**pieces.texts, **self.source.common().texts}, "lists": pieces.lists,
+                                                 **view.words(self.source, pieces)})
+
+    # Streams
+
+    async def _stream(self, request: web.BaseRequest, query: dict[str, str]) -> web.StreamResponse:
+        """Tells one open page of changes until it is closed."""
+        path, _, rest = query.get("see", "").partition("?")
+        view = self._view(path, dict(parse_qsl(rest, max_num_fields=MOST_FIELDS)))
+        if not view.live:
+            raise Refusal(404, "This page doesn't change.")
+        if self.watcher.streams >= self.most_streams:
+            raise Refusal(503, "So many pages are open that no further one can be told of changes.", **{"Retry-After": "15"})
+        stream = Stream()
+        assert isinstance(request.protocol, Door)
+        request.protocol.on_lost = stream.end
+        self.watcher.streams += 1
+        try:
+            await self.watcher.fresh()
+            with self._joined(view, stream, query):
+                return await self._pour(request, stream)
+        finally:
+            self.watcher.streams -= 1
+
+    @contextlib.contextmanager
+    def _joined(self, view: View, stream: Stream, query: dict[str, str]) -> Any:
+        """The stream is one of its page's, and knows whether that changed since it was read."""
+        channel = self.channels.setdefault(view, Channel(view, self.source, self.revision))
+        channel.streams.add(stream)
+        known = query.get("run") == self.run_name and query.get("from", "").isdigit() and len(query["from"]) < 16
+        if not known or int(query["from"]) < channel.changed_at:
+            stream.push(AGAIN)
+        try:
+            yield
+        finally:
+            channel.streams.discard(stream)
+            if not channel.streams:
+                self.channels.pop(view, None)
+
+    async def _pour(self, request: web.BaseRequest, stream: Stream) -> web.StreamResponse:
+        response = web.StreamResponse(headers={**HEADERS, "Cache-Control": NOT_KEPT, "Content-Type": "text/event-stream; charset=utf-8",
+                                               "X-Accel-Buffering": "no"})
+        response.force_close()
+        await response.prepare(request)
+        try:
+            await response.write(b"event: beat\ndata: \n\n")
+            while not stream.over:
+                message = await stream.next()
+                if not stream.over:
+                    await asyncio.wait_for(response.write(message), TAKE_SECONDS)
+        except (ConnectionError, asyncio.TimeoutError):
+            pass
+        if request.transport is not None:
+            request.transport.abort()
+        return response
