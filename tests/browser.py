@@ -6,7 +6,7 @@ import shutil
 import tempfile
 import threading
 from pathlib import Path
-from typing import Any
+from typing import Any, List
 
 from selenium import webdriver
 from selenium.common.exceptions import WebDriverException
@@ -76,6 +76,26 @@ class Browser:
             self.driver.get(address)
         except WebDriverException:
             pass
+
+    def show(self, width: int, height: int, dark: bool = False, media: str = "") -> None:
+        """Gives pages a window of this size, of a phone where it is narrow, and says which colours a person likes, or that it is paper."""
+        self.driver.execute_cdp_cmd("Emulation.setDeviceMetricsOverride", {
+            "width": width, "height": height, "deviceScaleFactor": 1, "mobile": width < 500})
+        self.driver.execute_cdp_cmd("Emulation.setEmulatedMedia", {
+            "media": media, "features": [{"name": "prefers-color-scheme", "value": "dark" if dark else "light"}]})
+
+    def run_scripts(self, runs: bool) -> None:
+        """Whether pages' scripts run."""
+        self.driver.execute_cdp_cmd("Emulation.setScriptExecutionDisabled", {"value": not runs})
+
+    def complaints(self) -> List[str]:
+        """What stands in the console since it was asked last."""
+        return [entry["message"] for entry in self.driver.get_log("browser")]  # type: ignore[no-untyped-call]
+
+    def picture(self, file: Path) -> None:
+        """What the window shows now, as a picture."""
+        file.parent.mkdir(parents=True, exist_ok=True)
+        self.driver.save_screenshot(str(file))
 
     def value(self, expression: str) -> Any:
         """What an expression of JavaScript comes to in the page, awaited where it is a promise."""

@@ -374,6 +374,8 @@ def view_at(path: str, query: dict[str, str]) -> View | None:
     if path == "/.search":
         return SearchView(query.get("q", "")[:LONGEST_SEARCH])
     names = path.split("/")
+    if names[0] or len(names) < 2:
+        return None
     if path == "/" + TAKEN:
         return DesignersView()
     if names[1] == TAKEN and len(names) == 3 and NAME.fullmatch(names[2]):
