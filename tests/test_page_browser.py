@@ -14,7 +14,7 @@ from typing import Any, Tuple
 
 from browser import Browser, Pages
 from busy_vault import Office
-from page_server import PageServer, until
+from page_server import PageServer, processor_seconds, until
 from servers import MEMORY, TOP, Server
 from test_page import fill
 
@@ -28,7 +28,12 @@ WINDOWS: Tuple[Tuple[str, int, int, bool], ...] = (("1280", 1280, 900, False), (
 EVIL = "<img src=x onerror=alert(1)><b>\u202egpj.exe</b>" + "W" * 190
 KINDS = {"library": "/", "project": "/engine", "assembly": "/engine/head", "part": PART, "designers": "/designers", "designer": "/designers/anna",
          "nobody": "/designers/nobody", "search": "/.search?q=crank", "nothing": "/.search?q=%3Cb%3E", "missing": "/engine/none"}
-SOON = 1.0
+PROCESSORS = os.cpu_count() or 1
+
+
+def soon(seconds: float = 1.0) -> float:
+    """How soon something has to be there: within a second, and where the machine has more to do than it has processors for, in proportion."""
+    return seconds * max(1.0, os.getloadavg()[0] / PROCESSORS)
 
 
 class WithOffice(unittest.TestCase):
@@ -48,11 +53,11 @@ class WithOffice(unittest.TestCase):
     def fill(self) -> None:
         """Builds the machines, with check-outs and odd things among them."""
         self.office.build()
-        self.office.work(0)
         card = Card("ee" * 32, 10 ** 15, EVIL, "eva", "2026-11-28T00:00:00Z", "<script>alert(2)</script> " + "\u0301" * 60)
         claim = self.say("eva", "checkout w:/gripper/base/flange").split()[2]
         self.say("eva", f"save {claim} /gripper/base/flange {card.spell().hex()}")
         self.say("eva", f"note {claim} {'<img src=x onerror=alert(3)>'.encode().hex()}")
+        self.office.work(0)
         longest = "/" + "/".join("w" * 32 for _ in range(7))
         for count in range(1, 8):
             place = "/".join(longest.split("/")[:count + 1])
@@ -78,10 +83,10 @@ class WithOffice(unittest.TestCase):
         """The text of the first such element."""
         return self.browser.value(f"document.querySelector({json.dumps(selector)})?.innerText.replace(/\\s+/g, ' ').trim() ?? ''")
 
-    def shows(self, selector: str, words: str, seconds: float = SOON) -> None:
+    def shows(self, selector: str, words: str, seconds: float = 1.0) -> None:
         """Such an element comes to have these words, in time."""
         took = until(lambda: words in self.words(selector), seconds + 9)
-        self.assertLess(took, seconds, words)
+        self.assertLess(took, soon(seconds), words)
 
 
 class Kinds(WithOffice):
@@ -110,7 +115,7 @@ class Kinds(WithOffice):
         self.assertIn("<img src=x onerror=alert(3)>", self.words("#line"))
         claim = self.browser.value("document.querySelector('#line .name').innerText")
         self.say("eva", f"checkin {claim}")
-        self.shows("#versions", "<img src=x onerror=alert(1)><b>\\u202egpj.exe</b>WWW", 2 * SOON)
+        self.shows("#versions", "<img src=x onerror=alert(1)><b>\\u202egpj.exe</b>WWW", 2.0)
         self.assertIn("<script>alert(2)</script>", self.words("#versions"))
         for window, width, height, dark in WINDOWS:
             self.browser.show(width, height, dark)
@@ -174,7 +179,7 @@ class Live(WithOffice):
             self.say("deniz", f"checkin {claim}")
             self.shows(where, {"/designers": "ben 1 0 0", "/designers/cara": "Nobody."}.get(path, f"ben {waits} held"))
             if path == PART:
-                self.shows("#versions tr", f"{int(versions) + 1} ", 2 * SOON)
+                self.shows("#versions tr", f"{int(versions) + 1} ", 2.0)
             self.say("ben", f"abandon {waits}")
             self.shows(where, "Nobody has anything checked out." if path != "/designers/cara" else "has nothing checked out")
 
@@ -188,11 +193,11 @@ class Live(WithOffice):
         self.say("anna", "make /engine/sump/pan")
         until(lambda: self.browser.value("!!document.getElementById('row:/engine/sump/pan')"), 30)
         self.say("ben", "checkout w:/engine/sump/pan")
-        until(lambda: self.browser.value("document.getElementById('row:/engine/sump').parentElement.open"), SOON + 9)
+        until(lambda: self.browser.value("document.getElementById('row:/engine/sump').parentElement.open"), 10)
         self.assertTrue(self.browser.value("document.getElementById('row:/press').parentElement.open"))
         self.browser.value("document.getElementById('row:/engine').click()")
         self.say("cara", "checkout w:/engine/sump/pan")
-        until(lambda: "2 beneath" in self.words("[id='row:/engine']"), SOON + 9)
+        until(lambda: "2 beneath" in self.words("[id='row:/engine']"), 10)
         self.assertFalse(self.browser.value("document.getElementById('row:/engine').parentElement.open"))
         self.assertEqual(self.browser.complaints(), [])
 
@@ -239,7 +244,8 @@ class Live(WithOffice):
         until(lambda: "no page server since" in self.words("#pill"), 15)
         claim = self.say("cara", f"checkout w:{PART}").split()[2]
         self.page = PageServer(self.server.port, "--title", "Plant 1 <machines>", port=self.page.port)
-        until(lambda: self.words("#pill") == "live" and f"cara {claim} held" in self.words("#line"), 30)
+        until(lambda: self.words("#pill") == "live", 30)
+        self.shows("#line", f"cara {claim} held")
         self.say("ben", f"checkout w:{PART}")
         self.shows("#line", f"waits behind {claim}")
 
@@ -282,28 +288,38 @@ class Quick(unittest.TestCase):
     """A full vault in a browser."""
 
     def test_full(self) -> None:
-        """4,096 places and 256 claims show within a second, from the key that is pressed: with a page that has just been started, too."""
+        """4,096 places and 256 claims show within a second, by a page that has just been started: also by the time of processors that the
+        browser, the page and the server take, which other work on the machine doesn't make longer."""
         server = Server("--workers", "32", folder=MEMORY)
         self.addCleanup(server.close)
         server.start()
         fill(server.port, 4096, 256)
         browser = Browser()
         self.addCleanup(browser.close)
-        took = []
+        assert server.process is not None
+        painted, taken = [], []
         for _ in range(3):
             page = PageServer(server.port)
             self.addCleanup(page.end)
+            browser.driver.execute_cdp_cmd("Performance.enable", {"timeDomain": "threadTicks"})
+            before = page.processor_seconds() + processor_seconds(server.process.pid)
             browser.open(page.address + "/")
             until(lambda: bool(browser.value("performance.getEntriesByName('first-contentful-paint').length")), 10)
-            took.append(browser.value("[performance.getEntriesByType('navigation')[0].loadEventEnd, performance.getEntriesByName("
-                                      "'first-contentful-paint')[0].startTime].map(Math.round)"))
+            after = page.processor_seconds() + processor_seconds(server.process.pid)
+            metrics = {each["name"]: each["value"] for each in browser.driver.execute_cdp_cmd("Performance.getMetrics", {})["metrics"]}
+            painted.append(browser.value("performance.getEntriesByName('first-contentful-paint')[0].startTime"))
+            taken.append(after - before + metrics["TaskDuration"])
             self.assertEqual(browser.value("[document.querySelectorAll('#line > li').length, document.querySelectorAll('.tree .row').length]"),
                              [256, 4095])
             self.assertEqual(browser.complaints(), [])
+            browser.picture(PICTURES / "full-1280.png")
+            browser.driver.execute_cdp_cmd("Performance.disable", {})
+            browser.open("about:blank")
             page.end()
-        print(f"[loaded and painted after {took} ms]", end=" ", flush=True)
-        self.assertLess(min(map(max, took)), 1000)
-        browser.picture(PICTURES / "full-1280.png")
+        print(f"[painted after {min(painted):.0f} to {max(painted):.0f} ms, {min(taken):.2f} to {max(taken):.2f} s of processors]", end=" ",
+              flush=True)
+        self.assertLess(min(painted), 1000 * soon())
+        self.assertLess(min(taken), 1.0)
 
 
 if __name__ == "__main__":

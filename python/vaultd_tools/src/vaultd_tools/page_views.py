@@ -18,6 +18,7 @@ from vaultd_tools.page_render import APART, TAKEN, Line, Mark, Pieces, Renderer,
 from vaultd_tools.page_watch import Watcher, concerns, is_place
 
 VERSIONS_SHOWN = 40
+OPENED_PLACES = 800
 NEWS_SHOWN = 14
 LATEST_SHOWN = 20
 FOUND_SHOWN = 200
@@ -40,7 +41,7 @@ class Gauge:
 
 
 class Tree:
-    """The places at and beneath one, with who has claims there."""
+    """The places at and beneath one, with who has claims there. In a vault that isn't large, branches with claims stand open."""
 
     def __init__(self, renderer: Renderer, model: Model):
         self.renderer, self.model = renderer, model
@@ -51,6 +52,7 @@ class Tree:
                 self.marks.setdefault(item[2:], []).append(Mark(claim.owner, item[0] == "w", claim.behind is None))
             self.beneath.update({above for item in claim.items for above in list(ways(item[2:]))[1:]})
         self.rows: dict[str, Row] = {}
+        self.opens = len(model.places) <= OPENED_PLACES
 
     def node(self, path: str) -> Row:
         """A place as a row."""
@@ -84,7 +86,7 @@ class Tree:
         row = self.node(path)
         if row.kind == "part":
             return self.renderer.leaf(row)
-        return self.renderer.piece("branch", row, self.html(path), self.beneath_of(path))
+        return self.renderer.piece("branch", row, self.html(path), self.beneath_of(path), self.opens)
 
     def beneath_of(self, path: str) -> Markup:
         """All beneath a place."""
@@ -174,7 +176,8 @@ class PlaceView(View):
         here = model.claims if self.path == "/" else [claim for claim in model.claims if concerns(claim, self.path)]
         held = sum(claim.behind is None for claim in here)
         pieces.lists["line"] = renderer.claims(line.rows(here, model.since))
-        pieces.texts["line-words"] = renderer.piece("line_words", held, len(here) - held, line.longest if self.path == "/" else 0)
+        pieces.texts["line-words"] = renderer.piece("line_words", held, len(here) - held, line.longest if self.path == "/" else 0,
+                                                        self.path == "/")
         place = model.places.get(self.path) or Place(self.path, None)
         pieces.texts["heading"] = self._heading(source, place, here)
         if place.part:

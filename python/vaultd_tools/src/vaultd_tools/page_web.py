@@ -337,7 +337,9 @@ class Page:
     @contextlib.contextmanager
     def _joined(self, view: View, stream: Stream, query: dict[str, str]) -> Any:
         """The stream is one of its page's, and knows whether that changed since it was read."""
-        channel = self.channels.setdefault(view, Channel(view, self.source, self.revision))
+        channel = self.channels.get(view)
+        if channel is None:
+            channel = self.channels[view] = Channel(view, self.source, self.revision)
         channel.streams.add(stream)
         known = query.get("run") == self.run_name and query.get("from", "").isdigit() and len(query["from"]) < 16
         if not known or int(query["from"]) < channel.changed_at:

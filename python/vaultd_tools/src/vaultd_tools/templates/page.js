@@ -3,7 +3,8 @@
 
 (() => {
   const data = document.body.dataset;
-  const PAUSES = [1, 2, 4, 8, 15];
+  const PAUSES = [1, 2, 3, 5];
+  const WITHOUT_STREAM = 15;
   const SILENT = 35;
   const byId = id => document.getElementById(id);
   let source = null, heard = 0, failures = 0, again = null, waiting = [], lostAt = null, retry = null;
@@ -56,7 +57,9 @@
     keepingFocus(element, () => { element.innerHTML = html; });
     showTimes(element);
     const branch = element.parentElement;
-    if (branch.tagName === "DETAILS" && !branch.dataset.touched) branch.open = element.querySelector(".beneath") !== null;
+    if (branch.tagName === "DETAILS" && !("touched" in branch.dataset) && branch.closest("[data-opens]")) {
+      branch.open = element.querySelector(".beneath") !== null;
+    }
     if (id.startsWith("row:")) flash(element);
   }
 
@@ -164,6 +167,8 @@
   function lose() {
     disconnect();
     clearTimeout(retry);
+    const pause = !lostAt && failures > 1 ? WITHOUT_STREAM : PAUSES[Math.min(failures, PAUSES.length - 1)];
+    failures++;
     retry = setTimeout(async () => {
       try {
         await demandAgain();
@@ -172,8 +177,8 @@
         lostAt = lostAt || new Date();
       }
       pill();
-      connect();
-    }, 1000 * PAUSES[Math.min(failures++, PAUSES.length - 1)]);
+      if (lostAt) lose(); else connect();
+    }, 1000 * pause * (1 + Math.random() / 4));
   }
 
   setInterval(() => {
