@@ -18,6 +18,7 @@ sys.path.insert(0, str(TOP / "bench"))
 
 from measure import ALLOCATOR  # noqa: E402
 from vault.program import main  # noqa: E402
+from vaultd_tools.page import words as words_of_the_page  # noqa: E402
 
 CONTRIB = TOP / "contrib"
 
@@ -127,6 +128,27 @@ class Contrib(unittest.TestCase):
             self.assertIsNotNone(found)
             rating = found.group(1) if found else ""
             self.assertIn(f"rates {rating} of 10", (TOP / "docs" / "OPERATING.md").read_text("utf-8"))
+
+    @unittest.skipUnless(shutil.which("systemd-analyze"), "needs systemd-analyze")
+    def test_unit_of_the_page(self) -> None:
+        """It is accepted, rated as the page on operating says, and its program takes the words that it gives."""
+        self.install()
+        text = (CONTRIB / "systemd" / "vaultd-page.service").read_text("utf-8")
+        unit = self.root / "vaultd-page.service"
+        unit.write_text(text.replace("/usr/sbin/vaultd-page", str(self.root / "usr" / "sbin" / "vaultd-page")), "utf-8")
+        self.assertEqual(self.said("systemd-analyze", "verify", "--man=no", str(unit)), "")
+        security = self.said("systemd-analyze", "security", "--offline=true", "--no-pager", str(unit))
+        rated = re.search(r"Overall exposure level for .*: ([0-9.]+)", security)
+        self.assertIn(f"rates {rated[1] if rated else ''} of 10 for it", (TOP / "docs" / "OPERATING.md").read_text("utf-8"))
+        values = dict(re.findall(r"(VAULTD_PAGE_\w+)=(\S*)", text))
+        words = re.findall(r"^ExecStart=\S+ (.*)$", text, re.MULTILINE)[0].replace("$VAULTD_PAGE_OPTIONS", "--host vault.example.org --title Plant-1")
+        asked = words_of_the_page([values.get(word.strip("${}"), word) for word in words.split()])
+        self.assertEqual((asked.vault, asked.listen), (("127.0.0.1", 7070), ("127.0.0.1", 8080)))
+        self.assertEqual((asked.host, asked.designer, asked.title), (["vault.example.org"], "page", "Plant-1"))
+        self.assertIn("u vaultd-page ", (self.root / "usr" / "lib" / "sysusers.d" / "vaultd-page.conf").read_text("utf-8"))
+        self.assertIn("proxy_pass http://127.0.0.1:8080;", (self.root / "usr/share/doc/vaultd/page/nginx.conf").read_text("utf-8"))
+        templates = sorted(file.name for file in (TOP / "python/vaultd_tools/src/vaultd_tools/templates").iterdir())
+        self.assertEqual(sorted(file.name for file in (self.root / "usr/lib/python3/dist-packages/vaultd_tools/templates").iterdir()), templates)
 
     def test_the_template_is_the_unit(self) -> None:
         """The template differs from the unit in its names alone."""
