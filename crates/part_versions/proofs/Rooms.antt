@@ -3,7 +3,7 @@ use Rattle.std.specs.Prelude.{◌≡◌, ℕ, ◌+◌, ◌-◌, ◌<◌, ◌≤�
 use Rattle.std.proofs.Common.{arith, ap, sym, refl, subst, ◌∙◌, cond, get_or}
 use Rattle.std.proofs.lemmas.Bool.{lt-leb}
 use Rattle.std.proofs.lemmas.List.Folds.{list_all_more, list_all_at}
-use Rattle.std.proofs.lemmas.List.Sums.{count_by-le-length, sum_by_more, sum_by_more_le}
+use Rattle.std.proofs.lemmas.List.Sums.{AllPass-from_list_all, count_by-le-length, sum_by_more, sum_by_more_le}
 use Rattle.std.proofs.lemmas.Bool.Decides.{nat_tests}
 use Rattle.vault_model.specs.Shelf.{Draft, versions_of, shelved_all, content_weight, drafts_weight, weight, is_shelvable}
 use Rattle.vault_model.proofs.Overlaps.{and_both}
@@ -57,6 +57,14 @@ not_too_heavy shelf drafts known sum kept e =
     let P : ℕ → Type 0 = λ n. Some sum ≡ weight_with n drafts in
     let some = from_some (are_short drafts && nat_le (weight shelf + drafts_weight drafts) most_weight) sum (weight shelf + drafts_weight drafts) (subst P kept.weighed e) in
     let test : nat_le (weight shelf + drafts_weight drafts) most_weight ≡ true = (and_both (are_short drafts) (nat_le (weight shelf + drafts_weight drafts) most_weight) some.0).1 in
+    grind (arith, nat_tests)
+
+-- and each of them is short
+pub short_drafts : (drafts : List Draft) (known sum : ℕ) → Some sum ≡ weight_with known drafts → All (λ (draft : Draft). length draft.content ≤ longest_content) drafts
+short_drafts drafts known sum e = λ k d h.
+    let some = from_some (are_short drafts && nat_le (known + drafts_weight drafts) most_weight) sum (known + drafts_weight drafts) e in
+    let short = (and_both (are_short drafts) (nat_le (known + drafts_weight drafts) most_weight) some.0).0 in
+    let test : nat_le (length (get_or drafts k d).content) longest_content ≡ true = AllPass-from_list_all (λ (draft : Draft). nat_le (length draft.content) longest_content) drafts short k d h in
     grind (arith, nat_tests)
 
 -- what is known after all of them are appended

@@ -1,7 +1,7 @@
 //! Drafts appended to parts: all, or none.
 ghost use Rattle.std.specs.Prelude.{◌≡◌, ℕ, ◌+◌, ◌-◌, ◌<◌, ◌≤◌, List, [], ◌∷◌, ◌++◌, length, vec_len, vec_capacity, replicate, take, All, OnOk, OnErr};
 ghost use Rattle.vault_model.specs.Shelf.{Draft, shelved, shelved_all, content_weight, drafts_weight, weight};
-ghost use Rattle.vault_model.specs.Limits.{most_weight};
+ghost use Rattle.vault_model.specs.Limits.{longest_content, most_weight};
 ghost use Rattle.part_versions.specs.Taken.{taken_all};
 
 use crate::part::Part;
@@ -27,7 +27,8 @@ fn append<A: Allocator + Copy>(
     place: PlaceId,
     content: &[u8],
 ) -> Result<(), AllocError>
-    requires { weight parts.old.items + content_weight content.now ≤ most_weight }
+    requires short { length content.now ≤ longest_content }
+    requires light { weight parts.old.items + content_weight content.now ≤ most_weight }
     ensures ok { OnOk result (parts.new.items ≡ shelved parts.old.items place content.now) }
     ensures err { OnErr result (parts.new.items ≡ parts.old.items) }
 {
@@ -60,7 +61,8 @@ pub(crate) fn append_each<A: Allocator + Copy, B: Allocator>(
     parts: &mut Vec<Part<A>, A>,
     drafts: &[DraftIn<B>],
 ) -> Result<(), AllocError>
-    requires { weight parts.old.items + drafts_weight drafts.now ≤ most_weight }
+    requires short { All (λ (draft : Draft). length draft.content ≤ longest_content) drafts.now }
+    requires light { weight parts.old.items + drafts_weight drafts.now ≤ most_weight }
     ensures ok { OnOk result (parts.new.items ≡ shelved_all parts.old.items drafts.now) }
     ensures err { OnErr result (parts.new.items ≡ parts.old.items) }
 {

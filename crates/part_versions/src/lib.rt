@@ -7,7 +7,7 @@
 //! Invariants:
 //! 1. `Shelf`: it is well formed: contents are short, no part has too many, the last place of the list has one.
 //! 2. `Shelf`: `weight` is what all contents weigh.
-//! 3. `Part`: the ends of its contents rise, and the last is the end of its bytes.
+//! 3. `Part`: the ends of its versions rise, the last is the end of its bytes, and between two of them a version is spelled.
 //!
 //! Only tested: how much memory it takes.
 //! Start at: append.rt, `append_all`; then part.rt.

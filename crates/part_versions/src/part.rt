@@ -1,14 +1,18 @@
 //! The versions of one part.
-ghost use Rattle.std.specs.Prelude.{◌≡◌, ℕ, ◌+◌, ◌-◌, ◌≤◌, List, [], ◌∷◌, ◌++◌, length, take, slice_get, vec_len, vec_capacity, OnOk, OnErr};
+ghost use Rattle.std.specs.Prelude.{◌≡◌, ℕ, ◌+◌, ◌-◌, ◌/◌, ◌≤◌, max, List, [], ◌∷◌, ◌++◌, length, take, slice_get, vec_len, vec_capacity, OnOk, OnErr};
 ghost use Rattle.std.specs.Option.{option_copied};
 ghost use Rattle.vault_model.specs.Shelf.{content_weight, versions_weight};
-ghost use Rattle.vault_model.specs.Limits.{most_weight};
-ghost use Rattle.part_versions.specs.Cuts.{end_of};
+ghost use Rattle.std.specs.List.{flat_map};
+ghost use Rattle.vault_model.specs.Limits.{longest_content, most_weight};
+ghost use Rattle.part_versions.specs.Cuts.{end_of, spelled};
 
 use std::alloc::{AllocError, Allocator, Global};
 use std::marker::Model;
 
-/// The contents of a part's versions, one behind another, and where each of them ends.
+// How many bytes tell a content's length.
+const LENGTH_BYTES: usize = 2;
+
+/// A part's versions as a file spells them, one behind another, and where each of them ends.
 #[derive(Drop)]
 pub(crate) struct Part<A: Allocator = Global> {
     bytes: Vec<u8, A>,
@@ -43,6 +47,7 @@ fn end_of(ends: &[u32], count: usize) -> usize
 fn make_room<A: Allocator>(bytes: &mut Vec<u8, A>, more: usize) -> Result<(), AllocError>
     ensures items { bytes.new.items ≡ bytes.old.items }
     ensures room { OnOk result (vec_len bytes.new + more ≤ vec_capacity bytes.new) }
+    ensures spare { vec_capacity bytes.new ≤ max (vec_capacity bytes.old) (vec_len bytes.old + max more (vec_len bytes.old / 8)) }
 {
     if more <= bytes.capacity() - bytes.len() {
         return Ok(());
@@ -91,17 +96,27 @@ impl<A: Allocator> Part<A> {
         }
         let start = end_of(&self.ends, index);
         let end = end_of(&self.ends, index + 1);
-        Some(&self.bytes[start..end])
+        Some(&self.bytes[start + LENGTH_BYTES..end])
+    }
+
+    /// The versions as a file spells them, one behind another.
+    pub(crate) fn spelled(&self) -> &[u8]
+        ensures { result.now ≡ flat_map spelled self.now }
+    {
+        &self.bytes
     }
 
     /// Puts one more version behind the others. Room is asked for before anything changes.
     pub(crate) fn push(&mut self, content: &[u8]) -> Result<(), AllocError>
-        requires { versions_weight self.old + content_weight content.now ≤ most_weight }
+        requires short { length content.now ≤ longest_content }
+        requires light { versions_weight self.old + content_weight content.now ≤ most_weight }
         ensures ok { OnOk result (self.new ≡ self.old ++ content.now ∷ []) }
         ensures err { OnErr result (self.new ≡ self.old) }
     {
+        let len = content.len() as u16;
         self.ends.reserve(1)?;
-        make_room(&mut self.bytes, content.len())?;
+        make_room(&mut self.bytes, LENGTH_BYTES + content.len())?;
+        self.bytes.extend_from_slice(&len.to_be_bytes()).unwrap();
         self.bytes.extend_from_slice(content).unwrap();
         self.ends.push(self.bytes.len() as u32).unwrap();
         Ok(())

@@ -2,7 +2,9 @@
 ghost use Rattle.std.specs.Prelude.{◌≡◌, ℕ, true, None, List, [], length, OnOk, OnErr, IfOk, IfErr};
 ghost use Rattle.std.specs.Option.{option_copied};
 ghost use Rattle.vault_model.specs.Shelf.{versions_of, numbered, weight, shelved_all, is_shelvable, IsShelf};
+ghost use Rattle.std.specs.List.{flat_map};
 ghost use Rattle.part_versions.specs.Appended.{IsRefusalOf};
+ghost use Rattle.part_versions.specs.Cuts.{spelled};
 
 use crate::append::append_each;
 use crate::limits::{count_in, have_room, weight_with};
@@ -28,6 +30,16 @@ impl<A: Allocator> Model for Shelf<A> {
     ghost view = { λ s. s.parts.items };
 
     ghost invariant = { λ s. IsSoundShelf s.parts.items s.weight };
+}
+
+// The versions of a place as a file spells them.
+fn spelled_in<A: Allocator>(parts: &[Part<A>], place: PlaceId) -> &[u8]
+    ensures { result.now ≡ flat_map spelled (versions_of parts.now place) }
+{
+    match parts.get(place.number() as usize) {
+        Some(part) => part.spelled(),
+        None => &[],
+    }
 }
 
 /// Why drafts were not appended, with the very drafts given back.
@@ -76,6 +88,14 @@ impl<A: Allocator> Shelf<A> {
         count_in(&self.parts, place) as u32
     }
 
+    /// The versions of a place as a file spells them, one behind another: each is its length in two
+    /// bytes, the higher first, and its bytes. They are kept so, and nothing is copied.
+    pub fn spelled(&self, place: PlaceId) -> &[u8]
+        ensures { result.now ≡ flat_map spelled (versions_of self.now place) }
+    {
+        spelled_in(&self.parts, place)
+    }
+
     /// What all versions weigh: the bytes of each, and 8 more. It is kept, and not summed anew.
     pub fn weight(&self) -> usize
         ensures weight { result ≡ weight self.now }
@@ -103,8 +123,9 @@ impl<A: Allocator + Copy> Shelf<A> {
     ///
     /// The work grows with the drafts and their bytes; for each draft of a place that has room for
     /// fewer versions than there are drafts, it also looks at all drafts once. The shelf keeps the
-    /// bytes of a place in one block with at most a third spare, 4 to 8 bytes for each version, and
-    /// two lists' heads for each place up to the last that has a version.
+    /// bytes of a place, with 2 for the length of each version, in one block of which a ninth at most
+    /// is spare, 4 to 8 bytes more for each version, and two lists' heads for each place up to the last
+    /// that has a version.
     pub fn append_all<B: Allocator>(
         &mut self,
         drafts: Drafts<B>,

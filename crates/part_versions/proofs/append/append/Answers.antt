@@ -17,8 +17,8 @@ returns-clause-ok g c =
     let pushed : c.push-3.new.self.items ≡ c.pad.new.parts.items ++ c.push-2.new.self ∷ [] = search rules in
     put_past c.args.parts.now.items c.pad.new.parts.items c.push-3.new.self.items c.number-index.result c.args.place c.push-2.new.self c.args.content.now c.number-index.ensures past longer one pushed
 
-pub push-requires : goal.push-requires
-push-requires g c = light_at c.args.parts.now.items _ c.index_mut.result.now (content_weight c.args.content.now) (search rules) c.index_mut.ensures.value c.requires
+pub push-requires-clause-light : goal.push-requires-clause-light
+push-requires-clause-light g c = light_at c.args.parts.now.items _ c.index_mut.result.now (content_weight c.args.content.now) (search rules) c.index_mut.ensures.value c.requires.light
 
-pub push-requires-2 : goal.push-requires-2
-push-requires-2 g c = rw c.new-part.ensures (omega (arith, c.requires))
+pub push-requires-2-clause-light : goal.push-requires-2-clause-light
+push-requires-2-clause-light g c = rw c.new-part.ensures (omega (arith, c.requires.light))

@@ -9,13 +9,20 @@ use Rattle.part_versions.proofs.append.append_each.Goals as goal
 drafted : (drafts : List Draft) (i : ℕ) (draft : Draft) (content : List ℕ) → content ≡ draft.content → draft ≡ get_or drafts i draft → content ≡ (get_or drafts i draft).content
 drafted drafts i draft content e read = e ∙ ap (λ (d : Draft). d.content) read
 
-pub append-requires : goal.append-requires
-append-requires g c =
+pub append-requires-clause-short : goal.append-requires-clause-short
+append-requires-clause-short g c =
+    let inside : c.loop-done.done < length c.args.drafts.now = omega arith in
+    let there = c.requires.short c.loop-done.done c.index-drafts-done.result inside in
+    let content = ap length (drafted c.args.drafts.now c.loop-done.done c.index-drafts-done.result c.as_slice.result.now c.as_slice.ensures c.index-drafts-done.is) in
+    omega (arith, there, content)
+
+pub append-requires-clause-light : goal.append-requires-clause-light
+append-requires-clause-light g c =
     let inside : c.loop-done.done < length c.args.drafts.now = omega arith in
     let more = weight-more c.args.parts.now.items c.args.drafts.now c.loop-done.done c.index-drafts-done.result inside in
     let same = ap weight c.loop-done.invariant in
     let content = ap content_weight (drafted c.args.drafts.now c.loop-done.done c.index-drafts-done.result c.as_slice.result.now c.as_slice.ensures c.index-drafts-done.is) in
-    omega (arith, more, same, content, c.requires)
+    omega (arith, more, same, content, c.requires.light)
 
 pub take_back-requires : goal.take_back-requires
 take_back-requires g c =

@@ -1,10 +1,10 @@
 use Rattle.std.proofs.Common.{◌≡◌, true, false, Some, None, ap, sym, ◌∙◌, refl, subst, rules, arith, ℕ, ◌≤◌, List, length}
 use Rattle.std.specs.Prelude.{All}
-use Rattle.vault_model.specs.Limits.{most_versions}
-use Rattle.vault_model.specs.Shelf.{drafts_weight, shelved_all, is_shelvable, IsShelf}
+use Rattle.vault_model.specs.Limits.{longest_content, most_versions}
+use Rattle.vault_model.specs.Shelf.{Draft, drafts_weight, shelved_all, is_shelvable, IsShelf}
 use Rattle.part_versions.specs.Kept.{IsSoundShelf}
 use Rattle.part_versions.specs.Rooms.{weight_with, have_room}
-use Rattle.part_versions.proofs.Rooms.{refused_by_weight, refused_by_room, allowed, not_too_heavy, kept_after}
+use Rattle.part_versions.proofs.Rooms.{refused_by_weight, refused_by_room, allowed, not_too_heavy, short_drafts, kept_after}
 use Rattle.part_versions.proofs.shelf.Shelf.append_all.Goals as goal
 
 pub returns-in_default-clause-refused : goal.returns-in_default-clause-refused
@@ -17,8 +17,13 @@ returns-then-not-have_room-clause-refused g c =
     let full : have_room c.self.inside.parts.items c.args.drafts ≡ false = search rules in
     (ap (λ s. is_shelvable s c.args.drafts) (sym c.self.view_is) ∙ refused_by_room c.self.inside.parts.items c.args.drafts c.self.inside.weight c.self.invariant full, refl)
 
-pub append_each-requires : goal.append_each-requires
-append_each-requires g c =
+pub append_each-requires-clause-short : goal.append_each-requires-clause-short
+append_each-requires-clause-short g c =
+    let some : Some c.in-Some.weight ≡ weight_with c.self.inside.weight c.args.drafts = sym c.in-Some.is ∙ c.weight_with.ensures ∙ ap (weight_with c.self.inside.weight) c.as_slice.ensures in
+    subst (λ (drafts : List Draft). All (λ (draft : Draft). length draft.content ≤ longest_content) drafts) (sym c.as_slice-3.ensures) (short_drafts c.args.drafts c.self.inside.weight c.in-Some.weight some)
+
+pub append_each-requires-clause-light : goal.append_each-requires-clause-light
+append_each-requires-clause-light g c =
     let some : Some c.in-Some.weight ≡ weight_with c.self.inside.weight c.args.drafts = sym c.in-Some.is ∙ c.weight_with.ensures ∙ ap (weight_with c.self.inside.weight) c.as_slice.ensures in
     let same = ap drafts_weight c.as_slice-3.ensures in
     omega (arith, same, not_too_heavy c.self.inside.parts.items c.args.drafts c.self.inside.weight c.in-Some.weight c.self.invariant some)
