@@ -10,7 +10,7 @@ use std::alloc::{Allocator, Global};
 use std::process::Abort;
 use test_memory::{Refusing, Tried};
 use vault_device::Pick;
-use vault_journal::{Damage, Frame, read_effects};
+use vault_journal::{Damage, Frame, LONGEST_RECORD, read_effects};
 use vault_model::{Effect, Intent, Item, Items, Listing, Name, Note, PlaceId};
 
 // A frame's length, one record and a closed gate, behind the gate of the offset 0.
@@ -230,14 +230,22 @@ pub(crate) fn pushes(memory: &Refusing<Global>, aside: Global, number: u64) -> T
     Tried::done(!has_refused && is_pushed && is_long)
 }
 
-/// Tries to read seven records.
+/// Whether a byte that is no record is told behind a record of the longest content, without a request for memory.
+fn is_told_behind_the_longest(memory: &Refusing<Global>) -> bool {
+    let mut bytes = [b'x'; LONGEST_RECORD + 1];
+    bytes[..11].copy_from_slice(b"\x04\0\0\0\x01\0\0\0\0\x04\0");
+    count(memory, &bytes) == Err(Damage::At(LONGEST_RECORD))
+}
+
+/// Tries to read seven records, behind what is no row of records.
 pub(crate) fn reads(memory: &Refusing<Global>) -> Tried {
+    let is_told = is_told_behind_the_longest(memory);
     let records =
         b"\x04\0\0\0\x01\0\0\0\0\0\x04text\x05\0\0\0\x01\x05\0\0\0\x02\x05\0\0\0\x03\x05\0\0\0\x04\x05\0\0\0\x05\x06\0\0\0\x05";
     let told = count(memory, records);
     let has_refused = memory.has_refused();
     match told {
-        Ok(count) => Tried::done(!has_refused && count == 7),
-        Err(damage) => Tried::refused(has_refused && damage == Damage::NoMemory),
+        Ok(count) => Tried::done(is_told && !has_refused && count == 7),
+        Err(damage) => Tried::refused(is_told && has_refused && damage == Damage::NoMemory),
     }
 }

@@ -1,6 +1,7 @@
 -- Records one behind another.
-use Rattle.std.proofs.Common.{◌≡◌, ◌≢◌, ℕ, ◌+◌, ◌-◌, ◌<◌, ◌≤◌, true, List, [], ◌∷◌, ◌++◌, length, get_or, Option, Some, None, refl, sym, ap, subst, ◌∙◌, append_assoc, arith, length-append}
+use Rattle.std.proofs.Common.{◌≡◌, ◌≢◌, ℕ, ◌+◌, ◌-◌, ◌<◌, List, [], ◌∷◌, ◌++◌, length, get_or, Option, Some, None, refl, sym, ap, subst, ◌∙◌, append_assoc, arith, length-append}
 use Rattle.std.specs.List.{AllByRecursion}
+use Rattle.std.specs.Option.{option_map}
 use Rattle.std.proofs.lemmas.List.{get_or-append-add, flat_map_more}
 use Rattle.std.proofs.lemmas.List.Concat.{flat_map-cons}
 use Rattle.vault_model.specs.Said.{Effect}
@@ -115,6 +116,18 @@ module _ (es : List Effect) (bytes rest : List ℕ) (fits : AreBytes bytes) (so_
     some = some;
     none = λ e tail has is. let read = ap (λ (l : List ℕ). effect_at l) is ∙ effect_again e tail has in absurd (cc (read, none));
   }
+
+abbrev pub behind : Option (Effect × List ℕ) → Option (List ℕ)
+behind front = option_map (λ (x : Effect × List ℕ). x.1) front
+
+-- where something stands behind a record, that record stands at the front
+pub record_before : (front : Option (Effect × List ℕ)) (after : List ℕ) → behind front ≡ Some after → (e : Effect) × (front ≡ Some (e, after))
+record_before (Some x) after is = let same : x.1 ≡ after = cc in (x.0, ap (λ (rest : List ℕ). pair x.0 rest) same)
+record_before None after is = absurd cc
+
+pub no_record : (front : Option (Effect × List ℕ)) → behind front ≡ None → front ≡ None
+no_record (Some x) is = absurd cc
+no_record None is = refl
 
 pub all_read : (es : List Effect) (bytes rest : List ℕ) → AreReadTo es bytes rest → rest ≡ [] → AreRecordsOf es bytes
 all_read es bytes rest so_far empty = record { each = so_far.each; whole = so_far.parts ∙ ap (λ (l : List ℕ). records_of es ++ l) empty ∙ nothing_behind (records_of es) }

@@ -2,9 +2,9 @@
 use Rattle.std.specs.Prelude.{ℕ, List}
 use Rattle.vault_journal.specs.declared.records.Damage.{Damage}
 use Rattle.vault_journal.specs.declared.records.Damage.TheVariants.{At, NoMemory}
-use Rattle.vault_journal.specs.Rows.{IsFirstFault}
+use Rattle.vault_journal.specs.Rows.{AreRecords, IsFirstFault}
 
--- an offset is that of the first record that isn't one
+-- an offset is that of the first record that isn't one; and memory is wanted only where the bytes are records
 abbrev pub IsDamage : List ℕ → Damage → Type 0
 IsDamage bytes (At offset) = IsFirstFault bytes offset
-IsDamage bytes NoMemory = Unit {0}
+IsDamage bytes NoMemory = AreRecords bytes

@@ -168,6 +168,10 @@ effect_of_kind kind bytes =
     else if kind == 9 then nested_at bytes
     else None
 
+-- the same of any kind but a saved content
+unfoldable pub unsaved_at : ℕ → List ℕ → Option (Effect × List ℕ)
+unsaved_at kind bytes = if kind == 4 then None else effect_of_kind kind bytes
+
 -- the effect whose record stands at the front, and the bytes behind it; none where the front is no record
 unfoldable pub effect_at : List ℕ → Option (Effect × List ℕ)
 effect_at bytes = do

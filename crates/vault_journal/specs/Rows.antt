@@ -9,6 +9,11 @@ pub record AreRecordsOf (effects : List Effect) (bytes : List ℕ) : Type 0 wher
   pub each : AllByRecursion HasRecord effects
   pub whole : bytes ≡ records_of effects
 
+-- the bytes are records, of some effects
+pub record AreRecords (bytes : List ℕ) : Type 0 where
+  pub effects : List Effect
+  pub are : AreRecordsOf effects bytes
+
 -- the offset of the first record that isn't one: records stand before it, and what is there begins with none
 pub record IsFirstFault (bytes : List ℕ) (at : ℕ) : Type 0 where
   pub before : List Effect

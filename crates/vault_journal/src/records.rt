@@ -1,11 +1,12 @@
 //! The record of each effect, written and read.
-ghost use Rattle.std.specs.Prelude.{◌≡◌, ◌≤◌, ◌<◌, ◌+◌, ◌*◌, ◌∷◌, ◌++◌, IfOk, IfErr, length};
+ghost use Rattle.std.specs.Prelude.{◌≡◌, ◌≤◌, ◌<◌, ◌+◌, ◌*◌, ◌∷◌, ◌++◌, IfOk, IfErr, IfSome, IfNone, length};
+ghost use Rattle.std.specs.Option.{option_map};
 ghost use Rattle.vault_model.specs.Limits.{most_items};
 ghost use Rattle.vault_model.specs.declared.effects.Effect.TheVariants.{Asked, Extended, Saved, Given, Noted};
 ghost use Rattle.vault_journal.specs.Spelling.{record_of, in_four, name_bytes, longest_content, longest_record, HasRecord};
 ghost use Rattle.vault_journal.specs.Written.{IsWritten};
-ghost use Rattle.vault_journal.specs.Reading.{Reads, Gives, claim_at, made_at, asked_at, extended_at, saved_at, checked_in_at, abandoned_at, given_at, noted_at, nested_at, effect_at};
-ghost use Rattle.vault_journal.specs.Rows.{AreRecordsOf};
+ghost use Rattle.vault_journal.specs.Reading.{Reads, Gives, claim_at, made_at, asked_at, extended_at, saved_at, checked_in_at, abandoned_at, given_at, noted_at, nested_at, unsaved_at, effect_at};
+ghost use Rattle.vault_journal.specs.Rows.{AreRecordsOf, AreRecords, IsFirstFault};
 ghost use Rattle.vault_journal.specs.Damage.{IsDamage};
 ghost use Rattle.vault_journal.specs.declared.records.ReadError.TheVariants.{Memory};
 ghost use Rattle.vault_journal.specs.declared.records.Damage.TheVariants.{NoMemory};
@@ -262,24 +263,60 @@ fn nested_at<A: Allocator>(bytes: &[u8]) -> Option<(EffectIn<A>, &[u8])>
     Some((Effect::Nested(PlaceId(parent), child), rest))
 }
 
+// The effect of any kind but a saved content, behind its kind.
+#[tactic(auto, unfolding(crate::specs::Reading::unsaved_at, crate::specs::Reading::effect_of_kind))]
+fn unsaved_at<A: Allocator>(kind: u8, bytes: &[u8]) -> Option<(EffectIn<A>, &[u8])>
+    ensures { Reads (λ x. (x.0, x.1.now)) result (unsaved_at kind bytes.now) }
+{
+    match kind {
+        1 => made_at(bytes),
+        2 => asked_at(bytes),
+        3 => extended_at(bytes),
+        5 => checked_in_at(bytes),
+        6 => abandoned_at(bytes),
+        7 => given_at(bytes),
+        8 => noted_at(bytes),
+        9 => nested_at(bytes),
+        _ => None,
+    }
+}
+
 // The effect whose record stands at the front, and what is behind it.
-#[tactic(auto, unfolding(crate::specs::Reading::effect_at, crate::specs::Reading::effect_of_kind))]
+#[tactic(auto, unfolding(crate::specs::Reading::effect_at, crate::specs::Reading::effect_of_kind, crate::specs::Reading::unsaved_at))]
 fn effect_at<A: Allocator>(alloc: A, bytes: &[u8]) -> Result<(EffectIn<A>, &[u8]), ReadError>
     ensures { Gives (λ x. (x.0, x.1.now)) result (effect_at bytes.now) }
 {
     let (kind, rest) = u8_at(bytes).ok_or(ReadError::NotOne)?;
     match kind {
-        1 => made_at(rest).ok_or(ReadError::NotOne),
-        2 => asked_at(rest).ok_or(ReadError::NotOne),
-        3 => extended_at(rest).ok_or(ReadError::NotOne),
         4 => saved_at(alloc, rest),
-        5 => checked_in_at(rest).ok_or(ReadError::NotOne),
-        6 => abandoned_at(rest).ok_or(ReadError::NotOne),
-        7 => given_at(rest).ok_or(ReadError::NotOne),
-        8 => noted_at(rest).ok_or(ReadError::NotOne),
-        9 => nested_at(rest).ok_or(ReadError::NotOne),
-        _ => Err(ReadError::NotOne),
+        _ => unsaved_at(kind, rest).ok_or(ReadError::NotOne),
     }
+}
+
+// What stands behind a saved content.
+#[tactic(auto, unfolding(crate::specs::Reading::saved_at))]
+fn behind_saved(bytes: &[u8]) -> Option<&[u8]>
+    ensures { Reads (λ x. x.now) result (option_map (λ x. x.1) (saved_at bytes.now)) }
+{
+    let (_, rest) = claim_at(bytes)?;
+    let (_, rest) = u32_at(rest)?;
+    let (_, rest) = content_at(rest)?;
+    Some(rest)
+}
+
+// What stands behind the record at the front. Takes no memory.
+#[tactic(auto, unfolding(crate::specs::Reading::effect_at, crate::specs::Reading::effect_of_kind, crate::specs::Reading::unsaved_at))]
+fn behind_record<A: Allocator>(bytes: &[u8]) -> Option<&[u8]>
+    ensures { Reads (λ x. x.now) result (option_map (λ x. x.1) (effect_at bytes.now)) }
+{
+    let (kind, rest) = u8_at(bytes)?;
+    if kind == 4 {
+        return behind_saved(rest);
+    }
+    let Some((_effect, rest)) = unsaved_at::<A>(kind, rest) else {
+        return None;
+    };
+    Some(rest)
 }
 
 /// Why bytes were not read as records.
@@ -288,6 +325,7 @@ pub enum Damage {
     /// At this offset stands the first record that isn't one.
     #[error("damaged at {0}")]
     At(usize),
+    /// The bytes are records, and memory for their effects was refused.
     #[error("want of memory")]
     NoMemory,
 }
@@ -300,7 +338,23 @@ impl<T: Drop> From<AllocFailed<T>> for Damage {
     }
 }
 
-/// The effects whose records the bytes are, in one pass.
+// Where the first record stands that isn't one. Takes no memory.
+fn first_fault<A: Allocator>(bytes: &[u8]) -> Option<usize>
+    ensures some { IfSome result (λ at. IsFirstFault bytes.now at) }
+    ensures none { IfNone result (AreRecords bytes.now) }
+{
+    let mut rest = bytes;
+    while !rest.is_empty() {
+        match behind_record::<A>(rest) {
+            Some(after) => rest = after,
+            None => return Some(bytes.len() - rest.len()),
+        }
+    }
+    None
+}
+
+/// The effects whose records the bytes are. A first pass takes no memory, so that bytes that aren't records are told as such wherever
+/// the memory ends.
 pub fn read_effects<A: Allocator + Copy>(
     alloc: A,
     bytes: &[u8],
@@ -308,6 +362,9 @@ pub fn read_effects<A: Allocator + Copy>(
     ensures found { IfOk result (λ effects. AreRecordsOf effects.items bytes.now) }
     ensures damage { IfErr result (λ damage. IsDamage bytes.now damage) }
 {
+    if let Some(at) = first_fault::<A>(bytes) {
+        return Err(Damage::At(at));
+    }
     let mut effects = Vec::new(alloc);
     let mut rest = bytes;
     while !rest.is_empty() {
