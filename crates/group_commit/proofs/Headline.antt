@@ -23,7 +23,7 @@ use Rattle.group_commit.specs.Seen.{VaultSeen, snapshot_length}
 use Rattle.group_commit.specs.Pasts.{IsPast, beginning}
 use Rattle.group_commit.specs.Positions.{HasTold}
 use Rattle.group_commit.specs.Ticket.{Told as Receipt, entry_in}
-use Rattle.group_commit.specs.Recovered.{world_after, events_until, IsOneRun, history_of, life_begins, IsRecovered, IsKeptThrough, ReceiptsAreFoundAgain}
+use Rattle.group_commit.specs.Recovered.{world_after, events_until, IsOneRun, history_of, life_begins, place_of, IsRecovered, IsKeptThrough, ReceiptsAreFoundAgain}
 use Rattle.group_commit.proofs.Guarded.{history_is_guarded}
 use Rattle.group_commit.proofs.Sound.{IsSound, first_stays, run_sound, run-append, first_part, second_part}
 use Rattle.group_commit.proofs.Stays.{StandsSettled, stays}
@@ -116,13 +116,12 @@ module _ {D : Type 0} (disk : D → Disk) (law : CrashLeavesWhatIsKept disk) (on
           apart = subst AreApart (sym prefix) (history_is_guarded first cut is).durably_apart;
         }
 
-    -- where the entry of a receipt stands
-    abbrev pub place_of : ℕ → VaultSeen D → Receipt → ℕ
-    place_of n seen told = life_begins one n + (seen.view.retired + (told.position - seen.view.retired))
-
     entry_found : (n : ℕ) (seen : VaultSeen D) (told : Receipt) → slice_get (now ∷ past) n ≡ Some seen → HasTold seen.view told → (open_gate : Bool) (x y : List ℕ) (r : IsRecovered one open_gate x y)
-        → slice_get (take r.cut (history_of one)) (place_of n seen told) ≡ Some (Given (entry_in told))
-    entry_found n seen told at has open_gate x y r = r.told n (told.position - seen.view.retired) seen has.kept at has.stands has.mark ∙ ap (λ (e : Entry). Some (Given e)) has.is
+        → slice_get (take r.cut (history_of one)) (place_of one n told) ≡ Some (Given (entry_in told))
+    entry_found n seen told at has open_gate x y r =
+        let whole : seen.view.retired + (told.position - seen.view.retired) ≡ told.position = omega (arith, has.not_retired) in
+        subst (λ (k : ℕ). slice_get (take r.cut (history_of one)) (life_begins one n + k) ≡ Some (Given (entry_in told))) whole
+        (r.told n (told.position - seen.view.retired) seen has.kept at has.stands has.mark ∙ ap (λ (e : Entry). Some (Given e)) has.is)
 
   -- the headline
   pub kept_through : (now : VaultSeen D) (past : List (VaultSeen D)) (p : IsPast disk now past) → IsKeptThrough disk now past p
@@ -141,7 +140,6 @@ module _ {D : Type 0} (disk : D → Disk) (law : CrashLeavesWhatIsKept disk) (on
       let kept = kept_through now past p in
       record {
         kept = kept;
-        place = place_of now past p kept.one n seen told;
         between = λ x y crash. entry_found now past p kept.one n seen told at has (is_opening now.view.phase) x y (kept.between x y crash);
         inside = λ x y stop. entry_found now past p kept.one n seen told at has (may_open now.view.phase) x y (kept.inside x y stop);
       }

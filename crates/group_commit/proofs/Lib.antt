@@ -23,6 +23,7 @@ pub mod Starts
 pub mod Retires
 pub mod Pumps
 pub mod Begins
+pub mod Gone
 pub mod Images
 pub mod Prefixes
 pub mod Pasts

@@ -1,4 +1,4 @@
--- What each call did is next.
+-- What each call did is an answer.
 use Rattle.std.proofs.Common.{◌≡◌, inl, inr, Bool, true, false, refl, ap}
 use Rattle.std.specs.Prelude.{Result, Ok, Err}
 use Rattle.vault_device.specs.Disk.{Disk}
@@ -8,22 +8,22 @@ use Rattle.group_commit.specs.World.{Pump, Fault, Tell}
 use Rattle.group_commit.specs.Seen.{VaultSeen}
 use Rattle.group_commit.specs.Ticket.{TicketSeen, Told}
 use Rattle.group_commit.specs.Promises.{MomentsStand}
-use Rattle.group_commit.specs.Pasts.{StopsInside, IsNext}
+use Rattle.group_commit.specs.Pasts.{StopsInside, IsAnswered}
 use Rattle.group_commit.proofs.Tickets.{IsTelling}
 use Rattle.group_commit.proofs.Pumps.{IsPump}
 
-pub telling_is_next : {D : Type 0} {disk : D → Disk} {old new : VaultSeen D} {claim : TicketSeen} {receipt : Told} → IsTelling old new claim receipt → IsNext disk old new
-telling_is_next {claim = claim} t = inl (inr (Tell claim.position, record { allowed = t.1; made = ap (λ (s : VaultSeen _). s.view) t.2; life = ap (λ (s : VaultSeen _). s.life) t.2 }))
+pub telling_is_answered : {D : Type 0} {old new : VaultSeen D} {claim : TicketSeen} {receipt : Told} → IsTelling old new claim receipt → IsAnswered old new
+telling_is_answered {claim = claim} t = inr (Tell claim.position, record { allowed = t.1; made = ap (λ (s : VaultSeen _). s.view) t.2; life = ap (λ (s : VaultSeen _). s.life) t.2 })
 
-pub pump_is_next : {D : Type 0} {disk : D → Disk} {old new : VaultSeen D} {result : Result Pumped DeviceFault} → IsPump disk old new result → IsNext disk old new
-pump_is_next {D} {disk} {old} {new} {result} p = by_broken old.view.broken refl
+pub pump_is_answered : {D : Type 0} {disk : D → Disk} {old new : VaultSeen D} {result : Result Pumped DeviceFault} → IsPump disk old new result → IsAnswered old new
+pump_is_answered {D} {disk} {old} {new} {result} p = by_broken old.view.broken refl
   where
-    by_result : (r : Result Pumped DeviceFault) → old.view.broken ≡ false → IsPump disk old new r → IsNext disk old new
-    by_result (Ok answer) whole q = inl (inr (Pump, record { allowed = whole; made = q.pumped whole; life = q.life }))
-    by_result (Err why) whole q = inl (inr (Fault, record { allowed = q.failed.0; made = q.failed.1; life = q.life }))
+    by_result : (r : Result Pumped DeviceFault) → old.view.broken ≡ false → IsPump disk old new r → IsAnswered old new
+    by_result (Ok answer) whole q = inr (Pump, record { allowed = whole; made = q.pumped whole; life = q.life })
+    by_result (Err why) whole q = inr (Fault, record { allowed = q.failed.0; made = q.failed.1; life = q.life })
 
-    by_broken : (b : Bool) → old.view.broken ≡ b → IsNext disk old new
-    by_broken true e = inl (inl (p.broken e).1)
+    by_broken : (b : Bool) → old.view.broken ≡ b → IsAnswered old new
+    by_broken true e = inl (p.broken e).1
     by_broken false e = by_result result e p
 
 pub stops_inside : {D : Type 0} {disk : D → Disk} {old : VaultSeen D} (new : VaultSeen D) → old.view.broken ≡ false → MomentsStand disk old new → StopsInside disk old new

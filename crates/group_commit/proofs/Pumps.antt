@@ -160,7 +160,7 @@ module _ {D : Type 0} (disk : D → Disk) (seen : VaultSeen D) (book : Vault) (k
       → IsSoundVault disk (after_step settled sealed seen.view.broken) book
   pumped_kept settled sealed whole keeps d e =
       subst (λ (v : View). IsSoundVault disk (record { view = v; life = seen.life; store = store }) book) (sym (pumped_view settled sealed whole keeps d e))
-      (record { book_is = k.book_is; sound = pumped_sound seen.view k.sound; fits = k.fits; stands = subst (Keeps disk store) (sym (state_pumped seen.view k.sound whole)) keeps })
+      (record { book_is = k.book_is; sound = pumped_sound seen.view whole k.sound; fits = k.fits; stands = subst (Keeps disk store) (sym (state_pumped seen.view k.sound whole)) keeps })
 
   pub failed_view : (sealed : ℕ) → Keeps disk store (failed (row_of (state_of seen.view)) (state_of seen.view)) → sealed ≡ (view_acted snapshot_length seen.view Fault).sealed
       → (after_step seen.view.settled sealed true).view ≡ view_acted snapshot_length seen.view Fault
@@ -168,11 +168,11 @@ module _ {D : Type 0} (disk : D → Disk) (seen : VaultSeen D) (book : Vault) (k
       let p = keeps.phase ∙ ap (λ (s : StoreState). s.phase) (sym (state_failed seen.view)) in
       λ i. record seen.view { sealed = e i; phase = p i; broken = true }
 
-  pub failed_kept : (sealed : ℕ) → Keeps disk store (failed (row_of (state_of seen.view)) (state_of seen.view)) → sealed ≡ (view_acted snapshot_length seen.view Fault).sealed
+  pub failed_kept : (sealed : ℕ) → (vault_row seen.view).call ≢ NoCall → Keeps disk store (failed (row_of (state_of seen.view)) (state_of seen.view)) → sealed ≡ (view_acted snapshot_length seen.view Fault).sealed
       → IsSoundVault disk (after_step seen.view.settled sealed true) book
-  failed_kept sealed keeps e =
+  failed_kept sealed called keeps e =
       subst (λ (v : View). IsSoundVault disk (record { view = v; life = seen.life; store = store }) book) (sym (failed_view sealed keeps e))
-      (record { book_is = k.book_is; sound = failed_sound seen.view k.sound; fits = k.fits; stands = subst (Keeps disk store) (sym (state_failed seen.view)) keeps })
+      (record { book_is = k.book_is; sound = failed_sound seen.view called k.sound; fits = k.fits; stands = subst (Keeps disk store) (sym (state_failed seen.view)) keeps })
 
 after_same : {A : Type 0} (call : DeviceCall) (x : A) → after_fault call x x ≡ x
 after_same NoCall x = refl
@@ -412,7 +412,7 @@ module _ {D : Type 0} (disk : D → Disk) (seen : VaultSeen D) (book : Vault) (k
       }
 
   pub fault_kept : (sealed : ℕ) (why : DeviceFault) → Made (Err why) → sealed ≡ sealed_next → IsSoundVault disk (after_step disk seen book k store seen.view.settled sealed true) book
-  fault_kept sealed why made is = let f = failed_sealed made.step.1 in failed_kept disk seen book k store sealed made.step.2 (is ∙ f.0)
+  fault_kept sealed why made is = let f = failed_sealed made.step.1 in failed_kept disk seen book k store sealed f.1 made.step.2 (is ∙ f.0)
 
   -- a store whose vault isn't broken doesn't say that it is
   pub not_broken : Made (Ok answers.Broken) → ⊥

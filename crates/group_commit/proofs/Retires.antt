@@ -1,5 +1,5 @@
 -- What retiring the oldest entry leaves.
-use Rattle.std.proofs.Common.{◌≡◌, ◌≢◌, inl, inr, ℕ, suc, ◌+◌, ◌-◌, ◌≤◌, ◌<◌, ◌^◌, cond, List, [], ◌∷◌, ◌++◌, length, take, drop, Some, refl, sym, ap, ◌∙◌, subst, arith}
+use Rattle.std.proofs.Common.{◌≡◌, ◌≢◌, inr, ℕ, suc, ◌+◌, ◌-◌, ◌≤◌, ◌<◌, ◌^◌, cond, List, [], ◌∷◌, ◌++◌, length, take, drop, Some, refl, sym, ap, ◌∙◌, subst, arith}
 use Rattle.vault_model.specs.Vault.{Vault, durable}
 use Rattle.vault_device.specs.Disk.{Disk}
 use Rattle.vault_store.specs.Phases.{is_idle}
@@ -13,7 +13,7 @@ use Rattle.group_commit.specs.Seen.{VaultSeen, snapshot_length, framed, effects_
 use Rattle.group_commit.specs.Inside.{IsSoundVault}
 use Rattle.group_commit.specs.declared.answers.Retired.TheVariants as answers
 use Rattle.group_commit.specs.Calls.{IsRetired}
-use Rattle.group_commit.specs.Pasts.{IsNext}
+use Rattle.group_commit.specs.Pasts.{IsAnswered}
 use Rattle.group_commit.proofs.Facts.{counts_rise}
 use Rattle.group_commit.proofs.Folds.{replay-append, members-append}
 use Rattle.group_commit.proofs.Guarded.{replay_well_formed}
@@ -44,6 +44,7 @@ module _ (v : View) (x : Kept) (rest : List Kept) (s : IsSoundView (beginning v 
         told_most = omega arith;
         few = let few = s.few in omega arith;
         counts = counts_rise (v.retired + 1) v.base x.entry.session x.entry.command s.counts;
+        busy = s.busy;
       }
 
   one_fewer : (n : ℕ) → v.retired < n → n - v.retired ≡ suc (n - (v.retired + 1))
@@ -101,5 +102,5 @@ module _ {D : Type 0} (disk : D → Disk) (seen : VaultSeen D) (book : Vault) (k
   pub retires : mark_at seen.view.kept 0 ≢ Some Open → IsRetired seen (retired seen base rest) answers.One
   retires closed = ((settled, closed), (λ i. record seen { view = retired_view i }))
 
-  pub retiring_is_next : mark_at seen.view.kept 0 ≢ Some Open → IsNext disk seen (retired seen base rest)
-  retiring_is_next closed = inl (inr (Retire, record { allowed = (settled, closed); made = retired_view; life = refl }))
+  pub retiring_is_answered : mark_at seen.view.kept 0 ≢ Some Open → IsAnswered seen (retired seen base rest)
+  retiring_is_answered closed = inr (Retire, record { allowed = (settled, closed); made = retired_view; life = refl })

@@ -1,5 +1,5 @@
 -- Each call keeps the view sound.
-use Rattle.std.proofs.Common.{◌≡◌, ◌≢◌, inl, inr, ℕ, ◌+◌, ◌≤◌, ◌<◌, Bool, true, [], ◌∷◌, ◌++◌, length, Some, refl, sym, ap, ◌∙◌, subst, arith, length-append}
+use Rattle.std.proofs.Common.{◌≡◌, ◌≢◌, inl, inr, ℕ, ◌+◌, ◌≤◌, ◌<◌, Bool, true, false, [], ◌∷◌, ◌++◌, length, Some, refl, sym, ap, ◌∙◌, subst, arith, length-append}
 use Rattle.std.proofs.lemmas.Bool.{cases_eq}
 use Rattle.std.proofs.lemmas.List.{take_all}
 use Rattle.std.proofs.lemmas.List.Elements.{All-nil}
@@ -9,17 +9,18 @@ use Rattle.vault_model.specs.Vault.{Vault, IsVault, CountsBelow}
 use Rattle.vault_model.specs.After.{IsDurable}
 use Rattle.vault_store.specs.declared.phase.Phase.{Phase}
 use Rattle.vault_store.specs.declared.phase.Phase.TheVariants.{Start}
+use Rattle.vault_store.specs.Phases.{NoCall, is_idle}
 use Rattle.group_commit.specs.declared.mark.Mark.{Mark}
 use Rattle.group_commit.specs.declared.mark.Mark.TheVariants.{Open, Told, Forgotten}
 use Rattle.group_commit.specs.Entries.{opened, mark_at, with_mark, told_in}
 use Rattle.group_commit.specs.History.{replay, IsLegal, entry_of, members}
 use Rattle.group_commit.specs.Phases.{InOrder}
 use Rattle.group_commit.specs.World.{Pump, Fault, StartSnapshot}
-use Rattle.group_commit.specs.View.{View, length_of, book_of, opened_view, view_acted}
+use Rattle.group_commit.specs.View.{View, length_of, book_of, opened_view, view_row, view_acted}
 use Rattle.group_commit.specs.Seen.{snapshot_length, most_kept, IsSoundView}
 use Rattle.group_commit.proofs.Folds.{legal_append, members-append}
 use Rattle.group_commit.proofs.Marks.{members-with_mark, length-with_mark, mark_same, mark_other, mark_below, told_before, told_open, told_one_more, told_same, told_below_length}
-use Rattle.group_commit.proofs.Order.{order_row, order_fault, order_start, more_settled}
+use Rattle.group_commit.proofs.Order.{fault_is_busy, order_row, order_fault, order_start, more_settled}
 use Rattle.group_commit.proofs.Sound.{some_mark}
 use Rattle.group_commit.proofs.Counts.{weaker, counts_after}
 use Rattle.group_commit.proofs.States.{staged}
@@ -35,6 +36,7 @@ opened_sound base w d = record {
   told_most = omega arith;
   few = omega arith;
   counts = subst (CountsBelow 1) d (record { door = omega arith; each = All-nil (λ (x : Session). x.count < 1) });
+  busy = λ e. absurd (cc);
 }
 
 -- a staged command
@@ -53,12 +55,13 @@ staged_sound v session command room s =
       told_most = let h : v.told ≤ v.retired + told_in v.kept = s.told_most in omega arith;
       few = omega arith;
       counts = s.counts;
+      busy = s.busy;
     }
 
 -- the numbers and the phase of a step: no fewer entries are settled, and all stays in order
 steps_sound : (v : View) (settled sealed : ℕ) (phase : Phase) (broken : Bool) → InOrder (length_of v) v.retired settled sealed phase → v.settled ≤ settled
-    → IsSoundView v → IsSoundView (record v { settled = settled; sealed = sealed; phase = phase; broken = broken })
-steps_sound v settled sealed phase broken order more s = record {
+    → (broken ≡ true → is_idle phase ≡ false) → IsSoundView v → IsSoundView (record v { settled = settled; sealed = sealed; phase = phase; broken = broken })
+steps_sound v settled sealed phase broken order more busy s = record {
   well_formed = s.well_formed;
   legal = s.legal;
   order = order;
@@ -67,23 +70,24 @@ steps_sound v settled sealed phase broken order more s = record {
   told_most = s.told_most;
   few = s.few;
   counts = s.counts;
+  busy = busy;
 }
 
 -- a pump
-pub pumped_sound : (v : View) → IsSoundView v → IsSoundView (view_acted snapshot_length v Pump)
-pumped_sound v s =
+pub pumped_sound : (v : View) → v.broken ≡ false → IsSoundView v → IsSoundView (view_acted snapshot_length v Pump)
+pumped_sound v whole s =
     let new = view_acted snapshot_length v Pump in
-    steps_sound v new.settled new.sealed new.phase v.broken (order_row (length_of v) v.retired v.settled v.sealed v.phase _ _ s.order) (more_settled (length_of v) v.retired v.settled v.sealed v.phase _ _ s.order) s
+    steps_sound v new.settled new.sealed new.phase v.broken (order_row (length_of v) v.retired v.settled v.sealed v.phase _ _ s.order) (more_settled (length_of v) v.retired v.settled v.sealed v.phase _ _ s.order) (λ e. let clash : false ≡ true = sym whole ∙ e in absurd (cc)) s
 
 -- a pump that failed
-pub failed_sound : (v : View) → IsSoundView v → IsSoundView (view_acted snapshot_length v Fault)
-failed_sound v s =
+pub failed_sound : (v : View) → (view_row snapshot_length v).call ≢ NoCall → IsSoundView v → IsSoundView (view_acted snapshot_length v Fault)
+failed_sound v called s =
     let new = view_acted snapshot_length v Fault in
-    steps_sound v v.settled new.sealed new.phase true (order_fault (length_of v) v.retired v.settled v.sealed v.phase _ _ s.order) (omega arith) s
+    steps_sound v v.settled new.sealed new.phase true (order_fault (length_of v) v.retired v.settled v.sealed v.phase _ _ s.order) (omega arith) (λ e. fault_is_busy v.phase _ _ called) s
 
 -- the start of a snapshot
 pub started_sound : (v : View) → IsSoundView v → IsSoundView (view_acted snapshot_length v StartSnapshot)
-started_sound v s = steps_sound v v.settled (length_of v) Start v.broken (order_start (length_of v) v.retired v.settled v.sealed v.phase s.order) (omega arith) s
+started_sound v s = steps_sound v v.settled (length_of v) Start v.broken (order_start (length_of v) v.retired v.settled v.sealed v.phase s.order) (omega arith) (λ e. refl) s
 
 -- an entry that is closed
 marked_sound : (m : Mark) (told : ℕ) (v : View) (place : ℕ) → m ≢ Open → (m ≡ Told → v.retired + place < v.settled) → place < length v.kept
@@ -102,6 +106,7 @@ marked_sound m told v place not_open below inside least most s =
       told_most = most;
       few = subst (λ n. n ≤ most_kept) (sym same) s.few;
       counts = s.counts;
+      busy = s.busy;
     }
 
 pub told_sound : (v : View) (place : ℕ) → v.retired + place < v.settled → mark_at v.kept place ≡ Some Open → IsSoundView v → IsSoundView (record v { kept = with_mark Told v.kept place; told = v.told + 1 })

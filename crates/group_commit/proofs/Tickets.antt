@@ -29,6 +29,9 @@ is_open now claim place at = ap (mark_at now.view.kept) at.1 ∙ at.0.1.1
 stands_at : {D : Type 0} (now : VaultSeen D) (claim : TicketSeen) (place : ℕ) → IsOpenAt now claim place → now.view.retired + place ≡ claim.position
 stands_at now claim place at = let is : place ≡ claim.position - now.view.retired = at.1 in let low : now.view.retired ≤ claim.position = at.0.1.0 in omega arith
 
+pub open_here : {D : Type 0} (seen now : VaultSeen D) (claim : TicketSeen) (place : ℕ) → seen ≡ now → IsOpenAt now claim place → mark_at seen.view.kept place ≡ Some Open
+open_here seen now claim place same at = is_open seen claim place (subst (λ s. IsOpenAt s claim place) (sym same) at)
+
 -- an entry that is closed is still kept
 same_length_fits : {D : Type 0} (mark : Mark) (now : VaultSeen D) (place : ℕ) → length_of now.view < 2 ^ 64 → now.view.retired + length (with_mark mark now.view.kept place) < 2 ^ 64
 same_length_fits mark now place fits = subst (λ (n : ℕ). now.view.retired + n < 2 ^ 64) (sym (length-with_mark mark now.view.kept place)) fits

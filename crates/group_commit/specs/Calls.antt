@@ -9,6 +9,7 @@ use Rattle.vault_journal.specs.Spelling.{record_of, records_of}
 use Rattle.vault_store.specs.declared.phase.Advanced.{Advanced as Pumped}
 use Rattle.vault_store.specs.declared.phase.Advanced.TheVariants as answers
 use Rattle.vault_format.specs.Files.{header, frame_extra}
+use Rattle.vault_store.specs.declared.phase.Phase.TheVariants.{Idle}
 use Rattle.vault_store.specs.Phases.{is_idle, is_snapshot}
 use Rattle.vault_format.specs.Snapshot.{current_version}
 use Rattle.vault_store.specs.Seen.{StoreSeen, other, has_room}
@@ -19,7 +20,7 @@ use Rattle.group_commit.specs.declared.answers.Forgotten.TheVariants as forgotte
 use Rattle.group_commit.specs.declared.answers.Retired.{Retired}
 use Rattle.group_commit.specs.declared.answers.Retired.TheVariants as retired
 use Rattle.group_commit.specs.Entries.{Kept}
-use Rattle.group_commit.specs.World.{StartSnapshot, Tell, Forget, Retire}
+use Rattle.group_commit.specs.World.{Tell, Forget, Retire}
 use Rattle.group_commit.specs.View.{View, length_of, view_at, ViewAllows, view_acted}
 use Rattle.group_commit.specs.Ticket.{TicketSeen, Told, told_for}
 use Rattle.group_commit.specs.Seen.{VaultSeen, snapshot_length, most_kept, effects_between}
@@ -73,9 +74,9 @@ pub record AreNumbers {D : Type 0} (old new : VaultSeen D) (result : Result Pump
   pub journal_length : new.store.journal_length ≡ (if renews old.view result then 0 else old.store.journal_length + gained old.view result)
   pub buffer : new.store.buffer ≡ (if is_idle old.view.phase && not old.view.broken then [] else old.store.buffer)
 
--- whether a snapshot may be begun: nothing is under way, no device call failed, and there is a next generation
+-- whether a snapshot may be begun: nothing is under way, and there is a next generation
 pub record MayStart {D : Type 0} (seen : VaultSeen D) : Type 0 where
-  pub allowed : ViewAllows snapshot_length seen.view StartSnapshot
+  pub idle : seen.view.phase ≡ Idle
   pub fits : seen.store.generation + 1 < 2 ^ 64
 
 -- a ticket names an open entry of this life

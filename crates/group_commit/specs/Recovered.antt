@@ -119,19 +119,23 @@ pub record IsKeptThrough {D : Type 0} (disk : D → Disk) (now : VaultSeen D) (p
 abbrev pub EachPastIsKept : {D : Type 0} → (D → Disk) → VaultSeen D → Type 0
 EachPastIsKept {D} disk now = (past : List (VaultSeen D)) (is : IsPast disk now past) → IsKeptThrough disk now past is
 
--- A receipt is found again, over this past: wherever the machine stops now, its entry stands at one place of the prefix that recovery
--- gives, with its session, its number, its command and its reply.
+-- where in the history of a past the entry of a receipt stands: in the life in which the nth was seen, at the receipt's position
+abbrev pub place_of : {D : Type 0} → {disk : D → Disk} → {now : VaultSeen D} → {past : List (VaultSeen D)} → {is : IsPast disk now past}
+    → IsOneRun disk now past is → ℕ → Receipt → ℕ
+place_of {D} {disk} {now} {past} {is} one n told = life_begins one n + told.position
+
+-- A receipt that the nth showed as told is found again, over this past: wherever the machine stops now, its entry stands in the prefix that
+-- recovery gives, at its place, with its session, its number, its command and its reply.
 pub record IsFoundAgain {D : Type 0} (disk : D → Disk) (now : VaultSeen D) (past : List (VaultSeen D)) (is : IsPast disk now past)
-    (told : Receipt) : Type 0 where
+    (n : ℕ) (told : Receipt) : Type 0 where
   pub kept : IsKeptThrough disk now past is
-  pub place : ℕ
   pub between : (x y : List ℕ) (crash : IsCrash disk now x y)
-      → slice_get (take (kept.between x y crash).cut (history_of kept.one)) place ≡ Some (Given (entry_in told))
+      → slice_get (take (kept.between x y crash).cut (history_of kept.one)) (place_of kept.one n told) ≡ Some (Given (entry_in told))
   pub inside : (x y : List ℕ) (stop : IsStopInside disk now x y)
-      → slice_get (take (kept.inside x y stop).cut (history_of kept.one)) place ≡ Some (Given (entry_in told))
+      → slice_get (take (kept.inside x y stop).cut (history_of kept.one)) (place_of kept.one n told) ≡ Some (Given (entry_in told))
 
 -- so is each receipt whose entry was seen told at any point of a past
 abbrev pub ReceiptsAreFoundAgain : {D : Type 0} → (D → Disk) → VaultSeen D → Type 0
 ReceiptsAreFoundAgain {D} disk now =
     (past : List (VaultSeen D)) (is : IsPast disk now past) (n : ℕ) (seen : VaultSeen D) (told : Receipt)
-    → slice_get (now ∷ past) n ≡ Some seen → HasTold seen.view told → IsFoundAgain disk now past is told
+    → slice_get (now ∷ past) n ≡ Some seen → HasTold seen.view told → IsFoundAgain disk now past is n told

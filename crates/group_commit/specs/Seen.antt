@@ -1,5 +1,5 @@
 -- What contracts see of a vault, and what every vault keeps. This project's own.
-use Rattle.std.specs.Prelude.{◌≡◌, ℕ, ◌+◌, ◌-◌, ◌<◌, ◌≤◌, if◌then◌else◌, List, [], length, take, drop, Some}
+use Rattle.std.specs.Prelude.{◌≡◌, ℕ, ◌+◌, ◌-◌, ◌<◌, ◌≤◌, true, false, if◌then◌else◌, List, [], length, take, drop, Some}
 use Rattle.vault_model.specs.Said.{Effect}
 use Rattle.vault_model.specs.Vault.{Vault, IsVault, CountsBelow, durable}
 use Rattle.vault_format.specs.Snapshot.{snapshot_of}
@@ -53,7 +53,8 @@ state_of v = record {
 }
 
 -- What every view keeps: the kept history is legal from the base, told entries are settled, and counted, the numbers are in order,
--- few entries are kept, and no session of the base gave more commands than were retired.
+-- few entries are kept, no session of the base gave more
+-- commands than were retired, and where a device call failed, a commit or a snapshot is under way for good.
 pub record IsSoundView (v : View) : Type 0 where
   -- invariant 2 of src/lib.rt
   pub well_formed : IsVault v.base
@@ -68,3 +69,5 @@ pub record IsSoundView (v : View) : Type 0 where
   pub few : length v.kept ≤ most_kept
   -- by this no session's count reaches its greatest
   pub counts : CountsBelow (v.retired + 1) v.base
+  -- invariant 7
+  pub busy : v.broken ≡ true → is_idle v.phase ≡ false

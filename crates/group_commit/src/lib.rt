@@ -14,9 +14,10 @@
 //! 1. The book is the vault after the kept entries.
 //! 2. The kept history is legal from the base: each entry's number and reply are its step's.
 //! 3. Settled entries are in order: retired, settled, all; and sealed behind settled while a commit or a snapshot is under way.
-//! 4. What is told is settled, and `told` counts it.
+//! 4. What is told is settled, and `told` counts it, of the retired entries, too.
 //! 5. At most 4,096 entries are kept.
 //! 6. The store keeps the durable vaults after the settled entries, after the sealed ones and after all.
+//! 7. Where a device call failed, a commit or a snapshot is under way for good.
 //!
 //! Only tested: runs over devices in memory (a full buffer, a full history, a snapshot, a failed write), each request for memory
 //! refused, speed.

@@ -5,7 +5,7 @@ ghost use Rattle.vault_store.specs.Seen.{Keeps};
 ghost use Rattle.group_commit.specs.View.{opened_view};
 ghost use Rattle.group_commit.specs.Seen.{VaultSeen, IsSoundView, state_of};
 ghost use Rattle.group_commit.specs.Promises.{ImagesStand, RecoveryGivesOnePrefix};
-ghost use Rattle.group_commit.specs.Pasts.{IsNext, IsPast, beginning};
+ghost use Rattle.group_commit.specs.Pasts.{IsAnswered, IsNext, IsPast, beginning};
 ghost use Rattle.group_commit.specs.Recovered.{EachPastIsKept, ReceiptsAreFoundAgain};
 ghost use Rattle.group_commit.specs.Positions.{StagedAtItsPosition, PositionsStay, ReceiptsAreOfTheirEntries, ReceiptsAreTold};
 
@@ -23,14 +23,17 @@ pub fn a_vault_keeps_its_history<D: Device, A: Allocator>(vault: &Vault<D, A>)
     let _ = &vault.kept;
 }
 
-/// A vault that was just made or opened has no past, and the past of one that is next of another has that one before it. So whoever
-/// makes its calls one after another, and opens it again where the machine stopped, has its past. It begins with the new vault where
+/// A vault that was just made or opened has no past, and the past of one that is next of another has that one before it: behind a call
+/// that was answered, or where it was opened on what a stop left. So whoever makes its calls one after another, and opens it again where
+/// the machine stopped, has its past. It begins with the new vault where
 /// it was made. Where it was opened, it begins with what the files stood for, whichever program had written them.
 pub fn a_past_goes_on<D: Device, A: Allocator>(vault: &Vault<D, A>)
     ensures begins { vault.now.view ≡ opened_view new_vault → IsPast D.disk vault.now [] }
     ensures new { vault.now.view ≡ opened_view new_vault → beginning vault.now [] ≡ new_vault }
     ensures opened { (vault.now.view ≡ opened_view vault.now.view.base) → IsPast D.disk vault.now [] }
     ensures goes_on { (old : VaultSeen D) (past : List (VaultSeen D)) → IsPast D.disk old past → IsNext D.disk old vault.now
+        → IsPast D.disk vault.now (old ∷ past) }
+    ensures answered { (old : VaultSeen D) (past : List (VaultSeen D)) → IsPast D.disk old past → IsAnswered old vault.now
         → IsPast D.disk vault.now (old ∷ past) }
 {
     a_vault_keeps_its_history(vault);

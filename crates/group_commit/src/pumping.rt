@@ -9,7 +9,7 @@ ghost use Rattle.group_commit.specs.View.{length_of, view_row, ViewAllows, view_
 ghost use Rattle.group_commit.specs.Seen.{snapshot_length};
 ghost use Rattle.group_commit.specs.Calls.{AreNumbers};
 ghost use Rattle.group_commit.specs.Promises.{MomentsStand};
-ghost use Rattle.group_commit.specs.Pasts.{IsNext, StopsInside};
+ghost use Rattle.group_commit.specs.Pasts.{IsAnswered, IsNext, StopsInside};
 
 use crate::{Phase, Pumped, Vault};
 use std::alloc::Allocator;
@@ -47,6 +47,7 @@ impl<D: Device, A: Allocator + Copy> Vault<D, A> {
             (D.disk (first_of self.new.store)) (D.disk (second_of self.new.store)) result }
         ensures numbers { AreNumbers self.old self.new result }
         ensures moments { self.old.view.broken ≡ false → MomentsStand D.disk self.old self.new }
+        ensures answered { IsAnswered self.old self.new }
         ensures next { IsNext D.disk self.old self.new }
         ensures stops { self.old.view.broken ≡ false → StopsInside D.disk self.old self.new }
     {

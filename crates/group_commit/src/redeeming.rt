@@ -3,7 +3,7 @@ ghost use Rattle.std.specs.Prelude.{◌≡◌, ◌<◌, ◌-◌, length, IfSome,
 ghost use Rattle.group_commit.specs.Entries.{mark_at};
 ghost use Rattle.group_commit.specs.Seen.{snapshot_length};
 ghost use Rattle.group_commit.specs.Calls.{NamesOpen, IsRedeemed, IsForgotten};
-ghost use Rattle.group_commit.specs.Pasts.{IsNext};
+ghost use Rattle.group_commit.specs.Pasts.{IsAnswered, IsNext};
 
 use crate::{Forgotten, Mark, Redeemed, Ticket, Vault};
 use std::alloc::Allocator;
@@ -31,6 +31,7 @@ impl<D: Device, A: Allocator + Copy> Vault<D, A> {
     /// back, and nothing changes. No device call.
     pub fn redeem(&mut self, ticket: Ticket<A>) -> Redeemed<A>
         ensures told { IsRedeemed self.old self.new ticket result }
+        ensures answered { IsAnswered self.old self.new }
         ensures next { IsNext D.disk self.old self.new }
     {
         let Some(place) = self.open_place(&ticket) else {
@@ -56,6 +57,7 @@ impl<D: Device, A: Allocator + Copy> Vault<D, A> {
     /// Spends a ticket without its reply, and closes its entry. No memory and no device call.
     pub fn forget(&mut self, ticket: Ticket<A>) -> Forgotten
         ensures closed { IsForgotten self.old self.new ticket result }
+        ensures answered { IsAnswered self.old self.new }
         ensures next { IsNext D.disk self.old self.new }
     {
         let Some(place) = self.open_place(&ticket) else {

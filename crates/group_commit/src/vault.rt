@@ -45,11 +45,11 @@ impl<D: Device, A: Allocator> Model for Vault<D, A> {
 
     ghost Value = { VaultSeen D };
 
-    ghost use Rattle.group_commit.specs.Inside.{seen_of, IsSoundVault};
+    ghost use Rattle.group_commit.specs.Inside.{seen_of, IsSoundVault, AreGone};
 
     ghost view = { seen_of };
 
-    ghost invariant = { λ v. IsSoundVault D.disk (seen_of v) v.book };
+    ghost invariant = { λ v. IsSoundVault D.disk (seen_of v) v.book × AreGone v.bygone.items v.kept v.retired v.told };
 }
 
 impl<D: Device, A: Allocator + Copy> Vault<D, A> {

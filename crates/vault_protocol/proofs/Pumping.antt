@@ -48,9 +48,9 @@ pumped_talk old new answer sessions asked lines now is answered broken row view 
       lines = lines;
     })
 
--- The start of a snapshot, by a vault that no device call had failed of.
+-- The start of a snapshot.
 module _ {D E : Type 0} (old new : VaultSeen D) (answer : Started) (sessions asked : List ℕ) (lines : List Line) (now : Talk)
-    (is : talk_of old sessions asked lines ≡ now) (whole : old.view.broken ≡ false)
+    (is : talk_of old sessions asked lines ≡ now)
     (view : ◌≡◌ {A = Result Started E} (Ok answer) (Ok starts.Yes) → new.view ≡ view_acted snapshot_length old.view StartSnapshot)
     (store : ◌≡◌ {A = Result Started E} (Ok answer) (Ok starts.Yes) → new.store ≡ started_seen old.store (durable (book_of old.view)))
     (may : ◌≡◌ {A = Result Started E} (Ok answer) (Ok starts.Yes) → MayStart old)
@@ -60,12 +60,12 @@ module _ {D E : Type 0} (old new : VaultSeen D) (answer : Started) (sessions ask
   before = talk_of old sessions asked lines
 
   can_start : MayStart old → may_start before ≡ true
-  can_start able = and_from (is_idle old.view.phase) (nat_lt (old.store.generation + 1) (2 ^ 64)) (ap is_idle able.allowed.1) (lt-ltb (old.store.generation + 1) (2 ^ 64) able.fits)
+  can_start able = and_from (is_idle old.view.phase) (nat_lt (old.store.generation + 1) (2 ^ 64)) (ap is_idle able.idle) (lt-ltb (old.store.generation + 1) (2 ^ 64) able.fits)
 
   has_to : may_start before ≡ true → MayStart old
   has_to able =
       let parts = and_parts (is_idle old.view.phase) (nat_lt (old.store.generation + 1) (2 ^ 64)) able in
-      record { allowed = (whole, idle_is old.view.phase parts.0); fits = ltb-true (old.store.generation + 1) (2 ^ 64) parts.1 }
+      record { idle = idle_is old.view.phase parts.0; fits = ltb-true (old.store.generation + 1) (2 ^ 64) parts.1 }
 
   at_yes : answer ≡ starts.Yes → talk_of new sessions asked lines ≡ started before
   unfolding started

@@ -239,9 +239,6 @@ impl<A: Allocator + Copy> Runner<A> {
         ensures state { OnOk result (self.new ≡ started self.old) }
         ensures cause { IfErr result (λ e. e ≡ ScriptError.NoMemory) }
     {
-        if self.vault.is_broken() {
-            return Err(ScriptError::NoMemory);
-        }
         let Ok(_started) = self.vault.start_snapshot() else {
             return Err(ScriptError::NoMemory);
         };

@@ -224,7 +224,7 @@ pub(crate) fn two_lives(
     pick: Pick,
 ) -> (Vault<MemDevice>, Receipt)
     ensures { (past : List (VaultSeen MemDisk)) × (is : IsPast disk_of result.0 past) × (length past ≡ 4)
-        × IsFoundAgain disk_of result.0 past is result.1 }
+        × IsFoundAgain disk_of result.0 past is 1 result.1 }
 {
     let (beginning, stop) = lives;
     let (vault, receipt) = first_life(rt, alloc, beginning, files, command);
@@ -261,7 +261,7 @@ pub(crate) fn inside_a_pump(
     pick: Pick,
 ) -> (Vault<MemDevice>, Receipt)
     ensures { (past : List (VaultSeen MemDisk)) × (is : IsPast disk_of result.0 past) × (length past ≡ 8)
-        × IsFoundAgain disk_of result.0 past is result.1 }
+        × IsFoundAgain disk_of result.0 past is 5 result.1 }
 {
     let (mut vault, receipt) = first_life(rt, alloc, Beginning::Made, files, command);
     under_way(rt, &mut vault, next);
@@ -280,7 +280,7 @@ pub(crate) fn three_lives(
     pick: Pick,
 ) -> (Vault<MemDevice>, Receipt, Receipt)
     ensures { (past : List (VaultSeen MemDisk)) × (is : IsPast disk_of result.0 past) × (length past ≡ 8)
-        × IsFoundAgain disk_of result.0 past is result.1 × IsFoundAgain disk_of result.0 past is result.2 }
+        × IsFoundAgain disk_of result.0 past is 5 result.1 × IsFoundAgain disk_of result.0 past is 1 result.2 }
 {
     let (vault, early) = first_life(rt, alloc, Beginning::Made, files, one);
     let mut vault = stopped(rt, alloc, vault, pick);
