@@ -1,5 +1,6 @@
 //! A vault with the history of its present life.
 ghost use Rattle.std.specs.Prelude.{◌≡◌, length};
+ghost use Rattle.vault_model.specs.Claims.{standing_of};
 ghost use Rattle.vault_store.specs.Seen.{first_of, second_of};
 
 use crate::Phase;
@@ -11,6 +12,7 @@ use std::marker::Model;
 use std::snapshot::Snapshot;
 use vault_checkout::Book;
 use vault_device::Device;
+use vault_model::{ClaimId, Standing};
 use vault_store::Store;
 
 /// A vault in two files, with the history of its present life. Positions count from the life's start.
@@ -53,7 +55,7 @@ impl<D: Device, A: Allocator> Model for Vault<D, A> {
 }
 
 impl<D: Device, A: Allocator + Copy> Vault<D, A> {
-    ghost use Rattle.group_commit.specs.View.{length_of};
+    ghost use Rattle.group_commit.specs.View.{length_of, book_of};
 
     /// How many entries this life has.
     pub fn len(&self) -> u64
@@ -97,6 +99,13 @@ impl<D: Device, A: Allocator + Copy> Vault<D, A> {
         self.broken
     }
 
+    /// How a claim stands behind all entries. None where there is no such claim.
+    pub fn standing(&self, id: ClaimId) -> Option<Standing>
+        ensures { result ≡ standing_of (book_of self.now.view).tree (book_of self.now.view).line id }
+    {
+        standing(&self.book, id)
+    }
+
     /// The devices. What isn't settled is lost.
     pub fn into_devices(self) -> (D, D)
         ensures first { result.0 ≡ first_of self.store }
@@ -117,4 +126,13 @@ impl<D: Device, A: Allocator + Copy> Vault<D, A> {
         } = self;
         store.into_devices()
     }
+}
+
+// How a claim stands in a book.
+fn standing<A: Allocator + Copy>(book: &Book<A>, id: ClaimId) -> Option<Standing>
+    ensures { result ≡ standing_of book.now.tree book.now.line id }
+{
+    // Its contract says that the tree is one.
+    let _ = book.check_out_of(0);
+    book.line().standing(id)
 }
