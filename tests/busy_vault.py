@@ -8,7 +8,7 @@ import random
 import sys
 import time
 from pathlib import Path
-from typing import List, Tuple
+from typing import Dict, List, Tuple
 
 sys.path[:0] = [str(Path(__file__).resolve().parent.parent / "python" / "vault" / "src")]
 
@@ -18,7 +18,7 @@ from vault.words import Reply  # noqa: E402
 
 DESIGNERS = ("anna", "ben", "cara", "deniz", "eva", "finn", "greta", "hugo", "ines", "jonas",
              "kaya", "lena", "mateo", "nora", "oskar", "paula")
-MACHINES = {
+MACHINES: Dict[str, Dict[str, Tuple[str, ...]]] = {
     "press": {"frame": ("column_left", "column_right", "bed", "crown"), "drive": ("flywheel", "crankshaft", "clutch", "brake_disc"),
               "ram": ("slide", "gib", "counterbalance"), "guard": ("door", "light_curtain", "hinge")},
     "engine": {"block": ("cylinder_block", "liner", "main_cap", "gallery_plug"), "crank": ("crankshaft", "bearing_shell", "damper", "pulley"),
@@ -32,7 +32,7 @@ REASONS = ("bore to 80.02", "fillets as in the review", "lighter by 1.2 kg", "ne
            "hole moved 4 mm",
            "as measured on the bench", "wall 6 mm for casting", "")
 NOTES = ("until Friday, call 217",
-         "waiting for the FEM run", "customer review 30 Nov", "<b>do not release</b>", "mirrors the left one", "")
+         "waiting for the FEM run", "customer review 30 Nov", "do not release before the test", "mirrors the left one", "")
 
 
 class Office:

@@ -152,6 +152,11 @@ def told_lines(sent: bytes) -> Sequence[bytes]:
     return sent.split(b"\n")[:-1]
 
 
+def soon(seconds: float = 1.0) -> float:
+    """How soon something has to be there: within a second, and where the machine has more to do than it has processors for, in proportion."""
+    return seconds * max(1.0, os.getloadavg()[0] / (os.cpu_count() or 1))
+
+
 def until(holds: Callable[[], bool], seconds: float) -> float:
     """Waits until something holds: after how long it did."""
     begun = time.monotonic()

@@ -10,11 +10,11 @@ import tempfile
 import time
 import unittest
 from pathlib import Path
-from typing import Any, Tuple
+from typing import Tuple
 
 from browser import Browser, Pages
 from busy_vault import Office
-from page_server import PageServer, processor_seconds, until
+from page_server import PageServer, processor_seconds, soon, until
 from servers import MEMORY, TOP, Server
 from test_page import fill
 
@@ -28,12 +28,6 @@ WINDOWS: Tuple[Tuple[str, int, int, bool], ...] = (("1280", 1280, 900, False), (
 EVIL = "<img src=x onerror=alert(1)><b>\u202egpj.exe</b>" + "W" * 190
 KINDS = {"library": "/", "project": "/engine", "assembly": "/engine/head", "part": PART, "designers": "/designers", "designer": "/designers/anna",
          "nobody": "/designers/nobody", "search": "/.search?q=crank", "nothing": "/.search?q=%3Cb%3E", "missing": "/engine/none"}
-PROCESSORS = os.cpu_count() or 1
-
-
-def soon(seconds: float = 1.0) -> float:
-    """How soon something has to be there: within a second, and where the machine has more to do than it has processors for, in proportion."""
-    return seconds * max(1.0, os.getloadavg()[0] / PROCESSORS)
 
 
 class WithOffice(unittest.TestCase):
@@ -79,9 +73,13 @@ class WithOffice(unittest.TestCase):
         if self.browser.value("document.body.dataset.watch || ''"):
             until(lambda: self.words("#pill") == "live", 10)
 
-    def words(self, selector: str) -> Any:
+    def words(self, selector: str) -> str:
         """The text of the first such element."""
-        return self.browser.value(f"document.querySelector({json.dumps(selector)})?.innerText.replace(/\\s+/g, ' ').trim() ?? ''")
+        return str(self.browser.value(f"document.querySelector({json.dumps(selector)})?.innerText.replace(/\\s+/g, ' ').trim() ?? ''"))
+
+    def is_so(self, expression: str) -> bool:
+        """Whether an expression holds in the page."""
+        return bool(self.browser.value(expression))
 
     def shows(self, selector: str, words: str, seconds: float = 1.0) -> None:
         """Such an element comes to have these words, in time."""
@@ -191,9 +189,9 @@ class Live(WithOffice):
         self.assertTrue(self.browser.value("document.getElementById('row:/press').parentElement.open"))
         self.say("anna", "make /engine/sump")
         self.say("anna", "make /engine/sump/pan")
-        until(lambda: self.browser.value("!!document.getElementById('row:/engine/sump/pan')"), 30)
+        until(lambda: self.is_so("!!document.getElementById('row:/engine/sump/pan')"), 30)
         self.say("ben", "checkout w:/engine/sump/pan")
-        until(lambda: self.browser.value("document.getElementById('row:/engine/sump').parentElement.open"), 10)
+        until(lambda: self.is_so("document.getElementById('row:/engine/sump').parentElement.open"), 10)
         self.assertTrue(self.browser.value("document.getElementById('row:/press').parentElement.open"))
         self.browser.value("document.getElementById('row:/engine').click()")
         self.say("cara", "checkout w:/engine/sump/pan")

@@ -22,7 +22,7 @@ from vaultd_tools.page_line import Segment, before, curves, waiting
 from vaultd_tools.page_model import Since
 
 HUES = 12
-ROWS_KEPT = 32768
+ROWS_KEPT = 8192
 STATIC = {"page.css": "text/css", "page.js": "text/javascript", "icon.svg": "image/svg+xml"}
 APART = "/~"
 TAKEN = "designers"

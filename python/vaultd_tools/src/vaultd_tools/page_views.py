@@ -15,7 +15,7 @@ from vaultd_tools.files import Claim
 from vaultd_tools.page_line import ways
 from vaultd_tools.page_model import MOST_BENEATH, MOST_CLAIMS, MOST_PLACES, MOST_VERSIONS, Model, Place, depth
 from vaultd_tools.page_render import APART, TAKEN, Line, Mark, Pieces, Renderer, Row, address
-from vaultd_tools.page_watch import Watcher, concerns, is_place
+from vaultd_tools.page_watch import Watcher, changes, concerns, is_place
 
 VERSIONS_SHOWN = 40
 OPENED_PLACES = 800
@@ -176,8 +176,8 @@ class PlaceView(View):
         here = model.claims if self.path == "/" else [claim for claim in model.claims if concerns(claim, self.path)]
         held = sum(claim.behind is None for claim in here)
         pieces.lists["line"] = renderer.claims(line.rows(here, model.since))
-        pieces.texts["line-words"] = renderer.piece("line_words", held, len(here) - held, line.longest if self.path == "/" else 0,
-                                                        self.path == "/")
+        whole = self.path == "/"
+        pieces.texts["line-words"] = renderer.piece("line_words", held, len(here) - held, line.longest if whole else 0, whole)
         place = model.places.get(self.path) or Place(self.path, None)
         pieces.texts["heading"] = self._heading(source, place, here)
         if place.part:
@@ -186,7 +186,7 @@ class PlaceView(View):
             pieces.tree = Tree(renderer, model)
             pieces.tree.put(pieces, self.path)
             pieces.texts["tree-words"] = counts(model, self.path)
-        if self.path == "/":
+        if whole:
             pieces.texts["tally"] = renderer.piece("tally", line.held, len(model.claims) - line.held, len(model.owners()), line.longest)
             pieces.texts["news"] = renderer.piece("news", list(model.news)[:NEWS_SHOWN])
             pieces.texts["full"] = renderer.piece("full", gauges(model), model.read, model.read_bytes)
@@ -194,7 +194,7 @@ class PlaceView(View):
 
     def _heading(self, source: Source, place: Place, here: list[Claim]) -> str:
         above = [path for path in reversed(list(ways(self.path))) if path != self.path]
-        holders = [claim for claim in here if claim.behind is None and any(item[0] == "w" for item in claim.items)]
+        holders = list(dict.fromkeys(claim.owner for claim in here if claim.behind is None and changes(claim, self.path)))
         title = place.latest.card.name if place.latest and place.latest.card else ""
         return source.renderer.piece("heading", source.vault, place, above, title, holders, len(here))
 

@@ -425,6 +425,11 @@ def concerns(claim: Claim, path: str) -> bool:
     return any(under(path, item[2:]) or under(item[2:], path) for item in claim.items)
 
 
+def changes(claim: Claim, path: str) -> bool:
+    """Whether a claim is for change of a place, or of something beneath it."""
+    return any(item[0] == "w" and (under(path, item[2:]) or under(item[2:], path)) for item in claim.items)
+
+
 def is_place(path: str) -> bool:
     """Whether a text is the path of a place."""
     return path == "/" or path[:1] == "/" and 0 < depth(path) <= MOST_NAMES and all(NAME.fullmatch(name) for name in path[1:].split("/"))

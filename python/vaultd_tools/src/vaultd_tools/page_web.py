@@ -18,8 +18,8 @@ from urllib.parse import parse_qsl
 
 from aiohttp import web
 
-from vaultd_tools.page_render import STATIC, Pieces, Renderer, fingerprint, static
 from vaultd_tools.page_model import News
+from vaultd_tools.page_render import STATIC, Pieces, Renderer, fingerprint, static
 from vaultd_tools.page_views import Source, View, view_at
 from vaultd_tools.page_watch import Watcher
 
@@ -31,6 +31,7 @@ MOST_FIELDS = 16
 BEAT_SECONDS = 10.0
 TAKE_SECONDS = 20.0
 FIRST_SECONDS = 15.0
+PREPARE_SECONDS = 3.0
 SENTENCES = 4
 HOST = re.compile(r"([a-z0-9._-]{1,255}|\[[0-9a-f:.]{2,45}\])(:[0-9]{1,5})?")
 HEADERS = {
@@ -303,7 +304,10 @@ class Page:
         """A whole page."""
         view, model = self._view(path, query), self.watcher.model
         await self.watcher.fresh()
-        await view.prepare(self.watcher)
+        prepared = asyncio.ensure_future(view.prepare(self.watcher))
+        done, _ = await asyncio.wait({prepared}, timeout=PREPARE_SECONDS)
+        for task in done:
+            task.result()
         if not view.is_there(model):
             if not model.places:
                 raise Refusal(503, "The vault can't be read now, so the page doesn't know whether there is such a place.")
