@@ -736,6 +736,33 @@ class WaitTests(WithDesigners):
         self.assertEqual(said, "c2 is held.")
         self.assertTrue(1 <= len(output.notices) <= 3, output.notices)
 
+    def test_the_real_server(self) -> None:
+        """Whether it answers at once, or once the claim is held: it isn't asked again and again, and that it is held is told soon."""
+        lets_wait = b"--wait " in subprocess.run([VAULTD, "serve", "--help"], capture_output=True, check=True).stdout
+        stands = self.between(Between)
+        moments: List[float] = []
+
+        def abandon() -> None:
+            moments.append(time.monotonic())
+            self.anna.abandon("c1")
+
+        said, _ = self.waited(stands, abandon)
+        self.assertEqual(said, "c2 is held.")
+        self.assertLess(time.monotonic() - moments[0], 5)
+        self.assertLessEqual(stands.sent(b"wait"), 1 if lets_wait else 3)
+
+    def test_more_than_may_wait(self) -> None:
+        """At a server that lets nobody wait for an answer, where it is one that can be told so."""
+        if b"--waits " not in subprocess.run([VAULTD, "serve", "--help"], capture_output=True, check=True).stdout:
+            self.skipTest("this server answers each `wait` at once")
+        self.server.kill()
+        self.server.words = ("--workers", "16", "--waits", "0")
+        self.server.start()
+        stands = self.between(Between)
+        with self.assertRaises(Refused):
+            self.waited(stands, lambda: None, "--at-most", "3.5")
+        self.assertTrue(2 <= stands.sent(b"wait") <= 4, stands.sent(b"wait"))
+
     def test_odd_answer(self) -> None:
         """An answer that is none of the protocol ends it with a sentence."""
         class Strange(Between):
