@@ -1,16 +1,15 @@
 -- Bytes that are added piece by piece.
-use Rattle.std.proofs.Common.{◌≡◌, ℕ, zero, suc, ◌+◌, ◌-◌, ◌<◌, ◌≤◌, ◌==◌, not, All, filter, List, [], ◌∷◌, ◌++◌, sym, ap, ◌∙◌, subst, arith, append_assoc, append-nil, length-append, length, get_or, take, false, true}
+use Rattle.std.proofs.Common.{◌≡◌, ℕ, zero, suc, ◌+◌, ◌-◌, ◌<◌, ◌≤◌, ◌==◌, not, All, filter, List, [], ◌∷◌, ◌++◌, sym, ap, ◌∙◌, arith, append_assoc, append-nil, length-append, length, get_or, take, false, true}
 use Rattle.std.specs.Prelude.{Result, Ok, Err, Some, slice_get}
 use Rattle.std.specs.List.{flat_map}
-use Rattle.std.specs.Option.{is_some}
 use Rattle.std.specs.Result.{IsErr}
 use Rattle.std.proofs.lemmas.Grind.{flat_map-append}
 use Rattle.std.proofs.lemmas.List.{take_more, take_all}
 use Rattle.std.proofs.lemmas.List.Concat.{flat_map-cons}
 use Rattle.std.proofs.lemmas.Option.{get_or_from_slice_get, slice_get_within, slice_get-get_or}
-use Rattle.std.proofs.lemmas.List.Elements.{All-get_or, All-map, All-filter, All-weaker, filter-append}
+use Rattle.std.proofs.lemmas.List.Elements.{All-map, All-filter, All-weaker, filter-append}
 use Rattle.vault_model.specs.Limits.{longest_content}
-use Rattle.vault_model.specs.Shelf.{Draft, IsShelf, versions_of, numbered}
+use Rattle.vault_model.specs.Shelf.{Draft}
 use Rattle.vault_model.specs.declared.place.Place.{Place}
 use Rattle.vault_model.specs.declared.claims.Claim.{Claim}
 use Rattle.vault_model.specs.Tree.{no_place}
@@ -19,7 +18,6 @@ use Rattle.vault_model.specs.Drafts.{SavedDraft, drafts_of}
 use Rattle.vault_model.specs.Vault.{Vault, IsDraft, AreDrafts}
 use Rattle.vault_format.specs.Adds.{Adds}
 use Rattle.vault_format.specs.Snapshot.{current_version, claim_bytes, place_bytes, places_bytes}
-use Rattle.vault_format.proofs.Spelled.{contents_of}
 
 -- a piece, and what comes of the next
 pub adds_after : {E : Type 0} (a b c text more : List ℕ) (result : Result (Unit {0}) E) → b ≡ a ++ text → Adds b c more result → Adds a c (text ++ more) result
@@ -43,25 +41,6 @@ adds_more f xs i x a b c within is first next =
 -- those of all things, where none is left
 pub adds_all : {X : Type 0} (f : X → List ℕ) (xs : List X) (i : ℕ) (a b : List ℕ) → length xs ≤ i → b ≡ a ++ flat_map f (take i xs) → b ≡ a ++ flat_map f xs
 adds_all f xs i a b none_left first = first ∙ ap (λ (ys : List _). a ++ flat_map f ys) (take_all i xs none_left)
-
--- there is a version of the next number
-pub numbered_there : (versions : List (List ℕ)) (i : ℕ) → i < length versions → is_some (numbered versions (i + 1)) ≡ true
-numbered_there versions i within =
-    let next : suc i ≡ i + 1 = omega arith in
-    subst (λ (n : ℕ). is_some (numbered versions n) ≡ true) next (ap is_some (slice_get-get_or versions i [] within))
-
--- the version of the next number
-pub numbered_next : (versions : List (List ℕ)) (i : ℕ) (content : List ℕ) → numbered versions (i + 1) ≡ Some content → slice_get versions i ≡ Some content
-numbered_next versions i content at =
-    let next : i + 1 ≡ suc i = omega arith in
-    subst (λ (n : ℕ). numbered versions n ≡ Some content) next at
-
--- a version of a shelf is short
-pub content_short : (shelf : List (List (List ℕ))) (place i : ℕ) (content : List ℕ) → IsShelf shelf → slice_get (versions_of shelf place) i ≡ Some content → length content ≤ longest_content
-content_short shelf place i content is at =
-    let versions = versions_of shelf place in
-    subst (λ (c : List ℕ). length c ≤ longest_content) (get_or_from_slice_get versions i content content at)
-    (All-get_or (λ (c : List ℕ). length c ≤ longest_content) versions i content (slice_get_within versions i content at) (contents_of shelf is place).short)
 
 -- the first places, and the next
 pub places_more : (v : Vault) (n i : ℕ) (xs : List Place) (x : Place) → i < length xs → get_or xs i x ≡ x → places_bytes current_version v n (take (suc i) xs) ≡ places_bytes current_version v n (take i xs) ++ place_bytes current_version v (i + n) x

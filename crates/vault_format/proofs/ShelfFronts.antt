@@ -70,8 +70,8 @@ versions_of-shelf_with_other shelf part [] other differ = refl
 versions_of-shelf_with_other shelf part (x ∷ xs) other differ = versions_of-shelf_with_other (shelved shelf part x) part xs other differ ∙ versions_of-shelved_other shelf part x other differ
 
 -- with fewer contents a shelf is still a front
-pub fewer_contents : (shelf whole : List (List (List ℕ))) (part : ℕ) (xs ys : List (List ℕ)) → IsFrontOf (shelf_with shelf part (xs ++ ys)) whole → IsFrontOf (shelf_with shelf part xs) whole
-fewer_contents shelf whole part xs ys front p = elim (eqb_tells part p) [
+pub shorter_front : (shelf whole : List (List (List ℕ))) (part : ℕ) (xs ys : List (List ℕ)) → IsFrontOf (shelf_with shelf part (xs ++ ys)) whole → IsFrontOf (shelf_with shelf part xs) whole
+shorter_front shelf whole part xs ys front p = elim (eqb_tells part p) [
   | inl here ↦ (ys ++ (front p).0, subst (λ (q : ℕ). versions_of whole q ≡ versions_of (shelf_with shelf part xs) q ++ (ys ++ (front p).0)) here.1 (at_part (subst (λ (q : ℕ). versions_of whole q ≡ versions_of (shelf_with shelf part (xs ++ ys)) q ++ (front p).0) (sym here.1) (front p).1)))
   | inr other ↦ ((front p).0, (front p).1 ∙ ap (λ (l : List (List ℕ)). l ++ (front p).0) (versions_of-shelf_with_other shelf part (xs ++ ys) p other.1 ∙ sym (versions_of-shelf_with_other shelf part xs p other.1)))
 ]

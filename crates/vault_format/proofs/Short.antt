@@ -1,4 +1,4 @@
--- The spelling of a vault is short enough for its length to have four bytes.
+-- How long the spelling of a vault is at most.
 use Rattle.std.proofs.Common.{◌≡◌, ℕ, suc, ◌+◌, ◌*◌, ◌<◌, ◌≤◌, ◌^◌, ◌==◌, Bool, true, false, List, [], ◌∷◌, ◌++◌, length, drop, filter, ap, arith, length-append, All, inl, inr}
 use Rattle.std.specs.List.{flat_map}
 use Rattle.std.proofs.lemmas.Bool.{cases_lt}
@@ -20,7 +20,7 @@ use Rattle.vault_journal.proofs.Sizes.{name_is_short}
 use Rattle.vault_journal.specs.Spelling.{in_two, in_four, name_bytes, items_bytes, content_bytes}
 use Rattle.vault_format.specs.declared.version.FileVersion.{FileVersion}
 use Rattle.vault_format.specs.declared.version.FileVersion.TheVariants.{One, Two}
-use Rattle.vault_format.specs.Laws.{SnapshotsAreShort}
+use Rattle.vault_format.specs.Laws.{SnapshotsAreShort, NoneIsLonger}
 use Rattle.vault_format.specs.Snapshot.{current_version, spelling_of, versions_bytes, kind_field, kind_bytes, places_bytes, draft_bytes, drafts_bytes, note_field, claim_bytes, number_of, designer_of, HasSnapshot}
 
 -- the contents of a place
@@ -116,7 +116,7 @@ module _ (version : FileVersion) (v : Vault) (is_vault : IsVault v) where
         claims_short line (All-tail (IsClaim v.tree v.sessions v.last_long v.last_short) claim line are) (All-tail (λ (c : Claim). IsName (designer_of c.owner)) claim line names),
       )
 
-  pub spelling_is_short : All (λ (place : Place). IsName place.name) v.tree → All (λ (claim : Claim). IsName (designer_of claim.owner)) v.line → length (spelling_of version v) < 2 ^ 32
+  pub spelling_is_short : All (λ (place : Place). IsName place.name) v.tree → All (λ (claim : Claim). IsName (designer_of claim.owner)) v.line → length (spelling_of version v) ≤ 33862626
   spelling_is_short places owners =
       omega (
         arith,
@@ -135,7 +135,10 @@ module _ (version : FileVersion) (v : Vault) (is_vault : IsVault v) where
       all_weight (versions ∷ shelf) = omega (arith, sum_by-cons versions_weight versions shelf)
 
 pub spelling_short : (version : FileVersion) (v : Vault) → HasSnapshot v → length (spelling_of version v) < 2 ^ 32
-spelling_short version v has = spelling_is_short version v has.well_formed has.places has.owners
+spelling_short version v has = let short = spelling_is_short version v has.well_formed has.places has.owners in omega (arith, short)
+
+pub none_is_longer : NoneIsLonger
+none_is_longer version v spelled = spelling_is_short version v spelled.has.well_formed spelled.has.places spelled.has.owners
 
 pub spelled_short : SnapshotsAreShort
 spelled_short v has = spelling_short current_version v has

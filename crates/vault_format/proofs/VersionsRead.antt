@@ -15,7 +15,7 @@ use Rattle.vault_format.proofs.OneReading.{one_spelled}
 use Rattle.vault_format.proofs.SpelledLists.{IsContent, content_tells}
 use Rattle.vault_format.proofs.Spelled.{contents_of}
 use Rattle.vault_format.proofs.ListsRead.{AreItemsRead, no_item_read, one_item_more, next_item}
-use Rattle.vault_format.proofs.ShelfFronts.{next_short, next_shelvable, shelf_with-append, versions_of-shelf_with, fewer_contents}
+use Rattle.vault_format.proofs.ShelfFronts.{next_short, next_shelvable, shelf_with-append, versions_of-shelf_with, shorter_front}
 
 -- ---- one version
 
@@ -107,7 +107,7 @@ module _ (part : ℕ) (old : List (List (List ℕ))) (bytes : List ℕ) where
       let first = next_contents contents whole is front after behind count are read same in
       let next = next_item content_bytes IsContent content_tells so.contents n after rest so.read contents behind (omega (arith, within, first.0)) (short_contents contents whole is front) first.1 in
       let parts : contents ≡ (so.contents ++ next.here ∷ []) ++ next.others = next.parts ∙ sym (append_assoc so.contents (next.here ∷ []) next.others) in
-      let fewer = fewer_contents old whole part (so.contents ++ next.here ∷ []) next.others (subst (λ (l : List (List ℕ)). IsFrontOf (shelf_with old part l) whole) parts front) in
+      let fewer = shorter_front old whole part (so.contents ++ next.here ∷ []) next.others (subst (λ (l : List (List ℕ)). IsFrontOf (shelf_with old part l) whole) parts front) in
       let shelf_is : shelf_with old part (so.contents ++ next.here ∷ []) ≡ shelved now part next.here =
       shelf_with-append old part so.contents (next.here ∷ []) ∙ ap (λ (s : List (List (List ℕ))). shelved s part next.here) (sym so.shelf_is) in
       none next.here whole (flat_map content_bytes next.others ++ behind) is (subst (λ (s : List (List (List ℕ))). IsFrontOf s whole) shelf_is fewer) next.spelled

@@ -1,12 +1,21 @@
 -- What is promised of the spellings of a vault. This project's own.
-use Rattle.std.specs.Prelude.{◌≡◌, ◌<◌, ◌^◌, length}
+use Rattle.std.specs.Prelude.{◌≡◌, ℕ, ◌<◌, ◌≤◌, ◌^◌, length}
 use Rattle.vault_model.specs.Vault.{Vault}
 use Rattle.vault_format.specs.declared.version.FileVersion.{FileVersion}
+use Rattle.vault_format.specs.declared.sizes.TheConstants.{MOST_SNAPSHOT}
 use Rattle.vault_format.specs.Snapshot.{current_version, snapshot_of, spelling_of, HasSnapshot, HasSpelling}
 
 -- four bytes can count a spelling
 abbrev pub SnapshotsAreShort : Type 0
 SnapshotsAreShort = (v : Vault) → HasSnapshot v → length (snapshot_of v) < 2 ^ 32
+
+-- the most bytes of a spelling
+abbrev pub most_snapshot : ℕ
+most_snapshot = MOST_SNAPSHOT
+
+-- no spelling has more
+abbrev pub NoneIsLonger : Type 0
+NoneIsLonger = (version : FileVersion) (v : Vault) → HasSpelling version v → length (spelling_of version v) ≤ most_snapshot
 
 -- a spelling in a version is of one vault
 abbrev pub OneSpelling : Type 0

@@ -1,10 +1,10 @@
 //! The fields of a snapshot, written one behind another.
 #![tactic(auto, using(crate::proofs::Adding::adds_after))]
 
-ghost use Rattle.std.specs.Prelude.{◌≡◌, ◌<◌, ◌≤◌, ◌-◌, All, length, slice_get, is_some, Some, true};
+ghost use Rattle.std.specs.Prelude.{◌≡◌, ◌<◌, ◌≤◌, ◌-◌, All, length, slice_get, Some, true};
 ghost use Rattle.std.specs.List.{flat_map};
 ghost use Rattle.vault_model.specs.Limits.{longest_content, most_drafts};
-ghost use Rattle.vault_model.specs.Shelf.{Draft, numbered, versions_of};
+ghost use Rattle.vault_model.specs.Shelf.{Draft, versions_of};
 ghost use Rattle.vault_journal.specs.Spelling.{in_two, in_four, name_bytes, item_bytes, items_bytes, content_bytes, note_bytes};
 ghost use Rattle.vault_model.specs.Tree.{is_part};
 ghost use Rattle.vault_model.specs.declared.place.Place.{Place};
@@ -135,28 +135,6 @@ pub fn put_drafts<A: Allocator, B: Allocator>(
     put_each_draft(out, drafts)
 }
 
-// The version of a part with this number.
-fn version_at<B: Allocator>(shelf: &Shelf<B>, place: PlaceId, version: u32) -> &[u8]
-    requires { is_some (numbered (versions_of shelf.now place) version) ≡ true }
-    ensures { numbered (versions_of shelf.now place) version ≡ Some result.now }
-{
-    shelf.fetch(place, version).unwrap()
-}
-
-// Adds each version of a part.
-fn put_each_version<A: Allocator, B: Allocator>(
-    out: &mut Vec<u8, A>,
-    shelf: &Shelf<B>,
-    place: PlaceId,
-) -> Result<(), NoMemory>
-    ensures { Adds out.old.items out.new.items (flat_map content_bytes (versions_of shelf.now place)) result }
-{
-    for index in 0..shelf.count(place) {
-        put_content(out, version_at(shelf, place, index + 1))?;
-    }
-    Ok(())
-}
-
 /// Adds how many versions a part has, and each.
 pub fn put_versions<A: Allocator, B: Allocator>(
     out: &mut Vec<u8, A>,
@@ -166,7 +144,7 @@ pub fn put_versions<A: Allocator, B: Allocator>(
     ensures { Adds out.old.items out.new.items (versions_bytes (versions_of shelf.now place)) result }
 {
     put_u16(out, shelf.count(place) as u16)?;
-    put_each_version(out, shelf, place)
+    put(out, shelf.spelled(place))
 }
 
 /// The kind of a place, by whether it is a part.
