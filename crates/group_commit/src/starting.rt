@@ -25,7 +25,8 @@ impl<D: Device, A: Allocator + Copy> Vault<D, A> {
     }
 
     /// Begins a snapshot: what was staged so far is sealed, and the next pumps write the durable vault after it into the other file.
-    /// No device call. The memory for all bytes of that file is taken here, in one request. `NotNow` and a refusal change nothing.
+    /// No device call. The memory for all bytes of that file is taken here, in one request at most, and kept for the next snapshot.
+    /// `NotNow` and a refusal change nothing.
     pub fn start_snapshot(&mut self) -> Result<Started, NoMemory>
         ensures started { result ≡ Ok answers.Yes → self.new.view ≡ view_acted snapshot_length self.old.view StartSnapshot }
         ensures store { result ≡ Ok answers.Yes → self.new.store ≡ started_seen self.old.store (durable (book_of self.old.view)) }

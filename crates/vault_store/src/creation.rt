@@ -163,6 +163,7 @@ impl<D: Device, A: Allocator> Store<D, A> {
                 broken: false,
                 spare_shut: false,
                 rest: None,
+                room: None,
             }),
             Err(why) => Err(Refused { why, first, second }),
         }

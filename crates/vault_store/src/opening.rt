@@ -294,6 +294,7 @@ impl<D: Device, A: Allocator + Copy> Store<D, A> {
                     broken: false,
                     spare_shut,
                     rest: None,
+                    room: None,
                 };
                 Ok((store, book))
             }

@@ -27,6 +27,13 @@ fn bytes_of<A: Allocator>(buffer: &Option<Vec<u8, A>>) -> &[u8]
     }
 }
 
+// Keeps the memory of a buffer as room for the next.
+fn set_aside<A: Allocator>(buffer: &mut Option<Vec<u8, A>>, room: &mut Option<Vec<u8, A>>)
+    ensures { option_map_or (λ v. v.items) buffer.new [] ≡ [] }
+{
+    *room = buffer.take();
+}
+
 // The file beside.
 fn other(which: File) -> File
     ensures { result ≡ other which }
@@ -172,7 +179,7 @@ impl<D: Device, A: Allocator> Store<D, A> {
                 self.journal_length = 0;
                 self.phase = Phase::Idle;
                 self.spare_shut = false;
-                self.rest = None;
+                set_aside(&mut self.rest, &mut self.room);
                 Ok(Advanced::Settled)
             }
             Err(fault) => broken_by(&mut self.broken, fault),

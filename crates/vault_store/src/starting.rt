@@ -35,7 +35,8 @@ impl<D: Device, A: Allocator> Store<D, A> {
     }
 
     /// Begins a snapshot of what a restart would leave of this book, which has made all that was noted. No device call. It takes
-    /// memory for all bytes of the snapshot's file at once, about as many as the book's contents and names have.
+    /// memory for all bytes of the snapshot's file at once, about as many as the book's contents and names have, but for what was
+    /// kept of the last snapshot.
     pub fn start_snapshot<B: Allocator + Copy>(
         &mut self,
         alloc: A,
@@ -55,7 +56,8 @@ impl<D: Device, A: Allocator> Store<D, A> {
         if self.broken || self.phase != Phase::Idle || self.generation == u64::MAX {
             return Ok(Started::NotNow);
         }
-        let rest = spell_file(alloc, self.generation + 1, book)?;
+        let room = self.room.take().unwrap_or(Vec::new(alloc));
+        let rest = spell_file(room, self.generation + 1, book)?;
         self.rest = Some(rest);
         self.frame.clear();
         self.phase = Phase::Start;

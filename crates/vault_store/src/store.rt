@@ -49,6 +49,8 @@ pub struct Store<D: Device, A: Allocator = Global> {
     pub(crate) spare_shut: bool,
     /// What a snapshot writes behind that gate. There is some while one is under way.
     pub(crate) rest: Option<Vec<u8, A>>,
+    /// The memory of the last such bytes, kept for the next snapshot. What stands in it means nothing.
+    pub(crate) room: Option<Vec<u8, A>>,
 }
 
 impl<D: Device, A: Allocator> Model for Store<D, A> {
@@ -105,6 +107,7 @@ impl<D: Device, A: Allocator> Store<D, A> {
             broken: _,
             spare_shut: _,
             rest: _rest,
+            room: _room,
         } = self;
         in_turn(which, active, spare)
     }

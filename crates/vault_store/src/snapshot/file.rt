@@ -84,9 +84,9 @@ fn put_length<A: Allocator>(bytes: &mut Vec<u8, A>, count: u32)
     let _ = vault_journal::put_u32(bytes.as_mut_slice(), LENGTH_AT, count);
 }
 
-/// What a snapshot writes behind the head gate of a file of this generation.
+/// What a snapshot writes behind the head gate of a file of this generation, in the place of these bytes.
 pub fn spell_file<A: Allocator, B: Allocator + Copy>(
-    alloc: A,
+    mut bytes: Vec<u8, A>,
     generation: u64,
     book: &Book<B>,
 ) -> Result<Vec<u8, A>, NoMemory>
@@ -94,7 +94,8 @@ pub fn spell_file<A: Allocator, B: Allocator + Copy>(
     requires spelled { HasSnapshot (durable book.now) }
     ensures { IfOk result (λ bytes. bytes.items ≡ behind_gate generation (durable book.now)) }
 {
-    let mut bytes = Vec::with_capacity(alloc, room_of(book))?;
+    bytes.clear();
+    bytes.reserve_exact(room_of(book))?;
     put_front(&mut bytes, generation)?;
     spell_snapshot(&mut bytes, book)?;
     let count = bytes.len() - SNAPSHOT_AT;

@@ -10,7 +10,10 @@ use Rattle.vault_store.proofs.Exchanged.{started_kept, started_sound}
 use Rattle.vault_store.proofs.store.Store.start_snapshot.Goals as goal
 
 pub invariant_of-self : goal.invariant_of-self
-invariant_of-self g c =
+invariant_of-self g c = c.self.invariant
+
+pub invariant_of-self-2 : goal.invariant_of-self-2
+invariant_of-self-2 g c =
     let is : c.self.inside.phase ≡ Idle = search rules in
     let fits : c.self.inside.generation + 1 < 2 ^ 64 = search rules in
     subst (λ (l : List ℕ). IsSoundStore g.D.Device.disk (record (seen_of c.self.inside) { buffer = c.clear.new.self; phase = Start; rest = l })) (sym c.in_ok-rest.ensures)
