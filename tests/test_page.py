@@ -20,7 +20,7 @@ from tries import told
 
 from vault import Client
 from vault.card import Card
-from vaultd_tools import page_views, page_watch, page_web
+from vaultd_tools import page_render, page_views, page_watch, page_web
 from vaultd_tools.files import Claim
 from vaultd_tools.page_line import curves
 from vaultd_tools.page_render import address, in_bytes
@@ -671,6 +671,7 @@ class Lanes(unittest.TestCase):
     def test_numbers(self) -> None:
         self.assertEqual([in_bytes(size) for size in (0, 1, 999, 1000, 48_000_000, 999_999, 10 ** 17)],
                          ["0 bytes", "1 byte", "999 bytes", "1 kB", "48 MB", "1 MB", "100 PB"])
+        self.assertEqual(page_render.spelled("e\u0301 " + "a\u0301" + "\u0301" * 60 + "\u202e"), "e\u0301 a\u0301\u0301\u0301\u2026\\u202e")
         self.assertEqual(page_views.as_written("Kolben 80.SLDPRT"), "kolben_80_sldprt")
         self.assertEqual(page_watch.LINGER_SECONDS, 5.0)
 

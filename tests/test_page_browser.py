@@ -299,6 +299,7 @@ class Quick(unittest.TestCase):
         for _ in range(3):
             page = PageServer(server.port)
             self.addCleanup(page.end)
+            browser.show(1280, 900)
             browser.driver.execute_cdp_cmd("Performance.enable", {"timeDomain": "threadTicks"})
             before = page.processor_seconds() + processor_seconds(server.process.pid)
             browser.open(page.address + "/")

@@ -5,6 +5,7 @@ from __future__ import annotations
 
 import functools
 import hashlib
+import unicodedata
 import zlib
 from collections.abc import Iterable, Mapping, Sequence
 from dataclasses import dataclass, field
@@ -15,14 +16,14 @@ from typing import Any
 from jinja2 import Environment, PackageLoader, StrictUndefined
 from markupsafe import Markup
 
-from vault.card import TIME
-from vault.card import shown as spelled
+from vault.card import TIME, shown
 from vaultd_tools.files import Claim
 from vaultd_tools.page_line import Segment, before, curves, waiting
 from vaultd_tools.page_model import Since
 
 HUES = 12
 ROWS_KEPT = 8192
+MARKS = 3
 STATIC = {"page.css": "text/css", "page.js": "text/javascript", "icon.svg": "image/svg+xml"}
 APART = "/~"
 TAKEN = "designers"
@@ -55,6 +56,15 @@ def in_bytes(count: int) -> str:
 def time_of(text: str) -> datetime:
     """The time that a card says."""
     return datetime.strptime(text, TIME).replace(tzinfo=timezone.utc)
+
+
+def spelled(text: str) -> str:
+    """A stranger's text as it is shown: of marks that are put onto a letter few, since many would reach over what stands around them."""
+    marks, letters = 0, []
+    for letter in shown(text):
+        marks = marks + 1 if unicodedata.category(letter) in ("Mn", "Me") else 0
+        letters.append(letter if marks <= MARKS else "" if marks > MARKS + 1 else "\N{HORIZONTAL ELLIPSIS}")
+    return "".join(letters)
 
 
 def static(name: str) -> str:

@@ -206,6 +206,12 @@
     }
   });
 
+  addEventListener("beforeprint", () => {
+    const words = document.querySelector("[data-pill]");
+    if (words.textContent === "live") words.textContent = `as of ${spoken(new Date())}`;
+  });
+  addEventListener("afterprint", pill);
+
   showTimes(document);
   if (data.watch) {
     document.addEventListener("visibilitychange", look);
