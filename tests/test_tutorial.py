@@ -38,9 +38,9 @@ class Shell:
         for line in self.process.stdout:
             self.lines.put(line)
 
-    def run(self, line: str, wanted: int) -> List[str]:
+    def run(self, line: str, wanted: int, patience: float = 15) -> List[str]:
         """Runs a line, and answers what was printed until it ended; where fewer lines came than are wanted, waits for those that
-        a background program prints."""
+        a background program prints. Ends behind so many seconds without one."""
         assert self.process.stdin is not None
         self.process.stdin.write(f"{line}\necho {DONE}\n")
         self.process.stdin.flush()
@@ -48,7 +48,7 @@ class Shell:
         ended = False
         while not ended or len(printed) < wanted:
             try:
-                said = self.lines.get(timeout=15)
+                said = self.lines.get(timeout=patience)
             except queue.Empty:
                 break
             if said == DONE + "\n":

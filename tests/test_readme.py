@@ -1,0 +1,55 @@
+"""Both ways from a clone to a running server, each line of README's as it stands there, with what stands below it."""
+
+import re
+import shutil
+import tempfile
+import unittest
+from pathlib import Path
+
+from servers import TOP, free_port
+from test_tutorial import Shell, steps
+
+BUILD_SECONDS = 1800
+BLOCKS = [steps(block) for block in re.findall(r"```console\n.*?```", (TOP / "README.md").read_text("utf-8"), re.DOTALL)]
+
+
+class Readme(unittest.TestCase):
+    """README's two blocks, in a folder that has the tree, at a port that is free."""
+
+    deadline = 2 * BUILD_SECONDS
+
+    def run_block(self, number: int, first: str) -> None:
+        """Runs a block, whose first line begins so."""
+        block = BLOCKS[number]
+        self.assertTrue(block[0][1].startswith(first), block[0])
+        with tempfile.TemporaryDirectory(prefix="vault-test-") as folder:
+            top, programs = Path(folder) / "top", Path(folder) / "programs"
+            for path in (top, programs):
+                path.mkdir()
+            for name in ("crates", "crates.txt", "tools", "python", "docs"):
+                (top / name).symlink_to(TOP / name)
+            meant = {"7070": str(free_port()), "/tmp/vault": folder + "/vault"}
+            shell = Shell(top, programs)
+            self.addCleanup(shell.close)
+            try:
+                shell.run("unset VAULTD", 0)
+                for _, line, wanted in block:
+                    for shown, instead in meant.items():
+                        line, wanted = line.replace(shown, instead), [said.replace(shown, instead) for said in wanted]
+                    with self.subTest(line):
+                        self.assertEqual(shell.run(line, len(wanted), BUILD_SECONDS if line.startswith(first) else 15), wanted)
+            finally:
+                shell.run("kill $! 2> /dev/null; kill $(cat " + folder + "/vault/pid 2> /dev/null) 2> /dev/null", 0)
+
+    @unittest.skipUnless(shutil.which("rt"), "needs the kit")
+    def test_unproved(self) -> None:
+        self.assertEqual(len(BLOCKS), 2)
+        self.run_block(0, "tools/prepare")
+
+    @unittest.skipUnless((TOP / "crates" / "vaultd" / "out" / "vaultd").exists(), "needs the program that the gate builds, since proofs take long")
+    def test_proved(self) -> None:
+        self.run_block(1, "(cd crates/vaultd && rt run")
+
+
+if __name__ == "__main__":
+    unittest.main()
