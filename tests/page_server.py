@@ -42,14 +42,16 @@ class PageServer:
         return self.process.communicate(timeout=20)[1]
 
     def raw(self, request: bytes, seconds: float = ANSWER_SECONDS) -> bytes:
-        """What is answered to some bytes, until the end of the connection or of what the answer's head says."""
+        """What is answered to some bytes, until the end of the connection or of what the answer's head says, and for so long at most."""
+        end = time.monotonic() + seconds
         with socket.create_connection(("127.0.0.1", self.port), timeout=seconds) as client:
             client.sendall(request)
             told = b""
-            while not whole(told):
+            while not whole(told) and time.monotonic() < end:
+                client.settimeout(max(0.01, end - time.monotonic()))
                 try:
                     piece = client.recv(1 << 20)
-                except ConnectionError:
+                except (ConnectionError, socket.timeout):
                     break
                 if not piece:
                     break

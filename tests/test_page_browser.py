@@ -179,7 +179,8 @@ class Live(WithOffice):
             if path == PART:
                 self.shows("#versions tr", f"{int(versions) + 1} ", 2.0)
             self.say("ben", f"abandon {waits}")
-            self.shows(where, "Nobody has anything checked out." if path != "/designers/cara" else "has nothing checked out")
+            self.shows(where, {"/engine": "It is free.", PART: "It is free.", "/designers/cara": "has nothing checked out"}.get(
+                path, "Nobody has anything checked out."))
 
     def test_places_meanwhile(self) -> None:
         """Places come into the tree; a branch that somebody shut stays shut, and one with a claim opens."""

@@ -88,10 +88,10 @@ async def serve(asked: argparse.Namespace) -> None:
     await asyncio.wait({watch, over}, return_when=asyncio.FIRST_COMPLETED)
     listener.close()
     await doors.shutdown(0.1)
-    for task in (over, watch):
-        if task.done() and not task.cancelled() and task is watch:
-            task.result()
-        task.cancel()
+    over.cancel()
+    if watch.done():
+        watch.result()
+    watch.cancel()
     await page.watcher.close()
 
 

@@ -12,7 +12,7 @@ import re
 import secrets
 import socket
 from collections import deque
-from collections.abc import Callable, Iterable
+from collections.abc import Callable, Iterable, Iterator
 from typing import Any
 from urllib.parse import parse_qsl
 
@@ -339,7 +339,7 @@ class Page:
             self.watcher.streams -= 1
 
     @contextlib.contextmanager
-    def _joined(self, view: View, stream: Stream, query: dict[str, str]) -> Any:
+    def _joined(self, view: View, stream: Stream, query: dict[str, str]) -> Iterator[None]:
         """The stream is one of its page's, and knows whether that changed since it was read."""
         channel = self.channels.get(view)
         if channel is None:

@@ -42,6 +42,8 @@ class Wire:
             raise Broken("does not answer") from error
         except OSError as error:
             raise Broken(f"does not answer ({reason(error)})") from error
+        except UnicodeError as error:
+            raise Broken("can't be found: this is no host's name") from error
         wire = cls(reader, writer)
         try:
             greeting = (await wire.ask(["hello " + designer]))[0].split(b" ")
