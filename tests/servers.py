@@ -154,7 +154,7 @@ class Cutter:
         self.before: List[bytes] = []
         self.after: List[bytes] = []
         self.lines: List[bytes] = []
-        self.meanwhile: Callable[[], None] = lambda: None
+        self.meanwhile: Callable[[], object] = lambda: None
         self.accepts = threading.Thread(target=self._accept, daemon=True)
         self.accepts.start()
 

@@ -2,9 +2,9 @@
 
 import json
 import os
-import random
+import signal
 import subprocess
-import time
+import threading
 import unittest
 from pathlib import Path
 from typing import Any, Callable, Iterator, List
@@ -20,6 +20,11 @@ from vault.commands import COMMANDS
 from vault.connection import Patience
 from vault.memory import Command
 from vault.output import Output
+
+
+def both_of(*steps: Callable[[], object]) -> Callable[[], object]:
+    """Several steps, one after the other."""
+    return lambda: [step() for step in steps]
 
 
 class Lost(WithServer):
@@ -354,7 +359,7 @@ class Program(WithServer):
         said = [["hello", f"anna@127.0.0.1:{self.server.port}"], ["tree"], ["make", "/engine/block/rod"],
                 ["nest", "/engine/block/valve"], ["checkout", "w:" + PART], ["wait", "c1"], ["extend", "c1", "w:/engine/block/rod"],
                 ["put", PART, str(drawing)], ["drafts", "c1"], ["drafts", "c1", str(state / "kept")], ["draft", "c1", PART], ["who"],
-                *(notes if self.gives() else []), ["checkin", "c1"], ["get", PART], ["history", PART], ["checkout", "r:/"],
+                *notes, ["checkin", "c1"], ["get", PART], ["history", PART], ["checkout", "r:/"],
                 ["abandon", "c2"], ["forget", "c2"], ["mine"], ["hold", "r:/"], ["store"],
                 ["get", "/engine", "--to", str(work)], ["status", str(work)], ["add", str(work / "block" / "Bolzen 20")]]
         for words in said:
@@ -363,22 +368,27 @@ class Program(WithServer):
             told = [json.loads(line) for line in self.vault("--json", *words).splitlines()]
             self.assertEqual([(one["command"], one["done"]) for one in told],
                              [(words[0], False)] * (words[0] == "hold") + [(words[0], True)])
-        left_out = set() if self.gives() else {"give", "note"}
-        self.assertEqual({words[0] for words in said}, set(COMMANDS) - left_out)
+        self.assertEqual({words[0] for words in said}, set(COMMANDS))
 
     def test_killed(self) -> None:
-        """The program is killed at random moments of a check-in, and the next run finds out: each content is a version once."""
-        moments, contents = random.Random(34), [b"content %d" % number for number in range(6)]
-        self.vault("hello", f"anna@127.0.0.1:{self.server.port}")
-        for content in contents:
-            anna = Client("anna", "127.0.0.1", self.server.port, Path(self.folder.name) / "vault", settling=0.1)
+        """The program is killed while its check-in is under way, by turns before the server hears of it and before the reply is heard, and
+        the next run finds out: each content is a version once."""
+        contents = [b"content %d" % number for number in range(6)]
+        self.vault("hello", f"anna@127.0.0.1:{self.cutter.port}")
+        for number, content in enumerate(contents):
+            anna = Client("anna", "127.0.0.1", self.cutter.port, Path(self.folder.name) / "vault", settling=0.1)
             claim = anna.checkout(["w:" + PART]).claim
             anna.put(PART, content)
+            under_way, killed = threading.Event(), threading.Event()
+            self.cutter.meanwhile = both_of(under_way.set, lambda: killed.wait(60))
+            self.both()[number % 2].append(b"checkin")
             program = self.started("checkin", claim)
-            time.sleep(moments.uniform(0.05, 0.4))
+            self.assertTrue(under_way.wait(60), "no check-in was sent")
             program.kill()
-            program.wait()
-            if anna.mine():
+            self.assertEqual(program.wait(), -signal.SIGKILL)
+            killed.set()
+            self.assertEqual(bool(anna.mine()), number % 2 == 0)
+            if number % 2 == 0:
                 anna.checkin(claim)
             anna.close()
         self.assertEqual([content for _, content in self.anna.history(PART)], contents)

@@ -12,7 +12,7 @@ import time
 import tomllib
 import unittest
 from pathlib import Path
-from typing import Any, Dict, List, Sequence, Tuple
+from typing import Any, Dict, List, Tuple
 
 from doors import Door
 from servers import MEMORY, TOP, VAULTD, Cutter, Limits, Server
@@ -28,16 +28,15 @@ PART = "/engine/block/piston"
 VALID = (b"hello anna", b"make /a/b", b"make /a/b/c c1", b"nest /a/b/c", b"nest /a/b/c c12", b"checkout r:/a w:/b/c", b"extend c1 w:/a",
          b"extend h1 r:/", b"save c1 /a/b/c 00fF", b"save c1 / -", b"checkin c1", b"abandon c4294967295", b"hold r:/a/b/c/d/e/f/g",
          b"release h7", b"state c1", b"state h1", b"list /", b"fetch /a/b/c 0", b"fetch /a/b/c 4294967295", b"count /a/b/c", b"give c1 ben",
-         b"note c1", b"note c1 -", b"note c1 0aB1")
-# Of a server that knows them, too.
-QUESTIONS = (b"show c1", b"show h1", b"claims /a/b", b"drafts c1", b"draft c1 /a/b/c", b"wait c1", b"wait h1")
+         b"note c1", b"note c1 -", b"note c1 0aB1", b"show c1", b"show h1", b"claims /a/b", b"drafts c1", b"draft c1 /a/b/c",
+         b"wait c1", b"wait h1")
 MARKS = (b" ", b"  ", b"\t", b"\r", b"\0", b"\x0b", b"\xa0", b"\xff", b"-", b"_", b"/", b"//", b"c", b"h", b"r:", b"w:", b":", b"0", b"1",
          b"9", b"+", b"A", b"Z", b"a", b"f", b"g", b"quit", b"note", b"4294967296", b"00", b".", b"@", b"x" * 32, b"/x" * 7)
 
 
-def mutated(chance: random.Random, valid: Sequence[bytes] = VALID) -> bytes:
+def mutated(chance: random.Random) -> bytes:
     """A line of the protocol, with up to three small changes, few of which leave it one."""
-    line = bytearray(chance.choice(valid))
+    line = bytearray(chance.choice(VALID))
     for _ in range(chance.randrange(4)):
         at = chance.randrange(len(line) + 1)
         kind = chance.randrange(4)
@@ -79,10 +78,8 @@ class ReadAlike(unittest.TestCase):
         self.addCleanup(server.close)
         server.start()
         chance, counted = random.Random(66), {True: 0, False: 0}
-        with server.connect() as connection:
-            valid = VALID + (QUESTIONS if told(connection, b"show c1\n", 1) == b"ERR 11\n" else ())
         for _ in range(4):
-            lines = [line for line in (mutated(chance, valid) for _ in range(4000)) if line != b"quit"]
+            lines = [line for line in (mutated(chance) for _ in range(4000)) if line != b"quit"]
             with server.connect() as connection:
                 # Nobody says hello, so a command is answered 11, and a hello is left out of what is sent.
                 lines = [line for line in lines if command_of(line) is None or not line.startswith(b"hello")]
@@ -220,9 +217,10 @@ class Roles(WithDoor):
                          ["OK session", "OK held c1", "OK list 1 engine", "OK versions 0", "ERR 40", "OK note -", "OK left"])
 
     def test_new_questions(self) -> None:
-        """Questions that servers learn later are sent on."""
+        """Who holds what anybody may ask; drafts are their owner's."""
         questions = [b"show c1\n", b"claims /engine\n", b"drafts c1\n", f"draft c1 {PART}\n".encode(), b"wait c1\n"]
-        self.conversation("guest", b"hello guest\n" + b"".join(questions) + b"quit\n")
+        self.assertEqual(self.conversation("guest", b"hello guest\n" + b"".join(questions) + b"quit\n"),
+                         ["OK session", f"OK claim c1 ben held w:{PART}", "OK claims 1 c1", "ERR 31", "ERR 31", "OK held c1", "OK left"])
         self.assertEqual(self.recorder.lines, [b"hello guest\n", *questions, b"quit\n"])
 
     def test_drafts_that_were_given(self) -> None:

@@ -1,8 +1,7 @@
-"""Giving a check-out away, and notes, at a server that knows them, and at one that doesn't."""
+"""Giving a check-out away, and notes; tests/test_odd_server.py has a server that knows neither."""
 
 import unittest
 from pathlib import Path
-from typing import List
 
 from designers import PART, WithServer
 
@@ -122,22 +121,6 @@ class Note(Knowing):
         self.vault("hello", f"ben@127.0.0.1:{self.server.port}")
         self.assertIn(b"c1 is held.", self.vault("mine", "c1"))
         self.assertEqual(self.as_json("mine")["claims"][0]["claim"], "c1")
-
-
-class NotKnowing(WithServer):
-    """A server that is older than the client: it is told so, and nothing is left under way."""
-
-    def test_told(self) -> None:
-        if self.gives():
-            self.skipTest("this server has `give` and `note`")
-        claim = self.anna.checkout(["w:" + PART]).claim
-        wanted: List[List[str]] = [["give", claim, "ben"], ["note", claim], ["set_note", claim]]
-        for name, *words in wanted:
-            with self.assertRaises(Refused) as refused:
-                getattr(self.anna, name)(*words, *([b"x"] if name == "set_note" else []))
-            self.assertIn("does not know this command", str(refused.exception))
-        self.assertEqual([standing.claim for standing, _ in self.anna.mine()], [claim])
-        self.assertEqual(self.notices, [])
 
 
 if __name__ == "__main__":
