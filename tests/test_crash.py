@@ -81,6 +81,8 @@ class Designer(threading.Thread):
 class Crash(unittest.TestCase):
     """No draft lost, none twice, each client ends by itself with the right word."""
 
+    deadline = int(SECONDS) + 600
+
     def setUp(self) -> None:
         self.server = Server("--workers", "16")
         self.addCleanup(self.server.close)

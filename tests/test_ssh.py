@@ -184,6 +184,8 @@ class ThroughTheDoor(unittest.TestCase):
 class Day(test_tutorial.Pages):
     """The day of the tutorial, in which the designers come through the gate."""
 
+    deadline = 900
+
     def setUp(self) -> None:
         super().setUp()
         self.door = Door(int(self.meant["7070"]))

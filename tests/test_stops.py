@@ -29,6 +29,7 @@ IMAGES = 4
 class Stops(unittest.TestCase):
     """One recording, and many files."""
 
+    deadline = 600 + MOMENTS * IMAGES
     folder: Path
     recording: Recording
 
