@@ -28,6 +28,10 @@ sum_next f xs i x at =
     let one : sum_by f (x ∷ []) ≡ f x = omega arith in
     ap (sum_by f) cut ∙ sum_by-append f (take i xs) (x ∷ []) ∙ ap (λ (n : ℕ). sum_by f (take i xs) + n) one
 
+-- the count over one more of a list
+pub count_next : {X : Type 0} (p : X → Bool) (xs : List X) (i : ℕ) (x : X) → slice_get xs i ≡ Some x → count_by p (take (i + 1) xs) ≡ count_by p (take i xs) + cond (p x) 1 0
+count_next {X} p xs i x at = sum_next (λ (y : X). cond (p y) 1 0) xs i x at
+
 -- a draft more, of the claim that it is of
 own_more : (x : SavedDraft) (drafts : List SavedDraft) (id : ClaimId) → own_drafts (x ∷ drafts) id ≡ own_drafts drafts id + cond (same_id id (Long x.claim)) 1 0
 own_more x drafts (Long n) = by_test (x.claim == n) (n == x.claim) refl refl
@@ -75,7 +79,7 @@ none_has id (c ∷ line) all = by_test (same_id c.id id) refl (none_has id line 
         omega (arith, counts, rest, own)
 
 -- one claim of the line has it, where one is there
-one_has : (id : ClaimId) (line : List Claim) → IsDistinct same_id (ids line) → is_some (claim_of line id) ≡ true → count_by (λ (c : Claim). same_id c.id id) line ≡ 1
+pub one_has : (id : ClaimId) (line : List Claim) → IsDistinct same_id (ids line) → is_some (claim_of line id) ≡ true → count_by (λ (c : Claim). same_id c.id id) line ≡ 1
 unfolding IsDistinct
 one_has id [] distinct some = absurd (false≢true some)
 one_has id (c ∷ line) distinct some = by_test (same_id c.id id) refl some (one_has id line distinct.1)

@@ -3,3 +3,5 @@ mod Counting
 mod Heads
 mod Choices
 mod Reports
+mod Weighing
+mod Greatest

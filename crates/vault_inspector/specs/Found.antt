@@ -1,11 +1,12 @@
 -- What the parts of an inspection answer. This project's own.
-use Rattle.std.specs.Prelude.{◌≡◌, ℕ, ◌==◌, nat_lt, if◌then◌else◌, List, Option, None, Some}
+use Rattle.std.specs.Prelude.{◌≡◌, ℕ, ◌==◌, ◌<◌, ◌≤◌, length, nat_lt, if◌then◌else◌, List, Option, None, Some}
 use Rattle.vault_model.specs.Vault.{Vault}
 use Rattle.vault_store.specs.declared.front.Head.{Head}
 use Rattle.vault_store.specs.declared.front.Head.TheVariants as heads
 use Rattle.vault_store.specs.declared.body.BodyError.{BodyError}
 use Rattle.vault_store.specs.declared.body.BodyError.TheVariants as body_errors
-use Rattle.vault_format.specs.Faults.{IsBodyFault}
+use Rattle.vault_format.specs.Faults.{IsBodyFault, snapshot_length}
+use Rattle.vault_format.specs.Files.{header}
 use Rattle.vault_store.specs.Parts.{IsWhole}
 use Rattle.vault_inspector.specs.declared.report.FileState.{FileState}
 use Rattle.vault_inspector.specs.declared.report.FileState.TheVariants.{Closed, Open, Older, Damaged}
@@ -58,3 +59,8 @@ IsActiveRead right file (Open generation frames tail version) (Some vault) =
     (version ≡ right.version) × (generation ≡ right.generation) × IsWhole right.version right.generation file vault frames tail
 IsActiveRead right file (Damaged offset) None = IsBodyFault right.version file offset
 IsActiveRead right file _ _ = ⊥
+
+-- how many bytes a file's snapshot has, by its header; or the file has no whole one
+abbrev pub IsSnapshotLength : List ℕ → Option ℕ → Type 0
+IsSnapshotLength file None = length file < header
+IsSnapshotLength file (Some n) = (header ≤ length file) × (n ≡ snapshot_length file)

@@ -41,8 +41,8 @@ fn print_owner<W: Write>(writer: &mut W, owner: &Owner) -> Result<(), PrintError
     }
 }
 
-// How a claim stands.
-fn standing_in<A: Allocator + Copy>(book: &Book<A>, id: ClaimId) -> Option<Standing>
+/// How a claim stands.
+pub(crate) fn standing_in<A: Allocator + Copy>(book: &Book<A>, id: ClaimId) -> Option<Standing>
     ensures { result ≡ standing_of book.now.tree book.now.line id }
 {
     book.tree().see_whole();

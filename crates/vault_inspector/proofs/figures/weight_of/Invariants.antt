@@ -1,0 +1,7 @@
+use Rattle.std.specs.Prelude.{◌≡◌, ◌+◌, drop}
+use Rattle.vault_model.specs.Shelf.{drafts_weight}
+use Rattle.vault_inspector.proofs.figures.weight_of.Given as goal
+
+-- the sum so far, with what is left
+abbrev pub invariant-loop-draft : goal.invariant-loop-draft
+invariant-loop-draft g l = l.total + drafts_weight (drop l.draft-index l.drafts) ≡ drafts_weight l.drafts
