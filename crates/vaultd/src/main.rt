@@ -1,4 +1,4 @@
-//! The program of the design vault: `create`, `serve`, `inspect` and `script`.
+//! The program of the design vault: `create`, `serve`, `check`, `inspect` and `script`.
 //!
 //! Promises: it is safe and, but for `serve`, total. Each subcommand is one call of a crate beneath.
 //! Stands on: vaultd_tasks, vault_device, group_commit, vault_sessions, vault_server. Must not know: anything that a contract should say;
@@ -16,7 +16,7 @@ use crate::serving::serve;
 use clap::error::ErrorKind;
 use std::process::ExitCode;
 use std::{env, io};
-use vaultd_tasks::{Failure, Task, create, inspect, script, take_streams, task_of};
+use vaultd_tasks::{Failure, Task, check, create, inspect, script, take_streams, task_of};
 
 /// The status after a failure.
 const FAULT: u8 = 1;
@@ -82,6 +82,7 @@ fn main(rt: HostRuntime) -> ExitCode {
     let done = match task {
         Task::Script => script(&rt),
         Task::Create(first, second) => create(&rt, first, second),
+        Task::Check(first, second, json) => check(&rt, first, second, json),
         Task::Inspect(first, second) => inspect(&rt, first, second),
         Task::Serve(serving) => serve(&rt, &serving),
     };

@@ -1,7 +1,7 @@
 //! What the program is asked to do.
 
 use clap::error::ErrorKind;
-use clap::{Arg, ArgMatches, Command, Error, value_parser};
+use clap::{Arg, ArgAction, ArgMatches, Command, Error, value_parser};
 use std::alloc::{AllocError, Global};
 use std::convert::AsStr;
 use vault_protocol::SCRIPT_HELP;
@@ -28,6 +28,17 @@ prints for a new vault:
   file a: open, generation 1, frames 0, tail 34
   file b: closed
   places 1, versions 0, claims 0, drafts 0";
+
+/// What `check` says, below its help.
+const CHECKED: &str = "\
+It reads both files as a server does before it starts, and changes neither. It says what each file is, whether a server starts
+over them, and how full the vault is: of each limit what is used, and how much that is of a hundred.
+Status 0: a server starts. Status 1: none does; the reason, the file, the offset and what to do are said.
+It locks nothing, so a server may run, and none is kept from starting. It reads until two readings agree; where they never
+do, it says 'vault in use'.
+Examples:
+  vaultd check vault.a vault.b
+  vaultd check --json vault.a vault.b";
 
 /// What a client says and is told, below the help of `serve`.
 const SERVED: &str = "\
@@ -83,6 +94,8 @@ pub enum Task<'a> {
     Create(&'a str, &'a str),
     /// Reports on the files of these paths.
     Inspect(&'a str, &'a str),
+    /// Checks the files of these paths, and tells it as JSON or in sentences.
+    Check(&'a str, &'a str, bool),
     /// Serves a vault.
     Serve(Serving<'a>),
 }
@@ -134,6 +147,17 @@ fn inspect<'a>(alloc: Global) -> Result<Command<'a>, AllocError> {
             .about("Prints a report on the two files of a vault, and changes neither")
             .after_help(INSPECTED),
     )
+}
+
+/// The subcommand that checks.
+fn check<'a>(alloc: Global) -> Result<Command<'a>, AllocError> {
+    let json = Arg::new(alloc, "json")
+        .long("json")
+        .action(ArgAction::SetTrue);
+    over_files(alloc, "check")?
+        .about("Says whether a server starts over the two files of a vault, and how full it is")
+        .after_help(CHECKED)
+        .arg(json.help("Prints one object of JSON in the place of sentences"))
 }
 
 /// How many connections are served at a time.
@@ -219,6 +243,7 @@ fn command_line<'a>(alloc: Global) -> Result<Command<'a>, AllocError> {
         .arg_required_else_help(true);
     let command = command.subcommand(script(alloc))?;
     let command = with(command, create(alloc))?;
+    let command = with(command, check(alloc))?;
     let command = with(command, inspect(alloc))?;
     with(command, serve(alloc))
 }
@@ -250,6 +275,11 @@ fn task_in<'a>(matches: &ArgMatches<'a>) -> Option<Task<'a>> {
     match matches.subcommand() {
         Some(("script", _)) => Some(Task::Script),
         Some(("create", files)) => Some(Task::Create(path(files, "A"), path(files, "B"))),
+        Some(("check", words)) => Some(Task::Check(
+            path(words, "A"),
+            path(words, "B"),
+            words.get_flag("json"),
+        )),
         Some(("inspect", files)) => Some(Task::Inspect(path(files, "A"), path(files, "B"))),
         Some(("serve", words)) => Some(Task::Serve(serving_of(words))),
         Some(_) | None => None,

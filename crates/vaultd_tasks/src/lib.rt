@@ -1,4 +1,4 @@
-//! What the program's command line asks for, and all that needs no threads: `create`, `inspect` and `script`.
+//! What the program's command line asks for, and all that needs no threads: `create`, `check`, `inspect` and `script`.
 //!
 //! Promises: it is safe and total. Each subcommand is one call of a crate beneath.
 //! Stands on: vault_device, vault_store, vault_protocol, vault_inspector. Must not know: the server, and anything that a contract should
@@ -9,6 +9,7 @@
 //! Start at: command_line.rt, then the file of a subcommand.
 #![tactic(auto)]
 
+mod checking;
 mod command_line;
 mod creating;
 mod failure;
@@ -16,7 +17,9 @@ mod files;
 mod inspecting;
 mod scripting;
 mod streams;
+mod told;
 
+pub use checking::check;
 pub use command_line::{Serving, Task, task_of};
 pub use creating::create;
 pub use failure::Failure;

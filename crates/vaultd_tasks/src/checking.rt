@@ -1,0 +1,157 @@
+//! Checking two files: whether a server would start over them, and how full their vault is.
+
+use crate::failure::Failure;
+use crate::told::{Finding, tell};
+use std::fs;
+use vault_device::FileDevice;
+use vault_inspector::{FileState, InspectError, Report, inspect, snapshot_length, why_of};
+use vault_store::{File, Head, OpenError, read_head};
+
+/// How often two files are read at most until two readings agree.
+const MOST_READINGS: u32 = 16;
+
+/// What two files hold, by one reading.
+#[derive(Drop)]
+pub(crate) struct Reading {
+    heads: (Head, Head),
+    pub(crate) report: Report,
+    /// How many bytes the active file's snapshot has.
+    pub(crate) snapshot: Option<u32>,
+}
+
+/// The files of a vault, opened for reading alone. They aren't locked, so that no server is kept from starting.
+#[derive(Drop)]
+struct Files {
+    first: FileDevice,
+    second: FileDevice,
+}
+
+/// Opens a file for reading alone.
+fn opened(rt: &HostRuntime, path: &str) -> Result<FileDevice, Failure> {
+    let file = fs::File::open(rt, path).or(Err(Failure::Device))?;
+    Ok(FileDevice::over(file))
+}
+
+impl Files {
+    /// How long the snapshot of the active file is.
+    fn snapshot(&mut self, report: &Report) -> Result<Option<u32>, InspectError> {
+        match (report.first, report.second) {
+            (FileState::Open { .. }, _) => Ok(snapshot_length(&mut self.first)?),
+            (_, FileState::Open { .. }) => Ok(snapshot_length(&mut self.second)?),
+            (_, _) => Ok(None),
+        }
+    }
+
+    /// Reads both files once, heads first.
+    fn read(&mut self, rt: &HostRuntime) -> Result<Reading, InspectError> {
+        let heads = (read_head(&mut self.first)?, read_head(&mut self.second)?);
+        let report = inspect(rt.alloc(), &mut self.first, &mut self.second)?;
+        match self.snapshot(&report) {
+            Ok(snapshot) => Ok(Reading {
+                heads,
+                report,
+                snapshot,
+            }),
+            Err(error) => {
+                drop(report);
+                Err(error)
+            }
+        }
+    }
+
+    /// Reads both files until two readings agree; None where they never did, since a server writes to them. The first of the two is
+    /// of one moment: while the heads stay, an active file is only added to, and what another holds isn't touched.
+    fn read_agreed(&mut self, rt: &HostRuntime) -> Result<Option<Reading>, InspectError> {
+        let mut last = self.read(rt)?;
+        for _ in 0..MOST_READINGS {
+            let next = match self.read(rt) {
+                Ok(next) => next,
+                Err(error) => {
+                    drop(last);
+                    return Err(error);
+                }
+            };
+            if agree(&last, &next) {
+                drop(next);
+                return Ok(Some(last));
+            }
+            last = next;
+        }
+        drop(last);
+        Ok(None)
+    }
+}
+
+/// Whether two readings one after the other show that the first is of one moment. Where no vault was found, all has to be the same.
+fn agree(one: &Reading, next: &Reading) -> bool {
+    let found = one.report.book.is_some() && next.report.book.is_some();
+    let same = one.report.first == next.report.first && one.report.second == next.report.second;
+    one.heads == next.heads && (found || same)
+}
+
+/// The file that an opening's failure is about, if it is about one.
+fn file_of(why: OpenError) -> Option<File> {
+    match why {
+        OpenError::Damaged { file, offset: _ } => Some(file),
+        OpenError::NoVault | OpenError::Device | OpenError::NoMemory => None,
+    }
+}
+
+/// Why no server starts over what was read, and the file that it is about.
+fn failure_of(reading: &Reading) -> (Option<Failure>, Option<File>) {
+    match why_of(reading.report.first, reading.report.second) {
+        Some(why) => (Some(Failure::from(why)), file_of(why)),
+        None => (None, None),
+    }
+}
+
+/// What was found, where the files weren't read.
+fn unread(failure: Failure, file: Option<File>) -> Finding {
+    Finding {
+        reading: None,
+        failure: Some(failure),
+        file,
+    }
+}
+
+/// What was found in two open files.
+fn found(rt: &HostRuntime, files: &mut Files) -> Finding {
+    match files.read_agreed(rt) {
+        Ok(Some(reading)) => {
+            let (failure, file) = failure_of(&reading);
+            Finding {
+                reading: Some(reading),
+                failure,
+                file,
+            }
+        }
+        Ok(None) => unread(Failure::InUse, None),
+        Err(error) => unread(Failure::from(error), None),
+    }
+}
+
+/// What is found in the files of these two paths.
+fn look(rt: &HostRuntime, first: &str, second: &str) -> Finding {
+    let first = match opened(rt, first) {
+        Ok(device) => device,
+        Err(failure) => return unread(failure, Some(File::First)),
+    };
+    match opened(rt, second) {
+        Ok(second) => found(rt, &mut Files { first, second }),
+        Err(failure) => {
+            drop(first);
+            unread(failure, Some(File::Second))
+        }
+    }
+}
+
+/// Says on standard output what the files of these two paths are, whether a server starts over them, and how full their vault is. Where
+/// none starts, the failure is why.
+pub fn check(rt: &HostRuntime, first: &str, second: &str, json: bool) -> Result<(), Failure> {
+    let finding = look(rt, first, second);
+    let told = tell(rt, &finding, (first, second), json);
+    let failure = finding.failure;
+    drop(finding);
+    told?;
+    failure.map_or(Ok(()), Err)
+}
