@@ -9,11 +9,13 @@ use Rattle.std.proofs.KnownBytes.{Appends-trans, Appends-nil, Consumes-nil}
 use Rattle.vault_lines.specs.Limits.{longest_line}
 use Rattle.vault_lines.specs.Grammar.{command_of}
 use Rattle.vault_model.specs.Said.{Command}
+use Rattle.vault_model.specs.declared.commands.Command.TheVariants.{Await}
+use Rattle.vault_sessions.specs.declared.waits.Kept.{Kept}
 use Rattle.group_commit.specs.Ticket.{TicketSeen, Told as ToldSeen}
 use Rattle.line_inlet.specs.Inflow.{Inflow}
 use Rattle.line_inlet.specs.Incoming.{most_bytes, IsOneLine, KeepsLine, CutsLine}
 use Rattle.vault_sessions.specs.Serving.{Fits, FitsCommand, HeardSoFar, HeardAll, EndsBy, IsOf, SpeaksFor, session_of, session_after, text_of, texts_of, IsLeft, NoneLeft, CountsOne, CountsWith, lost_by, most_lines}
-use Rattle.vault_sessions.specs.Talking.{HeardPart, IsBetween, TellsLast, Stands, TellsOn, IsAnswered, IsReaders, IsHeard, FitsLine}
+use Rattle.vault_sessions.specs.Talking.{HeardCommand, HeardPart, IsBetween, TellsLast, Stands, TellsOn, IsAnswered, IsReaders, IsHeard, FitsLine}
 use Rattle.vault_model.specs.declared.replies.Outside.{Outside}
 use Rattle.vault_model.specs.declared.replies.Outside.TheVariants as outsides
 use Rattle.vault_sessions.specs.declared.report.Out.{Out}
@@ -23,7 +25,7 @@ use Rattle.vault_sessions.specs.declared.report.Ended.TheVariants as ends
 use Rattle.vault_sessions.specs.declared.tally.Totals.{Totals}
 use Rattle.vault_sessions.specs.declared.turn.Telling.{Telling}
 use Rattle.vault_sessions.specs.declared.turn.Turn.{Turn}
-use Rattle.vault_sessions.specs.declared.turn.Turn.TheVariants.{Hear, Wait, Tell, Over}
+use Rattle.vault_sessions.specs.declared.turn.Turn.TheVariants.{Hear, Keep, Wait, Tell, Over}
 use Rattle.vault_sessions.specs.declared.worker.Heard.{Heard}
 use Rattle.vault_sessions.specs.declared.worker.Heard.TheVariants as lines
 use Rattle.vault_sessions.proofs.Heard.{hears_nothing, hears_line, hears_more, hears_rest, hears_end}
@@ -107,6 +109,13 @@ pub whole_line : {A : Type 0} (start mid new : Option (List ℕ)) (before next :
 whole_line start mid new before next outs more line (lines.Asked ticket) kept is_long fits short so_far consumes cut between = (
   (
     λ out fitting. hears_line start mid new before next outs more line out so_far consumes cut (fits_line line ticket.command out short fits fitting),
+    hears_rest start mid new before outs more ends.NoMemory so_far consumes (λ given size. tt),
+  ),
+  between,
+)
+whole_line start mid new before next outs more line (lines.Kept wait) kept is_long fits short so_far consumes cut between = (
+  (
+    λ out fitting. hears_line start mid new before next outs more line out so_far consumes cut (fits_line line (Await wait.claim) out short fits fitting),
     hears_rest start mid new before outs more ends.NoMemory so_far consumes (λ given size. tt),
   ),
   between,
@@ -227,6 +236,7 @@ told_on telling (Over ends.EndOfInput) r0 r w0 w1 w2 s0 inflow kept is_long outs
 told_on telling (Over ends.Read) r0 r w0 w1 w2 s0 inflow kept is_long outs session share told h = absurd told
 told_on telling (Over ends.Limit) r0 r w0 w1 w2 s0 inflow kept is_long outs session share told h = absurd told
 told_on telling (Over ends.NoMemory) r0 r w0 w1 w2 s0 inflow kept is_long outs session share told h = absurd told
+told_on telling (Keep kept_wait) r0 r w0 w1 w2 s0 inflow kept is_long outs session share told h = absurd told
 told_on telling (Wait ticket) r0 r w0 w1 w2 s0 inflow kept is_long outs session share told h = absurd told
 
 -- a telling that stops may be given up
@@ -269,6 +279,7 @@ answers out (Over ended) r0 r w0 w s0 inflow kept is_long outs session share ans
     } in
     subst P (sym answered) here
 answers out Hear r0 r w0 w s0 inflow kept is_long outs session share answered heard between few spoken of_session session_is written none counted = absurd answered
+answers out (Keep kept_wait) r0 r w0 w s0 inflow kept is_long outs session share answered heard between few spoken of_session session_is written none counted = absurd answered
 answers out (Wait ticket) r0 r w0 w s0 inflow kept is_long outs session share answered heard between few spoken of_session session_is written none counted = absurd answered
 
 -- a conversation that would hear a line ends, and all its answers are written
@@ -351,4 +362,72 @@ starts A r w share = record {
   asked = tt;
   written = (Appends-nil w, tt);
   counted = record { told = omega arith; least = omega arith; most = omega arith };
+}
+
+-- a kept `wait` is kept on
+pub keeps_on : {A : Type 0} (wait next : Kept) (r0 r w0 w : Option (List ℕ)) (s0 : Totals) (inflow : Inflow) (kept : List ℕ) (is_long : Bool)
+    (outs : List (Out A)) (session : ℕ) (share : Totals) → next.claim ≡ wait.claim
+    → Stands {A = A} (Keep wait) r0 r w0 w s0 inflow kept is_long outs session share → Stands {A = A} (Keep next) r0 r w0 w s0 inflow kept is_long outs session share
+keeps_on {A} wait next r0 r w0 w s0 inflow kept is_long outs session share same h = record {
+  heard = (subst (λ c. HeardCommand {A = A} (Await c) r0 r inflow outs) (sym same) h.heard.0, h.heard.1);
+  few = h.few;
+  spoken = h.spoken;
+  session_is = h.session_is;
+  asked = tt;
+  written = h.written;
+  counted = h.counted;
+}
+
+-- it is staged
+pub stages_kept : {A : Type 0} (wait : Kept) (ticket : TicketSeen) (r0 r w0 w : Option (List ℕ)) (s0 : Totals) (inflow : Inflow) (kept : List ℕ)
+    (is_long : Bool) (outs : List (Out A)) (session : ℕ) (share staged : Totals)
+    → ticket.session ≡ session → ticket.command ≡ Await wait.claim → staged ≡ record share { staged = share.staged + 1 }
+    → Stands {A = A} (Keep wait) r0 r w0 w s0 inflow kept is_long outs session share → Stands {A = A} (Wait ticket) r0 r w0 w s0 inflow kept is_long outs session staged
+stages_kept {A} wait ticket r0 r w0 w s0 inflow kept is_long outs session share staged of_session of_command one h = record {
+  heard = (subst (λ c. HeardCommand {A = A} c r0 r inflow outs) (sym of_command) h.heard.0, h.heard.1);
+  few = h.few;
+  spoken = h.spoken;
+  session_is = h.session_is;
+  asked = of_session;
+  written = h.written;
+  counted = (share, h.counted, one);
+}
+
+-- its answer is to be told, where it isn't staged
+pub refuses_kept : {A : Type 0} (wait : Kept) (outside : Outside) (turn : Turn A) (r0 r w0 w : Option (List ℕ)) (s0 : Totals) (inflow : Inflow)
+    (kept : List ℕ) (is_long : Bool) (outs : List (Out A)) (session after : ℕ) (share : Totals) → outside ≢ outsides.BadLine
+    → after ≡ session_after {A = A} session (Refused outside) → IsAnswered (Refused outside) turn
+    → Stands {A = A} (Keep wait) r0 r w0 w s0 inflow kept is_long outs session share
+    → Stands turn r0 r w0 w s0 inflow kept is_long (outs ++ Refused outside ∷ []) after share
+refuses_kept {A} wait outside turn r0 r w0 w s0 inflow kept is_long outs session after share fits after_is answered h =
+    answers (Refused outside) turn r0 r w0 w s0 inflow kept is_long outs after share answered (h.heard.0.0 (Refused outside) fits) h.heard.1
+    (omega (arith, h.few)) h.spoken tt (after_is ∙ h.session_is) h.written.0 h.written.1
+    (counts_more s0 share share outs (Refused outside) h.counted (counts_refused A outside share))
+
+-- it is lost where memory is refused
+pub wants_kept : {A : Type 0} (wait : Kept) (r0 r w0 w : Option (List ℕ)) (s0 : Totals) (inflow : Inflow) (kept : List ℕ) (is_long : Bool)
+    (outs : List (Out A)) (session : ℕ) (share : Totals)
+    → Stands {A = A} (Keep wait) r0 r w0 w s0 inflow kept is_long outs session share → Stands {A = A} (Over ends.NoMemory) r0 r w0 w s0 inflow kept is_long outs session share
+wants_kept wait r0 r w0 w s0 inflow kept is_long outs session share h = record {
+  heard = h.heard.0.1;
+  few = omega (arith, h.few);
+  spoken = h.spoken;
+  session_is = h.session_is;
+  asked = tt;
+  written = (inl (h.written.0, not_ended_left outs h.written.1), tt);
+  counted = counts_lost s0 share outs 1 h.counted;
+}
+
+-- and where the conversation ends while it is kept
+pub drops_kept : {A : Type 0} (wait : Kept) (r0 r w0 w : Option (List ℕ)) (s0 : Totals) (inflow : Inflow) (kept : List ℕ) (is_long : Bool)
+    (outs : List (Out A)) (session : ℕ) (share : Totals)
+    → Stands {A = A} (Keep wait) r0 r w0 w s0 inflow kept is_long outs session share → Stands {A = A} (Over ends.Read) r0 r w0 w s0 inflow kept is_long outs session share
+drops_kept wait r0 r w0 w s0 inflow kept is_long outs session share h = record {
+  heard = h.heard.0.1;
+  few = omega (arith, h.few);
+  spoken = h.spoken;
+  session_is = h.session_is;
+  asked = tt;
+  written = (h.written.0, not_ended_left outs h.written.1);
+  counted = h.counted;
 }

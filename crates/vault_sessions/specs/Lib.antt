@@ -7,3 +7,4 @@ pub mod AtTalk
 pub mod Answered
 pub mod Logs
 pub mod Dialogues
+pub mod Waiting

@@ -2,6 +2,8 @@
 use Rattle.std.specs.Prelude.{◌≡◌, ℕ, ◌+◌, ◌≤◌, ◌<◌, Bool, true, false, List, [], ◌∷◌, ◌++◌, length, take, drop, Option, MatchBool}
 use Rattle.std.specs.Io.KnownBytes.{Appends}
 use Rattle.vault_lines.specs.Grammar.{command_of}
+use Rattle.vault_model.specs.Said.{Command}
+use Rattle.vault_model.specs.declared.commands.Command.TheVariants as commands
 use Rattle.group_commit.specs.Ticket.{TicketSeen}
 use Rattle.line_inlet.specs.Inflow.{Inflow}
 use Rattle.line_inlet.specs.Incoming.{most_bytes, IsOneLine, KeepsLine}
@@ -15,7 +17,7 @@ use Rattle.vault_sessions.specs.declared.tally.Totals.{Totals}
 use Rattle.vault_sessions.specs.declared.conversation.Conversation.{Conversation}
 use Rattle.vault_sessions.specs.declared.turn.Telling.{Telling}
 use Rattle.vault_sessions.specs.declared.turn.Turn.{Turn}
-use Rattle.vault_sessions.specs.declared.turn.Turn.TheVariants.{Hear, Wait, Tell, Over}
+use Rattle.vault_sessions.specs.declared.turn.Turn.TheVariants.{Hear, Keep, Wait, Tell, Over}
 use Rattle.vault_sessions.specs.declared.worker.Heard.{Heard}
 use Rattle.vault_sessions.specs.declared.worker.Heard.TheVariants as heard
 
@@ -29,14 +31,19 @@ HeardPart old new inflow kept is_long outs =
 abbrev pub IsBetween : List ℕ → Bool → Type 0
 IsBetween kept is_long = (kept ≡ []) × (is_long ≡ false)
 
--- a line more was heard, whose answer is one that fits the ticket's command, or none where its reply is refused memory
+-- a line more was heard, whose answer is one that fits this command, or none where the conversation ends before
+abbrev pub HeardCommand : {A : Type 0} → Command → Option (List ℕ) → Option (List ℕ) → Inflow → List (Out A) → Type 0
+HeardCommand {A} command old new inflow outs =
+    ((out : Out A) → FitsCommand command out → HeardSoFar old new inflow (outs ++ out ∷ [])) × HeardAll old new outs ends.NoMemory
+
+-- the command is the ticket's
 abbrev pub HeardAsked : {A : Type 0} → TicketSeen → Option (List ℕ) → Option (List ℕ) → Inflow → List (Out A) → Type 0
-HeardAsked {A} ticket old new inflow outs =
-    ((out : Out A) → FitsCommand ticket.command out → HeardSoFar old new inflow (outs ++ out ∷ [])) × HeardAll old new outs ends.NoMemory
+HeardAsked ticket old new inflow outs = HeardCommand ticket.command old new inflow outs
 
 -- what was heard, where these answers are kept: the one that is told next among them, and not the one that is waited for
 abbrev pub HearsBy : {A : Type 0} → Turn A → Option (List ℕ) → Option (List ℕ) → Inflow → List ℕ → Bool → List (Out A) → Type 0
 HearsBy Hear old new inflow kept is_long outs = HeardPart old new inflow kept is_long outs
+HearsBy (Keep kept_wait) old new inflow kept is_long outs = HeardCommand (commands.Await kept_wait.claim) old new inflow outs × IsBetween kept is_long
 HearsBy (Wait ticket) old new inflow kept is_long outs = HeardAsked ticket old new inflow outs × IsBetween kept is_long
 HearsBy (Tell telling) old new inflow kept is_long outs = HeardSoFar old new inflow outs × IsBetween kept is_long
 HearsBy (Over ended) old new inflow kept is_long outs = HeardAll old new outs ended
@@ -50,6 +57,7 @@ TellsLast {A} old new outs telling =
 -- what was written
 abbrev pub WritesBy : {A : Type 0} → Turn A → Option (List ℕ) → Option (List ℕ) → List (Out A) → Type 0
 WritesBy Hear old new outs = Appends old new (texts_of outs) × NoneLeft outs
+WritesBy (Keep kept) old new outs = Appends old new (texts_of outs) × NoneLeft outs
 WritesBy (Wait ticket) old new outs = Appends old new (texts_of outs) × NoneLeft outs
 WritesBy (Tell telling) old new outs = TellsLast old new outs telling
 WritesBy (Over ended) old new outs = WritesAll ended old new outs × QuitsBy ended outs
@@ -57,6 +65,7 @@ WritesBy (Over ended) old new outs = WritesAll ended old new outs × QuitsBy end
 -- what was counted: the command that is waited for is staged, and not told yet
 abbrev pub CountsBy : {A : Type 0} → Turn A → Totals → List (Out A) → Totals → Type 0
 CountsBy Hear old outs new = CountsWith old outs 0 new
+CountsBy (Keep kept) old outs new = CountsWith old outs 0 new
 CountsBy (Wait ticket) old outs new = (before : Totals) × CountsWith old outs 0 before × (new ≡ record before { staged = before.staged + 1 })
 CountsBy (Tell telling) old outs new = CountsWith old outs 0 new
 CountsBy (Over ended) old outs new = CountsWith old outs (lost_by ended) new
@@ -68,6 +77,7 @@ AsksAs turn session = Unit {0}
 
 -- one where an answer is waited for
 abbrev pub waits_for : {A : Type 0} → Turn A → ℕ
+waits_for (Keep kept) = 1
 waits_for (Wait ticket) = 1
 waits_for turn = 0
 
@@ -102,6 +112,7 @@ IsReaders ends.NoMemory = ⊥
 abbrev pub IsHeard : {A : Type 0} → Heard A → Option (List ℕ) → Option (List ℕ) → Inflow → List ℕ → Bool → List (Out A) → Type 0
 IsHeard (heard.Asked ticket) old new inflow kept is_long outs = HeardAsked ticket old new inflow outs × IsBetween kept is_long
 IsHeard (heard.Refused outside) old new inflow kept is_long outs = HeardSoFar old new inflow (outs ++ Refused outside ∷ []) × IsBetween kept is_long
+IsHeard (heard.Kept kept_wait) old new inflow kept is_long outs = HeardCommand (commands.Await kept_wait.claim) old new inflow outs × IsBetween kept is_long
 IsHeard heard.NotYet old new inflow kept is_long outs = HeardPart old new inflow kept is_long outs
 IsHeard (heard.Ended ended) old new inflow kept is_long outs = HeardAll old new outs ended × IsReaders ended
 
@@ -109,6 +120,7 @@ IsHeard (heard.Ended ended) old new inflow kept is_long outs = HeardAll old new 
 abbrev pub StagesBy : {A : Type 0} → Heard A → ℕ → Totals → Totals → Type 0
 StagesBy (heard.Asked ticket) session old new = (ticket.session ≡ session) × (new ≡ record old { staged = old.staged + 1 })
 StagesBy (heard.Refused outside) session old new = new ≡ old
+StagesBy (heard.Kept kept) session old new = new ≡ old
 StagesBy heard.NotYet session old new = new ≡ old
 StagesBy (heard.Ended ended) session old new = new ≡ old
 
@@ -116,6 +128,7 @@ StagesBy (heard.Ended ended) session old new = new ≡ old
 abbrev pub FitsLine : {A : Type 0} → List ℕ → Heard A → Type 0
 FitsLine line (heard.Asked ticket) = command_of line ≡ Option.Some ticket.command
 FitsLine {A} line (heard.Refused outside) = Fits {A = A} line (Refused outside)
+FitsLine line (heard.Kept kept) = command_of line ≡ Option.Some (commands.Await kept.claim)
 FitsLine line heard.NotYet = ⊥
 FitsLine line (heard.Ended ended) = ⊥
 
@@ -136,4 +149,5 @@ abbrev pub IsAnswered : {A : Type 0} → Out A → Turn A → Type 0
 IsAnswered out (Tell telling) = (telling.text.items ≡ text_of out) × (telling.written ≡ 0) × MatchBool telling.is_left (IsLeft out) (IsLeft out → ⊥)
 IsAnswered out (Over ended) = ended ≡ ends.NoMemory
 IsAnswered out Hear = ⊥
+IsAnswered out (Keep kept) = ⊥
 IsAnswered out (Wait ticket) = ⊥

@@ -1,5 +1,5 @@
 //! What lies under the lock.
-ghost use Rattle.std.specs.Prelude.{◌≡◌, ◌≢◌, ◌+◌, ◌≤◌, ◌↔◌, IsTrue, IfOk, IfErr, OnOk, OnErr, Ok, Some, true, false};
+ghost use Rattle.std.specs.Prelude.{◌≡◌, ◌≢◌, ◌+◌, ◌≤◌, ◌↔◌, IsTrue, IfOk, IfErr, IfSome, OnOk, OnErr, Ok, Some, true, false};
 ghost use Rattle.group_commit.specs.History.{entry_of};
 ghost use Rattle.vault_model.specs.declared.replies.Outside.TheVariants.{BadLine};
 ghost use Rattle.vault_store.specs.declared.starting.Started.TheVariants as Started;
@@ -12,10 +12,12 @@ ghost use Rattle.group_commit.specs.Calls.{IsReason, IsRedeemed, IsForgotten, Is
 ghost use Rattle.group_commit.specs.Pasts.{IsNext};
 ghost use Rattle.vault_sessions.specs.Tallies.{IsOfTicket, CountsRedeem};
 ghost use Rattle.vault_sessions.specs.Pumping.{IsPumped, IsAtRest};
+ghost use Rattle.vault_sessions.specs.Waiting.{IsQueued, IsStandingQueued};
 ghost use Rattle.vault_sessions.specs.declared.flusher.Flushed.TheVariants as Flushed;
 
 use crate::flusher::Flushed;
 use crate::tally::{Share, Tally};
+use crate::waits::{Kept, Waits, may_move};
 use flusher_pace::{Commit, Gathering, Pace};
 use group_commit::{Forgotten, Phase, Pumped, Redeemed, Retired, Started, Ticket, Vault};
 use std::alloc::{Allocator, Global};
@@ -23,7 +25,7 @@ use std::marker::Model;
 use std::sync::ledger::Book as LedgerBook;
 use std::time::{Clock, Duration};
 use vault_device::{Device, Fault};
-use vault_model::{CommandIn, NoMemory, Outside};
+use vault_model::{ClaimId, CommandIn, NoMemory, Outside, Standing};
 
 /// When a thread is to commit that does so in between.
 #[derive(Debug, Clone, Copy, PartialEq, Eq)]
@@ -54,6 +56,8 @@ pub struct Desk<D: Device, S: Tally, T: Tally, A: Allocator = Global> {
     pub(crate) pace: Pace,
     /// The last commit of threads that commit in between. Contracts don't see it.
     pub(crate) last: Commit,
+    /// Who waits for a claim. Contracts don't see it.
+    pub(crate) waits: Waits,
 }
 
 impl<D: Device, S: Tally, T: Tally, A: Allocator> Model for Desk<D, S, T, A> {
@@ -206,14 +210,69 @@ impl<D: Device, S: Tally, T: Tally, A: Allocator + Copy> Desk<D, S, T, A> {
             (λ ticket. (ticket.session ≡ session) × (ticket.command ≡ command)
             × (share.new ≡ record share.old { staged = share.old.staged + 1 })) }
         ensures err { IfErr result (λ outside. (outside ≢ BadLine) × (share.new ≡ share.old)) }
+        ensures reason { IfErr result (λ outside. IsReason self.old.vault outside) }
     {
+        let moves = may_move(&command);
         match self.stage(session, command, share) {
-            Ok(ticket) => Ok(ticket),
+            Ok(ticket) => {
+                if moves {
+                    self.waits.moved();
+                }
+                Ok(ticket)
+            }
             Err((outside, command)) => {
                 drop(command);
                 Err(outside)
             }
         }
+    }
+
+    // Whether a claim waits for others in the line.
+    fn is_queued(&self, claim: ClaimId) -> bool
+        ensures { IsTrue result ↔ IsQueued self.now.vault.view claim }
+    {
+        is_queued(self.vault.standing(claim))
+    }
+
+    // Keeps the `wait` of a session for a claim that is queued, where the vault isn't broken, and fewer than so many wait.
+    pub(crate) fn keep(&mut self, session: u32, claim: ClaimId, most: usize) -> Option<Kept>
+        ensures same { self.new ≡ self.old }
+        ensures kept { IfSome result (λ kept. (kept.claim ≡ claim) × (session ≢ 0) × (self.old.vault.view.broken ≡ false)
+            × IsQueued self.old.vault.view claim) }
+    {
+        let may_wait = session != 0 && !self.vault.is_broken();
+        if may_wait && self.waits.count < most && self.is_queued(claim) {
+            self.waits.enter();
+            return Some(Kept {
+                claim,
+                moves: self.waits.moves,
+                is_let_go: false,
+            });
+        }
+        None
+    }
+
+    // Whether a kept `wait` is to be staged: it was let go, or its claim isn't queued any more, or the vault is broken. Then one waits less.
+    // The line is looked at where it may have moved since then.
+    pub(crate) fn lets_go(&mut self, kept: &mut Kept) -> bool
+        ensures same { self.new ≡ self.old }
+        ensures claim { kept.new.claim ≡ kept.old.claim }
+    {
+        let moves = self.waits.moves;
+        let is_kept = !kept.is_let_go
+            && (kept.moves == moves || !self.vault.is_broken() && self.is_queued(kept.claim));
+        kept.moves = moves;
+        if !is_kept {
+            self.waits.leave();
+        }
+        !is_kept
+    }
+
+    // One that waits for a claim waits no longer.
+    pub(crate) fn stops_waiting(&mut self)
+        ensures { self.new ≡ self.old }
+    {
+        self.waits.leave();
     }
 
     // How many entries aren't settled.
@@ -305,6 +364,9 @@ impl<D: Device, S: Tally, T: Tally, A: Allocator + Copy> Desk<D, S, T, A> {
         let waiting = self.waiting();
         let pumped = self.pump();
         self.pace.pumped(waiting, pumped);
+        if pumped.is_err() {
+            self.waits.moved();
+        }
         pumped
     }
 
@@ -342,4 +404,11 @@ impl<D: Device, S: Tally, T: Tally, A: Allocator + Copy> Desk<D, S, T, A> {
     {
         self.vault.durable() == self.vault.len() && self.vault.phase() == Phase::Idle
     }
+}
+
+// Whether one that stands so waits for others.
+fn is_queued(standing: Option<Standing>) -> bool
+    ensures { IsTrue result ↔ IsStandingQueued standing }
+{
+    matches!(standing, Some(Standing::Queued(_)))
 }

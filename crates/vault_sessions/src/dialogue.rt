@@ -17,6 +17,7 @@ use crate::gate::Gate;
 use crate::report::{Ended, Finished};
 use crate::tally::{Share, Tally};
 use crate::turn::{Next, Telling, Turn, tell};
+use crate::waits::Kept;
 use crate::worker::Worker;
 use group_commit::Ticket;
 use std::alloc::Allocator;
@@ -25,13 +26,14 @@ use std::mem;
 use std::snapshot::Snapshot;
 use std::sync::Wait;
 use vault_device::Device;
+use vault_model::Outside;
 
 /// What a step came to.
 #[derive(Debug, Clone, Copy, PartialEq, Eq)]
 pub enum Step {
     /// It was taken, and there may be a next one.
     Went,
-    /// A reply isn't known yet, or there is no room for a last leave.
+    /// A reply isn't known yet, a claim is still queued, or there is no room for a last leave.
     Waits,
     /// There is no whole line for now.
     Dry,
@@ -46,6 +48,8 @@ pub enum Step {
 pub enum Awaits {
     /// To hear a line.
     Line,
+    /// To stage a `wait` that is kept, once its claim isn't queued any more.
+    Claim,
     /// To look for the reply to a command.
     Reply,
     /// To tell an answer.
@@ -171,6 +175,15 @@ impl<C: Connection, S: Tally, T: Tally, A: Allocator + Copy> Dialogue<C, S, T, A
         put_back(&mut self.next, next);
     }
 
+    /// Stages its `wait` by the next step, however the claim stands, where it keeps one.
+    pub fn let_go(&mut self)
+        ensures { self.new ≡ self.old }
+    {
+        let next = mem::replace(&mut self.next, Next::Open);
+        let next = let_go(next);
+        put_back(&mut self.next, next);
+    }
+
     /// There is news of its connection, and whether its client sends no more than what is there.
     pub fn wake(&mut self, is_ending: bool)
         ensures { self.new ≡ self.old }
@@ -207,6 +220,7 @@ impl<C: Connection, S: Tally, T: Tally, A: Allocator + Copy> Dialogue<C, S, T, A
     {
         match &self.next {
             Next::Takes(Turn::Hear) => Awaits::Line,
+            Next::Takes(Turn::Keep(_)) => Awaits::Claim,
             Next::Takes(Turn::Wait(_)) => Awaits::Reply,
             Next::Takes(Turn::Tell(_)) => Awaits::Telling,
             Next::Takes(Turn::Over(_)) | Next::GivenUp(_) => Awaits::Leave,
@@ -284,6 +298,7 @@ fn advance<D: Device, S: Tally, T: Tally, A: Allocator + Copy, G: Gate, H: Wait,
 {
     match next {
         Next::Takes(Turn::Hear) => hear(worker, talk, connection),
+        Next::Takes(Turn::Keep(kept)) => stage_kept(worker, waits, talk, kept),
         Next::Takes(Turn::Wait(ticket)) => settle(worker, waits, talk, ticket),
         Next::Takes(Turn::Tell(telling)) => tell_on(connection, telling),
         Next::Takes(Turn::Over(ended)) => leave(worker, waits, talk, ended, false),
@@ -307,6 +322,25 @@ fn hear<D: Device, S: Tally, T: Tally, A: Allocator + Copy, G: Gate, H: Wait, C:
 {
     match worker.hear(talk, connection) {
         Turn::Hear => (Next::Takes(Turn::Hear), Step::Dry),
+        turn => (Next::Takes(turn), Step::Went),
+    }
+}
+
+// Stages a kept `wait`, once it is to be.
+fn stage_kept<D: Device, S: Tally, T: Tally, A: Allocator + Copy, G: Gate, H: Wait>(
+    worker: &Worker<'_, D, S, T, A, G, H>,
+    waits: bool,
+    talk: &mut Conversation<S, T, A>,
+    kept: Kept,
+) -> (Next<A>, Step)
+    ensures stands { (reader_old reader_new writer_old writer_new : Option (List ℕ)) (counts : Totals)
+        → StandsAt (turns.Keep kept) reader_old reader_new writer_old writer_new counts talk.old
+        → TalksOn result.0 reader_old reader_new writer_old writer_new counts talk.new }
+    ensures kept { talk.new.answers.is_kept ≡ talk.old.answers.is_kept }
+    ensures over { (result.1 ≡ steps.Over) ↔ (is_done result.0 ≡ true) }
+{
+    match worker.stage_kept(talk, kept, waits) {
+        Turn::Keep(kept) => (Next::Takes(Turn::Keep(kept)), Step::Waits),
         turn => (Next::Takes(turn), Step::Went),
     }
 }
@@ -367,14 +401,14 @@ fn leave<D: Device, S: Tally, T: Tally, A: Allocator + Copy, G: Gate, H: Wait>(
         worker.leave(&talk.answers, talk.session, &mut talk.share);
         return (Next::Done(ended), Step::Over);
     }
-    if worker.try_leave(&talk.answers, talk.session, &mut talk.share) {
-        return (Next::Done(ended), Step::Over);
+    let left = worker.try_leave(&talk.answers, talk.session, &mut talk.share);
+    if let Err(Outside::Busy) = left {
+        if is_given_up {
+            return (Next::GivenUp(ended), Step::Waits);
+        }
+        return (Next::Takes(Turn::Over(ended)), Step::Waits);
     }
-    if is_given_up {
-        (Next::GivenUp(ended), Step::Waits)
-    } else {
-        (Next::Takes(Turn::Over(ended)), Step::Waits)
-    }
+    (Next::Done(ended), Step::Over)
 }
 
 // How a conversation ends that is given up at this turn.
@@ -389,6 +423,10 @@ fn end_turn<D: Device, S: Tally, T: Tally, A: Allocator + Copy, G: Gate, H: Wait
 {
     match turn {
         Turn::Hear => Ended::Read,
+        Turn::Keep(_) => {
+            worker.stops_waiting();
+            Ended::Read
+        }
         Turn::Wait(ticket) => {
             worker.forget(ticket);
             Ended::NoMemory
@@ -412,6 +450,23 @@ fn end_telling<A: Allocator>(telling: &Telling<A>) -> Ended
         return Ended::Quit;
     }
     Ended::Read
+}
+
+// What comes next where a `wait` that it keeps is let go.
+fn let_go<A: Allocator>(next: Next<A>) -> Next<A>
+    ensures stands { (reader_old reader_new writer_old writer_new : Option (List ℕ)) (counts : Totals) (inflow : Inflow) (kept : List ℕ) (is_long : Bool)
+        (outs : List (Out A)) (session : ℕ) (share : Totals)
+        → StandsIn next reader_old reader_new writer_old writer_new counts inflow kept is_long outs session share
+        → StandsIn result reader_old reader_new writer_old writer_new counts inflow kept is_long outs session share }
+    ensures same { (has_ended result ≡ has_ended next) × (is_done result ≡ is_done next) }
+{
+    match next {
+        Next::Takes(Turn::Keep(kept)) => Next::Takes(Turn::Keep(Kept {
+            is_let_go: true,
+            ..kept
+        })),
+        next => next,
+    }
 }
 
 // What comes next where it is given up.

@@ -5,6 +5,8 @@
 pub enum Point {
     /// A worker is about to read a line.
     Read(u32),
+    /// A worker keeps a `wait`, and stages it later.
+    Kept(u32),
     /// A worker staged a command.
     Staged(u32),
     /// A worker has the receipt, and hasn't written its text yet.

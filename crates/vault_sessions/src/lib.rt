@@ -21,8 +21,8 @@
 //!
 //! Only tested: two sessions share a frame; a second one is answered while the first waits; the flusher waits for a client
 //! that comes back, goes on without one that doesn't, and stays until it is closed; it begins a snapshot where one is wanted,
-//! and, refused its memory, commits and begins it then; one pump a holding; each request of `Shared::new` and `serve_one` for
-//! memory, refused.
+//! and, refused its memory, commits and begins it then; one pump a holding; that a `wait` is staged once its claim is held or
+//! gone; each request of `Shared::new` and `serve_one` for memory, refused.
 //! Neither: that anybody is served or woken; fairness, time; whom a name belongs to.
 //! Start at: desk.rt (what is done under the lock), worker.rt (what a step does), dialogue.rt (its steps), serve.rt (one connection), flusher.rt
 //! (when, by `flusher_pace`).
@@ -40,6 +40,7 @@ mod serve;
 mod shared;
 mod tally;
 mod turn;
+mod waits;
 mod worker;
 
 pub use answers::Answers;

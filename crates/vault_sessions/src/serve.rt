@@ -47,6 +47,7 @@ pub fn serve_one<
         alloc,
         shared,
         gate,
+        most_waits: 0,
     };
     let ear = Ear { reader };
     let (ear, report) = serve_heard(&worker, connection, ear, writer, share);

@@ -4,6 +4,7 @@ ghost use Rattle.group_commit.specs.View.{length_of};
 
 use crate::desk::Desk;
 use crate::tally::{Share, Tally, Totals};
+use crate::waits::Waits;
 use flusher_pace::{Commit, Pace};
 use group_commit::Vault;
 use std::alloc::{AllocError, Allocator, Global};
@@ -80,6 +81,7 @@ impl<D: Device, S: Tally, T: Tally, A: Allocator + Copy> Shared<D, S, T, A> {
             closed: false,
             pace: Pace::new(),
             last: Commit::none(),
+            waits: Waits::new(),
         };
         let shared = Shared {
             desk: Mutex::new(desk),
@@ -167,6 +169,7 @@ fn merge<D: Device, S: Tally, T: Tally, A: Allocator + Copy>(
         closed: _,
         pace: _,
         last: _,
+        waits: _,
     } = desk;
     let _length = vault.len();
     let _told = vault.told();

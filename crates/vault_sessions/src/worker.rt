@@ -1,5 +1,5 @@
 //! The steps of a conversation: it hears a line, waits for the reply, and tells it.
-ghost use Rattle.std.specs.Prelude.{◌≡◌, ◌≢◌, ◌+◌, ◌≤◌, ◌<◌, ℕ, List, Option, false, [], ◌∷◌, ◌++◌, MatchOption, IfOk, IfErr, IfSome, length, true};
+ghost use Rattle.std.specs.Prelude.{◌≡◌, ◌≢◌, ◌+◌, ◌≤◌, ◌<◌, ℕ, List, Option, false, [], ◌∷◌, ◌++◌, IfOk, IfErr, OnOk, OnErr, IfSome, length, true};
 ghost use Rattle.vault_lines.specs.Limits.{longest_line};
 ghost use Rattle.vault_sessions.specs.Serving.{Counts, session_of, session_after as session_after_out};
 ghost use Rattle.vault_sessions.specs.Tallies.{IsOfTicket, CountsRedeem};
@@ -7,8 +7,8 @@ ghost use Rattle.vault_sessions.specs.Talking.{HeardPart, IsHeard, StagesBy, Fit
 ghost use Rattle.vault_sessions.specs.declared.report.Out.{Out};
 ghost use Rattle.vault_sessions.specs.declared.tally.Totals.{Totals};
 ghost use Rattle.vault_sessions.specs.declared.turn.Turn.TheVariants as turns;
-ghost use Rattle.vault_model.specs.declared.replies.Outside.TheVariants.{BadLine};
-ghost use Rattle.vault_model.specs.declared.commands.Command.TheVariants.{Leave};
+ghost use Rattle.vault_model.specs.declared.replies.Outside.TheVariants.{BadLine, Busy};
+ghost use Rattle.vault_model.specs.declared.commands.Command.TheVariants.{Await, Leave};
 
 use crate::answers::Answers;
 use crate::connection::Connection;
@@ -18,6 +18,7 @@ use crate::report::{Ended, Out};
 use crate::shared::Shared;
 use crate::tally::{Share, Tally};
 use crate::turn::{Telling, Turn, is_left, session_after, text_of_out};
+use crate::waits::Kept;
 use flusher_pace::may_change;
 use group_commit::{Redeemed, Ticket};
 use line_inlet::{NextByte, NextLine};
@@ -41,12 +42,16 @@ pub struct Worker<'a, D: Device, S: Tally, T: Tally, A: Allocator, G: Gate, H: W
     pub shared: &'a Shared<D, S, T, A>,
     /// What is called at each of its points.
     pub gate: &'a G,
+    /// How many conversations may wait for a claim at once.
+    pub most_waits: usize,
 }
 
 // How a line came.
 enum Heard<A: Allocator> {
     // Its command is staged.
     Asked(Ticket<A>),
+    // Its `wait` is kept.
+    Kept(Kept),
     Refused(Outside),
     // It isn't whole, and more may come.
     NotYet,
@@ -91,6 +96,10 @@ impl<D: Device, S: Tally, T: Tally, A: Allocator + Copy, G: Gate, H: Wait> Worke
             Heard::Asked(ticket) => {
                 self.gate.at(Point::Staged(talk.connection));
                 Turn::Wait(ticket)
+            }
+            Heard::Kept(kept) => {
+                self.gate.at(Point::Kept(talk.connection));
+                Turn::Keep(kept)
             }
             Heard::Refused(outside) => self.answer(talk, Out::Refused(outside)),
             Heard::NotYet => Turn::Hear,
@@ -155,7 +164,7 @@ impl<D: Device, S: Tally, T: Tally, A: Allocator + Copy, G: Gate, H: Wait> Worke
         }
     }
 
-    // Stages the command that a line spells.
+    // Stages the command that a line spells, or keeps it where it is a `wait` that may be kept.
     fn ask(&self, session: u32, line: &[u8], share: &mut Share<S, T>) -> Heard<A>
         ensures fits { length line.now ≤ longest_line → FitsLine line.now result }
         ensures staged { StagesBy result session share.old share.new }
@@ -165,9 +174,78 @@ impl<D: Device, S: Tally, T: Tally, A: Allocator + Copy, G: Gate, H: Wait> Worke
             Err(LineError::BadLine) => return Heard::Refused(Outside::BadLine),
             Err(LineError::NoMemory) => return Heard::Refused(Outside::NoMemory),
         };
+        if let Some(kept) = self.keep(session, &command) {
+            return Heard::Kept(kept);
+        }
         match self.stage(session, command, share) {
             Ok(ticket) => Heard::Asked(ticket),
             Err(outside) => Heard::Refused(outside),
+        }
+    }
+
+    // Keeps a `wait` for a claim that is queued, unless as many wait as may.
+    fn keep(&self, session: u32, command: &CommandIn<A>) -> Option<Kept>
+        ensures { IfSome result (λ kept. command.now ≡ Await kept.claim) }
+    {
+        let Command::Await(claim) = command else {
+            return None;
+        };
+        if self.most_waits == 0 {
+            return None;
+        }
+        let shared = self.shared;
+        shared
+            .desk
+            .lock(self.rt)
+            .keep(session, *claim, self.most_waits)
+    }
+
+    // Whether a kept `wait` is to be staged now.
+    fn lets_go(&self, kept: &mut Kept) -> bool
+        ensures { kept.new.claim ≡ kept.old.claim }
+    {
+        let shared = self.shared;
+        shared.desk.lock(self.rt).lets_go(kept)
+    }
+
+    /// One that waits for a claim waits no longer, and stages nothing.
+    pub(crate) fn stops_waiting(&self) {
+        let shared = self.shared;
+        shared.desk.lock(self.rt).stops_waiting();
+    }
+
+    /// How many commands were staged by now that may have moved the line. Who waits for a claim needs no step before that is more.
+    pub fn moves(&self) -> u64 {
+        let shared = self.shared;
+        shared.desk.lock(self.rt).waits.moves
+    }
+
+    /// Stages a kept `wait` once its claim isn't queued any more. One that is let go, and each where steps wait, is staged at once.
+    pub(crate) fn stage_kept(
+        &self,
+        talk: &mut Conversation<S, T, A>,
+        kept: Kept,
+        waits: bool,
+    ) -> Turn<A>
+        ensures stands { (reader_old reader_new writer_old writer_new : Option (List ℕ)) (counts : Totals)
+            → StandsAt (turns.Keep kept) reader_old reader_new writer_old writer_new counts talk.old
+            → StandsAt result reader_old reader_new writer_old writer_new counts talk.new }
+        ensures kept { talk.new.answers.is_kept ≡ talk.old.answers.is_kept }
+    {
+        let mut kept = kept;
+        kept.is_let_go = kept.is_let_go || waits;
+        if !self.lets_go(&mut kept) {
+            return Turn::Keep(kept);
+        }
+        if talk.answers.reserve().is_err() {
+            return Turn::Over(Ended::NoMemory);
+        }
+        match self.stage(talk.session, Command::Await(kept.claim), &mut talk.share) {
+            Ok(ticket) => {
+                self.gate.at(Point::Staged(talk.connection));
+                Turn::Wait(ticket)
+            }
+            Err(outside) => self.answer(talk, Out::Refused(outside)),
         }
     }
 
@@ -293,39 +371,40 @@ impl<D: Device, S: Tally, T: Tally, A: Allocator + Copy, G: Gate, H: Wait> Worke
         let _ = shared.desk.lock(self.rt).forget(ticket);
     }
 
-    /// Stages a last leave of the session that the answers leave standing, and forgets its ticket. False where there is no room for it
-    /// yet. Where it is refused for another reason, the session stands.
+    /// Stages a last leave of the session that the answers leave standing, and forgets its ticket. Else it says why none is staged: where
+    /// there is no room for it yet, it may be tried again, and else the session stands.
     pub(crate) fn try_leave(
         &self,
         answers: &Answers<A>,
         session: u32,
         share: &mut Share<S, T>,
-    ) -> bool
+    ) -> Result<(), Outside>
         requires { session ≡ session_of 0 answers.now.outs }
-        ensures full { result ≡ false → share.new ≡ share.old }
+        ensures staged { OnOk result (share.new ≡ record share.old { staged = share.old.staged + 1 }) }
+        ensures refused { OnErr result (share.new ≡ share.old) }
         ensures counted { Counts share.old 0 1 share.new }
     {
         match self.stage(session, Command::Leave, share) {
             Ok(ticket) => {
                 self.forget(ticket);
-                true
+                Ok(())
             }
-            Err(outside) => outside != Outside::Busy,
+            Err(outside) => Err(outside),
         }
     }
 
-    // Stages a leave of the session that the answers leave standing, and waits for room where there is none. None where it is refused
-    // for another reason.
+    // Stages a leave of the session that the answers leave standing, and waits for room where there is none. Else it says for which other
+    // reason none is staged.
     fn stage_leave(
         &self,
         answers: &Answers<A>,
         session: u32,
         share: &mut Share<S, T>,
-    ) -> Option<Ticket<A>>
+    ) -> Result<Ticket<A>, Outside>
         requires { session ≡ session_of 0 answers.now.outs }
-        ensures ticket { IfSome result (λ ticket. (ticket.session ≡ session_of 0 answers.now.outs) × (ticket.command ≡ Leave)) }
-        ensures counted { MatchOption result (share.new ≡ share.old)
-            (λ ticket. share.new ≡ record share.old { staged = share.old.staged + 1 }) }
+        ensures ticket { IfOk result (λ ticket. (ticket.session ≡ session_of 0 answers.now.outs) × (ticket.command ≡ Leave)) }
+        ensures staged { OnOk result (share.new ≡ record share.old { staged = share.old.staged + 1 }) }
+        ensures refused { IfErr result (λ outside. (outside ≢ Busy) × (share.new ≡ share.old)) }
     {
         let shared = self.shared;
         let mut desk = shared.desk.lock(self.rt);
@@ -335,20 +414,20 @@ impl<D: Device, S: Tally, T: Tally, A: Allocator + Copy, G: Gate, H: Wait> Worke
                     let wakes = desk.wakes_flusher(false);
                     drop(desk);
                     self.wake(wakes);
-                    return Some(ticket);
+                    return Ok(ticket);
                 }
                 Err(Outside::Busy) => {
                     desk.asks_for_room();
                     shared.work.notify_one();
                     desk = shared.settled.wait(self.rt, desk);
                 }
-                Err(_) => {
+                Err(outside) => {
                     drop(desk);
-                    return None;
+                    return Err(outside);
                 }
             }
         }
-        None
+        unreachable!()
     }
 
     // Stages a last leave, and forgets its ticket. Waits for room. Where it is refused for another reason, the session stands.
@@ -356,7 +435,7 @@ impl<D: Device, S: Tally, T: Tally, A: Allocator + Copy, G: Gate, H: Wait> Worke
         requires { session ≡ session_of 0 answers.now.outs }
         ensures { Counts share.old 0 1 share.new }
     {
-        if let Some(ticket) = self.stage_leave(answers, session, share) {
+        if let Ok(ticket) = self.stage_leave(answers, session, share) {
             self.forget(ticket);
         }
     }

@@ -55,6 +55,20 @@ returns-in-Asked-clause-stands g c = λ r0 w0 w1 s0 h.
       counted = (c.args.talk.now.share, h.counted, staged.1);
     })
 
+pub returns-in-Kept-clause-stands : goal.returns-in-Kept-clause-stands
+returns-in-Kept-clause-stands g c = λ r0 w0 w1 s0 h.
+    let outs : c.next.new.talk.answers.outs ≡ c.args.talk.now.answers.outs = ap (λ o. o.outs) c.next.ensures.same.0 ∙ c.reserve.ensures.same.0 in
+    let heard = c.in-Kept.ensures.heard r0 c.args.talk.now.answers.outs h.heard in
+    rw (outs, c.next.ensures.same.1, c.in-Kept.ensures.staged) (record {
+      heard = heard;
+      few = search rules;
+      spoken = h.spoken;
+      session_is = h.session_is;
+      asked = tt;
+      written = h.written;
+      counted = h.counted;
+    })
+
 pub returns-in-Refused-clause-stands : goal.returns-in-Refused-clause-stands
 returns-in-Refused-clause-stands g c = λ r0 w0 w1 s0 h.
     let all = c.args.talk.now.answers.outs in

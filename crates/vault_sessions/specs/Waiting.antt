@@ -1,0 +1,17 @@
+-- Which claims wait in the line, in the vault after all entries. This project's own.
+use Rattle.std.specs.Prelude.{Option, Some, None}
+use Rattle.vault_model.specs.Claims.{standing_of}
+use Rattle.vault_model.specs.declared.ids.ClaimId.{ClaimId}
+use Rattle.vault_model.specs.declared.claims.Standing.{Standing}
+use Rattle.vault_model.specs.declared.claims.Standing.TheVariants.{Held, Queued}
+use Rattle.group_commit.specs.View.{View, book_of}
+
+-- it stands behind another claim
+abbrev pub IsStandingQueued : Option Standing → Type 0
+IsStandingQueued None = ⊥
+IsStandingQueued (Some Held) = ⊥
+IsStandingQueued (Some (Queued other)) = Unit {0}
+
+-- the same of a claim
+abbrev pub IsQueued : View → ClaimId → Type 0
+IsQueued v claim = IsStandingQueued (standing_of (book_of v).tree (book_of v).line claim)

@@ -1,0 +1,53 @@
+//! Who waits for a claim, by `wait`.
+
+use vault_model::{ClaimId, Command};
+
+/// A `wait` that was heard and isn't staged yet.
+#[derive(Debug, Clone, Copy, PartialEq, Eq)]
+pub struct Kept {
+    /// The claim that it waits for.
+    pub claim: ClaimId,
+    /// How many commands that may move the line were staged when that was looked at last.
+    pub moves: u64,
+    /// Whether it is staged next, however the claim stands.
+    pub is_let_go: bool,
+}
+
+/// How many wait, and when it is worth while to look at the line again.
+#[derive(Debug, Clone, Copy, PartialEq, Eq)]
+pub(crate) struct Waits {
+    // How many commands were staged that may have moved the line, and whether the vault broke, as one more.
+    pub moves: u64,
+    // How many wait.
+    pub count: usize,
+}
+
+impl Waits {
+    /// Nobody.
+    pub fn new() -> Waits {
+        Waits { moves: 0, count: 0 }
+    }
+
+    /// What waits may have come.
+    pub fn moved(&mut self) {
+        self.moves = self.moves.wrapping_add(1);
+    }
+
+    /// One more waits.
+    pub fn enter(&mut self) {
+        self.count = self.count.saturating_add(1);
+    }
+
+    /// One waits no longer.
+    pub fn leave(&mut self) {
+        self.count = self.count.saturating_sub(1);
+    }
+}
+
+/// Whether a command may end a claim, so that others are held. A wrong answer would cost those who wait time alone.
+pub(crate) fn may_move<W, C>(command: &Command<W, C>) -> bool {
+    matches!(
+        command,
+        Command::CheckIn(_) | Command::Abandon(_) | Command::Release(_) | Command::Leave
+    )
+}
