@@ -121,8 +121,8 @@ impl<A: Allocator + Copy> Line<A> {
     /// The line of just these claims, in their order, over this tree. They are long ones, of which
     /// the last given number is passed; no short claim was given one.
     ///
-    /// What no line has is refused before memory is asked for. Each claim is compared with all before
-    /// it, by its id and, as `ask_long` does, by its modes.
+    /// What no line has is refused before memory is asked for. Each claim's id is compared with those of all before it; it is weighed
+    /// as `ask_long` does, at the queues of its own places.
     pub fn from_claims(
         alloc: A,
         tree: &Tree<A>,

@@ -370,7 +370,8 @@ impl<A: Allocator + Copy> Book<A> {
     /// Does a session's command, or refuses it, and counts it. Session 0 is the door.
     ///
     /// The work never grows with the number of places. A check-out and a hold look at the queues of the places in their own lock
-    /// set alone, an extension at those of all queued claims; a claim is found by its number in one walk over the line.
+    /// set alone; an extension, and what takes a claim out of the line, at those of all queued claims. A map finds a claim by its
+    /// number.
     #[tactic(auto, unfolding(vault_model::specs::Step::step))]
     pub fn act<B: Allocator>(
         &mut self,
