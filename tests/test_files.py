@@ -18,6 +18,7 @@ from stores import NAME, PART, WithStore
 
 from vault import Misused
 from vault.connection import Connection
+from vault.parts import Parts
 from vault.store import StoreAway
 from vault.working import Working, folder_for
 
@@ -150,6 +151,21 @@ class Changed(WithStore):
         with folder.locked():
             self.assertIn("was changed here", Working(self.parts, folder).get().left[0][1])
         self.assertEqual((path.read_bytes(), sorted(os.listdir(work / ".vault"))), (b"mine", ["folder.json", "lock"]))
+
+
+class Shown(WithStore):
+    """`vault store` shows the address that the vault names, and the one that is followed."""
+
+    def test_both(self) -> None:
+        self.as_program()
+        other = self.root / "other"
+        Parts(self.client("ben")).setting.set(f"file://{other}")
+        said = self.as_json("store")
+        self.assertEqual((said["store"], said["confirmed"]), (f"file://{other}", self.address()))
+        self.assertIn(f"The vault keeps its files at file://{other}, and you have confirmed {self.address()}. Ask whoever runs", said["sentence"])
+        self.anna.checkout(["w:" + PART])
+        self.assertIn(f"vault store confirm file://{other}".encode(), self.vault("put", PART, str(self.file), status=1))
+        self.assertEqual(list(other.joinpath("sha256").glob("*")), [])
 
 
 class Libraries(WithStore):

@@ -341,6 +341,21 @@ class Ring(WithDesigners):
                 self.assertEqual((found[-1].waiting, found[0].before.owner), (claim, claim.owner))
         self.assertGreater(rings, 100)
 
+    def test_more_than_there_may_be(self) -> None:
+        """A server that tells of more claims than any may have isn't asked for each."""
+        class Endless(Between):
+            """Tells of thousands."""
+
+            def answer(self, line: bytes, ask: Callable[[bytes], bytes]) -> bytes:
+                claims = " ".join(f"c{number}" for number in range(1, 2001))
+                return f"OK claims 2000 {claims}\n".encode() if line.startswith(b"claims") else ask(line)
+
+        stands = self.between(Endless)
+        with self.assertRaises(NotUnderstood) as refused:
+            self.elsewhere("anna", stands.port).who("/")
+        self.assertLess(len(str(refused.exception)), 300)
+        self.assertEqual(stands.sent(b"show"), 0)
+
     def test_many(self) -> None:
         """256 claims that all wait for one another are gone through in little time."""
         line = lined([(f"d{number % 64}", [f"w:/p/a/{number % 7}"] * 8) for number in range(256)])

@@ -4,29 +4,33 @@ from typing import Dict, List, Optional, Sequence
 
 from vault.connection import Link
 from vault.recovery import GONE
-from vault.words import CLAIM, Holder, Wait, holder_in, listed_in, under
+from vault.words import CLAIM, Holder, Wait, holder_in, listed_in, odd, under
 
 UNKNOWN_COMMAND = 10
+# More claims than these are told by no vault server, whose limit is 256.
+MOST_CLAIMS = 1024
 
 
 class Line:
-    """Asks who holds what. A server that is older doesn't know these questions, and is asked no more then."""
+    """Asks who holds what. A server that is older doesn't know these questions; whether it is one is asked each time, as it may be started anew
+    while a client stays."""
 
     def __init__(self, link: Link):
         self.link, self.older = link, False
 
     def at(self, place: str) -> Optional[List[Holder]]:
         """The claims at a place, above it or beneath it, in the order of the line; nothing where the server is older."""
-        if self.older:
-            return None
         told = self.link.read("claims " + place)
         self.older = told.code == UNKNOWN_COMMAND
-        return None if self.older else self.of(listed_in(told, CLAIM))
+        if self.older:
+            return None
+        claims = listed_in(told, CLAIM)
+        if len(claims) > MOST_CLAIMS:
+            raise odd(told)
+        return self.of(claims)
 
     def of(self, claims: Sequence[str]) -> Optional[List[Holder]]:
         """Those of some claims that stand; nothing where the server is older."""
-        if self.older:
-            return None
         replies = self.link.asked("show", claims)
         self.older = any(reply.code == UNKNOWN_COMMAND for reply in replies)
         return None if self.older else [holder_in(reply, claim) for claim, reply in zip(claims, replies) if reply.code != GONE]
