@@ -3,6 +3,7 @@
 import json
 import os
 import shutil
+import signal
 import socket
 import subprocess
 import tempfile
@@ -10,6 +11,7 @@ import threading
 import unittest
 from pathlib import Path
 from typing import Callable, Dict, List, Tuple
+from unittest import mock
 
 from designers import PART
 from servers import MEMORY, Cutter, Limits, Server, free_port, program
@@ -227,6 +229,23 @@ class PassedOver(TwoServers):
         def __exit__(self, *_: object) -> None:
             self.listener.shutdown(socket.SHUT_RDWR)
             self.listener.close()
+
+    def test_silent(self) -> None:
+        """A server that stands still, as its machine may: what it doesn't answer in time is found out, and done, at the other one."""
+        self.one.kill()
+        still = Server("--workers", "16", folder=MEMORY, files=self.copies())
+        self.addCleanup(still.close)
+        still.start()
+        self.two.start()
+        anna = self.client("anna", ports=(still.port, self.two.port))
+        self.assertEqual(len(list(anna.tree())), 4)
+        assert still.process is not None
+        still.process.send_signal(signal.SIGSTOP)
+        with mock.patch("vault.connection.REPLY_SECONDS", 0.5), mock.patch("vault.connection.GREETING_SECONDS", 0.5):
+            anna.link.drop()
+            anna.make("/wing")
+        self.assertEqual((anna.link.server[1], self.notices), (self.two.port, []))
+        self.assertIn("/wing", list(self.client("ben", ports=(self.two.port,)).tree()))
 
     def test_all_away(self) -> None:
         """Both are named, and tried again behind growing pauses."""
