@@ -491,6 +491,15 @@ class SlowReaders(unittest.IsolatedAsyncioTestCase):
         await self.streams(0)
         await self.none_left()
 
+    async def test_of_messages(self) -> None:
+        """So many messages wait for a reader, and with one more it is dropped."""
+        stream = page_web.Stream()
+        for _ in range(page_web.MOST_WAITING):
+            stream.push(b"x")
+        self.assertFalse(stream.over)
+        stream.push(b"x")
+        self.assertTrue(stream.over)
+
     async def streams(self, count: int) -> None:
         """Waits until so many streams are open."""
         for _ in range(500):

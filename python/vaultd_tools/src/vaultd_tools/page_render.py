@@ -208,6 +208,11 @@ class Renderer:
         self.leaf = functools.lru_cache(ROWS_KEPT)(lambda row: self._tidy(self.parts.leaf(row, self.row(row))))
         self.claim_item = functools.lru_cache(ROWS_KEPT)(lambda row: self._tidy(self.parts.claim_item(row)))
 
+    def prepare(self) -> None:
+        """Reads all templates, so that the first page is as quick as others."""
+        for name in self.environment.list_templates(extensions=["html"]):
+            self.environment.get_template(name)
+
     def page(self, template: str, **words: Any) -> str:
         """A whole page."""
         return self.environment.get_template(template).render(**{"live": False, "see": "", "asked": "", "texts": {}, "lists": {}, **words})

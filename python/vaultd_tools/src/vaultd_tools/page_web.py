@@ -194,6 +194,7 @@ class Page:
         self.watcher = Watcher(host, port, designer, self.publish)
         server = f"[{host}]:{port}" if ":" in host else f"{host}:{port}"
         self.source = Source(Renderer(links=True), self.watcher.model, server, title)
+        self.source.renderer.prepare()
         self.hosts = frozenset(name.lower() for name in hosts)
         self.most_streams = most_streams
         self.run_name, self.revision = secrets.token_hex(8), 1
