@@ -67,6 +67,7 @@ class Border(unittest.TestCase):
         self.port = free_port()
         server = subprocess.Popen([VAULTD, "serve", *map(str, self.files), f"{host}:{self.port}", *words],
                                   stdout=subprocess.PIPE, stderr=subprocess.STDOUT)
+        self.server = server
 
         def end() -> None:
             server.kill()

@@ -8,8 +8,8 @@
 //!
 //! Only tested: a round over TCP; two sessions share a frame, and a second one is answered while the first waits; a client that reads
 //! late is told all, and one beside others that do their worst; clients that take too long, also for a place, are ended, and told so where
-//! they wait; an accept fault, and that it is told at once; another protocol's first line; more commands than a history keeps; each request
-//! of `run_server` for memory, refused.
+//! they wait; who waits for a claim is answered once it is held, and which others are answered at once; an accept fault, and that it is
+//! told at once; another protocol's first line; more commands than a history keeps; each request of `run_server` for memory, refused.
 //! Neither: that anybody is served or woken; fairness, time; what the channel of connections delivers, and what a TCP peer gets.
 //! Start at: server.rt, door.rt (who comes), rounds.rt (one thread), slot.rt (one connection), commits.rt (which thread commits, and when).
 #![tactic(auto)]

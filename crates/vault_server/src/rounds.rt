@@ -134,13 +134,17 @@ impl<D: Device, S: Tally, T: Tally, A: Allocator + Copy, G: Gate, H: Wait + Cloc
     ) {
         let mut tried = Tried::NotNow;
         let mut rest = Rest::Long;
+        let mut moves = 0;
         for _ in self.worker.rt.forever() {
             self.look(poll, events, slots, rest);
             self.announce(committer, slots, tried);
             let now = self.now();
             let may_come = self.take(poll.registry(), slots, now);
             self.make_room(slots, now);
-            let goes = self.turn(slots, now);
+            let mut goes = self.turn(slots, now);
+            if self.line_moved(slots, &mut moves) {
+                goes = self.turn(slots, now);
+            }
             tried = committer.commit();
             if tried.may_settle() {
                 look_again(slots);
@@ -153,6 +157,23 @@ impl<D: Device, S: Tally, T: Tally, A: Allocator + Copy, G: Gate, H: Wait + Cloc
                 }
             }
         }
+    }
+
+    // Whether a connection waits for a claim, and the line may have moved since it was asked last. Then each that waits has something to do: its
+    // `wait` goes with the commit of what moved the line.
+    fn line_moved(&self, slots: &mut Vec<Slot<S, T, A>, A>, seen: &mut u64) -> bool {
+        if !slots.iter().any(|slot| slot.waits_for_claim()) {
+            return false;
+        }
+        let moves = self.worker.moves();
+        if moves == *seen {
+            return false;
+        }
+        *seen = moves;
+        for slot in slots.as_mut_slice() {
+            slot.look_for_claim();
+        }
+        true
     }
 
     // Behind a commit, before anybody is told or heard: what came meanwhile is counted, since who is told comes back, and would be counted

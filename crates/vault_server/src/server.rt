@@ -53,6 +53,8 @@ pub struct Terms {
     pub connections: Option<u32>,
     /// For how long clients may take. Then a connection is ended, as by a reader's or a writer's fault.
     pub patience: Patience,
+    /// How many connections may wait at once, by `wait`, until their claim is held or gone. Each further `wait` is answered as `state`.
+    pub waits: usize,
     /// Whether a connection whose first line is another protocol's is ended, as if none had come of that line.
     pub refuses_foreign: bool,
     /// What becomes of those for whom there is no place. None: they wait as long as it takes.
@@ -107,7 +109,9 @@ pub fn run_server<
             idle: None,
             hello: None,
             line: None,
+            wait: None,
         },
+        waits: 0,
         refuses_foreign: false,
         full: None,
         per_address: None,
@@ -462,6 +466,7 @@ impl<
                 alloc: self.alloc,
                 shared: self.shared,
                 gate: self.gate,
+                most_waits: self.terms.waits,
             },
             seat: self.seat,
             bells: self.bells,

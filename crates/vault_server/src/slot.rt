@@ -22,6 +22,8 @@ pub struct Patience {
     pub hello: Option<Duration>,
     /// From the first byte of a line to its end.
     pub line: Option<Duration>,
+    /// From a `wait` to its answer, where its claim is queued that long.
+    pub wait: Option<Duration>,
 }
 
 /// A connection that is served.
@@ -31,6 +33,8 @@ pub(crate) struct Served<S: Tally, T: Tally, A: Allocator> {
     dialogue: Dialogue<Wire, S, T, A>,
     // Whether the next step may come to something.
     is_ready: bool,
+    // Whether its client sends no more than what is there.
+    is_ending: bool,
     // When it began, when the last step was taken, and when a line began that isn't whole.
     began: Option<Instant>,
     moved: Option<Instant>,
@@ -77,6 +81,7 @@ fn serve<S: Tally, T: Tally, A: Allocator + Copy>(
             number,
             dialogue,
             is_ready: true,
+            is_ending: false,
             began: now,
             moved: now,
             line_began: None,
@@ -145,6 +150,7 @@ impl<S: Tally, T: Tally, A: Allocator + Copy> Slot<S, T, A> {
     pub fn wake(&mut self, is_ending: bool) {
         if let Slot::Served(served) = self {
             served.is_ready = true;
+            served.is_ending = served.is_ending || is_ending;
             served.dialogue.wake(is_ending);
         }
     }
@@ -162,6 +168,22 @@ impl<S: Tally, T: Tally, A: Allocator + Copy> Slot<S, T, A> {
         if let Slot::Served(served) = self {
             let awaits = served.dialogue.awaits();
             served.is_ready = served.is_ready || matches!(awaits, Awaits::Reply | Awaits::Leave);
+        }
+    }
+
+    /// Whether it waits for a claim.
+    pub fn waits_for_claim(&self) -> bool {
+        match self {
+            Slot::Served(served) => served.dialogue.awaits() == Awaits::Claim,
+            Slot::Free(_) | Slot::Drained(_, _) | Slot::Open => false,
+        }
+    }
+
+    /// The line may have moved.
+    pub fn look_for_claim(&mut self) {
+        if let Slot::Served(served) = self {
+            let awaits = served.dialogue.awaits();
+            served.is_ready = served.is_ready || awaits == Awaits::Claim;
         }
     }
 
@@ -260,12 +282,15 @@ impl<S: Tally, T: Tally, A: Allocator + Copy> Served<S, T, A> {
     fn silent_since(&self) -> Option<Instant> {
         match self.dialogue.awaits() {
             Awaits::Line | Awaits::Telling => self.moved,
-            Awaits::Reply | Awaits::Leave | Awaits::Nothing => None,
+            Awaits::Claim | Awaits::Reply | Awaits::Leave | Awaits::Nothing => None,
         }
     }
 
-    // Until when its client has time.
+    // Until when its client has time, or waits for a claim.
     fn deadline(&self, patience: Patience) -> Option<Instant> {
+        if self.dialogue.awaits() == Awaits::Claim {
+            return behind(self.moved, patience.wait);
+        }
         let idle = behind(Some(self.silent_since()?), patience.idle);
         let hello = if self.dialogue.has_session() {
             None
@@ -299,10 +324,23 @@ impl<S: Tally, T: Tally, A: Allocator + Copy> Served<S, T, A> {
         };
         self.is_ready = goes == Goes::On;
         if goes != Goes::Over && self.is_late(patience, now) {
-            self.give_up(worker);
+            self.lose_patience(worker);
             return Goes::On;
         }
         goes
+    }
+
+    // Its time is over: a `wait` is staged, and a client that took too long is given up.
+    fn lose_patience<D: Device, G: Gate, H: Wait>(
+        &mut self,
+        worker: &Worker<'_, D, S, T, A, G, H>,
+    ) {
+        if self.dialogue.awaits() == Awaits::Claim {
+            self.dialogue.let_go();
+            self.is_ready = true;
+        } else {
+            self.give_up(worker);
+        }
     }
 
     // Hears and tells nothing more. What is left is done in the next round.
@@ -320,12 +358,16 @@ impl<S: Tally, T: Tally, A: Allocator + Copy> Served<S, T, A> {
     ) -> Goes {
         self.dialogue.begin_round();
         for _ in 0..STEPS_A_ROUND {
+            if self.is_ending {
+                // Who sends no more may be gone, and keeps nobody else from waiting.
+                self.dialogue.let_go();
+            }
             match self.dialogue.step(worker) {
                 Step::Went => {
                     self.moved = now;
                     self.line_began = None;
                     if self.is_late(patience, now) {
-                        self.give_up(worker);
+                        self.lose_patience(worker);
                     }
                 }
                 Step::Dry => return self.runs_dry(now),
@@ -357,6 +399,7 @@ impl<S: Tally, T: Tally, A: Allocator + Copy> Served<S, T, A> {
             number,
             dialogue,
             is_ready: _,
+            is_ending: _,
             began: _,
             moved: _,
             line_began: _,
@@ -374,6 +417,7 @@ impl<S: Tally, T: Tally, A: Allocator + Copy> Served<S, T, A> {
             number: _,
             dialogue,
             is_ready: _,
+            is_ending: _,
             began: _,
             moved: _,
             line_began: _,

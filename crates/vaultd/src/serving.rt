@@ -56,6 +56,14 @@ fn listen<R: Print + Net<Listener = TcpListener, Stream = TcpStream>>(
     Ok(listener)
 }
 
+/// How many may wait for a claim at once: so many as are given, or three quarters of the places, so that who holds can come and give up.
+fn most_waits(serving: &Serving<'_>) -> u32 {
+    match serving.waits {
+        Some(waits) => waits,
+        None => serving.workers.clamp(1, 64) * 3 / 4,
+    }
+}
+
 /// What the server is to keep to.
 fn terms_of(serving: &Serving<'_>) -> Terms
     ensures { (0 < result.workers) × (result.workers ≤ 64) }
@@ -68,7 +76,9 @@ fn terms_of(serving: &Serving<'_>) -> Terms
             idle: serving.idle.map(seconds),
             hello: Some(seconds(serving.hello)),
             line: Some(seconds(serving.line)),
+            wait: Some(seconds(serving.wait)),
         },
+        waits: most_waits(serving) as usize,
         refuses_foreign: true,
         full: Some(Full {
             wait: seconds(serving.full),

@@ -84,6 +84,10 @@ pub struct Serving<'a> {
     pub full: u32,
     /// How many there may be at once from one address.
     pub per_address: Option<u32>,
+    /// After how many seconds a 'wait' is answered at the latest.
+    pub wait: u32,
+    /// How many connections may wait at once for a claim: where it isn't given, three quarters of the workers.
+    pub waits: Option<u32>,
 }
 
 /// What the program is asked to do.
@@ -195,6 +199,20 @@ fn time<'a>(alloc: Global, name: &'a str, help: &'a str) -> Arg<'a> {
         .value_parser(value_parser!(u32).range(1..))
 }
 
+/// How long a 'wait' is kept.
+fn wait<'a>(alloc: Global) -> Arg<'a> {
+    let help = "Answers 'wait' after so long where its claim is queued still";
+    option(alloc, "wait", "SECONDS", help)
+        .default_value("30")
+        .value_parser(value_parser!(u32).range(1..))
+}
+
+/// How many may wait.
+fn waits<'a>(alloc: Global) -> Arg<'a> {
+    let help = "How many may wait at once, others are answered as by 'state'; 3/4 of the workers";
+    option(alloc, "waits", "N", help).value_parser(value_parser!(u32).range(0..=64))
+}
+
 /// How many connections there may be at once from one address.
 fn per_address<'a>(alloc: Global) -> Arg<'a> {
     let help =
@@ -219,7 +237,9 @@ fn serve<'a>(alloc: Global) -> Result<Command<'a>, AllocError> {
     let command = command.arg(time(alloc, "line", line))?;
     let full = "Answers 'ERR 80' to who has waited so long for a place";
     let command = command.arg(time(alloc, "full", full))?;
-    command.arg(per_address(alloc))
+    let command = command.arg(per_address(alloc))?;
+    let command = command.arg(wait(alloc))?;
+    command.arg(waits(alloc))
 }
 
 /// One subcommand more, where there was memory for it.
@@ -267,6 +287,8 @@ fn serving_of<'a>(matches: &ArgMatches<'a>) -> Serving<'a> {
         line: matches.get_one::<u32>("line").unwrap_or(60),
         full: matches.get_one::<u32>("full").unwrap_or(60),
         per_address: matches.get_one::<u32>("per-address"),
+        wait: matches.get_one::<u32>("wait").unwrap_or(30),
+        waits: matches.get_one::<u32>("waits"),
     }
 }
 
