@@ -31,9 +31,10 @@ pub struct Rule {
     pub rests: bool,
 }
 
-// What the first two connections staged and were told, and the pumps.
+// What the first two connections kept, staged and were told, and the pumps.
 #[derive(Drop)]
 struct Counts {
+    kept: [AtomicU64; 2],
     staged: [AtomicU64; 2],
     told: [AtomicU64; 2],
     pumps: AtomicU64,
@@ -43,6 +44,8 @@ impl Counts {
     // What counts who passed a point.
     fn of(&self, point: Point) -> Option<&AtomicU64> {
         match point {
+            Point::Kept(1) => Some(&self.kept[0]),
+            Point::Kept(2) => Some(&self.kept[1]),
             Point::Staged(1) => Some(&self.staged[0]),
             Point::Staged(2) => Some(&self.staged[1]),
             Point::Told(1) => Some(&self.told[0]),
@@ -84,6 +87,7 @@ impl<H: Clock> Holding<'_, H> {
             rt,
             rules,
             counts: Counts {
+                kept: [AtomicU64::new(0), AtomicU64::new(0)],
                 staged: [AtomicU64::new(0), AtomicU64::new(0)],
                 told: [AtomicU64::new(0), AtomicU64::new(0)],
                 pumps: AtomicU64::new(0),
@@ -102,6 +106,14 @@ impl<H: Clock> Holding<'_, H> {
     /// Whether a server told before so many turns that it accepts no more connections.
     pub(crate) fn is_deaf_within(&self, turns: u64) -> bool {
         is_reached_within(&self.deaf, 1, turns)
+    }
+
+    /// How many times the first two connections kept a `wait`.
+    pub(crate) fn kept(&self) -> u64 {
+        let [first, second] = &self.counts.kept;
+        first
+            .load(Ordering::SeqCst)
+            .saturating_add(second.load(Ordering::SeqCst))
     }
 
     /// How many pumps there were. None where a thread waited too long.

@@ -203,6 +203,7 @@ fn serves<H: Net + Threads + Wait + Clock + Sync + Abort>(
         threads: 1,
         connections: None,
         patience: PATIENT,
+        waits: 0,
         refuses_foreign: false,
         full: None,
         per_address: None,

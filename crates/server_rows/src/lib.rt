@@ -29,3 +29,5 @@ mod serving;
 mod talk;
 #[cfg(test)]
 mod talks;
+#[cfg(test)]
+mod waiting;

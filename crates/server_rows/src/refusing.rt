@@ -53,7 +53,7 @@ fn may_be_heard(heard: &str) -> bool {
 fn serves<
     R: Net<Listener = TcpListener, Stream = TcpStream> + Threads + Wait + Clock + Sync + Abort,
 >(rt: &R, global: Global, memory: &Refusing<Global>, request: u64) -> Tried {
-    let (came, heard, _) = served(rt, global, memory, &REFUSED, request);
+    let (came, heard, _, _) = served(rt, global, memory, &REFUSED, request);
     let has_refused = memory.has_refused();
     let is_told = heard.as_str().contains("OK place 1\n");
     let is_kept = came.length == HEAD + 12 || came.length == HEAD && !is_told;

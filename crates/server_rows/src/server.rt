@@ -27,6 +27,7 @@ pub const PATIENT: Patience = Patience {
     idle: None,
     hello: None,
     line: None,
+    wait: None,
 };
 
 // How many connections may wait at a listener.
@@ -54,6 +55,9 @@ pub struct Serving {
     pub idle: Option<u64>,
     pub hello: Option<u64>,
     pub line: Option<u64>,
+    /// How many may wait for a claim, and for how many milliseconds.
+    pub waits: usize,
+    pub wait: Option<u64>,
     /// Behind how many it turns away who waits for a place, and how long who is ended for him has to be silent.
     pub full: Option<(u64, u64)>,
     /// Whether another protocol's first line ends a connection.
@@ -71,6 +75,8 @@ pub struct Serving {
     /// What the first commit of two clients writes is one of these.
     pub frames: &'static [[u8; 20]],
     pub pumps: Option<u64>,
+    /// How many times a `wait` is kept.
+    pub kept: u64,
     pub came: Outcome,
 }
 
@@ -88,6 +94,7 @@ impl Serving {
         let is_plain = self.idle.is_none()
             && self.hello.is_none()
             && self.line.is_none()
+            && self.waits == 0
             && self.full.is_none()
             && !self.refuses_foreign
             && !self.has_one_thread
@@ -103,7 +110,9 @@ impl Serving {
                 idle: self.idle.map(Duration::from_millis),
                 hello: self.hello.map(Duration::from_millis),
                 line: self.line.map(Duration::from_millis),
+                wait: self.wait.map(Duration::from_millis),
             },
+            waits: self.waits,
             refuses_foreign: self.refuses_foreign,
             full: self.full.map(|(wait, silence)| Full {
                 wait: Duration::from_millis(wait),
@@ -146,6 +155,8 @@ pub const PLAIN: Serving = Serving {
     idle: None,
     hello: None,
     line: None,
+    waits: 0,
+    wait: None,
     full: None,
     refuses_foreign: false,
     is_shut: false,
@@ -156,6 +167,7 @@ pub const PLAIN: Serving = Serving {
     hears: &[],
     frames: &[],
     pumps: None,
+    kept: 0,
     came: ENDED,
 };
 
@@ -301,8 +313,8 @@ fn part<H: Clock>(
     }
 }
 
-/// What a server comes to, while this request for memory is refused, what its clients hear, and how many pumps there were: none where a
-/// thread waited too long.
+/// What a server comes to, while this request for memory is refused, what its clients hear, how many pumps there were, none where a
+/// thread waited too long, and how many times a `wait` was kept.
 pub(crate) fn served<
     R: Net<Listener = TcpListener, Stream = TcpStream> + Threads + Wait + Clock + Sync + Abort,
 >(
@@ -311,7 +323,7 @@ pub(crate) fn served<
     memory: &Refusing<Global>,
     serving: &Serving,
     request: u64,
-) -> (Outcome, String, Option<u64>) {
+) -> (Outcome, String, Option<u64>, u64) {
     let listener = TcpListener::bind(rt, "127.0.0.1:0").expect(rt, "a listener");
     let again = listener.try_clone().expect(rt, "the same listener");
     let early = if serving.is_late {
@@ -336,7 +348,7 @@ pub(crate) fn served<
     let mut text = String::new(global);
     hear(rt, global, streams, &mut text);
     hear(rt, global, last, &mut text);
-    let pumps = gate.pumps();
+    let (pumps, kept) = (gate.pumps(), gate.kept());
     drop(gate);
-    (outcome, text, pumps)
+    (outcome, text, pumps, kept)
 }

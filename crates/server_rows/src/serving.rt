@@ -538,14 +538,19 @@ fn is_one_of(text: &[u8], texts: &'static [&'static [Piece]]) -> bool {
 }
 
 // Whether a server comes to what its row says.
-fn comes_as_said<
+pub(crate) fn comes_as_said<
     R: Net<Listener = TcpListener, Stream = TcpStream> + Threads + Wait + Clock + Sync + Abort,
 >(rt: &R, global: Global, memory: &Refusing<Global>, serving: &Serving) {
-    let (came, heard, pumps) = served(rt, global, memory, serving, 0);
+    let (came, heard, pumps, kept) = served(rt, global, memory, serving, 0);
     let is_right = came == serving.came
+        && kept == serving.kept
         && is_one_of(heard.as_bytes(), serving.hears)
         && (pumps == serving.pumps || serving.pumps.is_none() && pumps.is_some());
-    assert!(rt; is_right, "{}: {came:?} {pumps:?} {heard}", serving.name);
+    assert!(rt;
+        is_right,
+        "{}: {came:?} {pumps:?} {kept} {heard}",
+        serving.name
+    );
     drop(heard);
 }
 
