@@ -62,8 +62,8 @@ fn each_request_of_a_place_is_refused(rt: HostRuntime) {
 }
 
 /// A call, what is tried, and how many requests it makes. A copied tree asks for the places, the lists, and three that have
-/// children; a copied shelf for the parts, the end of place 1, the bytes and the ends of place 3. Where drafts are appended the
-/// bytes of place 3 grow twice, those of 5 and 7 begin, so do the ends of 5, 0 and 7, and the list of parts grows.
+/// children; a copied shelf for the parts, and the bytes and the ends of places 1 and 3. Where drafts are appended the bytes of
+/// place 3 grow twice, those of 5, 0 and 7 begin, so do the ends of 5, 0 and 7, and the list of parts grows.
 static WANTED: [(&str, Call, u64); 26] = [
     ("Listing::copy", Call::Copies(Copied::List), 1),
     ("Command::copy, CheckOut", Call::Copies(Copied::CheckOut), 1),
@@ -129,8 +129,8 @@ static WANTED: [(&str, Call, u64); 26] = [
         2,
     ),
     ("Shelf::new", Call::MakesShelf, 0),
-    ("Shelf::copy", Call::Shelf(COPIED, Copies), 4),
-    ("Shelf::append_all", Call::Shelf(FIRST, Appends(SECOND)), 8),
+    ("Shelf::copy", Call::Shelf(COPIED, Copies), 5),
+    ("Shelf::append_all", Call::Shelf(FIRST, Appends(SECOND)), 9),
 ];
 
 /// The drafts of a shelf that is copied.

@@ -1,6 +1,6 @@
 //! What is done to a shelf of versions, and what it has to show.
 
-use Step::{Appends, Copies, Counts, Fetches, IsLimit, Weighs};
+use Step::{Appends, Copies, Counts, Fetches, IsLimit, Spells, Weighs};
 use part_versions::{NotAppended, Shelf};
 use std::alloc::{Allocator, Global};
 use std::process::Abort;
@@ -20,6 +20,8 @@ pub(crate) enum Step {
     Copies,
     /// A place's version of this number has this content, if there is one.
     Fetches(u32, u32, Option<&'static [u8]>),
+    /// A place's versions are spelled so, one behind another.
+    Spells(u32, &'static [u8]),
     /// A place has so many versions.
     Counts(u32, u32),
     /// What all versions weigh, and how many places there are up to the last that has a version.
@@ -105,6 +107,7 @@ fn does<A: Allocator + Copy>(
         IsLimit(rows) => appends(rt, alloc, shelf, rows, true),
         Copies => copies(shelf),
         Fetches(place, version, want) => Tried::done(shelf.fetch(PlaceId(place), version) == want),
+        Spells(place, want) => Tried::done(shelf.spelled(PlaceId(place)) == want),
         Counts(place, want) => Tried::done(shelf.count(PlaceId(place)) == want),
         Weighs(weight, len) => Tried::done(shelf.weight() == weight && shelf.len() == len),
     }
@@ -141,7 +144,7 @@ fn versions_are_limited(rt: HostRuntime) {
 }
 
 /// Versions of two places.
-static FETCHED: [Step; 22] = [
+static FETCHED: [Step; 26] = [
     Weighs(0, 0),
     Appends(&[(1, 3, b"ab", 2)]),
     Fetches(3, 1, Some(b"ab")),
@@ -158,6 +161,10 @@ static FETCHED: [Step; 22] = [
     Fetches(0, 1, None),
     Fetches(2, 1, None),
     Fetches(4, 1, None),
+    Spells(1, b"\0\0"),
+    Spells(3, b"\0\x02ab\0\x01c\0\0"),
+    Spells(2, b""),
+    Spells(4, b""),
     Counts(0, 0),
     Counts(1, 1),
     Counts(2, 0),
