@@ -20,6 +20,8 @@ LINK = re.compile(r"\[[^]]*\]\(([^)\s]+)\)")
 SPAN = re.compile(r"`([^`\n]+)`")
 FENCE = re.compile(r"^```.*?\n(.*?)^```", re.DOTALL | re.MULTILINE)
 OPTION = re.compile(r"(?<![\w-])--[a-z][a-z-]*")
+# Words before a program's name in a command.
+BEFORE = ("runuser", "-u", "vaultd-watch", "--", "sudo", "/usr/bin/python3", "python3")
 SUBCOMMANDS = ("create", "serve", "inspect", "check", "script")
 
 
@@ -57,7 +59,7 @@ def commands_of(page: Path) -> Iterator[Tuple[str, str]]:
         line = re.sub(r"^\w*\$ ", "", code.strip())
         for part in re.split(r"[|;&()]+|\bdo\b|\bthen\b", line.partition(" #")[0]):
             words = part.split()
-            while words and (re.match(r"^[A-Z_]+=", words[0]) or words[0] in ("runuser", "-u", "vaultd-watch", "--", "sudo", "/usr/bin/python3", "python3")):
+            while words and (re.match(r"^[A-Z_]+=", words[0]) or words[0] in BEFORE):
                 words = words[1:]
             if words and (words[0] in known or words[0].startswith(("tools/", "tests/", "bench/"))):
                 yield words[0], part
@@ -105,7 +107,7 @@ class Pages(unittest.TestCase):
                 continue
             for code in code_of(page):
                 for word in re.split(r"[\s:,;|()'\"]+", code):
-                    if word.startswith(FOLDERS) and not PLACEHOLDERS.search(word) and "/out/" not in word:
+                    if word.startswith(FOLDERS) and not PLACEHOLDERS.search(word) and "/out" not in word:
                         with self.subTest(page=name_of(page), path=word):
                             self.assertTrue((TOP / word).exists())
 
