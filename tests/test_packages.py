@@ -13,25 +13,36 @@ import machines
 from servers import TOP, VAULTD
 
 OPERATING = (TOP / "docs" / "OPERATING.md").read_text("utf-8")
-# The first command of each block that the machine runs.
-BLOCKS = {"start.sh": "contrib/install", "broken.sh": "journalctl -u vaultd -n 20", "metrics.sh": "apt-get install prometheus-node-exporter",
+# How each block of the page begins that the machine runs.
+BLOCKS = {"start.sh": "contrib/install", "watch.sh": "systemctl enable --now vaultd-watch.timer", "broken.sh": "journalctl -u vaultd -n 20",
+          "metrics.sh": "apt-get install prometheus-node-exporter", "store.sh": "install -d -g designers",
+          "sweep.sh": "runuser -u vaultd -- vaultd-sweep",
+          "backup.sh": "systemctl enable --now vaultd-backup.timer", "by_hand.sh": "same() {", "look.sh": "vaultd inspect /backup/vault/a",
           "gate.sh": "apt-get install openssh-server nftables"}
+# The others: the packages are made before, and tests/test_rclone.py has a remote.
+OTHER_BLOCKS = ("contrib/package --to", "rclone config create")
 # There is no network in the machine, and the packages are there.
 PREAMBLE = "set -eux\napt-get() { true; }\ncontrib/install() { true; }\n"
 MACHINE_SECONDS = 300
 
 
+def blocks() -> List[str]:
+    """The blocks of the page that a shell reads."""
+    return re.findall(r"```sh\n(.*?)```", OPERATING, re.DOTALL)
+
+
 def block_of(first: str) -> str:
-    """The block of the page that begins with a command."""
-    found = [block for block in re.findall(r"```sh\n(.*?)```", OPERATING, re.DOTALL) if block.startswith(first)]
+    """The block of the page that begins so."""
+    found = [block for block in blocks() if block.startswith(first)]
     assert len(found) == 1, (first, len(found))
-    return str(found[0])
+    return found[0]
 
 
 @unittest.skipUnless(shutil.which("dpkg-shlibdeps"), "needs dpkg-dev")
 class Packages(unittest.TestCase):
     """The packages of the program that is tested."""
 
+    deadline = 1800         # a machine that isn't there yet is made first
     folder: Path
     packages: List[Path]
 
@@ -86,6 +97,12 @@ class Packages(unittest.TestCase):
         self.assertIn("there is no program at /nowhere", self.said(script, "--vaultd", "/nowhere", status=1))
         self.assertIn("usage", self.said(script, "--vaultd", status=2))
         self.assertIn("usage", self.said(script, "--from", "x", status=2))
+
+    def test_every_block(self) -> None:
+        """Each block of the page is run in the machine, or named here."""
+        known = (*BLOCKS.values(), *OTHER_BLOCKS)
+        self.assertEqual([block for block in blocks() if not block.startswith(known)], [])
+        self.assertEqual(len(blocks()), len(known))
 
     @unittest.skipIf(machines.wanting(), machines.wanting())
     def test_in_a_machine(self) -> None:
