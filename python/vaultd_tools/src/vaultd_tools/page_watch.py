@@ -407,8 +407,7 @@ def claim_in(name: str, reply: bytes, note: bytes) -> Claim:
     found = SHOWN.fullmatch(reply[3:].decode("ascii", "replace")) if reply.startswith(b"OK ") else None
     if found is None or found["claim"] != name:
         raise refused(reply)
-    behind = None if found["held"] == "held" else found["held"].rpartition(" ")[2]
-    return Claim(name, found["owner"], behind, tuple(found["items"].split()), note)
+    return Claim(name, found["owner"], found["behind"], tuple(found["items"].split()), note)
 
 
 def bytes_in(reply: bytes, what: bytes, most: int) -> bytes:
