@@ -12,8 +12,8 @@ MIRROR = "http://deb.debian.org/debian"
 RELEASE = "bookworm"
 CACHE = Path(os.environ.get("VAULT_CACHE", "/var/cache/vaultd-tests"))
 # What the packages need and what the page on operating names, and beside it the programs of the script.
-PACKAGES = ("systemd", "systemd-sysv", "dbus", "python3", "python3-filelock", "openssh-server", "nftables", "iproute2", "netcat-openbsd", "psmisc",
-            "prometheus-node-exporter", "curl", "ca-certificates")
+PACKAGES = ("systemd", "systemd-sysv", "dbus", "python3", "python3-filelock", "python3-aiohttp", "python3-jinja2", "openssh-server", "nftables",
+            "iproute2", "netcat-openbsd", "psmisc", "prometheus-node-exporter", "curl", "ca-certificates")
 SCRIPT_UNIT = "script-of-a-test.service"
 UNIT = """\
 [Unit]
@@ -45,7 +45,7 @@ def wanting() -> str:
 
 def base() -> Path:
     """The machine's root, which no run writes into. Takes two minutes, and the network, where it isn't there yet."""
-    root = CACHE / f"{RELEASE}-3"
+    root = CACHE / f"{RELEASE}-4"
     if root.exists():
         return root
     CACHE.mkdir(mode=0o755, parents=True, exist_ok=True)

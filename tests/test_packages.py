@@ -17,6 +17,7 @@ OPERATING = (TOP / "docs" / "OPERATING.md").read_text("utf-8")
 BLOCKS = {"start.sh": "contrib/install", "watch.sh": "systemctl enable --now vaultd-watch.timer", "broken.sh": "journalctl -u vaultd -n 20",
           "metrics.sh": "apt-get install prometheus-node-exporter", "store.sh": "install -d -g designers",
           "sweep.sh": "runuser -u vaultd -- vaultd-sweep",
+          "page.sh": "apt-get install python3-aiohttp",
           "backup.sh": "systemctl enable --now vaultd-backup.timer", "by_hand.sh": "same() {", "look.sh": "vaultd inspect /backup/vault/a",
           "gate.sh": "apt-get install openssh-server nftables"}
 # The others: the packages are made before, and tests/test_rclone.py has a remote.
