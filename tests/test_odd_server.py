@@ -77,15 +77,15 @@ class OddReplies(unittest.TestCase):
             self.refused(lambda: self.client.holders("/e"), claims=b"OK claims 1 c1", show=reply)
 
     def test_older_server(self) -> None:
-        """A server that doesn't know `give` and `note`: that is told, and nothing is left under way."""
-        self.server.replies = {b"give": b"ERR 10", b"note": b"ERR 10", b"state": b"OK held c1", b"save": b"ERR 22"}
+        """A server that knows neither `give` and `note` nor who holds what: that is told, and nothing is left under way."""
+        self.server.replies = {b"give": b"ERR 10", b"note": b"ERR 10", b"claims": b"ERR 10", b"state": b"OK held c1", b"save": b"ERR 22"}
         asked: List[Callable[[], object]] = [lambda: self.client.give("c1", "ben"), lambda: self.client.note("c1"),
                                              lambda: self.client.set_note("c1", b"x")]
         for number, one in enumerate(asked):
             with self.assertRaises(Refused, msg=str(number)) as refused:
                 one()
             self.assertIn("does not know this command", str(refused.exception))
-        self.client.mine(["c1"])
+        self.assertEqual([standing.claim for standing, _ in self.client.mine(["c1"])], ["c1"])
 
     def test_unknown_refusal(self) -> None:
         with self.assertRaises(Refused) as refused:

@@ -820,7 +820,7 @@ class AtAnOlderServer(WithDesigners):
                          ("", older + "vault: c3 is queued behind c2, c2 is queued behind h1, h1 is held. Nothing was changed; `vault wait c3` waits"
                           " on.\n"))
         self.assertEqual(self.told("extend", "c1", "w:" + ROD, status=1),
-                         ("", "vault: h1 is in the way. Wait until it is gone, or ask its designer; nothing was changed.\n"))
+                         ("", older + "vault: h1 is in the way. Wait until it is gone, or ask its designer; nothing was changed.\n"))
         self.assertEqual(self.told("put", PART, str(drawing))[1], older)
         self.assertEqual(self.told("mine"), (f"c1 is held. Asked for w:{PART}, draft of {PART}.\nc3 is queued behind c2. Asked for r:{ROD}.\n",
                                              older))

@@ -495,12 +495,16 @@ class Client:
     def _line(self, place: str) -> Optional[List[Holder]]:
         """The claims at a place, in the order of the line, and remembers since when they are known; nothing where the server is older."""
         found = self.line.at(place)
-        if found is None and not self.told_older:
-            self.told_older = True
-            self.notice(OLDER)
+        self._tell_older()
         if found is not None and self.memory.knows(found, place == "/"):
             self.memory.save()
         return found
+
+    def _tell_older(self) -> None:
+        """Tells once that the server is older, where it is."""
+        if self.line.older and not self.told_older:
+            self.told_older = True
+            self.notice(OLDER)
 
     def _with_way(self, standing: Standing) -> Standing:
         """A standing with who is in the way, as far as the server tells."""
@@ -520,6 +524,7 @@ class Client:
         if reply.claims():
             with contextlib.suppress(VaultError):
                 named = self.line.of(reply.claims()[:1])
+                self._tell_older()
         return refusal_by(reply, named[0], self.designer) if named else reply.refusal()
 
     def _take_up(self, named: Sequence[str]) -> None:
