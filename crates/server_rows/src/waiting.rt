@@ -92,7 +92,7 @@ static WAITINGS: [Serving; 4] = [
         rules: SECOND_WAITS,
         clients: &[
             Client {
-                says: &[(b"hello anna\nhold w:/\nmake /e\n", 1)],
+                says: &[(b"hello anna\nhold w:/\ncheckout w:/\n", 1)],
                 may_say_more: false,
             },
             Client {
