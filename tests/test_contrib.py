@@ -202,7 +202,7 @@ class Contrib(unittest.TestCase):
         self.assertEqual(self.completed("vault", "_vault", "vault", "status", str(CONTRIB) + "/ma"), [str(CONTRIB) + "/man"])
         self.assertEqual(self.completed("vault", "_vault", "vault", "checkin", "c1", "-"), ["-m"])
         self.assertEqual(self.completed("vaultd", "_vaultd", "vaultd", "se"), ["serve"])
-        self.assertEqual(self.completed("vaultd", "_vaultd", "vaultd", "serve", "a", "b", "x", "--w"), ["--workers"])
+        self.assertEqual(self.completed("vaultd", "_vaultd", "vaultd", "serve", "a", "b", "x", "--wo"), ["--workers"])
 
 
 if __name__ == "__main__":
