@@ -387,7 +387,9 @@ class ForGood(unittest.TestCase):
         self.assertIn("OK list 64 p00 ", self.looked_at())
         replies = [reply for project in projects for reply in self.done(*(f"make {project}/a{number:02}" for number in range(64)))]
         self.assertEqual([reply[:8] for reply in replies], ["OK place"] * 4031 + ["ERR 50"] * 65)
-        self.assertIn("places 4096, ", self.looked_at())
+        said = self.looked_at()
+        self.assertIn("projects: 64 of 64, 100 per cent", said)
+        self.assertIn("places: 4096 of 4096, 100 per cent", said)
 
     def test_contents(self) -> None:
         parts, content = [f"/p/a/p{number:02}" for number in range(64)], "5a" * 1024
@@ -396,12 +398,8 @@ class ForGood(unittest.TestCase):
             replies = self.done("checkout w:/p/a", *(f"save c{number} {part} {content}" for part in parts), f"checkin c{number}")
         self.assertEqual(replies[-2:], ["ERR 50", "OK checked in 0"])
         said = self.looked_at()
-        found = re.search(r": open, .* tail (?P<tail>\d+)(.|\n)*versions (?P<versions>\d+), claims 0, drafts (?P<drafts>\d+)", said)
-        assert found is not None, said
-        tail, versions, drafts = (int(found[name]) for name in ("tail", "versions", "drafts"))
-        self.assertEqual((versions, drafts), (16256, 0))
-        most, weight = tail + 6 * (versions + drafts), versions * (1024 + 8)
-        self.assertTrue(weight <= most <= weight + 1_500_000, (weight, most))
+        self.assertIn("The vault has 67 places, 16256 versions, 0 claims and 0 drafts.", said)
+        self.assertIn(f"weight: {16256 * (1024 + 8)} of 16777216, 99 per cent", said)
 
 
 class NoPlace(unittest.TestCase):
