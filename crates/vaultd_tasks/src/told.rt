@@ -1,5 +1,7 @@
 //! What `check` tells of two files.
 
+ghost use Rattle.std.specs.Prelude.{◌≡◌, ◌<◌, ◌^◌};
+
 use crate::checking::Reading;
 use crate::failure::Failure;
 use serde::Serialize;
@@ -126,6 +128,17 @@ fn figures_of(finding: &Finding) -> Result<Option<Figures>, Failure> {
     }
 }
 
+/// A count, as a number of JSON. What doesn't fit, which no vault has, is the greatest.
+fn in_number(count: u128) -> u64
+    ensures { count < 2 ^ 64 → result ≡ count }
+{
+    if count < 1 << 64 {
+        count as u64
+    } else {
+        u64::MAX
+    }
+}
+
 /// A limit, as JSON has it.
 fn in_json(limit: Limit) -> Full {
     Full {
@@ -186,7 +199,7 @@ fn json_of(alloc: Global, finding: &Finding, paths: (&str, &str)) -> Result<Stri
         claims: figures.map(|figures| figures.claims as u64),
         held: figures.map(|figures| figures.held as u64),
         waiting: figures.map(|figures| figures.waiting as u64),
-        drafts: figures.map(|figures| figures.drafts as u64),
+        drafts: figures.map(|figures| in_number(figures.drafts)),
         weight: figures.map(|figures| figures.weight as u64),
         limits: limits_of(alloc, figures)?,
     };
