@@ -18,7 +18,7 @@ BLOCKS = {"start.sh": "contrib/install", "watch.sh": "systemctl enable --now vau
           "metrics.sh": "apt-get install prometheus-node-exporter", "store.sh": "install -d -g designers",
           "sweep.sh": "runuser -u vaultd -- vaultd-sweep",
           "page.sh": "apt-get install python3-aiohttp",
-          "backup.sh": "systemctl enable --now vaultd-backup.timer", "by_hand.sh": "same() {", "look.sh": "vaultd inspect /backup/vault/a",
+          "backup.sh": "systemctl enable --now vaultd-backup.timer", "by_hand.sh": "same() {", "look.sh": "vaultd check /backup/vault/a",
           "gate.sh": "apt-get install openssh-server nftables"}
 # The others: the packages are made before, and tests/test_rclone.py has a remote.
 OTHER_BLOCKS = ("contrib/package --to", "rclone config create")
