@@ -9,7 +9,7 @@ use crate::places::may_change;
 use design_tree::Tree;
 use part_versions::Shelf;
 use std::alloc::Allocator;
-use vault_model::{DraftIn, Drafts, EXTRA_WEIGHT, Items, LONGEST_CONTENT, MOST_WEIGHT, PlaceId};
+use vault_model::{DraftIn, Drafts, EXTRA_WEIGHT, Items, LONGEST_CONTENT, MAX_WEIGHT, PlaceId};
 
 /// Whether all versions are of parts of the tree.
 pub fn are_of_parts<A: Allocator>(tree: &Tree<A>, shelf: &Shelf<A>) -> bool
@@ -64,7 +64,7 @@ fn left_beside<A: Allocator>(room: usize, drafts: &[DraftIn<A>]) -> Option<usize
 pub fn are_light<A: Allocator>(shelf: &Shelf<A>, drafts: &[Drafts<A>]) -> bool
     ensures { IsTrue result ↔ AreLight shelf.now drafts.now }
 {
-    let mut room = MOST_WEIGHT - shelf.weight();
+    let mut room = MAX_WEIGHT - shelf.weight();
     for own in drafts {
         let Some(left) = left_beside(room, own.as_slice()) else {
             return false;

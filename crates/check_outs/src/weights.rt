@@ -11,7 +11,7 @@ ghost use Rattle.check_outs.specs.Typed.{saved, is_open, drafts_at, IsAscending}
 use crate::any::{AnyCheckOut, drafts_at};
 use part_versions::Shelf;
 use std::alloc::Allocator;
-use vault_model::{DraftIn, EXTRA_WEIGHT, LONGEST_CONTENT, MOST_DRAFTS, MOST_WEIGHT, PlaceId};
+use vault_model::{DraftIn, EXTRA_WEIGHT, LONGEST_CONTENT, MAX_DRAFTS, MAX_WEIGHT, PlaceId};
 
 fn weight_of<A: Allocator>(drafts: &[DraftIn<A>]) -> usize
     requires { drafts_weight drafts.now ≤ most_weight }
@@ -76,9 +76,9 @@ pub fn may_save<A: Allocator>(
         return false;
     }
     let own = drafts_at(check_outs, number);
-    if count_beside(own, place) >= MOST_DRAFTS {
+    if count_beside(own, place) >= MAX_DRAFTS {
         return false;
     }
     let others = saved_weight(check_outs) - weight_of(own) + weight_beside(own, place);
-    shelf.weight() + others + content.len() + EXTRA_WEIGHT <= MOST_WEIGHT
+    shelf.weight() + others + content.len() + EXTRA_WEIGHT <= MAX_WEIGHT
 }

@@ -12,9 +12,7 @@ use crate::walk::{
 use std::alloc::{Allocator, Global};
 use std::marker::Model;
 use thiserror::Error;
-use vault_model::{
-    Kind, Listing, MOST_CHILDREN, MOST_PLACES, Name, NoMemory, Path, Place, PlaceId,
-};
+use vault_model::{Kind, Listing, MAX_CHILDREN, MAX_PLACES, Name, NoMemory, Path, Place, PlaceId};
 
 /// The places of a vault, which contracts see as the list of them but for the library.
 #[derive(Drop)]
@@ -204,7 +202,7 @@ impl<A: Allocator> Tree<A> {
         requires { parent ≤ length self.now }
         ensures { result ≡ is_full self.now parent }
     {
-        self.len() >= MOST_PLACES || self.child_list(parent).len() >= MOST_CHILDREN
+        self.len() >= MAX_PLACES || self.child_list(parent).len() >= MAX_CHILDREN
     }
 }
 

@@ -1,14 +1,14 @@
-//! For how long the flusher waits.
+//! For how long others are waited for before a commit.
 
 use std::time::{Clock, Duration, Instant};
 
-/// How often the flusher looks for those it has told, each time for an eighth of what the last commit took.
-pub const LOOKS: u32 = 8;
+// How often at least a thread looks for those whom the last commit told, each time behind an eighth of what that took.
+const LOOKS: u32 = 8;
 
 // The least time between two looks, in microseconds: a client on the same machine needs as long to come back.
 const LEAST: u64 = 100;
 
-// For how many microseconds a thread that commits in between may look, where a commit takes less.
+// For how many microseconds a thread may look, where a commit takes less.
 const MOST: u64 = 3200;
 
 /// When a commit ended, how long is waited from one look to the next, and how often is looked.
@@ -18,7 +18,7 @@ pub struct Commit {
     ended: Option<Instant>,
     // How long is waited from one look to the next.
     part: Duration,
-    // How often a thread looks that commits in between.
+    // How often is looked.
     looks: u32,
 }
 
@@ -48,8 +48,8 @@ impl Commit {
         }
     }
 
-    /// How long it is until this look. None where its time has passed.
-    pub fn left(&self, clock: &impl Clock, look: u32) -> Option<Duration> {
+    // How long it is until this look. None where its time has passed.
+    fn left(&self, clock: &impl Clock, look: u32) -> Option<Duration> {
         let passed = self.ended?.elapsed(clock).ok()?;
         self.part.saturating_mul(look).checked_sub(passed)
     }
@@ -97,8 +97,8 @@ impl Gathering {
     }
 }
 
-// How often a thread looks that commits in between, with such a part from one look to the next: behind a short commit for eight times as
-// long as it took, and some milliseconds at most.
+// How often is looked, with such a part from one look to the next: behind a short commit for eight times as long as it took, and some
+// milliseconds at most.
 fn looks_of(took: Duration, part: Duration) -> u32 {
     let most = Duration::from_micros(MOST);
     let eight = took.saturating_mul(LOOKS);

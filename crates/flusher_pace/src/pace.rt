@@ -1,5 +1,5 @@
-//! When the flusher sleeps, and for how many it waits.
-ghost use Rattle.std.specs.Prelude.{◌≡◌, ◌+◌, ◌-◌, ◌^◌, ◌<◌, ◌==◌, ◌&&◌, ◌||◌, nat_lt, not, ℕ, true, false, if◌then◌else◌, None, Some, Ok};
+//! When the flusher sleeps, and for how many a commit waits.
+ghost use Rattle.std.specs.Prelude.{◌≡◌, ◌+◌, ◌-◌, ◌^◌, ◌<◌, ◌&&◌, ◌||◌, nat_lt, not, ℕ, true, false, if◌then◌else◌, None, Some, Ok};
 ghost use Rattle.vault_store.specs.declared.phase.Advanced.TheVariants as Advanced;
 ghost use Rattle.vault_store.specs.declared.starting.Started.TheVariants as Started;
 ghost use Rattle.flusher_pace.specs.declared.pace.UnderWay.TheVariants as UnderWay;
@@ -35,7 +35,7 @@ pub fn may_change<W, C>(command: &Command<W, C>) -> bool {
 pub struct Pace {
     /// From how many waiting entries on the flusher is woken, where it sleeps.
     pub wake_from: Option<u64>,
-    /// How many entries waited when the last commit ended.
+    /// For how many entries the next commit waits.
     pub group: u64,
     /// Whether an entry that waits, and isn't sealed, may have changed the vault.
     pub has_change: bool,
@@ -45,6 +45,8 @@ pub struct Pace {
     pub is_asked_for_room: bool,
     /// How many tickets were forgotten, whose entries nobody is told.
     pub forgotten: u64,
+    /// Whether a snapshot couldn't be begun, and no commit was made since.
+    pub is_put_off: bool,
 }
 
 /// What was begun at the devices, and isn't settled.
@@ -68,6 +70,7 @@ impl Pace {
           under_way = UnderWay.Nothing;
           is_asked_for_room = false;
           forgotten = 0;
+          is_put_off = false;
         } }
     {
         Pace {
@@ -77,6 +80,7 @@ impl Pace {
             under_way: UnderWay::Nothing,
             is_asked_for_room: false,
             forgotten: 0,
+            is_put_off: false,
         }
     }
 
@@ -87,14 +91,11 @@ impl Pace {
         self.is_asked_for_room = true;
     }
 
-    /// Whether one has begun to wait for it since this was asked last.
-    pub fn wants_room(&mut self) -> bool
-        ensures asked { result ≡ self.old.is_asked_for_room }
-        ensures left { self.new ≡ record self.old { is_asked_for_room = false } }
+    /// Room is made there, as far as there is any.
+    pub fn makes_room(&mut self)
+        ensures { self.new ≡ record self.old { is_asked_for_room = false } }
     {
-        let is_asked = self.is_asked_for_room;
         self.is_asked_for_room = false;
-        is_asked
     }
 
     /// A command was staged, and so many entries wait now. Whether the flusher sleeps and has to be woken: it is, by as many as it sleeps
@@ -146,20 +147,12 @@ impl Pace {
         self.has_change && told < settled && self.forgotten < settled - told
     }
 
-    /// Whether more entries are waited for: those who waited for the last commit aren't all back, and nobody asks who needs no device.
+    /// Whether more entries are waited for: those whom the last commit told, or who came meanwhile, aren't all back, and nobody asks who
+    /// needs no device.
     pub fn lacks(&self, waiting: u64) -> bool
-        ensures { result ≡ (nat_lt 1 self.now.group && nat_lt waiting self.now.group && ((waiting == 0) || self.now.has_change)) }
+        ensures { result ≡ (nat_lt 1 self.now.group && nat_lt waiting self.now.group && self.now.has_change) }
     {
-        self.group > 1 && waiting < self.group && (waiting == 0 || self.has_change)
-    }
-
-    /// Whether the flusher waits for more entries, and sleeps until they are there.
-    pub fn gathers(&mut self, waiting: u64) -> bool
-        ensures waits { result ≡ (nat_lt 1 self.old.group && nat_lt waiting self.old.group && ((waiting == 0) || self.old.has_change)) }
-        ensures left { self.new ≡ record self.old { wake_from = if result then Some self.old.group else None } }
-    {
-        let is_early = self.lacks(waiting);
-        self.sleeps(is_early, self.group)
+        self.group > 1 && waiting < self.group && self.has_change
     }
 
     /// So many were told by the last commit, or came since it was begun: for so many the next one waits.
@@ -169,24 +162,26 @@ impl Pace {
         self.group = group;
     }
 
-    /// A snapshot was begun, which seals what waits, or it wasn't. It is no commit: it takes longer, and nobody is waited for behind
-    /// it.
+    /// A snapshot was begun, which seals what waits, or it wasn't, and is put off. It is no commit: it takes longer, and nobody is waited
+    /// for behind it.
     pub fn started(&mut self, started: Result<Started, NoMemory>)
         ensures begun { started ≡ Ok Started.Yes → self.new ≡ record self.old { has_change = false; under_way = UnderWay.Snapshot } }
-        ensures not_begun { (started ≡ Ok Started.Yes → ⊥) → self.new ≡ self.old }
+        ensures not_begun { (started ≡ Ok Started.Yes → ⊥) → self.new ≡ record self.old { is_put_off = true } }
     {
         if started == Ok(Started::Yes) {
             self.has_change = false;
             self.under_way = UnderWay::Snapshot;
+        } else {
+            self.is_put_off = true;
         }
     }
 
-    /// A pump was made, before which so many entries waited.
-    pub fn pumped(&mut self, waiting: u64, pumped: Result<Advanced, Fault>)
+    /// A pump was made.
+    pub fn pumped(&mut self, pumped: Result<Advanced, Fault>)
         ensures begun { self.old.under_way ≡ UnderWay.Nothing → pumped ≡ Ok Advanced.Moved
             → self.new ≡ record self.old { has_change = false; under_way = UnderWay.Commit } }
         ensures committed { self.old.under_way ≡ UnderWay.Commit → pumped ≡ Ok Advanced.Settled
-            → self.new ≡ record self.old { group = waiting; under_way = UnderWay.Nothing } }
+            → self.new ≡ record self.old { is_put_off = false; under_way = UnderWay.Nothing } }
         ensures renewed { self.old.under_way ≡ UnderWay.Snapshot → pumped ≡ Ok Advanced.Settled
             → self.new ≡ record self.old { under_way = UnderWay.Nothing } }
         ensures goes_on { (self.old.under_way ≡ UnderWay.Nothing → ⊥) → pumped ≡ Ok Advanced.Moved → self.new ≡ self.old }
@@ -200,7 +195,7 @@ impl Pace {
             }
             (_, Ok(Advanced::Moved)) => {}
             (UnderWay::Commit, Ok(Advanced::Settled)) => {
-                self.group = waiting;
+                self.is_put_off = false;
                 self.under_way = UnderWay::Nothing;
             }
             (UnderWay::Snapshot, Ok(Advanced::Settled)) => self.under_way = UnderWay::Nothing,

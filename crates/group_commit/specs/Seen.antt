@@ -11,7 +11,7 @@ use Rattle.group_commit.specs.Entries.{mark_at, told_in}
 use Rattle.group_commit.specs.History.{IsLegal, members, effects}
 use Rattle.group_commit.specs.Phases.{InOrder}
 use Rattle.group_commit.specs.View.{View, length_of, view_at, book_of}
-use Rattle.group_commit.specs.declared.window.TheConstants.{MOST_KEPT}
+use Rattle.group_commit.specs.declared.window.TheConstants.{MAX_KEPT}
 
 -- the view of the present life, the life's number, and the store beneath, which has both devices and the numbers of the active file
 pub record VaultSeen (D : Type 0) : Type 0 where
@@ -25,7 +25,7 @@ snapshot_length w = length (snapshot_of w)
 
 -- the most entries that are kept
 abbrev pub most_kept : ℕ
-most_kept = MOST_KEPT
+most_kept = MAX_KEPT
 
 -- up to where the entries are in frames: the sealed ones where a commit or a snapshot is under way, else the settled ones
 abbrev pub framed : View → ℕ

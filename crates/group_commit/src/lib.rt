@@ -47,4 +47,6 @@ pub use answers::{Forgotten, Redeemed, Retired};
 pub use mark::Mark;
 pub use ticket::{Receipt, Ticket};
 pub use vault::Vault;
-pub use vault_store::{Advanced as Pumped, CreateError, File, OpenError, Phase, Refused, Started};
+pub use vault_store::{
+    Advanced as Pumped, CreateError, File, FileVersion, OpenError, Phase, Refused, Started,
+};

@@ -11,7 +11,7 @@ ghost use Rattle.group_commit.specs.Pasts.{IsAnswered, IsNext};
 
 use crate::entry::Entry;
 use crate::noting::note_any;
-use crate::window::MOST_KEPT;
+use crate::window::MAX_KEPT;
 use crate::{Ticket, Vault};
 use std::alloc::Allocator;
 use std::snapshot::Snapshot;
@@ -43,7 +43,7 @@ impl<D: Device, A: Allocator + Copy> Vault<D, A> {
             return Err((Outside::Broken, command));
         }
         let position = self.len();
-        if self.kept.len() >= MOST_KEPT || !self.store.room() || position == u64::MAX {
+        if self.kept.len() >= MAX_KEPT || !self.store.room() || position == u64::MAX {
             return Err((Outside::Busy, command));
         }
         let before = Snapshot::of(&self.book);

@@ -1,12 +1,12 @@
 //! A vault with the history of its present life.
-ghost use Rattle.std.specs.Prelude.{◌≡◌, length};
+ghost use Rattle.std.specs.Prelude.{◌≡◌, ◌-◌, length};
 ghost use Rattle.vault_model.specs.Claims.{standing_of};
 ghost use Rattle.vault_store.specs.Seen.{first_of, second_of};
 
-use crate::Phase;
 use crate::bygone::Bygone;
 use crate::entry::Entry;
 use crate::window::Window;
+use crate::{FileVersion, Phase};
 use std::alloc::{Allocator, Global};
 use std::marker::Model;
 use std::snapshot::Snapshot;
@@ -90,6 +90,27 @@ impl<D: Device, A: Allocator + Copy> Vault<D, A> {
         ensures { result ≡ self.now.view.phase }
     {
         self.store.phase()
+    }
+
+    /// The version of the active file.
+    pub fn version(&self) -> FileVersion
+        ensures { result ≡ self.now.store.version }
+    {
+        self.store.version()
+    }
+
+    /// How many bytes of frames the active file has.
+    pub fn journal_len(&self) -> u64
+        ensures { result ≡ self.now.store.journal_length }
+    {
+        self.store.journal_len()
+    }
+
+    /// How many bytes the active file had before its first frame: its header and its snapshot.
+    pub fn snapshot_len(&self) -> u64
+        ensures { result ≡ self.now.store.tail - self.now.store.journal_length }
+    {
+        self.store.snapshot_len()
     }
 
     /// Whether a device call failed.

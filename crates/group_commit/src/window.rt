@@ -12,7 +12,7 @@ use std::marker::Model;
 use vault_model::{NoMemory, ReplyIn};
 
 // The most entries that are kept.
-pub(crate) const MOST_KEPT: usize = 4096;
+pub(crate) const MAX_KEPT: usize = 4096;
 
 /// The kept entries, in order. All of their room is taken when it is made.
 #[derive(Drop)]
@@ -39,7 +39,7 @@ impl<A: Allocator + Copy> Window<A> {
         ensures { IfOk result (λ window. window ≡ []) }
     {
         Ok(Window {
-            entries: VecDeque::with_capacity(alloc, MOST_KEPT)?,
+            entries: VecDeque::with_capacity(alloc, MAX_KEPT)?,
         })
     }
 

@@ -13,16 +13,16 @@ use Rattle.line_inlet.specs.declared.inlet.Filled.{Filled}
 use Rattle.line_inlet.specs.declared.inlet.Filled.TheVariants as filled
 use Rattle.line_inlet.specs.declared.inlet.Given.{Given}
 use Rattle.line_inlet.specs.declared.inlet.Given.TheVariants as reads
-use Rattle.line_inlet.specs.declared.inlet.TheConstants.{MOST_BYTES, CHUNK}
-use Rattle.vault_lines.specs.declared.limits.TheConstants.{MOST_READS}
+use Rattle.line_inlet.specs.declared.inlet.TheConstants.{MAX_BYTES, CHUNK}
+use Rattle.vault_lines.specs.declared.limits.TheConstants.{MAX_READS}
 
 -- the most bytes of a connection that are taken
 abbrev pub most_bytes : ℕ
-most_bytes = MOST_BYTES
+most_bytes = MAX_BYTES
 
 -- the most calls of a connection's reader
 abbrev pub most_reads : ℕ
-most_reads = MOST_READS
+most_reads = MAX_READS
 
 -- the most bytes that one read gives
 abbrev pub chunk_size : ℕ

@@ -10,10 +10,10 @@ use memchr::memchr;
 use std::alloc::Allocator;
 use std::io::{ErrorKind, Read};
 use std::marker::Model;
-use vault_lines::{LONGEST_LINE, MOST_READS};
+use vault_lines::{LONGEST_LINE, MAX_READS};
 
 // The most bytes of a connection that are taken. It ends at the first one behind them.
-const MOST_BYTES: u64 = 16_777_216;
+const MAX_BYTES: u64 = 16_777_216;
 
 // How many bytes a read may give: nearly any line comes by one read.
 const CHUNK: usize = 4096;
@@ -147,7 +147,7 @@ impl Inlet {
         requires { 0 < length self.old.pending }
         ensures { TakesByte self.old result self.new }
     {
-        if self.taken >= MOST_BYTES {
+        if self.taken >= MAX_BYTES {
             return NextByte::Limit;
         }
         let byte = self.chunk[self.at];
@@ -165,7 +165,7 @@ impl Inlet {
         ensures more { 0 < length self.old.pending → TakesMore self.old result self.new }
     {
         let waiting = &self.chunk[self.at..self.end];
-        let left = MOST_BYTES - self.taken;
+        let left = MAX_BYTES - self.taken;
         match memchr(b'\n', waiting) {
             Some(count) => {
                 if left <= count as u64 {
@@ -275,8 +275,8 @@ fn read_chunk<R: Read>(reader: &mut R, chunk: &mut [u8; CHUNK], reads: &mut u32)
     ensures reads { reads.new ≤ most_reads }
     ensures bytes { ReadsChunk (R.remaining reader.old) (R.remaining reader.new) chunk.new result }
 {
-    for _ in 0..MOST_READS {
-        if *reads >= MOST_READS {
+    for _ in 0..MAX_READS {
+        if *reads >= MAX_READS {
             return Given::Fault;
         }
         *reads += 1;

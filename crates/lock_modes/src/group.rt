@@ -8,7 +8,7 @@ use crate::Mode;
 use std::marker::Model;
 
 /// How many members a group has at most.
-pub const MOST_MEMBERS: u16 = 256;
+pub const MAX_MEMBERS: u16 = 256;
 
 /// The modes of some owners at one place: how many members have each mode.
 #[derive(Clone, Copy, Debug, PartialEq, Eq)]
@@ -46,7 +46,7 @@ impl Group {
 
     /// Takes one more member in.
     pub fn add(&mut self, mode: Mode)
-        requires { size self.old < MOST_MEMBERS }
+        requires { size self.old < MAX_MEMBERS }
         ensures { self.new ≡ with_one self.old mode }
     {
         match mode {

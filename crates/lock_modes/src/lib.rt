@@ -12,5 +12,5 @@ mod group;
 pub mod laws;
 mod mode;
 
-pub use group::{Group, MOST_MEMBERS};
+pub use group::{Group, MAX_MEMBERS};
 pub use mode::Mode;

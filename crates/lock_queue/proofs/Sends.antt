@@ -6,8 +6,8 @@ use Rattle.std.specs.declared.alloc.Allocator.{Ghosts}
 use Rattle.vault_model.proofs.Sends.{fields, claim_id_send}
 use Rattle.lock_modes.specs.contracts.group.Group as Group
 use Rattle.lock_queue.specs.contracts.cell.Seat as Seat
-use Rattle.lock_queue.specs.contracts.cell.Cell as Cell
-use Rattle.lock_queue.specs.contracts.cell.Cell.TheInside as CellInside
+use Rattle.lock_queue.specs.contracts.cell.PlaceQueue as PlaceQueue
+use Rattle.lock_queue.specs.contracts.cell.PlaceQueue.TheInside as CellInside
 
 group_send : IsSend Group.the_row
 group_send = search fields depth 20 fits 20000
@@ -16,7 +16,7 @@ seat_send : IsSend Seat.the_row
 seat_send = let i = claim_id_send in search fields depth 20 fits 20000
 
 module _ (A : RattleType) (g : Ghosts A.Denot) (s : IsSend A) (f : Frees g g.dealloc_token) where
-  pub cell_send : IsSend (Cell.the_field A g).row
+  pub cell_send : IsSend (PlaceQueue.the_field A g).row
   cell_send =
       let T = CellInside.the_type A g in
       let x = seat_send in

@@ -21,13 +21,13 @@ pub struct Seat {
 
 /// The seats at one place in line order, with the group of all and the group of the held ones.
 #[derive(Drop)]
-pub struct Cell<A: Allocator = Global> {
+pub struct PlaceQueue<A: Allocator = Global> {
     queue: Vec<Seat, A>,
     all: Group,
     held: Group,
 }
 
-impl<A: Allocator> Model for Cell<A> {
+impl<A: Allocator> Model for PlaceQueue<A> {
     ghost use Rattle.std.specs.Prelude.{vec_capacity};
     ghost use Rattle.lock_queue.specs.Queue.{CellSeen, AreCounted};
 
@@ -130,12 +130,12 @@ fn index_from_end(seats: &[Seat], id: ClaimId) -> Option<usize>
     None
 }
 
-impl<A: Allocator> Cell<A> {
+impl<A: Allocator> PlaceQueue<A> {
     /// No seats.
-    pub fn new(alloc: A) -> Cell<A>
+    pub fn new(alloc: A) -> PlaceQueue<A>
         ensures { result.seats ≡ [] }
     {
-        Cell {
+        PlaceQueue {
             queue: Vec::new(alloc),
             all: Group::empty(),
             held: Group::empty(),

@@ -16,7 +16,7 @@ use Rattle.lock_table.specs.declared.entry.Entry.{Entry}
 use Rattle.lock_table.specs.Locks.{mode_at, AreApart}
 use Rattle.lock_table.specs.Tables.{IsTable, is_held_in, locks_cover, held_over_in}
 use Rattle.lock_queue.specs.Queue.{CellSeen, first_of, is_cover}
-use Rattle.lock_table.specs.Queues.{AreQueues, seats_at, place_of, earlier}
+use Rattle.lock_table.specs.Queues.{AreQueues, seats_at, position_of, earlier}
 use Rattle.lock_table.proofs.Climb.{is_beneath, is_under-beneath}
 use Rattle.lock_table.proofs.JoinedAt.{places}
 use Rattle.lock_table.proofs.Putting.{none_there}
@@ -106,12 +106,12 @@ module _ (tree : List Place) (rises : Rises tree) (table : List Entry) (cells : 
   above_law None = sym (first_same (λ (e : Entry). beneath_of None e && is_held_in table e) (λ e. false) (λ e. ap (λ b. b && is_held_in table e) (none_any e.locks)) 0 table ∙ first_none 0 table)
   above_law (Some r) = refl
 
-  here_law : place_of table (first_of is_cover (seats_at cells p)) ≡ first_from (λ (e : Entry). covers_here (mode_at e.locks p) && is_held_in table e) 0 table
-  here_law = ap (λ xs. place_of table (first_of is_cover xs)) (queues.queues p)
+  here_law : position_of table (first_of is_cover (seats_at cells p)) ≡ first_from (λ (e : Entry). covers_here (mode_at e.locks p) && is_held_in table e) 0 table
+  here_law = ap (λ xs. position_of table (first_of is_cover xs)) (queues.queues p)
       ∙ queue_first is_cover (λ (e : Entry). covers_here (mode_at e.locks p) && is_held_in table e) (is_held_in table) p (λ e h. rw h refl) (λ e m h. rw h refl) table kept.distinct
 
   -- the first at the place and the first from above give the first
-  pub cover_step : earlier (place_of table (first_of is_cover (seats_at cells p))) (cover_above tree table p) ≡ cover_from tree table p
+  pub cover_step : earlier (position_of table (first_of is_cover (seats_at cells p))) (cover_above tree table p) ≡ cover_from tree table p
   cover_step =
       ap (λ o. earlier o (cover_above tree table p)) here_law
       ∙ (ap (earlier (first_from (λ (e : Entry). covers_here (mode_at e.locks p) && is_held_in table e) 0 table)) (above_law (parent_of tree p))

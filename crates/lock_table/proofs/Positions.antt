@@ -15,7 +15,7 @@ use Rattle.lock_table.specs.declared.entry.Entry.{Entry}
 use Rattle.lock_queue.specs.declared.cell.Seat.{Seat}
 use Rattle.lock_table.specs.Locks.{mode_at}
 use Rattle.lock_queue.specs.Queue.{CellSeen, first_of, is_in_way, is_held_in_way}
-use Rattle.lock_table.specs.Queues.{seat_of, seats_at, seats_by, earlier, place_of, earliest}
+use Rattle.lock_table.specs.Queues.{seat_of, seats_at, seats_by, earlier, position_of, earliest}
 use Rattle.lock_table.proofs.Removals.{ids}
 
 -- where the first entry that passes stands, counted from a number on
@@ -80,10 +80,10 @@ located_from t n (x ∷ xs) distinct = by_test (t x) (by_found (find t xs) refl 
     by_test true ih = rw (same_id_itself x.id) refl
     by_test false ih = ih
 
-pub place_found : (t : Entry → Bool) (es : List Entry) → IsDistinct same_id (ids es) → place_of es (option_map (λ (e : Entry). e.id) (find t es)) ≡ first_from t 0 es
+pub place_found : (t : Entry → Bool) (es : List Entry) → IsDistinct same_id (ids es) → position_of es (option_map (λ (e : Entry). e.id) (find t es)) ≡ first_from t 0 es
 place_found t es distinct = by_id (option_map (λ (e : Entry). e.id) (find t es)) ∙ located_from t 0 es distinct
   where
-    by_id : (o : Option ClaimId) → place_of es o ≡ option_and_then (λ id. first_from (λ (e : Entry). same_id e.id id) 0 es) o
+    by_id : (o : Option ClaimId) → position_of es o ≡ option_and_then (λ id. first_from (λ (e : Entry). same_id e.id id) 0 es) o
     by_id None = refl
     by_id (Some id) = position_first (λ (e : Entry). same_id e.id id) es
 
@@ -104,8 +104,8 @@ module _ (test : Seat → Bool) (t : Entry → Bool) (held : Entry → Bool) (p 
           by_test true ih = refl
           by_test false ih = ih
 
-  pub queue_first : (es : List Entry) → IsDistinct same_id (ids es) → place_of es (first_of test (seats_by held es p)) ≡ first_from t 0 es
-  queue_first es distinct = ap (place_of es) (queue_found es) ∙ place_found t es distinct
+  pub queue_first : (es : List Entry) → IsDistinct same_id (ids es) → position_of es (first_of test (seats_by held es p)) ≡ first_from t 0 es
+  queue_first es distinct = ap (position_of es) (queue_found es) ∙ place_found t es distinct
 
 pub first_none : (n : ℕ) (es : List Entry) → first_from (λ e. false) n es ≡ None
 first_none n [] = refl
@@ -295,7 +295,7 @@ module _ (f : Lock → Option ℕ) (locks : List Lock) (i : ℕ) (first all : Op
 
 -- what stands first in the way at a lock's place, and what is held there by another claim
 abbrev pub place_in_way : List Entry → List CellSeen → Lock → Option ℕ
-place_in_way table cells l = place_of table (first_of (is_in_way l.mode) (seats_at cells l.place))
+place_in_way table cells l = position_of table (first_of (is_in_way l.mode) (seats_at cells l.place))
 
 abbrev pub held_place_in_way : List Entry → List CellSeen → ClaimId → Lock → Option ℕ
-held_place_in_way table cells id l = place_of table (first_of (is_held_in_way id l.mode) (seats_at cells l.place))
+held_place_in_way table cells id l = position_of table (first_of (is_held_in_way id l.mode) (seats_at cells l.place))

@@ -8,7 +8,7 @@ use Rattle.std.proofs.lemmas.List.Elements.{All-nil, All-cons, All-head, All-tai
 use Rattle.std.proofs.lemmas.List.Folds.{find_at}
 use Rattle.std.proofs.lemmas.Option.{same_Some}
 use Rattle.vault_model.specs.declared.ids.ClaimId.{ClaimId}
-use Rattle.vault_model.specs.Claims.{same_id}
+use Rattle.vault_model.specs.Claims.{same_id, standing_by}
 use Rattle.vault_model.proofs.Stays.{same_id_is}
 use Rattle.vault_model.specs.Limits.{most_claims}
 use Rattle.lock_modes.specs.declared.mode.Mode.{Mode}
@@ -16,9 +16,9 @@ use Rattle.lock_modes.specs.Modes.{incompatible}
 use Rattle.lock_table.specs.declared.locks.Lock.{Lock}
 use Rattle.lock_table.specs.declared.entry.Entry.{Entry}
 use Rattle.lock_table.specs.Locks.{mode_at, AreApart, conflict}
-use Rattle.lock_table.specs.Tables.{IsTable, first_in_way, entry_of, entries_before, entries_without, is_held_in, held_in_way, put_first}
+use Rattle.lock_table.specs.Tables.{IsTable, first_in_way, entry_of, entries_before, entries_without, standing_in, is_held_in, held_in_way, put_first}
 use Rattle.lock_queue.specs.Queue.{CellSeen, seat_modes, held_seats, first_of, is_held_in_way}
-use Rattle.lock_table.specs.Queues.{AreQueues, seats_at, room_at, HaveRoom, seat_of, seats_by, seats_from, modes_by, modes_in, place_of, seat_in_way, held_seat_in_way, blocker_at, blockers_of}
+use Rattle.lock_table.specs.Queues.{AreQueues, seats_at, room_at, HaveRoom, seat_of, seats_by, seats_from, modes_by, modes_in, position_of, seat_in_way, held_seat_in_way, blocker_at, blockers_of}
 use Rattle.lock_table.proofs.Putting.{mode_listed}
 use Rattle.lock_table.proofs.Positions.{first_from, queue_first, any_first, earliest_same, first_same, id_found, first_taken, if_lower}
 use Rattle.lock_table.proofs.Weighing.{FindFirst, all_push, length_from, seats_from-push, queue_law, way_law}
@@ -239,14 +239,14 @@ held_way_id cells table id locks kept queues =
     passes : Lock → Entry → Bool
     passes l e = not (same_id e.id id) && incompatible (Some l.mode) (mode_at e.locks l.place) && is_held_in table e
 
-    at_lock : (l : Lock) → place_of table (first_of (is_held_in_way id l.mode) (seats_at cells l.place)) ≡ first_from (passes l) 0 table
-    at_lock l = ap (λ xs. place_of table (first_of (is_held_in_way id l.mode) xs)) (queues.queues l.place)
+    at_lock : (l : Lock) → position_of table (first_of (is_held_in_way id l.mode) (seats_at cells l.place)) ≡ first_from (passes l) 0 table
+    at_lock l = ap (λ xs. position_of table (first_of (is_held_in_way id l.mode) xs)) (queues.queues l.place)
         ∙ queue_first (is_held_in_way id l.mode) (passes l) (is_held_in table) l.place
         (λ e h. rw h (and_false (not (same_id e.id id)) (is_held_in table e)))
         (λ e m h. rw h refl) table kept.distinct
 
     held_law : held_seat_in_way table cells id locks ≡ first_from (λ (e : Entry). list_any (λ l. passes l e) locks) 0 table
-    held_law = earliest_same (λ (l : Lock). place_of table (first_of (is_held_in_way id l.mode) (seats_at cells l.place))) (λ (l : Lock). first_from (passes l) 0 table) at_lock locks ∙ any_first passes locks 0 table
+    held_law = earliest_same (λ (l : Lock). position_of table (first_of (is_held_in_way id l.mode) (seats_at cells l.place))) (λ (l : Lock). first_from (passes l) 0 table) at_lock locks ∙ any_first passes locks 0 table
 
 pub none_is : {T : Type 0} (o : Option T) → is_none o ≡ true → None ≡ o
 none_is None e = refl
@@ -285,6 +285,18 @@ waits_beside table blockers id i b beside e is =
     let there : slice_get blockers i ≡ Some (blocker_at table here.entry) = ap (λ xs. slice_get xs i) beside ∙ mapped_at (blocker_at table) table i here.entry here.there in
     ap Some (is ∙ (get_there blockers i (blocker_at table here.entry) b there ∙ ap (λ k. first_in_way (entries_before table k) here.entry.locks) own))
     ∙ sym (ap (option_map (λ (x : Entry). first_in_way (entries_before table id) x.locks)) here.found)
+
+-- what stands beside the entry at a claim's position says how the claim stands
+pub standing_beside : (table : List Entry) (id : ClaimId) (i : ℕ) → position (is_its id) table ≡ Some i → option_map standing_by (slice_get (blockers_of table) i) ≡ standing_in table id
+standing_beside table id i e =
+    let here = located table id i e in
+    let own = own_id table id here.entry here.found in
+    ap (option_map standing_by) (mapped_at (blocker_at table) table i here.entry here.there)
+    ∙ (ap (λ k. Some (standing_by (first_in_way (entries_before table k) here.entry.locks))) own
+    ∙ sym (ap (option_map (λ (x : Entry). standing_by (first_in_way (entries_before table id) x.locks))) here.found))
+
+pub standing_absent : (table : List Entry) (id : ClaimId) → position (is_its id) table ≡ None → None ≡ standing_in table id
+standing_absent table id e = sym (ap (option_map (λ (x : Entry). standing_by (first_in_way (entries_before table id) x.locks))) (not_located table id e))
 
 pub on_error : {T E P : Type 0} (r : Result T E) → P → OnErr r P
 on_error (Ok x) p = tt

@@ -10,12 +10,12 @@ use Rattle.arrayvec.specs.contracts.array_vec.ArrayVec as ArrayVec
 use Rattle.arrayvec.specs.contracts.array_vec.ArrayVec.TheInside as ArrayVecInside
 use Rattle.vault_model.proofs.Sends.{fields, claim_id_send}
 use Rattle.lock_queue.proofs.Sends.{cell_send}
-use Rattle.lock_table.specs.declared.locks.TheConstants.{MOST_LOCKS}
+use Rattle.lock_table.specs.declared.locks.TheConstants.{MAX_LOCKS}
 use Rattle.lock_table.specs.contracts.locks.Lock as Lock
 use Rattle.lock_table.specs.contracts.locks.LockSet as LockSet
 use Rattle.lock_table.specs.contracts.locks.LockSet.TheInside as LockSetInside
-use Rattle.lock_table.specs.contracts.entry.Kept as Kept
-use Rattle.lock_table.specs.contracts.entry.Kept.TheInside as KeptInside
+use Rattle.lock_table.specs.contracts.entry.KeptEntry as KeptEntry
+use Rattle.lock_table.specs.contracts.entry.KeptEntry.TheInside as KeptInside
 use Rattle.lock_table.specs.contracts.table.Table as Table
 use Rattle.lock_table.specs.contracts.table.Table.TheInside as TableInside
 
@@ -33,11 +33,11 @@ array_vec_send X N A x a =
 pub lock_set_send : IsSend LockSet.the_field.row
 lock_set_send =
     let T = LockSetInside.the_type in
-    let l = array_vec_send _ (number MOST_LOCKS) unit-field.row lock_send (search fields) in
+    let l = array_vec_send _ (number MAX_LOCKS) unit-field.row lock_send (search fields) in
     view_send _ _ _ _ _ (recorded_send _ _ _ T.to_one (struct_send (shape T) (search fields depth 20)))
 
 module _ (A : RattleType) (g : Ghosts A.Denot) (s : IsSend A) (f : Frees g g.dealloc_token) where
-  kept_send : IsSend (Kept.the_field A g).row
+  kept_send : IsSend (KeptEntry.the_field A g).row
   kept_send =
       let T = KeptInside.the_type A g in
       let i = claim_id_send in

@@ -19,7 +19,7 @@ use Rattle.lock_queue.specs.declared.cell.Seat.{Seat}
 use Rattle.lock_table.specs.Locks.{mode_at, conflict}
 use Rattle.lock_table.specs.Tables.{first_in_way, entries_before, is_held_in}
 use Rattle.lock_queue.specs.Queue.{CellSeen, seat_modes, first_of, is_in_way}
-use Rattle.lock_table.specs.Queues.{seats_at, room_at, HaveRoom, seat_of, seats_by, queue_of, seats_from, place_of, earlier, earliest, seat_in_way, blocker_at, blockers_of}
+use Rattle.lock_table.specs.Queues.{seats_at, room_at, HaveRoom, seat_of, seats_by, queue_of, seats_from, position_of, earlier, earliest, seat_in_way, blocker_at, blockers_of}
 use Rattle.lock_table.proofs.Positions.{first_from, any_first, earliest_same, none_first, place_found, queue_found}
 use Rattle.lock_table.proofs.Removals.{ids}
 
@@ -117,8 +117,8 @@ found_by cells table held seats m p = ap (first_of (is_in_way m)) (seats p)
 -- where cells have the queues of a line, the earliest seat in the way is that of the first entry in the way
 pub way_law : (cells : List CellSeen) (table : List Entry) (locks : List Lock) → IsDistinct same_id (ids table) → FindFirst cells table → seat_in_way table cells locks ≡ first_from (λ (e : Entry). conflict locks e.locks) 0 table
 way_law cells table locks distinct found =
-    earliest_same (λ (l : Lock). place_of table (first_of (is_in_way l.mode) (seats_at cells l.place))) (λ (l : Lock). first_from (λ (e : Entry). incompatible (Some l.mode) (mode_at e.locks l.place)) 0 table)
-    (λ l. ap (place_of table) (found l.mode l.place) ∙ place_found (λ (e : Entry). incompatible (Some l.mode) (mode_at e.locks l.place)) table distinct) locks
+    earliest_same (λ (l : Lock). position_of table (first_of (is_in_way l.mode) (seats_at cells l.place))) (λ (l : Lock). first_from (λ (e : Entry). incompatible (Some l.mode) (mode_at e.locks l.place)) 0 table)
+    (λ l. ap (position_of table) (found l.mode l.place) ∙ place_found (λ (e : Entry). incompatible (Some l.mode) (mode_at e.locks l.place)) table distinct) locks
     ∙ any_first (λ (l : Lock) (e : Entry). incompatible (Some l.mode) (mode_at e.locks l.place)) locks 0 table
 
 none_mapped : {S T : Type 0} (f : S → T) (o : Option S) → is_none (option_map f o) ≡ is_none o

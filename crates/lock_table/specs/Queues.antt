@@ -149,8 +149,8 @@ earlier (Some m) None = Some m
 earlier (Some m) (Some n) = Some (if nat_lt n m then n else m)
 
 -- where the claim of a seat stands in the line
-abbrev pub place_of : List Entry → Option ClaimId → Option ℕ
-place_of table o = option_and_then (λ id. position (λ (e : Entry). same_id e.id id) table) o
+abbrev pub position_of : List Entry → Option ClaimId → Option ℕ
+position_of table o = option_and_then (λ id. position (λ (e : Entry). same_id e.id id) table) o
 
 -- the earliest that some locks give
 abbrev pub earliest : (Lock → Option ℕ) → List Lock → Option ℕ
@@ -159,9 +159,9 @@ earliest f (l ∷ ls) = earlier (f l) (earliest f ls)
 
 -- where the first claim stands that is in the way of these locks, in any queue
 abbrev pub seat_in_way : List Entry → List CellSeen → List Lock → Option ℕ
-seat_in_way table cells locks = earliest (λ (l : Lock). place_of table (first_of (is_in_way l.mode) (seats_at cells l.place))) locks
+seat_in_way table cells locks = earliest (λ (l : Lock). position_of table (first_of (is_in_way l.mode) (seats_at cells l.place))) locks
 
 -- and the first held one but one
 abbrev pub held_seat_in_way : List Entry → List CellSeen → ClaimId → List Lock → Option ℕ
 held_seat_in_way table cells id locks =
-    earliest (λ (l : Lock). place_of table (first_of (is_held_in_way id l.mode) (seats_at cells l.place))) locks
+    earliest (λ (l : Lock). position_of table (first_of (is_held_in_way id l.mode) (seats_at cells l.place))) locks

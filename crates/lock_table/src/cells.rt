@@ -9,17 +9,17 @@ ghost use Rattle.lock_modes.specs.Modes.{compatible};
 ghost use Rattle.lock_modes.specs.Groups.{group_of, members};
 ghost use Rattle.lock_table.specs.Locks.{mode_at, AreApart};
 ghost use Rattle.lock_queue.specs.Queue.{seat_modes, held_seats, first_of, is_in_way, is_held_in_way, is_cover, IsOwn, HasSeat, seats_without, long_seats, restood, by_lock};
-ghost use Rattle.lock_table.specs.Queues.{seats_at, room_at, HaveRoom, seat_of, earlier, place_of, seat_in_way, held_seat_in_way};
+ghost use Rattle.lock_table.specs.Queues.{seats_at, room_at, HaveRoom, seat_of, earlier, position_of, seat_in_way, held_seat_in_way};
 
-use crate::entry::Kept;
+use crate::entry::KeptEntry;
 use crate::{Lock, LockSet};
 use lock_modes::{Group, Mode};
-use lock_queue::{Cell, Seat, is_same};
+use lock_queue::{PlaceQueue, Seat, is_same};
 use std::alloc::{AllocError, Allocator};
 use vault_model::{ClaimId, PlaceId};
 
 /// The group of all claims at a place.
-pub(crate) fn group_at<A: Allocator>(cells: &[Cell<A>], place: PlaceId) -> Group
+pub(crate) fn group_at<A: Allocator>(cells: &[PlaceQueue<A>], place: PlaceId) -> Group
     ensures { result ≡ group_of (seat_modes (seats_at cells.now place)) }
 {
     match cells.get(place.number() as usize) {
@@ -29,7 +29,7 @@ pub(crate) fn group_at<A: Allocator>(cells: &[Cell<A>], place: PlaceId) -> Group
 }
 
 /// The group of the held claims at a place.
-pub(crate) fn held_at<A: Allocator>(cells: &[Cell<A>], place: PlaceId) -> Group
+pub(crate) fn held_at<A: Allocator>(cells: &[PlaceQueue<A>], place: PlaceId) -> Group
     ensures { result ≡ group_of (seat_modes (held_seats (seats_at cells.now place))) }
 {
     match cells.get(place.number() as usize) {
@@ -39,21 +39,24 @@ pub(crate) fn held_at<A: Allocator>(cells: &[Cell<A>], place: PlaceId) -> Group
 }
 
 /// Where a claim stands in the line.
-pub(crate) fn index_of<A: Allocator>(entries: &[Kept<A>], id: ClaimId) -> Option<usize>
+pub(crate) fn index_of<A: Allocator>(entries: &[KeptEntry<A>], id: ClaimId) -> Option<usize>
     ensures { result ≡ position (λ (e : Entry). same_id e.id id) entries.now }
 {
     entries.iter().position(|entry| is_same(entry.id(), id))
 }
 
 /// Where a claim stands, if there is one.
-pub(crate) fn place_of<A: Allocator>(entries: &[Kept<A>], id: Option<ClaimId>) -> Option<usize>
-    ensures { result ≡ place_of entries.now id }
+pub(crate) fn position_of<A: Allocator>(
+    entries: &[KeptEntry<A>],
+    id: Option<ClaimId>,
+) -> Option<usize>
+    ensures { result ≡ position_of entries.now id }
 {
     index_of(entries, id?)
 }
 
 // The entries before a position.
-fn before<A: Allocator>(entries: &[Kept<A>], position: usize) -> &[Kept<A>]
+fn before<A: Allocator>(entries: &[KeptEntry<A>], position: usize) -> &[KeptEntry<A>]
     ensures { result.now ≡ take position entries.now }
 {
     if position < entries.len() {
@@ -65,11 +68,11 @@ fn before<A: Allocator>(entries: &[Kept<A>], position: usize) -> &[Kept<A>]
 
 /// The earlier of a position and of where a claim stands, which is looked for before that position alone.
 pub(crate) fn earlier_of<A: Allocator>(
-    entries: &[Kept<A>],
+    entries: &[KeptEntry<A>],
     first: Option<usize>,
     id: Option<ClaimId>,
 ) -> Option<usize>
-    ensures { result ≡ earlier first (place_of entries.now id) }
+    ensures { result ≡ earlier first (position_of entries.now id) }
 {
     let Some(id) = id else {
         return first;
@@ -81,7 +84,7 @@ pub(crate) fn earlier_of<A: Allocator>(
 }
 
 /// The claim of the first seat at a lock's place that is in its way.
-pub(crate) fn in_way_at<A: Allocator>(cells: &[Cell<A>], lock: Lock) -> Option<ClaimId>
+pub(crate) fn in_way_at<A: Allocator>(cells: &[PlaceQueue<A>], lock: Lock) -> Option<ClaimId>
     ensures { result ≡ first_of (is_in_way lock.mode) (seats_at cells.now lock.place) }
 {
     match cells.get(lock.place.number() as usize) {
@@ -91,7 +94,7 @@ pub(crate) fn in_way_at<A: Allocator>(cells: &[Cell<A>], lock: Lock) -> Option<C
 }
 
 /// The seats at a place.
-pub(crate) fn queue_at<A: Allocator>(cells: &[Cell<A>], place: PlaceId) -> &[Seat]
+pub(crate) fn queue_at<A: Allocator>(cells: &[PlaceQueue<A>], place: PlaceId) -> &[Seat]
     ensures { result.now ≡ seats_at cells.now place }
 {
     match cells.get(place.number() as usize) {
@@ -101,7 +104,7 @@ pub(crate) fn queue_at<A: Allocator>(cells: &[Cell<A>], place: PlaceId) -> &[Sea
 }
 
 fn held_in_way_at<A: Allocator>(
-    cells: &[Cell<A>],
+    cells: &[PlaceQueue<A>],
     id: ClaimId,
     own: Option<Mode>,
     lock: Lock,
@@ -116,7 +119,7 @@ fn held_in_way_at<A: Allocator>(
 }
 
 /// The first held claim that covers this very place.
-pub(crate) fn cover_at<A: Allocator>(cells: &[Cell<A>], place: PlaceId) -> Option<ClaimId>
+pub(crate) fn cover_at<A: Allocator>(cells: &[PlaceQueue<A>], place: PlaceId) -> Option<ClaimId>
     ensures { result ≡ first_of is_cover (seats_at cells.now place) }
 {
     match cells.get(place.number() as usize) {
@@ -126,7 +129,7 @@ pub(crate) fn cover_at<A: Allocator>(cells: &[Cell<A>], place: PlaceId) -> Optio
 }
 
 /// Whether the group of all admits each mode at its place.
-pub(crate) fn admit<A: Allocator>(cells: &[Cell<A>], locks: &LockSet) -> bool
+pub(crate) fn admit<A: Allocator>(cells: &[PlaceQueue<A>], locks: &LockSet) -> bool
     ensures { result ≡ list_all
         (λ lock. list_all (λ member. compatible member lock.mode)
         (members (group_of (seat_modes (seats_at cells.now lock.place))))) locks.now }
@@ -139,8 +142,8 @@ pub(crate) fn admit<A: Allocator>(cells: &[Cell<A>], locks: &LockSet) -> bool
 
 /// Where the first claim stands that is in the way of these locks.
 pub(crate) fn in_way<A: Allocator>(
-    entries: &[Kept<A>],
-    cells: &[Cell<A>],
+    entries: &[KeptEntry<A>],
+    cells: &[PlaceQueue<A>],
     locks: &LockSet,
 ) -> Option<usize>
     ensures { result ≡ seat_in_way entries.now cells.now locks.now }
@@ -155,8 +158,8 @@ pub(crate) fn in_way<A: Allocator>(
 /// Where the first held claim but one stands that is in the way of these locks, which are to take
 /// the place of its own.
 pub(crate) fn held_in_way<A: Allocator>(
-    entries: &[Kept<A>],
-    cells: &[Cell<A>],
+    entries: &[KeptEntry<A>],
+    cells: &[PlaceQueue<A>],
     id: ClaimId,
     own: &LockSet,
     locks: &LockSet,
@@ -173,7 +176,10 @@ pub(crate) fn held_in_way<A: Allocator>(
 }
 
 // Puts places without claims behind the others, so that this one has a cell.
-fn grow<A: Allocator + Copy>(cells: &mut Vec<Cell<A>, A>, place: PlaceId) -> Result<(), AllocError>
+fn grow<A: Allocator + Copy>(
+    cells: &mut Vec<PlaceQueue<A>, A>,
+    place: PlaceId,
+) -> Result<(), AllocError>
     ensures there { OnOk result (place < vec_len cells.new) }
     ensures seats { (p : ℕ) → seats_at cells.new.items p ≡ seats_at cells.old.items p }
     ensures room { (p : ℕ) → room_at cells.old.items p ≤ room_at cells.new.items p }
@@ -185,14 +191,14 @@ fn grow<A: Allocator + Copy>(cells: &mut Vec<Cell<A>, A>, place: PlaceId) -> Res
     }
     cells.reserve(index + 1 - cells.len())?;
     while cells.len() <= index {
-        cells.push(Cell::new(alloc)).unwrap();
+        cells.push(PlaceQueue::new(alloc)).unwrap();
     }
     Ok(())
 }
 
 /// Makes room for one seat more at the place of each lock.
 pub(crate) fn reserve<A: Allocator + Copy>(
-    cells: &mut Vec<Cell<A>, A>,
+    cells: &mut Vec<PlaceQueue<A>, A>,
     locks: &LockSet,
 ) -> Result<(), AllocError>
     ensures there { OnOk result (HaveRoom cells.new.items locks.now) }
@@ -207,7 +213,12 @@ pub(crate) fn reserve<A: Allocator + Copy>(
     Ok(())
 }
 
-fn put_last_at<A: Allocator>(cells: &mut Vec<Cell<A>, A>, id: ClaimId, lock: Lock, is_held: bool)
+fn put_last_at<A: Allocator>(
+    cells: &mut Vec<PlaceQueue<A>, A>,
+    id: ClaimId,
+    lock: Lock,
+    is_held: bool,
+)
     requires room { length (seats_at cells.old.items lock.place) < room_at cells.old.items lock.place }
     requires few { length (seats_at cells.old.items lock.place) < most_claims }
     ensures here { seats_at cells.new.items lock.place ≡ seats_at cells.old.items lock.place
@@ -224,7 +235,7 @@ fn put_last_at<A: Allocator>(cells: &mut Vec<Cell<A>, A>, id: ClaimId, lock: Loc
 
 /// Puts a claim last at the place of each of its locks.
 pub(crate) fn put_last<A: Allocator>(
-    cells: &mut Vec<Cell<A>, A>,
+    cells: &mut Vec<PlaceQueue<A>, A>,
     id: ClaimId,
     locks: &LockSet,
     is_held: bool,
@@ -239,7 +250,7 @@ pub(crate) fn put_last<A: Allocator>(
     }
 }
 
-fn put_first_at<A: Allocator>(cells: &mut Vec<Cell<A>, A>, id: ClaimId, lock: Lock)
+fn put_first_at<A: Allocator>(cells: &mut Vec<PlaceQueue<A>, A>, id: ClaimId, lock: Lock)
     requires room { length (seats_at cells.old.items lock.place) < room_at cells.old.items lock.place }
     requires few { length (seats_at cells.old.items lock.place) < most_claims }
     ensures here { seats_at cells.new.items lock.place ≡ record { id = id; mode = lock.mode; is_held = true }
@@ -255,7 +266,11 @@ fn put_first_at<A: Allocator>(cells: &mut Vec<Cell<A>, A>, id: ClaimId, lock: Lo
 }
 
 /// Puts a claim first, held, at the place of each of its locks.
-pub(crate) fn put_first<A: Allocator>(cells: &mut Vec<Cell<A>, A>, id: ClaimId, locks: &LockSet)
+pub(crate) fn put_first<A: Allocator>(
+    cells: &mut Vec<PlaceQueue<A>, A>,
+    id: ClaimId,
+    locks: &LockSet,
+)
     requires room { HaveRoom cells.old.items locks.now }
     requires few { (p : ℕ) → length (seats_at cells.old.items p) < most_claims }
     ensures seats { (p : ℕ) → seats_at cells.new.items p ≡ seat_of true id (mode_at locks.now p) ++ seats_at cells.old.items p }
@@ -266,7 +281,12 @@ pub(crate) fn put_first<A: Allocator>(cells: &mut Vec<Cell<A>, A>, id: ClaimId, 
     }
 }
 
-fn take_out_at<A: Allocator>(cells: &mut Vec<Cell<A>, A>, id: ClaimId, lock: Lock, is_held: bool)
+fn take_out_at<A: Allocator>(
+    cells: &mut Vec<PlaceQueue<A>, A>,
+    id: ClaimId,
+    lock: Lock,
+    is_held: bool,
+)
     requires { HasSeat id lock.mode is_held (seats_at cells.old.items lock.place) }
     ensures here { seats_at cells.new.items lock.place ≡ seats_without id (seats_at cells.old.items lock.place) }
     ensures elsewhere { (p : ℕ) → p ≢ lock.place → seats_at cells.new.items p ≡ seats_at cells.old.items p }
@@ -281,7 +301,7 @@ fn take_out_at<A: Allocator>(cells: &mut Vec<Cell<A>, A>, id: ClaimId, lock: Loc
 
 /// Takes a claim's seats out, whose locks and standing the caller knows.
 pub(crate) fn take_out<A: Allocator>(
-    cells: &mut Vec<Cell<A>, A>,
+    cells: &mut Vec<PlaceQueue<A>, A>,
     id: ClaimId,
     locks: &LockSet,
     is_held: bool,
@@ -296,7 +316,7 @@ pub(crate) fn take_out<A: Allocator>(
     }
 }
 
-fn take_short_out_at<A: Allocator>(cells: &mut Vec<Cell<A>, A>, index: usize)
+fn take_short_out_at<A: Allocator>(cells: &mut Vec<PlaceQueue<A>, A>, index: usize)
     requires few { length (seats_at cells.old.items index) ≤ most_claims }
     ensures here { seats_at cells.new.items index ≡ long_seats (seats_at cells.old.items index) }
     ensures elsewhere { (p : ℕ) → p ≢ index → seats_at cells.new.items p ≡ seats_at cells.old.items p }
@@ -310,7 +330,7 @@ fn take_short_out_at<A: Allocator>(cells: &mut Vec<Cell<A>, A>, index: usize)
 }
 
 /// Takes the seats of all short claims out, place by place.
-pub(crate) fn take_short_out<A: Allocator>(cells: &mut Vec<Cell<A>, A>)
+pub(crate) fn take_short_out<A: Allocator>(cells: &mut Vec<PlaceQueue<A>, A>)
     requires { (p : ℕ) → length (seats_at cells.old.items p) ≤ most_claims }
     ensures seats { (p : ℕ) → seats_at cells.new.items p ≡ long_seats (seats_at cells.old.items p) }
     ensures room { (p : ℕ) → room_at cells.old.items p ≤ room_at cells.new.items p }
@@ -320,7 +340,12 @@ pub(crate) fn take_short_out<A: Allocator>(cells: &mut Vec<Cell<A>, A>)
     }
 }
 
-fn stand_at<A: Allocator>(cells: &mut Vec<Cell<A>, A>, id: ClaimId, place: PlaceId, is_held: bool)
+fn stand_at<A: Allocator>(
+    cells: &mut Vec<PlaceQueue<A>, A>,
+    id: ClaimId,
+    place: PlaceId,
+    is_held: bool,
+)
     requires { length (seats_at cells.old.items place) ≤ most_claims }
     ensures here { seats_at cells.new.items place ≡ restood id is_held (seats_at cells.old.items place) }
     ensures elsewhere { (p : ℕ) → p ≢ place → seats_at cells.new.items p ≡ seats_at cells.old.items p }
@@ -335,7 +360,7 @@ fn stand_at<A: Allocator>(cells: &mut Vec<Cell<A>, A>, id: ClaimId, place: Place
 
 /// Makes a claim held, or queued, at the place of each of its locks.
 pub(crate) fn stand<A: Allocator>(
-    cells: &mut Vec<Cell<A>, A>,
+    cells: &mut Vec<PlaceQueue<A>, A>,
     id: ClaimId,
     locks: &LockSet,
     is_held: bool,

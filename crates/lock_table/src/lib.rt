@@ -26,5 +26,5 @@ mod table;
 mod waits;
 
 pub use entry::{Entry, Extension};
-pub use locks::{Lock, LockSet, MOST_LOCKS, lock_set};
+pub use locks::{Lock, LockSet, MAX_LOCKS, lock_set};
 pub use table::Table;

@@ -11,29 +11,29 @@ ghost use Rattle.lock_table.specs.Tables.{IsTable, first_in_way, entry_of, entri
 
 use crate::again::Again;
 use crate::cells::{
-    admit, cover_at, earlier_of, group_at, held_at, held_in_way, index_of, place_of, put_last,
+    admit, cover_at, earlier_of, group_at, held_at, held_in_way, index_of, position_of, put_last,
     reserve, take_out, take_short_out,
 };
-use crate::entry::Kept;
+use crate::entry::KeptEntry;
 use crate::waits::{first_behind, id_at, wait_behind, weigh_again};
 use crate::{Extension, LockSet, cells};
 use design_tree::Tree;
 use lock_modes::Group;
-use lock_queue::{Cell, is_short};
+use lock_queue::{PlaceQueue, is_short};
 use std::alloc::{Allocator, Global};
 use std::marker::Model;
-use vault_model::{ClaimId, MOST_CLAIMS, NoMemory, PlaceId, Standing};
+use vault_model::{ClaimId, MAX_CLAIMS, NoMemory, PlaceId, Standing};
 
 /// Claims in line order, each with its modes, beside each what it waits for, and for each place the
 /// queue of those that have a mode there. Contracts see the list of its entries.
 #[derive(Drop)]
 pub struct Table<A: Allocator = Global> {
     /// The claims in line order, each as its id and a pointer to its lock set.
-    entries: Vec<Kept<A>, A>,
+    entries: Vec<KeptEntry<A>, A>,
     /// What each entry waits for, at its own position; none where it is held.
     blockers: Vec<Option<ClaimId>, A>,
     /// The queue and the two groups of each place, by its number, up to the highest that was ever locked.
-    cells: Vec<Cell<A>, A>,
+    cells: Vec<PlaceQueue<A>, A>,
 }
 
 impl<A: Allocator> Model for Table<A> {
@@ -63,9 +63,9 @@ fn standing_by(blocker: Option<ClaimId>) -> Standing
 
 // Takes the claim at a position out of the queues.
 fn leave<A: Allocator>(
-    entries: &[Kept<A>],
+    entries: &[KeptEntry<A>],
     blockers: &[Option<ClaimId>],
-    cells: &mut Vec<Cell<A>, A>,
+    cells: &mut Vec<PlaceQueue<A>, A>,
     index: usize,
 )
     requires there { index < length entries.now }
@@ -91,9 +91,9 @@ fn move_first<T: Drop, A: Allocator>(items: &mut Vec<T, A>, index: usize, item: 
 
 // Takes the claim at a position out of the line.
 fn take_away<A: Allocator>(
-    entries: &mut Vec<Kept<A>, A>,
+    entries: &mut Vec<KeptEntry<A>, A>,
     blockers: &mut Vec<Option<ClaimId>, A>,
-    cells: &mut Vec<Cell<A>, A>,
+    cells: &mut Vec<PlaceQueue<A>, A>,
     id: ClaimId,
     index: usize,
 )
@@ -114,7 +114,7 @@ fn take_away<A: Allocator>(
 
 // Takes the entry at a position out, if its claim is short, and what stands beside it.
 fn remove_short<A: Allocator>(
-    entries: &mut Vec<Kept<A>, A>,
+    entries: &mut Vec<KeptEntry<A>, A>,
     blockers: &mut Vec<Option<ClaimId>, A>,
     index: usize,
 )
@@ -133,7 +133,10 @@ fn remove_short<A: Allocator>(
 }
 
 // Takes the entries of all short claims out, and what stands beside them.
-fn keep_long<A: Allocator>(entries: &mut Vec<Kept<A>, A>, blockers: &mut Vec<Option<ClaimId>, A>)
+fn keep_long<A: Allocator>(
+    entries: &mut Vec<KeptEntry<A>, A>,
+    blockers: &mut Vec<Option<ClaimId>, A>,
+)
     requires { vec_len blockers.old ≡ vec_len entries.old }
     ensures done { entries.new.items ≡ long_entries entries.old.items }
     ensures beside { (old : Entry → Option ClaimId) → blockers.old.items ≡ map old entries.old.items
@@ -148,9 +151,9 @@ fn keep_long<A: Allocator>(entries: &mut Vec<Kept<A>, A>, blockers: &mut Vec<Opt
 
 // Takes all short claims out of the line.
 fn take_short_away<A: Allocator>(
-    entries: &mut Vec<Kept<A>, A>,
+    entries: &mut Vec<KeptEntry<A>, A>,
     blockers: &mut Vec<Option<ClaimId>, A>,
-    cells: &mut Vec<Cell<A>, A>,
+    cells: &mut Vec<PlaceQueue<A>, A>,
 )
     requires table { IsTable entries.old.items }
     requires queues { AreQueues entries.old.items cells.old.items }
@@ -166,9 +169,9 @@ fn take_short_away<A: Allocator>(
 }
 
 fn put_first<A: Allocator + Copy>(
-    entries: &mut Vec<Kept<A>, A>,
+    entries: &mut Vec<KeptEntry<A>, A>,
     blockers: &mut Vec<Option<ClaimId>, A>,
-    cells: &mut Vec<Cell<A>, A>,
+    cells: &mut Vec<PlaceQueue<A>, A>,
     id: ClaimId,
     locks: LockSet,
     again: Again,
@@ -187,7 +190,7 @@ fn put_first<A: Allocator + Copy>(
     ensures unchanged { OnErr result (entries.new.items ≡ entries.old.items) }
 {
     let index = index_of(entries, id).unwrap();
-    let kept = Kept::new(*entries.allocator(), id, &locks)?;
+    let kept = KeptEntry::new(*entries.allocator(), id, &locks)?;
     reserve(cells, &locks)?;
     leave(entries, blockers, cells, index);
     cells::put_first(cells, id, &locks);
@@ -237,7 +240,7 @@ impl<A: Allocator + Copy> Table<A> {
     pub fn is_full(&self) -> bool
         ensures { result ≡ nat_le most_claims (length self.now) }
     {
-        self.entries.len() >= MOST_CLAIMS
+        self.entries.len() >= MAX_CLAIMS
     }
 
     /// Puts a new claim last, and says how it stands there.
@@ -250,7 +253,7 @@ impl<A: Allocator + Copy> Table<A> {
         ensures asked { OnOk result (self.new ≡ self.old ++ record { id = id; locks = locks } ∷ []) }
         ensures unchanged { OnErr result (self.new ≡ self.old) }
     {
-        let kept = Kept::new(*self.entries.allocator(), id, &locks)?;
+        let kept = KeptEntry::new(*self.entries.allocator(), id, &locks)?;
         self.entries.reserve(1)?;
         self.blockers.reserve(1)?;
         reserve(&mut self.cells, &locks)?;
@@ -351,6 +354,14 @@ impl<A: Allocator> Table<A> {
         Some(standing_by(blocker))
     }
 
+    /// How the claim at a position stands.
+    pub fn standing_at(&self, position: usize) -> Option<Standing>
+        ensures { result ≡ option_map standing_by (slice_get (blockers_of self.now) position) }
+    {
+        let blocker = *self.blockers.get(position)?;
+        Some(standing_by(blocker))
+    }
+
     /// The claim behind which a claim is queued.
     pub fn blocker(&self, id: ClaimId) -> Option<ClaimId>
         ensures { result ≡ blocker_in self.now id }
@@ -376,7 +387,7 @@ impl<A: Allocator> Table<A> {
     {
         let entries = self.entries.as_slice();
         let cells = self.cells.as_slice();
-        let mut first = place_of(entries, cover_at(cells, place));
+        let mut first = position_of(entries, cover_at(cells, place));
         let mut at = place;
         while let Some(parent) = tree.parent(at) {
             first = earlier_of(entries, first, cover_at(cells, parent));

@@ -10,15 +10,15 @@ ghost use Rattle.lock_table.specs.Tables.{IsTable, first_in_way};
 
 use crate::again::Again;
 use crate::cells::{admit, in_way, in_way_at, index_of, queue_at, stand};
-use crate::entry::Kept;
+use crate::entry::KeptEntry;
 use crate::{Lock, LockSet};
 use lock_modes::Mode;
-use lock_queue::{Cell, Seat};
+use lock_queue::{PlaceQueue, Seat};
 use std::alloc::Allocator;
 use vault_model::ClaimId;
 
 /// The id of the claim at a position, where there is one.
-pub(crate) fn id_at<A: Allocator>(entries: &[Kept<A>], index: Option<usize>) -> Option<ClaimId>
+pub(crate) fn id_at<A: Allocator>(entries: &[KeptEntry<A>], index: Option<usize>) -> Option<ClaimId>
     ensures { result ≡ option_and_then (λ i. option_map (λ (e : Entry). e.id) (slice_get entries.now i)) index }
 {
     let entry = entries.get(index?)?;
@@ -27,8 +27,8 @@ pub(crate) fn id_at<A: Allocator>(entries: &[Kept<A>], index: Option<usize>) -> 
 
 /// The claim for which a newcomer waits. The groups are asked first.
 pub(crate) fn first_behind<A: Allocator>(
-    entries: &[Kept<A>],
-    cells: &[Cell<A>],
+    entries: &[KeptEntry<A>],
+    cells: &[PlaceQueue<A>],
     locks: &LockSet,
 ) -> Option<ClaimId>
     requires distinct { IsDistinct same_id (map (λ (e : Entry). e.id) entries.now) }
@@ -42,7 +42,11 @@ pub(crate) fn first_behind<A: Allocator>(
 }
 
 // The claim before which a claim at this position waits.
-fn blocker_of<A: Allocator>(entries: &[Kept<A>], cells: &[Cell<A>], index: usize) -> Option<ClaimId>
+fn blocker_of<A: Allocator>(
+    entries: &[KeptEntry<A>],
+    cells: &[PlaceQueue<A>],
+    index: usize,
+) -> Option<ClaimId>
     requires there { index < length entries.now }
     requires distinct { IsDistinct same_id (map (λ (e : Entry). e.id) entries.now) }
     requires seated { AreSeated entries.now cells.now }
@@ -57,9 +61,9 @@ fn blocker_of<A: Allocator>(entries: &[Kept<A>], cells: &[Cell<A>], index: usize
 
 // Weighs the claim at a position again.
 fn weigh_at<A: Allocator>(
-    entries: &[Kept<A>],
+    entries: &[KeptEntry<A>],
     blockers: &mut Vec<Option<ClaimId>, A>,
-    cells: &mut Vec<Cell<A>, A>,
+    cells: &mut Vec<PlaceQueue<A>, A>,
     index: usize,
 )
     requires there { index < length entries.now }
@@ -86,9 +90,9 @@ fn weigh_at<A: Allocator>(
 
 // Weighs the claim at a position again where it has to be.
 fn weigh_next<A: Allocator>(
-    entries: &[Kept<A>],
+    entries: &[KeptEntry<A>],
     blockers: &mut Vec<Option<ClaimId>, A>,
-    cells: &mut Vec<Cell<A>, A>,
+    cells: &mut Vec<PlaceQueue<A>, A>,
     again: Again,
     index: usize,
 )
@@ -109,9 +113,9 @@ fn weigh_next<A: Allocator>(
 
 /// Weighs those again that have to be, one after another, from a position on.
 pub(crate) fn weigh_again<A: Allocator>(
-    entries: &[Kept<A>],
+    entries: &[KeptEntry<A>],
     blockers: &mut Vec<Option<ClaimId>, A>,
-    cells: &mut Vec<Cell<A>, A>,
+    cells: &mut Vec<PlaceQueue<A>, A>,
     again: Again,
     from: usize,
 )
@@ -128,7 +132,7 @@ pub(crate) fn weigh_again<A: Allocator>(
 
 // Has the claim of a seat wait for another, if it is queued there and in the way of a mode.
 fn wait_at_seat<A: Allocator>(
-    entries: &[Kept<A>],
+    entries: &[KeptEntry<A>],
     blockers: &mut Vec<Option<ClaimId>, A>,
     seat: Seat,
     id: ClaimId,
@@ -150,7 +154,7 @@ fn wait_at_seat<A: Allocator>(
 
 // The same for the claims of some seats.
 fn wait_in_queue<A: Allocator>(
-    entries: &[Kept<A>],
+    entries: &[KeptEntry<A>],
     blockers: &mut Vec<Option<ClaimId>, A>,
     seats: &[Seat],
     id: ClaimId,
@@ -169,9 +173,9 @@ fn wait_in_queue<A: Allocator>(
 
 // The same at the place of a lock. The group is asked first.
 fn wait_at<A: Allocator>(
-    entries: &[Kept<A>],
+    entries: &[KeptEntry<A>],
     blockers: &mut Vec<Option<ClaimId>, A>,
-    cells: &[Cell<A>],
+    cells: &[PlaceQueue<A>],
     id: ClaimId,
     lock: Lock,
 )
@@ -190,9 +194,9 @@ fn wait_at<A: Allocator>(
 
 /// Has those claims wait for one that are queued and have a mode in the way of its locks.
 pub(crate) fn wait_behind<A: Allocator>(
-    entries: &[Kept<A>],
+    entries: &[KeptEntry<A>],
     blockers: &mut Vec<Option<ClaimId>, A>,
-    cells: &[Cell<A>],
+    cells: &[PlaceQueue<A>],
     id: ClaimId,
     locks: &LockSet,
 )

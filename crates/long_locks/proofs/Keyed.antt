@@ -1,8 +1,8 @@
 -- Claims by their ids, as a list.
-use Rattle.std.specs.Prelude.{◌≡◌, ℕ, zero, suc, Bool, true, false, List, [], ◌∷◌, ◌++◌, take, drop, filter, insert, remove, Option, None, Some, is_some, slice_get, position, refl}
+use Rattle.std.specs.Prelude.{◌≡◌, ℕ, zero, suc, ◌+◌, Bool, true, false, not, length, nat_lt, List, [], ◌∷◌, ◌++◌, take, drop, filter, insert, remove, Option, None, Some, is_some, slice_get, position, refl}
 use Rattle.std.proofs.Common.{sym, ap, subst, ◌∙◌, cond, rules}
 use Rattle.std.specs.Map.{keys_of, values_of, lookup, remove_entry}
-use Rattle.std.specs.List.{IsDistinct, AllByRecursion}
+use Rattle.std.specs.List.{IsDistinct, AllByRecursion, position_or_len}
 use Rattle.std.specs.Option.{option_map, option_map_or}
 use Rattle.std.proofs.lemmas.List.Elements.{All-cons, All-head, All-tail, All-append, All-take, All-drop, All-push, All-filter}
 use Rattle.std.proofs.lemmas.Bool.Decides.{nat_tests}
@@ -70,6 +70,22 @@ module _ (eq : ClaimId → ClaimId → Bool) (is : (a b : ClaimId) → eq a b �
       let test = key_test id e (All-head own e es keyed) in
       let rest = found es id (All-tail own e es keyed) in
       (λ j. cond (test j) (Some e.1) (rest j))
+
+  -- an id has the position of its claim
+  pub key_position : (es : List Entry) (id : ClaimId) → AreKeyed es → position (eq id) (keys_of es) ≡ position (λ (c : Claim). same_id c.id id) (values_of es)
+  key_position es id keyed =
+      ap (λ n. cond (nat_lt n (length (keys_of es))) (Some n) None) (as_far es keyed)
+      ∙ ap (λ n. cond (nat_lt (position_or_len (λ (c : Claim). same_id c.id id) (values_of es)) n) (Some (position_or_len (λ (c : Claim). same_id c.id id) (values_of es))) None) (as_long es)
+    where
+      as_long : (xs : List Entry) → length (keys_of xs) ≡ length (values_of xs)
+      as_long [] = refl
+      as_long (e ∷ xs) = ap suc (as_long xs)
+
+      as_far : (xs : List Entry) → AreKeyed xs → position_or_len (eq id) (keys_of xs) ≡ position_or_len (λ (c : Claim). same_id c.id id) (values_of xs)
+      as_far [] keyed = refl
+      as_far (e ∷ xs) keyed =
+          ap (λ b. cond (not b) (1 + position_or_len (eq id) (keys_of xs)) 0) (key_test id e (All-head own e xs keyed))
+          ∙ ap (λ n. cond (not (same_id e.1.id id)) (1 + n) 0) (as_far xs (All-tail own e xs keyed))
 
   none_taken : (es : List Entry) (id : ClaimId) → AreKeyed es → lookup (eq id) es ≡ None → without (values_of es) id ≡ values_of es
   none_taken [] id keyed none = refl

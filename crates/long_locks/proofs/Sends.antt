@@ -14,8 +14,8 @@ use Rattle.indexmap.specs.contracts.index_table.IndexTable as IndexTable
 use Rattle.indexmap.specs.contracts.map.IndexMap as IndexMap
 use Rattle.vault_model.proofs.Sends.{fields, claim_id_send, claim_send}
 use Rattle.lock_table.proofs.Sends.{table_send}
-use Rattle.long_locks.specs.contracts.kept.Kept as Kept
-use Rattle.long_locks.specs.contracts.kept.Kept.TheInside as KeptInside
+use Rattle.long_locks.specs.contracts.kept.KeptClaim as KeptClaim
+use Rattle.long_locks.specs.contracts.kept.KeptClaim.TheInside as KeptInside
 use Rattle.long_locks.specs.contracts.claims.Claims as Claims
 use Rattle.long_locks.specs.contracts.claims.Claims.TheInside as ClaimsInside
 use Rattle.long_locks.specs.contracts.line.Line as Line
@@ -33,7 +33,7 @@ module _ (K V S B T : RattleType) (e : eq.Ghosts K.Denot) (h : hash.Ghosts K.Den
       search fields depth 20
 
 module _ (A : RattleType) (g : Ghosts A.Denot) (s : IsSend A) (f : Frees g g.dealloc_token) where
-  kept_send : IsSend (Kept.the_field A g).row
+  kept_send : IsSend (KeptClaim.the_field A g).row
   kept_send =
       let T = KeptInside.the_type A g in
       let c = claim_send in

@@ -1,7 +1,7 @@
 -- A line and its table, changed alike.
-use Rattle.std.specs.Prelude.{◌≡◌, suc, not, List, [], ◌∷◌, ◌++◌, length, None, All, refl}
-use Rattle.std.proofs.Common.{sym, ap, subst, ◌∙◌}
-use Rattle.std.specs.List.{AllZip}
+use Rattle.std.specs.Prelude.{◌≡◌, suc, ◌+◌, not, List, [], ◌∷◌, ◌++◌, length, position, nat_lt, Some, None, All, refl}
+use Rattle.std.proofs.Common.{sym, ap, subst, ◌∙◌, cond}
+use Rattle.std.specs.List.{AllZip, position_or_len}
 use Rattle.std.specs.Option.{option_map}
 use Rattle.vault_model.specs.declared.place.Place.{Place}
 use Rattle.vault_model.specs.declared.claims.Item.{Item}
@@ -47,6 +47,21 @@ zip_changed tree (c ∷ line) (e ∷ table) id f own same zip = (
 module _ (tree : List Place) (line : List Claim) (table : List Entry) (zip : IsTableOf tree line table) where
   pub as_long : length table ≡ length line
   as_long = zip_length (IsEntryOf tree) line table zip
+
+  -- a claim and its entry stand at the same position
+  pub zip_position : (id : ClaimId) → position (λ (e : Entry). same_id e.id id) table ≡ position (λ (c : Claim). same_id c.id id) line
+  zip_position id =
+      ap (λ n. cond (nat_lt n (length table)) (Some n) None) (as_far id line table zip)
+      ∙ ap (λ n. cond (nat_lt (position_or_len (λ (c : Claim). same_id c.id id) line) n) (Some (position_or_len (λ (c : Claim). same_id c.id id) line)) None) as_long
+    where
+      as_far : (id : ClaimId) (cs : List Claim) (es : List Entry) → IsTableOf tree cs es
+          → position_or_len (λ (e : Entry). same_id e.id id) es ≡ position_or_len (λ (c : Claim). same_id c.id id) cs
+      as_far id [] [] zip = refl
+      as_far id [] (e ∷ es) zip = absurd zip
+      as_far id (c ∷ cs) [] zip = absurd zip
+      as_far id (c ∷ cs) (e ∷ es) zip =
+          ap (λ k. cond (not (same_id k id)) (1 + position_or_len (λ (e : Entry). same_id e.id id) es) 0) zip.0.id
+          ∙ ap (λ n. cond (not (same_id c.id id)) (1 + n) 0) (as_far id cs es zip.1)
 
   pub zip_without : (id : ClaimId) → IsTableOf tree (without line id) (entries_without table id)
   zip_without id = filter_both (IsEntryOf tree) (λ (c : Claim). not (same_id c.id id)) (λ (e : Entry). not (same_id e.id id)) (λ c e of. ap (λ k. not (same_id k id)) (sym of.id)) line table zip

@@ -1,12 +1,12 @@
 //! Claims by their ids, in line order.
-ghost use Rattle.std.specs.Prelude.{◌≡◌, ◌<◌, ◌++◌, ◌∷◌, [], true, not, is_some, length, slice_get, None, IsOk, IfOk, OnOk};
+ghost use Rattle.std.specs.Prelude.{◌≡◌, ◌<◌, ◌++◌, ◌∷◌, [], true, not, is_some, length, position, slice_get, None, IsOk, IfOk, OnOk};
 ghost use Rattle.std.specs.Option.{option_copied};
 ghost use Rattle.vault_model.specs.declared.claims.Claim.{Claim};
-ghost use Rattle.vault_model.specs.Claims.{claim_of, without, changed, given_to, noted_as};
+ghost use Rattle.vault_model.specs.Claims.{same_id, claim_of, without, changed, given_to, noted_as};
 ghost use Rattle.long_locks.specs.Lines.{put_first, ends, left_by};
 
 use crate::ending::{Ending, ends};
-use crate::kept::Kept;
+use crate::kept::KeptClaim;
 use indexmap::IndexMap;
 use std::alloc::{Allocator, Global};
 use std::hash::{BuildHasherDefault, FoldHasher};
@@ -17,7 +17,7 @@ use vault_model::{Claim, ClaimId, Items, Name, NoMemory, Note};
 /// that there is for more.
 #[derive(Drop)]
 pub(crate) struct Claims<A: Allocator = Global> {
-    by_id: IndexMap<ClaimId, Kept<A>, BuildHasherDefault<FoldHasher>, A>,
+    by_id: IndexMap<ClaimId, KeptClaim<A>, BuildHasherDefault<FoldHasher>, A>,
 }
 
 impl<A: Allocator> Model for Claims<A> {
@@ -52,10 +52,10 @@ impl<A: Allocator + Copy> Claims<A> {
     }
 
     /// Takes the memory for a claim, before it is put into the line.
-    pub(crate) fn keep(&self, claim: Claim) -> Result<Kept<A>, NoMemory>
+    pub(crate) fn keep(&self, claim: Claim) -> Result<KeptClaim<A>, NoMemory>
         ensures { IfOk result (λ kept. kept ≡ claim) }
     {
-        Kept::new(*self.by_id.allocator(), claim)
+        KeptClaim::new(*self.by_id.allocator(), claim)
     }
 
     /// The allocator that they are kept in.
@@ -80,6 +80,13 @@ impl<A: Allocator> Claims<A> {
         Some(kept.claim())
     }
 
+    /// Where the claim of this id stands, by one look-up.
+    pub(crate) fn position_of(&self, id: ClaimId) -> Option<usize>
+        ensures { result ≡ position (λ (c : Claim). same_id c.id id) self.now.claims }
+    {
+        self.by_id.get_index_of(&id)
+    }
+
     /// The claim at a position, counted from 0.
     pub(crate) fn at(&self, position: usize) -> Option<&Claim>
         ensures { option_copied result ≡ slice_get self.now.claims position }
@@ -101,7 +108,7 @@ impl<A: Allocator> Claims<A> {
     }
 
     /// Puts a new claim last, where there is room. It takes no memory.
-    pub(crate) fn put_last(&mut self, claim: Kept<A>)
+    pub(crate) fn put_last(&mut self, claim: KeptClaim<A>)
         requires new { claim_of self.old.claims claim.id ≡ None }
         requires room { 0 < self.old.room }
         ensures { self.new.claims ≡ self.old.claims ++ claim ∷ [] }
@@ -152,7 +159,7 @@ impl<A: Allocator> Claims<A> {
         ensures { self.new.claims ≡ left_by ending self.old.claims }
     {
         self.by_id.retain(
-            |_id: &ClaimId, kept: &mut Kept<A>| -> bool
+            |_id: &ClaimId, kept: &mut KeptClaim<A>| -> bool
                 ensures { (result ≡ not (ends ending kept.old)) × (kept.new ≡ kept.old) }
             { !ends(ending, kept.claim()) },
         );

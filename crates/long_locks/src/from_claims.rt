@@ -16,7 +16,7 @@ use design_tree::Tree;
 use lock_table::Table;
 use std::alloc::Allocator;
 use thiserror::Error;
-use vault_model::{Claim, ClaimId, Item, MOST_CLAIMS, NoMemory, Owner};
+use vault_model::{Claim, ClaimId, Item, MAX_CLAIMS, NoMemory, Owner};
 
 /// Why there is no line of some claims.
 #[derive(Clone, Copy, Debug, PartialEq, Eq, Error)]
@@ -89,7 +89,7 @@ fn are_apart(claims: &[Claim]) -> bool
 fn are_long_claims<A: Allocator>(tree: &Tree<A>, last_long: u32, claims: &[Claim]) -> bool
     ensures { IsTrue result ↔ AreLongClaims tree.now last_long claims.now }
 {
-    claims.len() <= MOST_CLAIMS
+    claims.len() <= MAX_CLAIMS
         && claims
             .iter()
             .all(|claim| is_long_claim(tree, last_long, claim))

@@ -8,11 +8,11 @@ use vault_model::{Claim, Items, Name, NoMemory, Note, Owner};
 
 /// A claim as a line keeps it: in memory of its own, so that a line is short to move in. Contracts see the claim.
 #[derive(Drop)]
-pub(crate) struct Kept<A: Allocator = Global> {
+pub(crate) struct KeptClaim<A: Allocator = Global> {
     claim: Box<Claim, A>,
 }
 
-impl<A: Allocator> Model for Kept<A> {
+impl<A: Allocator> Model for KeptClaim<A> {
     ghost use Rattle.vault_model.specs.declared.claims.Claim.{Claim};
 
     ghost Value = { Claim };
@@ -20,13 +20,13 @@ impl<A: Allocator> Model for Kept<A> {
     ghost view = { λ k. k.claim.value };
 }
 
-impl<A: Allocator> Kept<A> {
+impl<A: Allocator> KeptClaim<A> {
     /// A claim, kept.
-    pub(crate) fn new(alloc: A, claim: Claim) -> Result<Kept<A>, NoMemory>
+    pub(crate) fn new(alloc: A, claim: Claim) -> Result<KeptClaim<A>, NoMemory>
         ensures { IfOk result (λ kept. kept ≡ claim) }
     {
         match Box::new(alloc, claim) {
-            Ok(claim) => Ok(Kept { claim }),
+            Ok(claim) => Ok(KeptClaim { claim }),
             Err(_) => Err(NoMemory),
         }
     }
@@ -60,11 +60,11 @@ impl<A: Allocator> Kept<A> {
     }
 }
 
-impl<A: Allocator + Clone> Clone for Kept<A> {
+impl<A: Allocator + Clone> Clone for KeptClaim<A> {
     ghost is_clone = { λ kept copy. copy ≡ kept };
 
-    fn clone(&self) -> Result<Kept<A>, AllocError> {
-        Ok(Kept {
+    fn clone(&self) -> Result<KeptClaim<A>, AllocError> {
+        Ok(KeptClaim {
             claim: self.claim.clone()?,
         })
     }

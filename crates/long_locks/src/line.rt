@@ -179,12 +179,13 @@ impl<A: Allocator> Line<A> {
         self.claims.at(position)
     }
 
-    /// How a claim stands, over the line's tree and each that has grown from it.
+    /// How a claim stands, over the line's tree and each that has grown from it. It takes one look-up.
     pub fn standing(&self, id: ClaimId) -> Option<Standing>
         ensures { (tree : List Place) → IsTree tree → IsGrownFrom self.now.tree tree →
             result ≡ standing_of tree self.now.claims id }
     {
-        self.table.standing(id)
+        let position = self.claims.position_of(id)?;
+        self.table.standing_at(position)
     }
 
     /// The first held claim that covers a place.

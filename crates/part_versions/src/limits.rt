@@ -6,7 +6,7 @@ ghost use Rattle.part_versions.specs.Rooms.{count_of, weight_with, have_room};
 
 use crate::part::Part;
 use std::alloc::Allocator;
-use vault_model::{DraftIn, EXTRA_WEIGHT, LONGEST_CONTENT, MOST_VERSIONS, MOST_WEIGHT, PlaceId};
+use vault_model::{DraftIn, EXTRA_WEIGHT, LONGEST_CONTENT, MAX_VERSIONS, MAX_WEIGHT, PlaceId};
 
 /// What a shelf of this weight weighs with the drafts, where no content is too long and the weight
 /// isn't too much.
@@ -21,7 +21,7 @@ pub(crate) fn weight_with<B: Allocator>(weight: usize, drafts: &[DraftIn<B>]) ->
             return None;
         }
         sum += len + EXTRA_WEIGHT;
-        if sum > MOST_WEIGHT {
+        if sum > MAX_WEIGHT {
             return None;
         }
     }
@@ -55,7 +55,7 @@ fn has_room<A: Allocator, B: Allocator>(
     requires { All (λ versions. length versions ≤ most_versions) parts.now }
     ensures { result ≡ nat_le (length (versions_of parts.now place) + count_of drafts.now place) most_versions }
 {
-    let room = MOST_VERSIONS - count_in(parts, place);
+    let room = MAX_VERSIONS - count_in(parts, place);
     drafts.len() <= room || count_of(drafts, place) <= room
 }
 

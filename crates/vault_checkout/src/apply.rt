@@ -14,7 +14,7 @@ use long_locks::Line;
 use std::alloc::Allocator;
 use thiserror::Error;
 use vault_model::{
-    Claim, ClaimId, Effect, EffectIn, Item, Items, Kind, MOST_CLAIMS, MOST_ITEMS, Name, NoMemory,
+    Claim, ClaimId, Effect, EffectIn, Item, Items, Kind, MAX_CLAIMS, MAX_ITEMS, Name, NoMemory,
     Note, PlaceId,
 };
 
@@ -52,7 +52,7 @@ fn may_make<A: Allocator>(tree: &Tree<A>, parent: PlaceId, name: &Name) -> bool
 fn may_grow<A: Allocator>(tree: &Tree<A>, own: &Items, items: &Items) -> bool
     ensures { result ≡ (nat_le (length own.now + length items.now) most_items && are_there tree.now items.now) }
 {
-    items.len() <= MOST_ITEMS - own.len() && are_there(tree, items.as_slice())
+    items.len() <= MAX_ITEMS - own.len() && are_there(tree, items.as_slice())
 }
 
 /// Whether a check-out may be asked for: it has the next number, its places are there, and there is
@@ -65,7 +65,7 @@ fn may_ask<A: Allocator>(tree: &Tree<A>, line: &Line<A>, number: u32, items: &It
         && number - 1 == line.last_long()
         && items.len() > 0
         && are_there(tree, items.as_slice())
-        && line.len() < MOST_CLAIMS
+        && line.len() < MAX_CLAIMS
 }
 
 impl<A: Allocator + Copy> Book<A> {

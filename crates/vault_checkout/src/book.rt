@@ -24,8 +24,8 @@ use part_versions::Shelf;
 use std::alloc::{Allocator, Global};
 use std::marker::Model;
 use vault_model::{
-    Claim, ClaimId, Command, CommandIn, DraftIn, Effect, EffectIn, Items, LAST_NUMBER, MOST_CLAIMS,
-    MOST_ITEMS, MOST_SESSIONS, Name, NoMemory, Owner, Path, PathItem, PlaceId, Refusal, Reply,
+    Claim, ClaimId, Command, CommandIn, DraftIn, Effect, EffectIn, Items, LAST_NUMBER, MAX_CLAIMS,
+    MAX_ITEMS, MAX_SESSIONS, Name, NoMemory, Owner, Path, PathItem, PlaceId, Refusal, Reply,
     ReplyIn, Session, Standing,
 };
 
@@ -186,7 +186,7 @@ impl<A: Allocator + Copy> Book<A> {
         ensures told { Follows self.old result self.new (join self.old name) }
         ensures counts { (bound : ℕ) → CountsBelow bound self.old → CountsBelow bound self.new }
     {
-        if self.sessions.len() >= MOST_SESSIONS {
+        if self.sessions.len() >= MAX_SESSIONS {
             return Err(Stop::Refused(Refusal::Limit));
         }
         if self.last_session == LAST_NUMBER {
@@ -255,13 +255,13 @@ impl<A: Allocator + Copy> Book<A> {
         ensures told { Follows self.old result self.new (check_out self.old designer wanted.now) }
         ensures counts { (bound : ℕ) → CountsBelow bound self.old → CountsBelow bound self.new }
     {
-        if wanted.is_empty() || wanted.len() > MOST_ITEMS {
+        if wanted.is_empty() || wanted.len() > MAX_ITEMS {
             return Err(Stop::Refused(Refusal::ItemCount));
         }
         let Some(items) = places_of(&self.tree, wanted) else {
             return Err(Stop::Refused(Refusal::NoPlace));
         };
-        if self.line.len() >= MOST_CLAIMS || self.line.last_long() == LAST_NUMBER {
+        if self.line.len() >= MAX_CLAIMS || self.line.last_long() == LAST_NUMBER {
             return Err(Stop::Refused(Refusal::Limit));
         }
         let standing = self.ask(designer, &items)?;
@@ -283,7 +283,7 @@ impl<A: Allocator + Copy> Book<A> {
         ensures counts { (bound : ℕ) → CountsBelow bound self.old → CountsBelow bound self.new }
     {
         let claim = self.usable(session, id)?;
-        if wanted.is_empty() || wanted.len() > MOST_ITEMS - claim.items.len() {
+        if wanted.is_empty() || wanted.len() > MAX_ITEMS - claim.items.len() {
             return Err(Stop::Refused(Refusal::ItemCount));
         }
         let Some(items) = places_of(&self.tree, wanted) else {

@@ -15,6 +15,8 @@ ghost use Rattle.vault_model.specs.Changes.{with_place, with_check_out, with_ite
 ghost use Rattle.vault_checkout.specs.Applied.{held_at};
 ghost use Rattle.check_outs.specs.Typed.{number_of, own_drafts, marked, saved};
 ghost use Rattle.vault_model.specs.Step.{may_save};
+ghost use Rattle.lock_table.specs.Locks.{AreApart, mode_at};
+ghost use Rattle.lock_table.specs.ClaimModes.{claim_mode};
 ghost use Rattle.lock_table.specs.Tables.{extension_by};
 ghost use Rattle.long_locks.specs.Lines.{extended_by};
 ghost use Rattle.check_outs.specs.Closed.{IsCloseRefusal};
@@ -23,19 +25,29 @@ use crate::book::Book;
 use crate::granting::{grant_held, recall_queued};
 use check_outs::{AnyCheckOut, Stop, close_at, may_save, put_last, save_at, withdraw_at};
 use design_tree::Tree;
-use lock_table::{Extension, lock_set};
+use lock_table::{Extension, LockSet, lock_set};
 use std::alloc::Allocator;
 use vault_model::{
     Claim, ClaimId, Draft, Items, Kind, Listing, Name, NoMemory, Note, PlaceId, Standing,
 };
+
+/// Whether others overlap the items that have these locks: to look at one claim beside many, its locks are made once.
+pub(crate) fn overlaps_locks<A: Allocator>(tree: &Tree<A>, locks: &LockSet, others: &Items) -> bool
+    requires others { AreThere tree.now others.now }
+    requires apart { AreApart locks.now }
+    ensures { (items : List Item) → AreThere tree.now items → ((p : ℕ) → mode_at locks.now p ≡ claim_mode tree.now items p) →
+        result ≡ overlap tree.now items others.now }
+{
+    tree.see_whole();
+    locks.conflicts(&lock_set(tree, others.as_slice()))
+}
 
 pub(crate) fn overlaps<A: Allocator>(tree: &Tree<A>, items: &Items, others: &Items) -> bool
     requires items { AreThere tree.now items.now }
     requires others { AreThere tree.now others.now }
     ensures { result ≡ overlap tree.now items.now others.now }
 {
-    tree.see_whole();
-    lock_set(tree, items.as_slice()).conflicts(&lock_set(tree, others.as_slice()))
+    overlaps_locks(tree, &lock_set(tree, items.as_slice()), others)
 }
 
 /// A content, copied into an allocator's memory.

@@ -9,9 +9,7 @@ use crate::done::Done;
 use crate::granting::grant_held;
 use check_outs::{Stop, is_owned_by, places_of};
 use std::alloc::Allocator;
-use vault_model::{
-    ClaimId, LAST_NUMBER, MOST_CLAIMS, MOST_ITEMS, PathItem, Refusal, Reply, Session,
-};
+use vault_model::{ClaimId, LAST_NUMBER, MAX_CLAIMS, MAX_ITEMS, PathItem, Refusal, Reply, Session};
 
 impl<A: Allocator + Copy> Book<A> {
     #[tactic(auto, unfolding(vault_model::specs::Step::hold, vault_model::specs::Step::chained))]
@@ -20,13 +18,13 @@ impl<A: Allocator + Copy> Book<A> {
         ensures told { Follows self.old result self.new (hold self.old session.now wanted.now) }
         ensures counts { (bound : ℕ) → CountsBelow bound self.old → CountsBelow bound self.new }
     {
-        if wanted.is_empty() || wanted.len() > MOST_ITEMS {
+        if wanted.is_empty() || wanted.len() > MAX_ITEMS {
             return Err(Stop::Refused(Refusal::ItemCount));
         }
         let Some(items) = places_of(&self.tree, wanted) else {
             return Err(Stop::Refused(Refusal::NoPlace));
         };
-        if self.line.len() >= MOST_CLAIMS || self.line.last_short() == LAST_NUMBER {
+        if self.line.len() >= MAX_CLAIMS || self.line.last_short() == LAST_NUMBER {
             return Err(Stop::Refused(Refusal::Limit));
         }
         let standing = self.line.ask_short(&self.tree, session.number, items)?;

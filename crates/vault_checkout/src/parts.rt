@@ -3,12 +3,13 @@ ghost use Rattle.std.specs.Prelude.{[], ◌↔◌, All, IsTrue};
 ghost use Rattle.vault_model.specs.Vault.{AreThere};
 ghost use Rattle.check_outs.specs.Parts.{AreAllThere, OverlapsNone, MayBe, MayHave, EachMayHave, AreFit};
 
-use crate::changes::overlaps;
+use crate::changes::overlaps_locks;
 use check_outs::{are_light, are_of_parts, are_rising, are_there, may_be};
 use design_tree::Tree;
+use lock_table::lock_set;
 use part_versions::Shelf;
 use std::alloc::Allocator;
-use vault_model::{Claim, DraftIn, Drafts, Items, MOST_DRAFTS};
+use vault_model::{Claim, DraftIn, Drafts, Items, MAX_DRAFTS};
 
 fn has_places<A: Allocator>(tree: &Tree<A>, claim: &Claim) -> bool
     ensures { IsTrue result ↔ AreThere tree.now claim.now.items }
@@ -33,8 +34,9 @@ fn is_apart<A: Allocator>(tree: &Tree<A>, claims: &[Claim], items: &Items) -> bo
     requires items { AreThere tree.now items.now }
     ensures { IsTrue result ↔ OverlapsNone tree.now claims.now items.now }
 {
+    let locks = lock_set(tree, items.as_slice());
     for claim in claims {
-        if overlaps(tree, items, &claim.items) {
+        if overlaps_locks(tree, &locks, &claim.items) {
             return false;
         }
     }
@@ -54,7 +56,7 @@ fn may_have<A: Allocator>(
     if drafts.is_empty() {
         return true;
     }
-    if drafts.len() > MOST_DRAFTS || !are_rising(drafts) {
+    if drafts.len() > MAX_DRAFTS || !are_rising(drafts) {
         return false;
     }
     may_all_be(tree, items, drafts) && is_apart(tree, before, items)

@@ -11,7 +11,7 @@ use Rattle.vault_format.specs.declared.version.FileVersion.{FileVersion}
 use Rattle.vault_format.specs.declared.version.FileVersion.TheVariants.{One, Two}
 use Rattle.vault_format.specs.Snapshot.{current_version, spelling_of, HasSpelling}
 use Rattle.vault_format.specs.declared.sizes.TheConstants.{HEADER}
-use Rattle.vault_format.specs.declared.sizes.TheConstants.{MOST_RECORDS, FRAME_EXTRA}
+use Rattle.vault_format.specs.declared.sizes.TheConstants.{MAX_RECORDS, FRAME_EXTRA}
 
 -- how many bytes stand before the snapshot
 abbrev pub header : ℕ
@@ -32,7 +32,7 @@ version_number Two = 2
 
 -- the most bytes of a frame's records
 abbrev pub most_records : ℕ
-most_records = MOST_RECORDS
+most_records = MAX_RECORDS
 
 -- how many bytes a frame has beside its records: its gate and the records' length
 abbrev pub frame_extra : ℕ

@@ -2,7 +2,7 @@
 use Rattle.std.specs.Prelude.{◌≡◌, ℕ, ◌<◌, ◌≤◌, ◌^◌, length}
 use Rattle.vault_model.specs.Vault.{Vault}
 use Rattle.vault_format.specs.declared.version.FileVersion.{FileVersion}
-use Rattle.vault_format.specs.declared.sizes.TheConstants.{MOST_SNAPSHOT}
+use Rattle.vault_format.specs.declared.sizes.TheConstants.{MAX_SNAPSHOT}
 use Rattle.vault_format.specs.Snapshot.{current_version, snapshot_of, spelling_of, HasSnapshot, HasSpelling}
 
 -- four bytes can count a spelling
@@ -11,7 +11,7 @@ SnapshotsAreShort = (v : Vault) → HasSnapshot v → length (snapshot_of v) < 2
 
 -- the most bytes of a spelling
 abbrev pub most_snapshot : ℕ
-most_snapshot = MOST_SNAPSHOT
+most_snapshot = MAX_SNAPSHOT
 
 -- no spelling has more
 abbrev pub NoneIsLonger : Type 0

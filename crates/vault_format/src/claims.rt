@@ -9,7 +9,7 @@ use crate::version::FileVersion;
 use std::alloc::Allocator;
 use vault_journal::{content_at, items_at, name_at, note_at, u8_at, u16_at, u32_at};
 use vault_model::{
-    Claim, ClaimId, Draft, DraftIn, Drafts, Listing, MOST_CLAIMS, MOST_DRAFTS, Note, Owner, PlaceId,
+    Claim, ClaimId, Draft, DraftIn, Drafts, Listing, MAX_CLAIMS, MAX_DRAFTS, Note, Owner, PlaceId,
 };
 
 // The check-outs of a snapshot, in the order of the line, one field behind another:
@@ -61,7 +61,7 @@ fn read_drafts<'a, A: Allocator + Copy>(
     let Some((count, after)) = u8_at(bytes) else {
         return Err(SnapshotError::NotWellFormed);
     };
-    if usize::from(count) > MOST_DRAFTS {
+    if usize::from(count) > MAX_DRAFTS {
         return Err(SnapshotError::NotWellFormed);
     }
     let mut rest = after;
@@ -135,7 +135,7 @@ pub fn read_claims<'a, A: Allocator + Copy>(
     let Some((count, after)) = u16_at(bytes) else {
         return Err(SnapshotError::NotWellFormed);
     };
-    if usize::from(count) > MOST_CLAIMS {
+    if usize::from(count) > MAX_CLAIMS {
         return Err(SnapshotError::NotWellFormed);
     }
     let mut rest = after;

@@ -23,5 +23,5 @@ mod version;
 pub use claims::read_claims;
 pub use error::SnapshotError;
 pub use places::{Places, read_places, read_places_on};
-pub use sizes::{FRAME_EXTRA, HEADER, MOST_RECORDS, MOST_SNAPSHOT};
+pub use sizes::{FRAME_EXTRA, HEADER, MAX_RECORDS, MAX_SNAPSHOT};
 pub use version::{FileVersion, version_of};

@@ -4,9 +4,7 @@ ghost use Rattle.vault_inspector.specs.Checks.{limit_of, limit_text, limits_of, 
 
 use crate::Figures;
 use std::fmt;
-use vault_model::{
-    LAST_NUMBER, MOST_CHILDREN, MOST_CLAIMS, MOST_PLACES, MOST_VERSIONS, MOST_WEIGHT,
-};
+use vault_model::{LAST_NUMBER, MAX_CHILDREN, MAX_CLAIMS, MAX_PLACES, MAX_VERSIONS, MAX_WEIGHT};
 
 /// What is limited.
 #[derive(Clone, Copy, Debug, PartialEq, Eq)]
@@ -94,19 +92,15 @@ impl Figures {
         ensures { result ≡ limits_of self.now }
     {
         [
-            limit_of(Limited::Places, self.places as u64, MOST_PLACES as u64),
-            limit_of(
-                Limited::Projects,
-                self.projects as u64,
-                MOST_CHILDREN as u64,
-            ),
-            limit_of(Limited::Claims, self.claims as u64, MOST_CLAIMS as u64),
+            limit_of(Limited::Places, self.places as u64, MAX_PLACES as u64),
+            limit_of(Limited::Projects, self.projects as u64, MAX_CHILDREN as u64),
+            limit_of(Limited::Claims, self.claims as u64, MAX_CLAIMS as u64),
             limit_of(
                 Limited::Versions,
                 u64::from(self.part_versions),
-                MOST_VERSIONS as u64,
+                MAX_VERSIONS as u64,
             ),
-            limit_of(Limited::Weight, self.weight as u64, MOST_WEIGHT as u64),
+            limit_of(Limited::Weight, self.weight as u64, MAX_WEIGHT as u64),
             limit_of(
                 Limited::CheckOuts,
                 u64::from(self.last_check_out),

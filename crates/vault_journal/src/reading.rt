@@ -4,7 +4,7 @@ ghost use Rattle.std.specs.Prelude.{◌≡◌, ◌≤◌};
 ghost use Rattle.vault_model.specs.Limits.{most_items};
 ghost use Rattle.vault_journal.specs.Reading.{Reads, u8_at, u16_at, u32_at, u64_at, bytes_at, name_at, item_at, each_item_at, items_at, content_at, note_at};
 
-use vault_model::{Intent, Item, Items, LONGEST_CONTENT, MOST_ITEMS, Name, Note, PlaceId};
+use vault_model::{Intent, Item, Items, LONGEST_CONTENT, MAX_ITEMS, Name, Note, PlaceId};
 
 /// The number in the first byte.
 pub fn u8_at(bytes: &[u8]) -> Option<(u8, &[u8])>
@@ -136,7 +136,7 @@ pub fn items_at(bytes: &[u8]) -> Option<(Items, &[u8])>
 {
     let (count, rest) = u8_at(bytes)?;
     let count = usize::from(count);
-    if count < 1 || MOST_ITEMS < count {
+    if count < 1 || MAX_ITEMS < count {
         return None;
     }
     each_item_at(count, rest)

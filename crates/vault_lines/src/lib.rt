@@ -20,7 +20,7 @@ mod text;
 mod words;
 
 pub use error::LineError;
-pub use limits::{LONGEST_LINE, MOST_READS};
+pub use limits::{LONGEST_LINE, MAX_READS};
 pub use reading::read_line_of;
 pub use text::{outside_text, text_of};
 pub use words::read_number;

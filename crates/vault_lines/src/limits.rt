@@ -4,4 +4,4 @@
 pub const LONGEST_LINE: usize = 4096;
 
 /// The most calls of a reader, for one script or one connection.
-pub const MOST_READS: u32 = 33_554_432;
+pub const MAX_READS: u32 = 33_554_432;

@@ -1,6 +1,6 @@
 -- The vault's limits; `src/limits.rt` has the numbers. This project's own.
 use Rattle.std.specs.Prelude.{ℕ}
-use Rattle.vault_model.specs.declared.limits.TheConstants.{GREATEST_DEPTH, MOST_NAMES, PART_DEPTH, LONGEST_NAME, MOST_PLACES, MOST_CHILDREN, MOST_ITEMS, MOST_CLAIMS, MOST_SESSIONS, LAST_NUMBER, LONGEST_CONTENT, MOST_VERSIONS, MOST_WEIGHT, EXTRA_WEIGHT, MOST_DRAFTS, LONGEST_NOTE}
+use Rattle.vault_model.specs.declared.limits.TheConstants.{GREATEST_DEPTH, MAX_NAMES, PART_DEPTH, LONGEST_NAME, MAX_PLACES, MAX_CHILDREN, MAX_ITEMS, MAX_CLAIMS, MAX_SESSIONS, LAST_NUMBER, LONGEST_CONTENT, MAX_VERSIONS, MAX_WEIGHT, EXTRA_WEIGHT, MAX_DRAFTS, LONGEST_NOTE}
 
 -- how many places above it a place has at most
 abbrev pub greatest_depth : ℕ
@@ -8,7 +8,7 @@ greatest_depth = GREATEST_DEPTH
 
 -- the most names of a path: one for each step down
 abbrev pub most_names : ℕ
-most_names = MOST_NAMES
+most_names = MAX_NAMES
 
 -- the least depth of a part
 abbrev pub part_depth : ℕ
@@ -20,23 +20,23 @@ longest_name = LONGEST_NAME
 
 -- the most places of a tree, with the library
 abbrev pub most_places : ℕ
-most_places = MOST_PLACES
+most_places = MAX_PLACES
 
 -- the most children of a place
 abbrev pub most_children : ℕ
-most_children = MOST_CHILDREN
+most_children = MAX_CHILDREN
 
 -- the most items of a claim
 abbrev pub most_items : ℕ
-most_items = MOST_ITEMS
+most_items = MAX_ITEMS
 
 -- the most claims that stand, of both kinds
 abbrev pub most_claims : ℕ
-most_claims = MOST_CLAIMS
+most_claims = MAX_CLAIMS
 
 -- the most sessions at once, the door not counted
 abbrev pub most_sessions : ℕ
-most_sessions = MOST_SESSIONS
+most_sessions = MAX_SESSIONS
 
 -- the last number that a session or a claim may get
 abbrev pub last_number : ℕ
@@ -48,11 +48,11 @@ longest_content = LONGEST_CONTENT
 
 -- the most versions of a part
 abbrev pub most_versions : ℕ
-most_versions = MOST_VERSIONS
+most_versions = MAX_VERSIONS
 
 -- the most that all contents weigh together
 abbrev pub most_weight : ℕ
-most_weight = MOST_WEIGHT
+most_weight = MAX_WEIGHT
 
 -- what a content weighs beside its bytes
 abbrev pub extra_weight : ℕ
@@ -60,7 +60,7 @@ extra_weight = EXTRA_WEIGHT
 
 -- the most drafts of a check-out
 abbrev pub most_drafts : ℕ
-most_drafts = MOST_DRAFTS
+most_drafts = MAX_DRAFTS
 
 -- the most bytes of a check-out's note
 abbrev pub longest_note : ℕ

@@ -5,13 +5,13 @@ ghost use Rattle.std.proofs.Common.{rules};
 ghost use Rattle.std.specs.Cmp.Rules.{comparing};
 ghost use Rattle.vault_model.specs.Limits.{most_items};
 
-use crate::{Intent, Item, MOST_ITEMS, PlaceId};
+use crate::{Intent, Item, MAX_ITEMS, PlaceId};
 use std::marker::Model;
 
-/// Up to `MOST_ITEMS` items, in room of their own.
+/// Up to `MAX_ITEMS` items, in room of their own.
 #[derive(Clone, Copy, Debug)]
 pub struct Items {
-    room: [Item; MOST_ITEMS],
+    room: [Item; MAX_ITEMS],
     len: usize,
 }
 
@@ -44,7 +44,7 @@ impl Items {
             room: [Item {
                 intent: Intent::Look,
                 place: PlaceId(0),
-            }; MOST_ITEMS],
+            }; MAX_ITEMS],
             len: 0,
         }
     }

@@ -8,13 +8,13 @@ ghost use Rattle.vault_model.specs.Limits.{most_names};
 ghost use Rattle.vault_model.specs.Path.{front, last, path_in, names_in};
 
 use crate::split::cut;
-use crate::{MOST_NAMES, Name};
+use crate::{MAX_NAMES, Name};
 use std::marker::Model;
 
-/// A path from the library: the names on the way, at most `MOST_NAMES`. The library's own path has none.
+/// A path from the library: the names on the way, at most `MAX_NAMES`. The library's own path has none.
 #[derive(Clone, Copy, Debug)]
 pub struct Path {
-    names: [Name; MOST_NAMES],
+    names: [Name; MAX_NAMES],
     len: usize,
 }
 
@@ -43,7 +43,7 @@ impl Path {
         ensures { result ≡ [] }
     {
         Path {
-            names: [Name::blank(); MOST_NAMES],
+            names: [Name::blank(); MAX_NAMES],
             len: 0,
         }
     }
@@ -70,7 +70,7 @@ impl Path {
         while let Some(text) = rest {
             let (word, behind) = cut(text, b'/');
             let name = Name::read(word)?;
-            if path.len() == MOST_NAMES {
+            if path.len() == MAX_NAMES {
                 return None;
             }
             path.push(name);

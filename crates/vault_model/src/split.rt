@@ -7,7 +7,7 @@ ghost use Rattle.vault_model.specs.Splits.{parts_behind};
 use memchr::memchr;
 
 /// Where the separator stands first.
-fn place_of(text: &[u8], separator: u8) -> Option<usize>
+fn position_of(text: &[u8], separator: u8) -> Option<usize>
     ensures place { result ≡ position (λ b. b == separator) text.now }
     ensures within { IfSome result (λ at. at < length text.now) }
 {
@@ -20,7 +20,7 @@ pub fn cut(text: &[u8], separator: u8) -> (&[u8], Option<&[u8]>)
     ensures parts { slice_split (λ b. b == separator) text.now ≡ result.0.now ∷ parts_behind separator (option_copied result.1) }
     ensures shorter { IfSome result.1 (λ rest. length rest.now < length text.now) }
 {
-    match place_of(text, separator) {
+    match position_of(text, separator) {
         Some(at) => {
             let (part, _) = text.split_at(at);
             let (_, rest) = text.split_at(at + 1);

@@ -8,7 +8,7 @@ use crate::error::ScriptError;
 use crate::limits::LONGEST_SCRIPT;
 use std::alloc::{AllocError, Allocator};
 use std::io::Read;
-use vault_lines::MOST_READS;
+use vault_lines::MAX_READS;
 
 /// Room for one read.
 fn room<A: Allocator>(alloc: A) -> Result<Vec<u8, A>, AllocError>
@@ -30,7 +30,7 @@ pub(crate) fn read_script<A: Allocator + Copy, R: Read>(
 {
     let mut buffer = room(alloc)?;
     let mut script = Vec::new(alloc);
-    for _call in 0..MOST_READS {
+    for _call in 0..MAX_READS {
         let Ok(count) = reader.read(&mut buffer) else {
             return Err(ScriptError::Read);
         };

@@ -30,4 +30,4 @@ pub use error::ScriptError;
 pub use help::SCRIPT_HELP;
 pub use limits::{LAST_CONNECTION, LONGEST_SCRIPT};
 pub use script::run_script;
-pub use vault_lines::{LONGEST_LINE, LineError, MOST_READS, outside_text, read_line_of, text_of};
+pub use vault_lines::{LONGEST_LINE, LineError, MAX_READS, outside_text, read_line_of, text_of};

@@ -9,7 +9,7 @@ use std::alloc::Global;
 use std::{fs, io};
 
 /// The most runs of one row.
-const MOST_RUNS: u64 = 1000;
+const MAX_RUNS: u64 = 1000;
 
 /// Runs the rows of a file, and prints those that answer something else.
 pub(crate) fn run_rows(rt: &HostRuntime, file: &str, tally: &mut Tally) -> io::Result<()> {
@@ -39,7 +39,7 @@ fn run_lines(rt: &HostRuntime, file: &str, text: &str, tally: &mut Tally) -> io:
 
 /// Whether each run of a row behind what it begins with agrees; else tells what didn't.
 fn runs_agree(alloc: Global, names: &Names, row: (&str, &str), told: &mut Text) -> bool {
-    for run in 0..MOST_RUNS {
+    for run in 0..MAX_RUNS {
         match runs_with(alloc, names, row, run, told) {
             Some(runs) if run + 1 < runs => {}
             Some(_) => return true,

@@ -17,6 +17,7 @@
 //! | `calls` | | how many device calls each file has seen |
 //! | `head`, `body` | the first file's head is read, or what stands behind it | what it is, or `damaged at N` |
 //! | `inspect` | both are inspected | the report, its lines parted by ` / `, or `Device` |
+//! | `vaults` | both are read | `two` where they are of two vaults, else `one`, or `Device` |
 //! | `create` | a new vault is made in them | `Made`, or `Exists`, `Device` |
 //! | `open` | the vault in them is opened | what it is, or `NoVault`, `Device`, `First damaged at N` |
 //! | `snapshot` | it is opened, and a snapshot of it begun | `Yes`, or as `open` |
@@ -40,13 +41,13 @@ ghost use Rattle.std.specs.Prelude.{IfSome, All};
 ghost use Rattle.vault_journal.specs.Spelling.{HasRecord};
 
 use crate::bytes::Names;
-use crate::telling::{tell_body, tell_bytes, tell_head, tell_inspection};
+use crate::telling::{tell_body, tell_bytes, tell_head, tell_inspection, tell_vaults};
 use crate::text::Text;
 use std::alloc::Global;
 use vault_device::{Device, MemDevice, Pick};
 use vault_journal::read_effects;
 use vault_model::EffectIn;
-use vault_store::{Store, read_head};
+use vault_store::{Store, are_of_two_vaults, read_head};
 
 /// A step: its first word, the rest of its words, and what it has to answer.
 #[derive(Clone, Copy)]
@@ -100,6 +101,10 @@ pub(crate) fn at_files(
         "head" => tell_head(told, read_head(first)),
         "body" => tell_body(told, alloc, first),
         "inspect" => tell_inspection(told, alloc, first, second),
+        "vaults" => {
+            tell_vaults(told, are_of_two_vaults(alloc, first, second));
+            true
+        }
         _ => false,
     }
 }

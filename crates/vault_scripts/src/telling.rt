@@ -7,7 +7,7 @@ use vault_checkout::Book;
 use vault_device::{Device, Fault, MemDevice};
 use vault_inspector::{Report, inspect, print};
 use vault_model::{Claim, ClaimId, Owner, PlaceId};
-use vault_store::{Body, Head, OpenError, Store, read_body};
+use vault_store::{Body, BodyError, Head, OpenError, Store, read_body};
 
 /// Tells the answer, where a file holds these bytes, and else what it holds; says whether it could be read.
 pub(crate) fn tell_bytes(
@@ -175,6 +175,15 @@ fn tell_versions(told: &mut Text, book: &Book, place: PlaceId) {
         told.put_value(&version, " of ");
         told.put_value(&place.number(), ": ");
         told.put_content(book.shelf().fetch(place, version).unwrap_or(&[]));
+    }
+}
+
+/// Tells whether two files are of two vaults, or why that isn't known.
+pub(crate) fn tell_vaults(told: &mut Text, are_two: Result<bool, BodyError>) {
+    match are_two {
+        Ok(true) => told.put("two"),
+        Ok(false) => told.put("one"),
+        Err(why) => told.put_value(&why, ""),
     }
 }
 

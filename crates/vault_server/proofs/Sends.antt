@@ -14,10 +14,10 @@ use Rattle.vault_device.specs.declared.device.Device.{Ghosts as DeviceGhosts}
 use Rattle.vault_sessions.specs.declared.tally.Tally.{Ghosts as TallyGhosts}
 use Rattle.vault_sessions.proofs.Sends.{worker_send}
 use Rattle.vault_server.specs.contracts.bells.Bell as Bell
-use Rattle.vault_server.specs.contracts.commits.Seat as Seat
+use Rattle.vault_server.specs.contracts.commits.CommitToken as CommitToken
 use Rattle.vault_server.specs.contracts.door.Crowd as Crowd
 use Rattle.vault_server.specs.contracts.door.News as News
-use Rattle.vault_server.specs.contracts.rounds.Rounds as Rounds
+use Rattle.vault_server.specs.contracts.event_loop.EventLoop as EventLoop
 use Rattle.vault_server.specs.contracts.server.Connection as Connection
 use Rattle.vault_server.specs.contracts.slot.Patience as Patience
 
@@ -45,17 +45,17 @@ crowd_sync = let b = bell_sync in search (fields, locks) depth 40 fits 20000
 patience_send : IsSend Patience.the_row
 patience_send = search fields depth 40 fits 20000
 
-seat_send : IsSend Seat.the_row
-seat_send = search fields depth 40 fits 20000
+token_send : IsSend CommitToken.the_row
+token_send = search fields depth 40 fits 20000
 
 module _ (D S T A : RattleType) (d : DeviceGhosts D.Denot) (sc : TallyGhosts S.Denot) (sl : LedgerGhosts S.Denot) (tc : TallyGhosts T.Denot) (tl : LedgerGhosts T.Denot) (g : Ghosts A.Denot) where
-  pub rounds_send : (ℓ : NamedLft) (G H : RattleType) → IsSend D → IsSend S → IsSync S → IsSend T → IsSync T → IsSend A → IsSync A → Frees g g.dealloc_token → IsSync G → IsSync H → IsSend (Rounds.the_field ℓ D S T A G H d sc sl tc tl g).row
-  rounds_send ℓ G H ds s sy t ty a ay f gy hy =
+  pub event_loop_send : (ℓ : NamedLft) (G H : RattleType) → IsSend D → IsSend S → IsSync S → IsSend T → IsSync T → IsSend A → IsSync A → Frees g g.dealloc_token → IsSync G → IsSync H → IsSend (EventLoop.the_field ℓ D S T A G H d sc sl tc tl g).row
+  event_loop_send ℓ G H ds s sy t ty a ay f gy hy =
       let w = λ (ℓ : NamedLft). worker_send D S T A d sc sl tc tl g ℓ G H ds s sy t ty a f gy hy in
       let b = bell_sync in
       let p = crowd_sync in
       let q = patience_send in
-      let l = seat_send in
+      let l = token_send in
       let r = receiver_send A g a ay f in
       let c = sender_send A g a ay f in
       search (sendable, locks, over, w) depth 60 fits 20000

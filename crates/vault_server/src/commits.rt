@@ -1,10 +1,8 @@
 //! Committing, by the threads that serve connections: whichever finds that it is due, and that no other commits.
 //!
-//! Each thread asks once in each of its rounds, whatever else it has to do. To commit is due where something isn't settled, or a conversation
-//! waits for room, unless others may still come whom the last commit told or who came meanwhile. How long these are waited for at most is
-//! `Desk::due`'s to say, by `flusher_pace`. A snapshot is made before, where one is wanted, once behind each commit of the thread's own.
+//! Each thread asks once in each of its rounds, whatever else it has to do. What is due when, a commit or a snapshot, is `Desk::due`'s to say.
 
-use flusher_pace::{Commit, Gathering};
+use flusher_pace::{Gathering, Silence};
 use std::alloc::Allocator;
 use std::sync::{Mutex, Wait};
 use std::time::{Clock, Duration};
@@ -13,39 +11,38 @@ use vault_sessions::{Due, Flusher, Gate, Tally};
 
 /// Who has it commits. Nobody sleeps until he gets it.
 #[derive(Debug, Clone, Copy, PartialEq, Eq)]
-pub(crate) struct Seat;
+pub(crate) struct CommitToken;
 
 /// One thread's part in it.
 #[derive(Drop)]
 pub(crate) struct Committer<'a, D: Device, S: Tally, T: Tally, A: Allocator, G: Gate, H> {
     flusher: Flusher<'a, D, S, T, A, G, H>,
-    seat: &'a Mutex<Seat>,
+    token: &'a Mutex<CommitToken>,
     gathering: Gathering,
-    // Whether it may begin a snapshot: once behind each commit of its own.
-    may_begin: bool,
+    silence: Silence,
 }
 
 /// What a try to commit came to.
 #[derive(Debug, Clone, Copy, PartialEq, Eq)]
-pub(crate) enum Tried {
+pub(crate) enum CommitTry {
     /// There is nothing to commit, or another thread commits.
     NotNow,
-    /// It is better to wait for others, for so long at most.
+    /// It is better to wait, for so long at most.
     Early(Duration),
     /// Nothing was settled.
     InVain,
     /// There is room again, questions are settled, a snapshot is done, or the vault is broken now.
     Settled,
-    /// A commit, before which so many entries were settled.
-    Committed(u64, Commit),
+    /// A commit.
+    Committed,
 }
 
-impl Tried {
-    /// Whether somebody's entry may be settled now, or a seat is free that another found taken.
+impl CommitTry {
+    /// Whether somebody's entry may be settled now, or a token is free that another found taken.
     pub fn may_settle(self) -> bool {
         matches!(
             self,
-            Tried::InVain | Tried::Settled | Tried::Committed(_, _)
+            CommitTry::InVain | CommitTry::Settled | CommitTry::Committed
         )
     }
 }
@@ -62,66 +59,52 @@ impl<'a, D: Device, S: Tally, T: Tally, A: Allocator + Copy, G: Gate, H: Wait + 
     /// It commits by this flusher.
     pub fn new(
         flusher: Flusher<'a, D, S, T, A, G, H>,
-        seat: &'a Mutex<Seat>,
+        token: &'a Mutex<CommitToken>,
     ) -> Committer<'a, D, S, T, A, G, H> {
         Committer {
             flusher,
-            seat,
+            token,
             gathering: Gathering::new(),
-            may_begin: true,
+            silence: Silence::new(),
         }
     }
 
-    /// Commits what is staged, or makes a snapshot, unless another thread does. One that it finds at that rings this thread's bell
-    /// once it is done.
-    pub fn commit(&mut self) -> Tried {
-        if self.renew() {
-            return Tried::Settled;
+    /// Does what is due, unless another thread is at it. One that it finds at that rings this thread's bell once it is done.
+    pub fn commit(&mut self) -> CommitTry {
+        let due = self.flusher.due(&mut self.gathering, &mut self.silence);
+        match due {
+            Due::Nothing => return CommitTry::NotNow,
+            Due::In(left) => return CommitTry::Early(left),
+            Due::Snapshot | Due::Commit(_) => {}
         }
-        let before = match self.flusher.due(&mut self.gathering) {
-            Due::Never => return Tried::NotNow,
-            Due::In(left) => return Tried::Early(left),
-            Due::Now(settled) => settled,
-        };
-        let Some(seat) = self.seat.try_lock() else {
-            return Tried::NotNow;
+        let Some(token) = self.token.try_lock() else {
+            return CommitTry::NotNow;
         };
         self.gathering = Gathering::new();
-        let has_room = self.flusher.retire();
-        let commit = self.flusher.settle();
-        if let Some(commit) = commit {
-            self.flusher.expects(before, commit, 0);
-        }
-        drop(seat);
-        if !has_room && self.flusher.settled() == Some(before) {
-            return Tried::InVain;
-        }
-        self.may_begin = true;
-        match commit {
-            Some(commit) => Tried::Committed(before, commit),
-            None => Tried::Settled,
-        }
+        let tried = match due {
+            Due::Commit(settled) => self.commit_behind(settled),
+            _ if self.flusher.renew() => CommitTry::Settled,
+            _ => CommitTry::InVain,
+        };
+        drop(token);
+        tried
     }
 
-    // Makes a snapshot, where one is wanted, it may, and no other thread commits. Whether it did.
-    fn renew(&mut self) -> bool {
-        if !self.may_begin {
-            return false;
+    // Commits what is staged, behind so many entries that are settled.
+    fn commit_behind(&self, settled: u64) -> CommitTry {
+        let has_room = self.flusher.retire();
+        if self.flusher.commit(settled) {
+            return CommitTry::Committed;
         }
-        self.may_begin = false;
-        let Some(seat) = self.seat.try_lock() else {
-            return false;
-        };
-        let has_begun = self.flusher.begin_snapshot();
-        if has_begun {
-            let _ = self.flusher.settle();
+        if has_room || self.flusher.settled() != Some(settled) {
+            CommitTry::Settled
+        } else {
+            CommitTry::InVain
         }
-        drop(seat);
-        has_begun
     }
 
     /// So many lines came while it committed, and aren't heard yet: for those the next commit waits, too, beside whom this one tells.
-    pub fn expect(&self, settled: u64, commit: Commit, coming: u64) {
-        self.flusher.expects(settled, commit, coming);
+    pub fn expect(&self, coming: u64) {
+        self.flusher.expects_more(coming);
     }
 }

@@ -1,7 +1,7 @@
 //! Who comes is accepted, and waits for a place.
 
 use crate::bells::Bell;
-use crate::server::{Connection, ServerError, Terms};
+use crate::server::{Connection, ServerError, ServerOptions};
 use crate::slot::first_of;
 use crate::stream::{prepare, turn_away};
 use crossbeam_channel::{Receiver, Sender};
@@ -17,13 +17,13 @@ use std::time::{Clock, Duration, Instant};
 use vault_sessions::Gate;
 
 // How many connections wait for a place at most. The kernel keeps some more behind these.
-const MOST_WAITING: usize = 64;
+const MAX_WAITING: usize = 64;
 
 // How many connections are waited for, or served, at most.
-const MOST_HERE: usize = 128;
+const MAX_HERE: usize = 128;
 
 // How many accepts may fail in a row, and for how many milliseconds nobody is accepted behind each.
-const MOST_FAULTS: u32 = 20;
+const MAX_FAULTS: u32 = 20;
 
 const REST: u64 = 50;
 
@@ -33,7 +33,7 @@ const WANTS: [i32; 4] = [libc::ENOMEM, 23, libc::EMFILE, 105];
 // What the kernel's news are of: the listener, or the crowd's bell.
 const LISTENER: Token = Token(0);
 
-const MOST_EVENTS: usize = 4;
+const MAX_EVENTS: usize = 4;
 
 /// What a thread that serves says to the door.
 #[derive(Debug, Clone, Copy, PartialEq, Eq)]
@@ -110,7 +110,7 @@ pub(crate) struct Door<'a, A: Allocator, H> {
     /// What the threads say.
     pub news: &'a Receiver<News, A>,
     pub crowd: &'a Crowd,
-    pub terms: Terms,
+    pub options: ServerOptions,
 }
 
 impl<A: Allocator + Copy, H: Wait + Clock> Door<'_, A, H> {
@@ -120,7 +120,7 @@ impl<A: Allocator + Copy, H: Wait + Clock> Door<'_, A, H> {
         let mut poll = poll;
         let mut queue = self.queue()?;
         let fd = self.listener.as_raw_fd();
-        let mut events = Events::with_capacity(self.alloc, MOST_EVENTS).or(Err(
+        let mut events = Events::with_capacity(self.alloc, MAX_EVENTS).or(Err(
             ServerError::NoMemory,
         ))?;
         let is_ready = self.listener.set_nonblocking(true).is_ok()
@@ -157,15 +157,15 @@ impl<A: Allocator + Copy, H: Wait + Clock> Door<'_, A, H> {
             number: 0,
             faults: 0,
             may_more: true,
-            closed: if self.terms.connections == Some(0) {
+            closed: if self.options.connections == Some(0) {
                 Some(Ok(()))
             } else {
                 None
             },
         };
-        let has_room = queue.waiting.reserve(MOST_WAITING).is_ok()
-            && queue.places.reserve(self.terms.workers).is_ok()
-            && queue.here.reserve(MOST_HERE).is_ok();
+        let has_room = queue.waiting.reserve(MAX_WAITING).is_ok()
+            && queue.places.reserve(self.options.workers).is_ok()
+            && queue.here.reserve(MAX_HERE).is_ok();
         if has_room {
             Ok(queue)
         } else {
@@ -176,8 +176,8 @@ impl<A: Allocator + Copy, H: Wait + Clock> Door<'_, A, H> {
 
     // Accepts who is there, while there is room to wait. Whether an accept failed.
     fn accept<G: Gate>(&self, queue: &mut Queue<A>, now: Option<Instant>, gate: &G) -> bool {
-        for _ in 0..MOST_WAITING {
-            if !queue.may_more || queue.closed.is_some() || queue.waiting.len() >= MOST_WAITING {
+        for _ in 0..MAX_WAITING {
+            if !queue.may_more || queue.closed.is_some() || queue.waiting.len() >= MAX_WAITING {
                 return false;
             }
             match self.listener.accept() {
@@ -200,9 +200,9 @@ impl<A: Allocator + Copy, H: Wait + Clock> Door<'_, A, H> {
         let is_want = error
             .raw_os_error()
             .is_some_and(|code| WANTS.contains(&code));
-        if queue.faults > MOST_FAULTS && !is_want {
+        if queue.faults > MAX_FAULTS && !is_want {
             queue.closed = Some(Err(ServerError::Accept));
-            gate.accepts_no_more();
+            gate.accepts_no_more(error);
         }
     }
 
@@ -220,7 +220,7 @@ impl<A: Allocator + Copy, H: Wait + Clock> Door<'_, A, H> {
             number: queue.number,
             stream,
         };
-        if self.terms.connections == Some(queue.number) {
+        if self.options.connections == Some(queue.number) {
             queue.closed = Some(Ok(()));
         }
         let from = address.ip().to_canonical();
@@ -230,7 +230,7 @@ impl<A: Allocator + Copy, H: Wait + Clock> Door<'_, A, H> {
             turn_away(self.alloc, connection.stream);
         } else {
             let _ = queue.here.push((connection.number, from));
-            let wait = self.terms.full.map(|full| full.wait);
+            let wait = self.options.full.map(|full| full.wait);
             let until = now.and_then(|now| now.checked_add(wait?));
             let _ = queue.waiting.push(Waiting { connection, until });
         }
@@ -238,7 +238,7 @@ impl<A: Allocator + Copy, H: Wait + Clock> Door<'_, A, H> {
 
     // Whether as many are here from this address as may be. Of this host itself there may be any number.
     fn are_enough(&self, queue: &Queue<A>, from: IpAddr) -> bool {
-        let Some(most) = self.terms.per_address else {
+        let Some(most) = self.options.per_address else {
             return false;
         };
         let count = queue.here.iter().filter(|(_, ip)| *ip == from).count();
@@ -247,7 +247,7 @@ impl<A: Allocator + Copy, H: Wait + Clock> Door<'_, A, H> {
 
     // Hears what the threads say.
     fn listen(&self, queue: &mut Queue<A>) -> Result<(), ServerError> {
-        for _ in 0..MOST_HERE {
+        for _ in 0..MAX_HERE {
             match self.news.try_recv(self.rt) {
                 Ok(News::Place(thread)) => {
                     let _ = queue.places.push(thread);
@@ -265,7 +265,7 @@ impl<A: Allocator + Copy, H: Wait + Clock> Door<'_, A, H> {
 
     // Hands those who wait to the threads of free places.
     fn hand_out(&self, queue: &mut Queue<A>) -> Result<(), ServerError> {
-        for _ in 0..MOST_WAITING {
+        for _ in 0..MAX_WAITING {
             if queue.waiting.is_empty() || queue.places.is_empty() {
                 return Ok(());
             }
@@ -288,7 +288,7 @@ impl<A: Allocator + Copy, H: Wait + Clock> Door<'_, A, H> {
 
     // Tells those who waited for too long that there is no place. They came in this order.
     fn turn_late_away(&self, queue: &mut Queue<A>, now: Option<Instant>) {
-        for _ in 0..MOST_WAITING {
+        for _ in 0..MAX_WAITING {
             let is_late = match (queue.waiting.first(), now) {
                 (Some(first), Some(now)) => first.until.is_some_and(|until| until <= now),
                 _ => false,
@@ -308,7 +308,7 @@ impl<A: Allocator + Copy, H: Wait + Clock> Door<'_, A, H> {
 
     // Says whether somebody waits for whom another connection may be ended. The threads are woken where that is new.
     fn press(&self, queue: &Queue<A>) {
-        let presses = self.terms.full.is_some() && !queue.waiting.is_empty();
+        let presses = self.options.full.is_some() && !queue.waiting.is_empty();
         let did = self.crowd.presses.swap(presses, Ordering::SeqCst);
         if presses && !did {
             for bell in self.bells {
@@ -324,7 +324,7 @@ impl<A: Allocator + Copy, H: Wait + Clock> Door<'_, A, H> {
         now: Option<Instant>,
         is_faulty: bool,
     ) -> Option<Duration> {
-        let has_room = queue.closed.is_none() && queue.waiting.len() < MOST_WAITING;
+        let has_room = queue.closed.is_none() && queue.waiting.len() < MAX_WAITING;
         if has_room && queue.may_more && !is_faulty {
             return Some(Duration::ZERO);
         }

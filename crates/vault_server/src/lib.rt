@@ -11,16 +11,16 @@
 //! they wait; who waits for a claim is answered once it is held, and which others are answered at once; an accept fault, and that it is
 //! told at once; another protocol's first line; more commands than a history keeps; each request of `run_server` for memory, refused.
 //! Neither: that anybody is served or woken; fairness, time; what the channel of connections delivers, and what a TCP peer gets.
-//! Start at: server.rt, door.rt (who comes), rounds.rt (one thread), slot.rt (one connection), commits.rt (which thread commits, and when).
+//! Start at: server.rt, door.rt (who comes), event_loop.rt (one thread), slot.rt (one connection), commits.rt (which thread commits, and when).
 #![tactic(auto)]
 
 mod bells;
 mod commits;
 mod door;
-mod rounds;
+mod event_loop;
 mod server;
 mod slot;
 mod stream;
 
-pub use server::{Full, ServerError, Terms, run_server, run_server_on};
+pub use server::{Full, ServerError, ServerOptions, run_server, run_server_on};
 pub use slot::Patience;

@@ -6,9 +6,9 @@ ghost use Rattle.vault_sessions.specs.Tallies.{HasGrown};
 ghost use denote.Param.Send.{Frees};
 
 use crate::bells::Bell;
-use crate::commits::Seat;
+use crate::commits::CommitToken;
 use crate::door::{Crowd, Door, News};
-use crate::rounds::Rounds;
+use crate::event_loop::EventLoop;
 use crate::slot::Patience;
 use crossbeam_channel::{Receiver, Sender, bounded};
 use group_commit::Vault;
@@ -25,7 +25,7 @@ use vault_device::Device;
 use vault_sessions::{Gate, Share, Shared, Tally, Totals, Worker, gather, run_flusher};
 
 // By how many threads a server serves at most, where it isn't told.
-const MOST_THREADS: usize = 2;
+const MAX_THREADS: usize = 2;
 
 // The system's numbers of a want of memory, of descriptors of all programs, of descriptors of this one, and of buffers.
 const WANTS: [i32; 4] = [libc::ENOMEM, 23, libc::EMFILE, 105];
@@ -43,7 +43,7 @@ pub enum ServerError {
 
 /// What a server keeps to.
 #[derive(Debug, Clone, Copy, PartialEq, Eq)]
-pub struct Terms {
+pub struct ServerOptions {
     /// How many connections are served at a time: 1 to 64.
     pub workers: usize,
     /// By how many threads at most, each with a like part of the places: one at least, and no more than `workers`. The first has
@@ -101,9 +101,9 @@ pub fn run_server<
     requires frees { Frees A.Allocator A.dealloc_token }
     ensures grown { IfOk result (λ served. HasGrown vault.view served.0.view served.1) }
 {
-    let terms = Terms {
+    let options = ServerOptions {
         workers,
-        threads: workers.min(MOST_THREADS),
+        threads: workers.min(MAX_THREADS),
         connections,
         patience: Patience {
             idle: None,
@@ -116,10 +116,10 @@ pub fn run_server<
         full: None,
         per_address: None,
     };
-    run_server_on(rt, alloc, listener, vault, &terms, gate)
+    run_server_on(rt, alloc, listener, vault, &options, gate)
 }
 
-/// The same, on these terms. Of several threads one commits at a time, for all. The gate is told at once where no more connections can
+/// The same, on these options. Of several threads one commits at a time, for all. The gate is told at once where no more connections can
 /// be accepted.
 pub fn run_server_on<
     D: Device + Drop + Send,
@@ -131,16 +131,16 @@ pub fn run_server_on<
     alloc: A,
     listener: TcpListener,
     vault: Vault<D, A>,
-    terms: &Terms,
+    options: &ServerOptions,
     gate: &G,
 ) -> Result<(Vault<D, A>, Totals), ServerError>
-    requires workers { (0 < terms.now.workers) × (terms.now.workers ≤ 64) }
+    requires workers { (0 < options.now.workers) × (options.now.workers ≤ 64) }
     requires frees { Frees A.Allocator A.dealloc_token }
     ensures grown { IfOk result (λ served. HasGrown vault.view served.0.view served.1) }
 {
-    let parts = terms.workers as u64 + 1;
+    let parts = options.workers as u64 + 1;
     let (staged, told) = (Blank::new(parts), Blank::new(parts));
-    run::<D, A, G, H, Brand, Brand>(rt, alloc, staged, told, listener, vault, terms, gate)
+    run::<D, A, G, H, Brand, Brand>(rt, alloc, staged, told, listener, vault, options, gate)
 }
 
 // The same, over the ledgers of one run.
@@ -158,21 +158,20 @@ fn run<
     told: Blank,
     listener: TcpListener,
     vault: Vault<D, A>,
-    terms: &Terms,
+    options: &ServerOptions,
     gate: &G,
 ) -> Result<(Vault<D, A>, Totals), ServerError>
-    requires workers { (0 < terms.now.workers) × (terms.now.workers ≤ 64) }
+    requires workers { (0 < options.now.workers) × (options.now.workers ≤ 64) }
     requires frees { Frees A.Allocator A.dealloc_token }
     requires whole { (S.all ≡ S.parts) × (T.all ≡ T.parts) }
-    requires staged { (staged.name ≡ S.name) × (staged.parts ≡ S.parts) × (S.all ≡ terms.now.workers + 1)
+    requires staged { (staged.name ≡ S.name) × (staged.parts ≡ S.parts) × (S.all ≡ options.now.workers + 1)
         × (S.opening ≡ length_of vault.view) }
-    requires told { (told.name ≡ T.name) × (told.parts ≡ T.parts) × (T.all ≡ terms.now.workers + 1) × (T.opening ≡ vault.view.told) }
+    requires told { (told.name ≡ T.name) × (told.parts ≡ T.parts) × (T.all ≡ options.now.workers + 1) × (T.opening ≡ vault.view.told) }
     ensures grown { IfOk result (λ served. HasGrown vault.view served.0.view served.1) }
 {
-    let workers = terms.workers;
-    let made = polls_of(rt, alloc, workers.min(terms.threads).max(1));
-    let (polls, bells, poll, crowd) = match made {
-        Ok(made) => made,
+    let workers = options.workers;
+    let polls = match polls_of(rt, alloc, workers.min(options.threads).max(1)) {
+        Ok(polls) => polls,
         Err(error) => {
             drop(vault);
             return Err(error);
@@ -183,40 +182,16 @@ fn run<
         Err(refused) => {
             drop(refused);
             drop(polls);
-            drop(bells);
-            drop(poll);
-            drop(crowd);
             return Err(ServerError::NoMemory);
         }
     };
-    let seat = Mutex::new(Seat);
-    let server = Server {
-        rt,
-        alloc,
-        shared: &shared,
-        gate,
-        bells: &bells,
-        crowd: &crowd,
-        seat: &seat,
-        terms: *terms,
-    };
-    let beginning = Beginning {
-        shares,
-        polls,
-        poll,
-        listener: &listener,
-    };
-    let returned = match server.serve_all(beginning) {
+    let returned = match serve_shared(rt, alloc, &shared, shares, polls, &listener, options, gate) {
         Ok(returned) => returned,
         Err(error) => {
             drop(shared);
-            drop(bells);
-            drop(crowd);
             return Err(error);
         }
     };
-    drop(bells);
-    drop(crowd);
     match gather(shared, returned) {
         Ok(served) => Ok(served),
         Err(refused) => {
@@ -226,24 +201,86 @@ fn run<
     }
 }
 
-// So many polls, each with a bell, and the door's.
+// Serves what lies under this lock, by these polls. The shares come back.
+fn serve_shared<
+    D: Device + Drop + Send,
+    A: Allocator + Copy + Send + Sync,
+    G: Gate + Sync,
+    H: Threads + Wait + Clock + Sync,
+    S: Tally + Send + Sync,
+    T: Tally + Send + Sync,
+>(
+    rt: &H,
+    alloc: A,
+    shared: &Shared<D, S, T, A>,
+    shares: Vec<Share<S, T>, A>,
+    polls: Polls<A>,
+    listener: &TcpListener,
+    options: &ServerOptions,
+    gate: &G,
+) -> Result<Vec<Share<S, T>, A>, ServerError>
+    requires { Frees A.Allocator A.dealloc_token }
+{
+    let Polls {
+        threads,
+        bells,
+        door,
+        crowd,
+    } = polls;
+    let token = Mutex::new(CommitToken);
+    let server = Server {
+        rt,
+        alloc,
+        shared,
+        gate,
+        bells: &bells,
+        crowd: &crowd,
+        token: &token,
+        options: *options,
+    };
+    let returned = server.serve_all(Beginning {
+        shares,
+        threads,
+        door,
+        listener,
+    });
+    drop(bells);
+    drop(crowd);
+    returned
+}
+
+// What the threads and the door wait by, and what wakes them.
+#[derive(Drop)]
+struct Polls<A: Allocator> {
+    threads: Vec<Poll, A>,
+    bells: Vec<Bell, A>,
+    door: Poll,
+    crowd: Crowd,
+}
+
+// So many polls of threads, each with a bell, and the door's.
 fn polls_of<A: Allocator + Copy, H: Net>(
     rt: &H,
     alloc: A,
     count: usize,
-) -> Result<(Vec<Poll, A>, Vec<Bell, A>, Poll, Crowd), ServerError> {
-    let mut polls = Vec::new(alloc);
+) -> Result<Polls<A>, ServerError> {
+    let mut threads = Vec::new(alloc);
     let mut bells = Vec::new(alloc);
     for _ in 0..count {
         let poll = Poll::new(rt).or(Err(ServerError::NoMemory))?;
         let bell = Bell::new(&poll).or(Err(ServerError::NoMemory))?;
-        if polls.push(poll).is_err() || bells.push(bell).is_err() {
+        if threads.push(poll).is_err() || bells.push(bell).is_err() {
             return Err(ServerError::NoMemory);
         }
     }
-    let poll = Poll::new(rt).or(Err(ServerError::NoMemory))?;
-    let crowd = Crowd::new(&poll).or(Err(ServerError::NoMemory))?;
-    Ok((polls, bells, poll, crowd))
+    let door = Poll::new(rt).or(Err(ServerError::NoMemory))?;
+    let crowd = Crowd::new(&door).or(Err(ServerError::NoMemory))?;
+    Ok(Polls {
+        threads,
+        bells,
+        door,
+        crowd,
+    })
 }
 
 // What each thread of a server has.
@@ -256,16 +293,16 @@ struct Server<'a, D: Device, A: Allocator, G: Gate, H, S: Tally, T: Tally> {
     bells: &'a Vec<Bell, A>,
     crowd: &'a Crowd,
     // Who has it commits.
-    seat: &'a Mutex<Seat>,
-    terms: Terms,
+    token: &'a Mutex<CommitToken>,
+    options: ServerOptions,
 }
 
 // What a server begins with: the shares of its places, what each thread and the door wait by, and where connections come.
 #[derive(Drop)]
 struct Beginning<'a, S: Tally, T: Tally, A: Allocator> {
     shares: Vec<Share<S, T>, A>,
-    polls: Vec<Poll, A>,
-    poll: Poll,
+    threads: Vec<Poll, A>,
+    door: Poll,
     listener: &'a TcpListener,
 }
 
@@ -273,8 +310,10 @@ struct Beginning<'a, S: Tally, T: Tally, A: Allocator> {
 #[derive(Drop)]
 struct Running<S: Tally, T: Tally, A: Allocator> {
     senders: Vec<Sender<Connection, A>, A>,
-    handles: Vec<JoinHandle<Vec<Share<S, T>, A>>, A>,
+    handles: Handles<S, T, A>,
 }
+
+type Handles<S, T, A> = Vec<JoinHandle<Vec<Share<S, T>, A>>, A>;
 
 impl<
     D: Device + Drop + Send,
@@ -301,7 +340,7 @@ impl<
         )
     }
 
-    // Starts the threads, hands the connections out, and joins the threads.
+    // Starts the threads, hands the connections out, joins the threads, and commits what is left.
     fn serve_within<'s, E>(
         &'s self,
         scope: &'s Scope<'s, E>,
@@ -309,50 +348,18 @@ impl<
     ) -> Result<Vec<Share<S, T>, A>, ServerError>
         requires { Frees A.Allocator A.dealloc_token }
     {
-        let Beginning {
-            shares,
-            polls,
-            poll,
-            listener,
-        } = beginning;
-        let count = shares.len();
         let mut returned = Vec::new(self.alloc);
-        if returned.reserve(count).is_err() {
-            drop(polls);
-            drop(poll);
-            drop(shares);
+        if returned.reserve(beginning.shares.len()).is_err() {
+            drop(beginning);
             return Err(ServerError::NoMemory);
         }
-        let most_said = count.saturating_add(polls.len());
-        let Ok((says, news)) = bounded::<News, A>(self.alloc, most_said) else {
-            drop(returned);
-            drop(polls);
-            drop(poll);
-            drop(shares);
-            return Err(ServerError::NoMemory);
-        };
-        let mut running = Running {
-            senders: Vec::new(self.alloc),
-            handles: Vec::new(self.alloc),
-        };
-        let started = self.start_all(scope, polls, shares, &says, &mut running);
-        drop(says);
-        let Running { senders, handles } = running;
-        let accepted = match started {
-            Ok(()) => self.accept_all(listener, &senders, &news, poll),
-            Err(error) => {
-                drop(poll);
-                Err(error)
-            }
-        };
-        drop(senders);
+        let (handles, accepted) = self.start_and_accept(scope, beginning);
         for bell in self.bells {
             bell.ring();
         }
         join_all(self.rt, handles, &mut returned);
         self.shared.close(self.rt);
         let _ = run_flusher(self.rt, self.shared, self.gate);
-        drop(news);
         match accepted {
             Ok(()) => Ok(returned),
             Err(error) => {
@@ -360,6 +367,46 @@ impl<
                 Err(error)
             }
         }
+    }
+
+    // Starts the threads, and hands the connections out to them until no more come. Their handles come back.
+    fn start_and_accept<'s, E>(
+        &'s self,
+        scope: &'s Scope<'s, E>,
+        beginning: Beginning<'_, S, T, A>,
+    ) -> (Handles<S, T, A>, Result<(), ServerError>)
+        requires { Frees A.Allocator A.dealloc_token }
+    {
+        let Beginning {
+            shares,
+            threads,
+            door,
+            listener,
+        } = beginning;
+        let most_said = shares.len().saturating_add(threads.len());
+        let Ok((says, news)) = bounded::<News, A>(self.alloc, most_said) else {
+            drop(threads);
+            drop(door);
+            drop(shares);
+            return (Vec::new(self.alloc), Err(ServerError::NoMemory));
+        };
+        let mut running = Running {
+            senders: Vec::new(self.alloc),
+            handles: Vec::new(self.alloc),
+        };
+        let started = self.start_all(scope, threads, shares, &says, &mut running);
+        drop(says);
+        let Running { senders, handles } = running;
+        let accepted = match started {
+            Ok(()) => self.accept_all(listener, &senders, &news, door),
+            Err(error) => {
+                drop(door);
+                Err(error)
+            }
+        };
+        drop(senders);
+        drop(news);
+        (handles, accepted)
     }
 
     // Accepts connections, and hands them to the threads.
@@ -378,7 +425,7 @@ impl<
             bells: self.bells,
             news,
             crowd: self.crowd,
-            terms: self.terms,
+            options: self.options,
         };
         door.keep(poll, self.gate)
     }
@@ -415,15 +462,15 @@ impl<
     ) -> Result<(), ServerError>
         requires { Frees A.Allocator A.dealloc_token }
     {
-        let rounds = match self.rounds_of(number, own.len(), says, &mut running.senders) {
-            Ok(rounds) => rounds,
+        let event_loop = match self.event_loop_of(number, own.len(), says, &mut running.senders) {
+            Ok(event_loop) => event_loop,
             Err(error) => {
                 drop(poll);
                 drop(own);
                 return Err(error);
             }
         };
-        let Some(handle) = self.start(scope, rounds, poll, own) else {
+        let Some(handle) = self.start(scope, event_loop, poll, own) else {
             return Err(ServerError::NoMemory);
         };
         running.handles.push(handle).or(Err(ServerError::NoMemory))
@@ -433,23 +480,23 @@ impl<
     fn start<'s, E>(
         &'s self,
         scope: &'s Scope<'s, E>,
-        rounds: Rounds<'s, D, S, T, A, G, H>,
+        event_loop: EventLoop<'s, D, S, T, A, G, H>,
         poll: Poll,
         shares: Vec<Share<S, T>, A>,
     ) -> Option<JoinHandle<Vec<Share<S, T>, A>>>
         requires { Frees A.Allocator A.dealloc_token }
     {
-        scope.spawn(move || rounds.run(poll, shares)).ok()
+        scope.spawn(move || event_loop.run(poll, shares)).ok()
     }
 
     // What a thread serves by that has so many places.
-    fn rounds_of<'s>(
+    fn event_loop_of<'s>(
         &'s self,
         number: usize,
         places: usize,
         says: &Sender<News, A>,
         senders: &mut Vec<Sender<Connection, A>, A>,
-    ) -> Result<Rounds<'s, D, S, T, A, G, H>, ServerError> {
+    ) -> Result<EventLoop<'s, D, S, T, A, G, H>, ServerError> {
         let Some(bell) = self.bells.as_slice().get(number) else {
             return Err(ServerError::NoMemory);
         };
@@ -460,24 +507,24 @@ impl<
         if senders.push(sender).is_err() {
             return Err(ServerError::NoMemory);
         }
-        Ok(Rounds {
+        Ok(EventLoop {
             worker: Worker {
                 rt: self.rt,
                 alloc: self.alloc,
                 shared: self.shared,
                 gate: self.gate,
-                most_waits: self.terms.waits,
+                most_waits: self.options.waits,
             },
-            seat: self.seat,
+            token: self.token,
             bells: self.bells,
             bell,
             number,
             coming,
             says,
             crowd: self.crowd,
-            patience: self.terms.patience,
-            refuses_foreign: self.terms.refuses_foreign,
-            silence: self.terms.full.map(|full| full.silence),
+            patience: self.options.patience,
+            refuses_foreign: self.options.refuses_foreign,
+            silence: self.options.full.map(|full| full.silence),
         })
     }
 }
@@ -501,7 +548,7 @@ fn part_of<S: Tally, T: Tally, A: Allocator>(
 // Waits for the threads, and keeps their shares in the room that was taken for them.
 fn join_all<A: Allocator, H: Threads, S: Tally, T: Tally>(
     rt: &H,
-    handles: Vec<JoinHandle<Vec<Share<S, T>, A>>, A>,
+    handles: Handles<S, T, A>,
     returned: &mut Vec<Share<S, T>, A>,
 ) {
     for handle in handles {

@@ -52,7 +52,7 @@ pub(crate) enum Slot<S: Tally, T: Tally, A: Allocator> {
 
 /// What a turn of a slot came to.
 #[derive(Debug, Clone, Copy, PartialEq, Eq)]
-pub(crate) enum Goes {
+pub(crate) enum Progress {
     /// Nothing is to be done until something happens.
     Rests,
     /// There is more to do.
@@ -163,6 +163,18 @@ impl<S: Tally, T: Tally, A: Allocator + Copy> Slot<S, T, A> {
         }
     }
 
+    /// Whether its next step waits for what its client does, or the kernel, and not for the server alone.
+    pub fn is_outside(&self) -> bool {
+        match self {
+            Slot::Served(served) => !matches!(
+                served.dialogue.awaits(),
+                Awaits::Reply | Awaits::Leave | Awaits::Nothing
+            ),
+            Slot::Drained(_, _) => true,
+            Slot::Free(_) | Slot::Open => false,
+        }
+    }
+
     /// Entries are settled.
     pub fn look_again(&mut self) {
         if let Slot::Served(served) = self {
@@ -217,34 +229,38 @@ impl<S: Tally, T: Tally, A: Allocator + Copy> Slot<S, T, A> {
         worker: &Worker<'_, D, S, T, A, G, H>,
         patience: Patience,
         now: Option<Instant>,
-    ) -> Goes {
-        let goes = match self {
-            Slot::Free(_) | Slot::Open => return Goes::Over,
+    ) -> Progress {
+        let progress = match self {
+            Slot::Free(_) | Slot::Open => return Progress::Over,
             Slot::Served(served) => served.turn(worker, patience, now),
             Slot::Drained(drain, _) => match drain.drain(now) {
-                Drained::Rests => Goes::Rests,
-                Drained::GoesOn => Goes::On,
-                Drained::Over => Goes::Over,
+                Drained::Rests => Progress::Rests,
+                Drained::GoesOn => Progress::On,
+                Drained::Over => Progress::Over,
             },
         };
-        if goes == Goes::Over {
+        if progress == Progress::Over {
             self.end(worker, now)
         } else {
-            goes
+            progress
         }
     }
 
-    // Goes on with a connection that is over. Stands by itself, since it takes room on the stack for a whole slot.
+    // Progress on with a connection that is over. Stands by itself, since it takes room on the stack for a whole slot.
     #[cold]
     #[inline(never)]
     fn end<D: Device, G: Gate, H: Wait>(
         &mut self,
         worker: &Worker<'_, D, S, T, A, G, H>,
         now: Option<Instant>,
-    ) -> Goes {
+    ) -> Progress {
         let left = mem::replace(self, Slot::Open).over(now);
         self.put(worker, left);
-        if self.is_free() { Goes::Over } else { Goes::On }
+        if self.is_free() {
+            Progress::Over
+        } else {
+            Progress::On
+        }
     }
 
     // What is left of a connection that is over.
@@ -316,18 +332,18 @@ impl<S: Tally, T: Tally, A: Allocator + Copy> Served<S, T, A> {
         worker: &Worker<'_, D, S, T, A, G, H>,
         patience: Patience,
         now: Option<Instant>,
-    ) -> Goes {
-        let goes = if self.is_ready {
+    ) -> Progress {
+        let progress = if self.is_ready {
             self.steps(worker, patience, now)
         } else {
-            Goes::Rests
+            Progress::Rests
         };
-        self.is_ready = goes == Goes::On;
-        if goes != Goes::Over && self.is_late(patience, now) {
+        self.is_ready = progress == Progress::On;
+        if progress != Progress::Over && self.is_late(patience, now) {
             self.lose_patience(worker);
-            return Goes::On;
+            return Progress::On;
         }
-        goes
+        progress
     }
 
     // Its time is over: a `wait` is staged, and a client that took too long is given up.
@@ -355,7 +371,7 @@ impl<S: Tally, T: Tally, A: Allocator + Copy> Served<S, T, A> {
         worker: &Worker<'_, D, S, T, A, G, H>,
         patience: Patience,
         now: Option<Instant>,
-    ) -> Goes {
+    ) -> Progress {
         self.dialogue.begin_round();
         for _ in 0..STEPS_A_ROUND {
             if self.is_ending {
@@ -369,24 +385,28 @@ impl<S: Tally, T: Tally, A: Allocator + Copy> Served<S, T, A> {
                     if self.is_late(patience, now) {
                         self.lose_patience(worker);
                     }
+                    if self.dialogue.awaits() == Awaits::Reply {
+                        // What was staged just now isn't settled yet.
+                        return Progress::Rests;
+                    }
                 }
                 Step::Dry => return self.runs_dry(now),
-                Step::Waits | Step::Full => return Goes::Rests,
-                Step::Over => return Goes::Over,
+                Step::Waits | Step::Full => return Progress::Rests,
+                Step::Over => return Progress::Over,
             }
         }
-        Goes::On
+        Progress::On
     }
 
     // There is no whole line for now, or not in this round.
-    fn runs_dry(&mut self, now: Option<Instant>) -> Goes {
+    fn runs_dry(&mut self, now: Option<Instant>) -> Progress {
         if self.line_began.is_none() && self.dialogue.is_within_line() {
             self.line_began = now;
         }
         if self.dialogue.is_spent() {
-            Goes::On
+            Progress::On
         } else {
-            Goes::Rests
+            Progress::Rests
         }
     }
 

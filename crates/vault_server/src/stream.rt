@@ -28,7 +28,7 @@ const LONGEST_UNTAKEN: u32 = 120_000;
 // are made in a round.
 const LONGEST_WAIT: u64 = 5000;
 
-const MOST_CHUNKS: u32 = 4096;
+const MAX_CHUNKS: u32 = 4096;
 
 const CHUNKS_A_ROUND: u32 = 4;
 
@@ -252,7 +252,7 @@ impl Drain {
             }
             self.chunks = self.chunks.saturating_add(1);
         }
-        if self.chunks >= MOST_CHUNKS {
+        if self.chunks >= MAX_CHUNKS {
             return Drained::Over;
         }
         match self.rests(now) {

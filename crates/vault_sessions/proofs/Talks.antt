@@ -10,7 +10,7 @@ use Rattle.vault_lines.specs.Limits.{longest_line}
 use Rattle.vault_lines.specs.Grammar.{command_of}
 use Rattle.vault_model.specs.Said.{Command}
 use Rattle.vault_model.specs.declared.commands.Command.TheVariants.{Await}
-use Rattle.vault_sessions.specs.declared.waits.Kept.{Kept}
+use Rattle.vault_sessions.specs.declared.waits.PendingWait.{PendingWait}
 use Rattle.group_commit.specs.Ticket.{TicketSeen, Told as ToldSeen}
 use Rattle.line_inlet.specs.Inflow.{Inflow}
 use Rattle.line_inlet.specs.Incoming.{most_bytes, IsOneLine, KeepsLine, CutsLine}
@@ -365,7 +365,7 @@ starts A r w share = record {
 }
 
 -- a kept `wait` is kept on
-pub keeps_on : {A : Type 0} (wait next : Kept) (r0 r w0 w : Option (List ℕ)) (s0 : Totals) (inflow : Inflow) (kept : List ℕ) (is_long : Bool)
+pub keeps_on : {A : Type 0} (wait next : PendingWait) (r0 r w0 w : Option (List ℕ)) (s0 : Totals) (inflow : Inflow) (kept : List ℕ) (is_long : Bool)
     (outs : List (Out A)) (session : ℕ) (share : Totals) → next.claim ≡ wait.claim
     → Stands {A = A} (Keep wait) r0 r w0 w s0 inflow kept is_long outs session share → Stands {A = A} (Keep next) r0 r w0 w s0 inflow kept is_long outs session share
 keeps_on {A} wait next r0 r w0 w s0 inflow kept is_long outs session share same h = record {
@@ -379,7 +379,7 @@ keeps_on {A} wait next r0 r w0 w s0 inflow kept is_long outs session share same 
 }
 
 -- it is staged
-pub stages_kept : {A : Type 0} (wait : Kept) (ticket : TicketSeen) (r0 r w0 w : Option (List ℕ)) (s0 : Totals) (inflow : Inflow) (kept : List ℕ)
+pub stages_kept : {A : Type 0} (wait : PendingWait) (ticket : TicketSeen) (r0 r w0 w : Option (List ℕ)) (s0 : Totals) (inflow : Inflow) (kept : List ℕ)
     (is_long : Bool) (outs : List (Out A)) (session : ℕ) (share staged : Totals)
     → ticket.session ≡ session → ticket.command ≡ Await wait.claim → staged ≡ record share { staged = share.staged + 1 }
     → Stands {A = A} (Keep wait) r0 r w0 w s0 inflow kept is_long outs session share → Stands {A = A} (Wait ticket) r0 r w0 w s0 inflow kept is_long outs session staged
@@ -394,7 +394,7 @@ stages_kept {A} wait ticket r0 r w0 w s0 inflow kept is_long outs session share 
 }
 
 -- its answer is to be told, where it isn't staged
-pub refuses_kept : {A : Type 0} (wait : Kept) (outside : Outside) (turn : Turn A) (r0 r w0 w : Option (List ℕ)) (s0 : Totals) (inflow : Inflow)
+pub refuses_kept : {A : Type 0} (wait : PendingWait) (outside : Outside) (turn : Turn A) (r0 r w0 w : Option (List ℕ)) (s0 : Totals) (inflow : Inflow)
     (kept : List ℕ) (is_long : Bool) (outs : List (Out A)) (session after : ℕ) (share : Totals) → outside ≢ outsides.BadLine
     → after ≡ session_after {A = A} session (Refused outside) → IsAnswered (Refused outside) turn
     → Stands {A = A} (Keep wait) r0 r w0 w s0 inflow kept is_long outs session share
@@ -405,7 +405,7 @@ refuses_kept {A} wait outside turn r0 r w0 w s0 inflow kept is_long outs session
     (counts_more s0 share share outs (Refused outside) h.counted (counts_refused A outside share))
 
 -- it is lost where memory is refused
-pub wants_kept : {A : Type 0} (wait : Kept) (r0 r w0 w : Option (List ℕ)) (s0 : Totals) (inflow : Inflow) (kept : List ℕ) (is_long : Bool)
+pub wants_kept : {A : Type 0} (wait : PendingWait) (r0 r w0 w : Option (List ℕ)) (s0 : Totals) (inflow : Inflow) (kept : List ℕ) (is_long : Bool)
     (outs : List (Out A)) (session : ℕ) (share : Totals)
     → Stands {A = A} (Keep wait) r0 r w0 w s0 inflow kept is_long outs session share → Stands {A = A} (Over ends.NoMemory) r0 r w0 w s0 inflow kept is_long outs session share
 wants_kept wait r0 r w0 w s0 inflow kept is_long outs session share h = record {
@@ -419,7 +419,7 @@ wants_kept wait r0 r w0 w s0 inflow kept is_long outs session share h = record {
 }
 
 -- and where the conversation ends while it is kept
-pub drops_kept : {A : Type 0} (wait : Kept) (r0 r w0 w : Option (List ℕ)) (s0 : Totals) (inflow : Inflow) (kept : List ℕ) (is_long : Bool)
+pub drops_kept : {A : Type 0} (wait : PendingWait) (r0 r w0 w : Option (List ℕ)) (s0 : Totals) (inflow : Inflow) (kept : List ℕ) (is_long : Bool)
     (outs : List (Out A)) (session : ℕ) (share : Totals)
     → Stands {A = A} (Keep wait) r0 r w0 w s0 inflow kept is_long outs session share → Stands {A = A} (Over ends.Read) r0 r w0 w s0 inflow kept is_long outs session share
 drops_kept wait r0 r w0 w s0 inflow kept is_long outs session share h = record {

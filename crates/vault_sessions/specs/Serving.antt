@@ -15,11 +15,11 @@ use Rattle.vault_sessions.specs.declared.report.Out.TheVariants.{Told, Refused}
 use Rattle.vault_sessions.specs.declared.report.Ended.{Ended}
 use Rattle.vault_sessions.specs.declared.report.Ended.TheVariants as ends
 use Rattle.vault_sessions.specs.declared.tally.Totals.{Totals}
-use Rattle.vault_sessions.specs.declared.worker.TheConstants.{MOST_LINES}
+use Rattle.vault_sessions.specs.declared.worker.TheConstants.{MAX_LINES}
 
 -- the most lines of a connection that are answered
 abbrev pub most_lines : ℕ
-most_lines = MOST_LINES
+most_lines = MAX_LINES
 
 -- The answer fits the line: a receipt shows the command that the line spells, and the line is answered as bad exactly where it
 -- spells none; but memory for reading it may have been refused, where it isn't too long to be read.

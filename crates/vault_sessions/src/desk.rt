@@ -3,13 +3,12 @@ ghost use Rattle.std.specs.Prelude.{◌≡◌, ◌≢◌, ◌+◌, ◌≤◌, �
 ghost use Rattle.group_commit.specs.History.{entry_of};
 ghost use Rattle.vault_model.specs.declared.replies.Outside.TheVariants.{BadLine};
 ghost use Rattle.vault_store.specs.declared.starting.Started.TheVariants as Started;
-ghost use Rattle.vault_store.specs.Seen.{wants_snapshot};
 ghost use Rattle.group_commit.specs.World.{Stage, StartSnapshot};
 ghost use Rattle.group_commit.specs.View.{length_of, book_of, view_acted};
 ghost use Rattle.group_commit.specs.Seen.{snapshot_length};
 ghost use Rattle.group_commit.specs.Ticket.{ticket_of};
 ghost use Rattle.group_commit.specs.Calls.{IsReason, IsRedeemed, IsForgotten, IsRetired, MayStart};
-ghost use Rattle.group_commit.specs.Pasts.{IsNext};
+ghost use Rattle.group_commit.specs.Pasts.{IsAnswered};
 ghost use Rattle.vault_sessions.specs.Tallies.{IsOfTicket, CountsRedeem};
 ghost use Rattle.vault_sessions.specs.Pumping.{IsPumped, IsAtRest};
 ghost use Rattle.vault_sessions.specs.Waiting.{IsQueued, IsStandingQueued};
@@ -17,8 +16,8 @@ ghost use Rattle.vault_sessions.specs.declared.flusher.Flushed.TheVariants as Fl
 
 use crate::flusher::Flushed;
 use crate::tally::{Share, Tally};
-use crate::waits::{Kept, Waits, may_move};
-use flusher_pace::{Commit, Gathering, Pace};
+use crate::waits::{PendingWait, Waits, may_move};
+use flusher_pace::{Commit, Gathering, Pace, Silence, begins_snapshot};
 use group_commit::{Forgotten, Phase, Pumped, Redeemed, Retired, Started, Ticket, Vault};
 use std::alloc::{Allocator, Global};
 use std::marker::Model;
@@ -27,15 +26,17 @@ use std::time::{Clock, Duration};
 use vault_device::{Device, Fault};
 use vault_model::{ClaimId, CommandIn, NoMemory, Outside, Standing};
 
-/// When a thread is to commit that does so in between.
+/// What is to be done at the files.
 #[derive(Debug, Clone, Copy, PartialEq, Eq)]
 pub enum Due {
-    /// There is nothing to commit.
-    Never,
-    /// In so long at the latest: others may come by then.
+    /// Nothing, until something is staged.
+    Nothing,
+    /// Something, in so long at the latest: others may come by then.
     In(Duration),
-    /// Now, behind so many entries that are settled.
-    Now(u64),
+    /// A snapshot is to be made.
+    Snapshot,
+    /// What is staged is to be committed, behind so many entries that are settled.
+    Commit(u64),
 }
 
 /// A vault and the books of both tallies, of what was counted before, and whether it is closed: the flusher is to end then.
@@ -54,7 +55,7 @@ pub struct Desk<D: Device, S: Tally, T: Tally, A: Allocator = Global> {
     pub(crate) closed: bool,
     /// When the flusher sleeps, and for how many it waits. Contracts don't see it.
     pub(crate) pace: Pace,
-    /// The last commit of threads that commit in between. Contracts don't see it.
+    /// The last commit. Contracts don't see it.
     pub(crate) last: Commit,
     /// Who waits for a claim. Contracts don't see it.
     pub(crate) waits: Waits,
@@ -94,7 +95,7 @@ impl<D: Device, S: Tally, T: Tally, A: Allocator + Copy> Desk<D, S, T, A> {
         ensures least { (share.new.staged + S.opening ≤ length_of self.new.vault.view)
             × (share.new.told + T.opening ≤ self.new.vault.view.told) }
         ensures open { self.new.closed ≡ self.old.closed }
-        ensures next { IsNext D.disk self.old.vault self.new.vault }
+        ensures answered { IsAnswered self.old.vault self.new.vault }
     {
         share.audit_beside(&mut self.opening, &mut self.staged, &mut self.told);
         match self.vault.stage(session, command) {
@@ -116,7 +117,7 @@ impl<D: Device, S: Tally, T: Tally, A: Allocator + Copy> Desk<D, S, T, A> {
         ensures least { (share.new.staged + S.opening ≤ length_of self.new.vault.view)
             × (share.new.told + T.opening ≤ self.new.vault.view.told) }
         ensures open { self.new.closed ≡ self.old.closed }
-        ensures next { IsNext D.disk self.old.vault self.new.vault }
+        ensures answered { IsAnswered self.old.vault self.new.vault }
     {
         share.audit_beside(&mut self.opening, &mut self.staged, &mut self.told);
         match self.vault.redeem(ticket) {
@@ -134,7 +135,7 @@ impl<D: Device, S: Tally, T: Tally, A: Allocator + Copy> Desk<D, S, T, A> {
     pub fn forget(&mut self, ticket: Ticket<A>) -> Forgotten
         ensures closed { IsForgotten self.old.vault self.new.vault ticket result }
         ensures open { self.new.closed ≡ self.old.closed }
-        ensures next { IsNext D.disk self.old.vault self.new.vault }
+        ensures answered { IsAnswered self.old.vault self.new.vault }
     {
         self.pace.forgets();
         self.vault.forget(ticket)
@@ -146,7 +147,7 @@ impl<D: Device, S: Tally, T: Tally, A: Allocator + Copy> Desk<D, S, T, A> {
         ensures same { (length_of self.new.vault.view ≡ length_of self.old.vault.view)
             × (self.new.vault.view.told ≡ self.old.vault.view.told) }
         ensures open { self.new.closed ≡ self.old.closed }
-        ensures next { IsNext D.disk self.old.vault self.new.vault }
+        ensures answered { IsAnswered self.old.vault self.new.vault }
     {
         self.vault.pump()
     }
@@ -162,7 +163,7 @@ impl<D: Device, S: Tally, T: Tally, A: Allocator + Copy> Desk<D, S, T, A> {
         ensures same { (length_of self.new.vault.view ≡ length_of self.old.vault.view)
             × (self.new.vault.view.told ≡ self.old.vault.view.told) }
         ensures open { self.new.closed ≡ self.old.closed }
-        ensures next { IsNext D.disk self.old.vault self.new.vault }
+        ensures answered { IsAnswered self.old.vault self.new.vault }
     {
         self.vault.start_snapshot()
     }
@@ -173,26 +174,19 @@ impl<D: Device, S: Tally, T: Tally, A: Allocator + Copy> Desk<D, S, T, A> {
         ensures same { (length_of self.new.vault.view ≡ length_of self.old.vault.view)
             × (self.new.vault.view.told ≡ self.old.vault.view.told) }
         ensures open { self.new.closed ≡ self.old.closed }
-        ensures next { IsNext D.disk self.old.vault self.new.vault }
+        ensures answered { IsAnswered self.old.vault self.new.vault }
     {
         self.vault.retire()
     }
 }
 
 impl<D: Device, S: Tally, T: Tally, A: Allocator + Copy> Desk<D, S, T, A> {
-    // Whether many frames stand in the active file, and nothing is under way.
-    pub(crate) fn wants_snapshot(&self) -> bool
-        ensures { result ≡ wants_snapshot self.now.vault.store }
-    {
-        self.vault.wants_snapshot()
-    }
-
     // Begins a snapshot, and keeps that it is no commit.
     pub(crate) fn start_on(&mut self) -> Result<Started, NoMemory>
         ensures started { result ≡ Ok Started.Yes → self.new.vault.view ≡ view_acted snapshot_length self.old.vault.view StartSnapshot }
         ensures refused { OnErr result (self.new ≡ self.old) }
         ensures open { self.new.closed ≡ self.old.closed }
-        ensures next { IsNext D.disk self.old.vault self.new.vault }
+        ensures answered { IsAnswered self.old.vault self.new.vault }
     {
         let started = self.start_snapshot();
         self.pace.started(started);
@@ -235,7 +229,7 @@ impl<D: Device, S: Tally, T: Tally, A: Allocator + Copy> Desk<D, S, T, A> {
     }
 
     // Keeps the `wait` of a session for a claim that is queued, where the vault isn't broken, and fewer than so many wait.
-    pub(crate) fn keep(&mut self, session: u32, claim: ClaimId, most: usize) -> Option<Kept>
+    pub(crate) fn keep(&mut self, session: u32, claim: ClaimId, most: usize) -> Option<PendingWait>
         ensures same { self.new ≡ self.old }
         ensures kept { IfSome result (λ kept. (kept.claim ≡ claim) × (session ≢ 0) × (self.old.vault.view.broken ≡ false)
             × IsQueued self.old.vault.view claim) }
@@ -243,7 +237,7 @@ impl<D: Device, S: Tally, T: Tally, A: Allocator + Copy> Desk<D, S, T, A> {
         let may_wait = session != 0 && !self.vault.is_broken();
         if may_wait && self.waits.count < most && self.is_queued(claim) {
             self.waits.enter();
-            return Some(Kept {
+            return Some(PendingWait {
                 claim,
                 moves: self.waits.moves,
                 is_let_go: false,
@@ -254,7 +248,7 @@ impl<D: Device, S: Tally, T: Tally, A: Allocator + Copy> Desk<D, S, T, A> {
 
     // Whether a kept `wait` is to be staged: it was let go, or its claim isn't queued any more, or the vault is broken. Then one waits less.
     // The line is looked at where it may have moved since then.
-    pub(crate) fn lets_go(&mut self, kept: &mut Kept) -> bool
+    pub(crate) fn lets_go(&mut self, kept: &mut PendingWait) -> bool
         ensures same { self.new ≡ self.old }
         ensures claim { kept.new.claim ≡ kept.old.claim }
     {
@@ -288,14 +282,6 @@ impl<D: Device, S: Tally, T: Tally, A: Allocator + Copy> Desk<D, S, T, A> {
         self.pace.staged(waiting, may_change)
     }
 
-    // Whether the flusher sleeps, since there is nothing to pump and more may come. It doesn't where a worker waits for room.
-    pub(crate) fn rests(&mut self) -> bool
-        ensures { self.new ≡ self.old }
-    {
-        let is_quiet = self.is_quiet() && !self.pace.wants_room();
-        self.pace.sleeps(is_quiet, 1)
-    }
-
     // A worker waits for room in the history.
     pub(crate) fn asks_for_room(&mut self)
         ensures { self.new ≡ self.old }
@@ -303,37 +289,74 @@ impl<D: Device, S: Tally, T: Tally, A: Allocator + Copy> Desk<D, S, T, A> {
         self.pace.asks_for_room();
     }
 
-    // Whether the flusher waits for those whom the last commit told.
-    pub(crate) fn gathers(&mut self) -> bool
+    // What is to be done at the files: the one rule of all who do it. A snapshot comes first, where one is wanted, and nobody asks just then
+    // or the journal is long (`begins_snapshot`). Else what is staged is committed, once nobody is waited for any more (`others_in`), and
+    // entries are let go where somebody waits for room.
+    pub(crate) fn due<C: Clock>(
+        &mut self,
+        clock: &C,
+        gathering: &mut Gathering,
+        silence: &mut Silence,
+    ) -> Due
         ensures { self.new ≡ self.old }
     {
-        if self.closed || self.vault.is_broken() {
-            return false;
+        let snapshot = self.snapshot_in(clock, silence);
+        if snapshot == Some(Duration::ZERO) {
+            return Due::Snapshot;
         }
-        let waiting = self.waiting();
-        self.pace.gathers(waiting)
+        let is_idle = self.is_settled() && !self.pace.is_asked_for_room;
+        if is_idle || self.vault.is_broken() {
+            return snapshot.map_or(Due::Nothing, Due::In);
+        }
+        if let Some(left) = self.others_in(clock, gathering) {
+            return Due::In(left);
+        }
+        self.pace.makes_room();
+        Due::Commit(self.vault.durable())
     }
 
-    // When to commit, for threads that do so in between. There is something to commit, too, where a worker waits for room.
-    pub(crate) fn due<C: Clock>(&mut self, clock: &C, gathering: &mut Gathering) -> Due
-        ensures { self.new ≡ self.old }
-    {
-        let wants_room = self.pace.wants_room();
-        if self.vault.is_broken() || (self.is_settled() && !wants_room) {
-            return Due::Never;
+    // How long it is until a snapshot is begun, if nobody asks for anything until then. None: none is wanted, or it is put off.
+    fn snapshot_in<C: Clock>(&self, clock: &C, silence: &mut Silence) -> Option<Duration> {
+        if self.pace.is_put_off || !self.vault.wants_snapshot() {
+            return None;
+        }
+        let left = silence.left(clock, self.vault.len());
+        let (version, journal) = (self.vault.version(), self.vault.journal_len());
+        if begins_snapshot(version, journal, self.vault.snapshot_len(), left.is_none()) {
+            return Some(Duration::ZERO);
+        }
+        if self.closed { None } else { left }
+    }
+
+    // For how long others are waited for at most, before what is staged is committed.
+    fn others_in<C: Clock>(&self, clock: &C, gathering: &mut Gathering) -> Option<Duration> {
+        if self.closed || !self.waits_for_others() {
+            return None;
         }
         let (settled, told) = (self.vault.durable(), self.vault.told());
+        let moved = self.vault.len().saturating_add(told);
         let is_owed = self.pace.owes(settled, told);
-        if is_owed || self.pace.lacks(self.waiting()) {
-            let moved = self.vault.len().saturating_add(told);
-            if let Some(left) = gathering.left(clock, &self.last, moved, is_owed) {
-                if wants_room {
-                    self.pace.asks_for_room();
-                }
-                return Due::In(left);
-            }
+        gathering.left(clock, &self.last, moved, is_owed)
+    }
+
+    // Whether others may still come whom the last commit told, or who came meanwhile.
+    fn waits_for_others(&self) -> bool {
+        let (settled, told) = (self.vault.durable(), self.vault.told());
+        self.pace.owes(settled, told) || self.pace.lacks(self.waiting())
+    }
+
+    // Whether a flusher sleeps on that found nothing due yet. Where nothing was staged then: until anything is, or somebody asks for room.
+    // Else, for a while, until all are back who are waited for.
+    pub(crate) fn sleeps(&mut self, was_quiet: bool) -> bool
+        ensures { self.new ≡ self.old }
+    {
+        let (group, is_asked) = (self.pace.group, self.pace.is_asked_for_room);
+        if was_quiet {
+            let is_quiet = self.is_quiet() && !is_asked;
+            return self.pace.sleeps(is_quiet, 1);
         }
-        Due::Now(settled)
+        let is_early = !self.closed && !self.vault.is_broken() && self.waits_for_others();
+        self.pace.sleeps(is_early, group)
     }
 
     // How many entries are settled. None where the vault is broken.
@@ -345,25 +368,32 @@ impl<D: Device, S: Tally, T: Tally, A: Allocator + Copy> Desk<D, S, T, A> {
         }
     }
 
-    // A commit ended so, before which so many entries were settled. The next one waits for as many as there are now behind those, and
-    // for so many more.
-    pub(crate) fn expects(&mut self, settled: u64, commit: Commit, coming: u64)
+    // A commit ended so, before which so many entries were settled. The next one waits for as many as there are now behind those: whom it
+    // settled, and who came since it began.
+    pub(crate) fn committed(&mut self, settled: u64, commit: Commit)
         ensures { self.new ≡ self.old }
     {
         self.last = commit;
         let group = self.vault.len().saturating_sub(settled);
-        self.pace.expects(group.saturating_add(coming));
+        self.pace.expects(group);
     }
 
-    // Does the next step of a commit or of a snapshot, and keeps how many entries waited.
+    // The next commit waits for so many more.
+    pub(crate) fn expects_more(&mut self, coming: u64)
+        ensures { self.new ≡ self.old }
+    {
+        let group = self.pace.group.saturating_add(coming);
+        self.pace.expects(group);
+    }
+
+    // Does the next step of a commit or of a snapshot, and keeps what it came to.
     pub(crate) fn pump_on(&mut self) -> Result<Pumped, Fault>
         ensures pumped { IsPumped self.old.vault result self.new.vault }
         ensures open { self.new.closed ≡ self.old.closed }
-        ensures next { IsNext D.disk self.old.vault self.new.vault }
+        ensures answered { IsAnswered self.old.vault self.new.vault }
     {
-        let waiting = self.waiting();
         let pumped = self.pump();
-        self.pace.pumped(waiting, pumped);
+        self.pace.pumped(pumped);
         if pumped.is_err() {
             self.waits.moved();
         }

@@ -17,7 +17,7 @@ use crate::gate::Gate;
 use crate::report::{Ended, Finished};
 use crate::tally::{Share, Tally};
 use crate::turn::{Next, Telling, Turn, tell};
-use crate::waits::Kept;
+use crate::waits::PendingWait;
 use crate::worker::Worker;
 use group_commit::Ticket;
 use std::alloc::Allocator;
@@ -331,7 +331,7 @@ fn stage_kept<D: Device, S: Tally, T: Tally, A: Allocator + Copy, G: Gate, H: Wa
     worker: &Worker<'_, D, S, T, A, G, H>,
     waits: bool,
     talk: &mut Conversation<S, T, A>,
-    kept: Kept,
+    kept: PendingWait,
 ) -> (Next<A>, Step)
     ensures stands { (reader_old reader_new writer_old writer_new : Option (List ℕ)) (counts : Totals)
         → StandsAt (turns.Keep kept) reader_old reader_new writer_old writer_new counts talk.old
@@ -461,7 +461,7 @@ fn let_go<A: Allocator>(next: Next<A>) -> Next<A>
     ensures same { (has_ended result ≡ has_ended next) × (is_done result ≡ is_done next) }
 {
     match next {
-        Next::Takes(Turn::Keep(kept)) => Next::Takes(Turn::Keep(Kept {
+        Next::Takes(Turn::Keep(kept)) => Next::Takes(Turn::Keep(PendingWait {
             is_let_go: true,
             ..kept
         })),

@@ -4,7 +4,7 @@ use crate::desk::Due;
 use crate::gate::{Gate, Point};
 use crate::shared::Shared;
 use crate::tally::Tally;
-use flusher_pace::{Commit, Gathering, LOOKS};
+use flusher_pace::{Commit, Gathering, Silence};
 use group_commit::{Pumped, Retired, Started};
 use std::alloc::Allocator;
 use std::sync::Wait;
@@ -20,31 +20,27 @@ pub enum Flushed {
     Broken,
 }
 
-/// Pumps while something is unsettled and waits else, until the desk is closed or the vault is broken. The lock is held for one
-/// pump at a time, which makes at most one device call, and workers are woken only where a pump settled entries or failed. Before
-/// a commit it waits for those whom the last one told, for a small part of the time that this one took. Where many frames stand in
-/// the active file, or that isn't of today's version, it begins a snapshot under one more holding, and pumps that to its end. Where
-/// the memory for it is refused, it goes on without, and begins it once more entries are settled. Before each commit it lets the
-/// entries go that are settled and whose tickets aren't out, one at a time.
+/// Commits while something is unsettled and sleeps else, until the desk is closed or the vault is broken. What is due when, `Desk` says. The
+/// lock is held for one pump at a time, which makes at most one device call, and workers are woken only where a pump settled entries or
+/// failed. A snapshot is begun under one more holding, and pumped to its end; where the memory for it is refused, it is begun behind the
+/// next commit. Before each commit the entries are let go that are settled and whose tickets aren't out, one at a time.
 pub fn run_flusher<D: Device, S: Tally, T: Tally, A: Allocator + Copy, G: Gate, H: Wait + Clock>(
     rt: &H,
     shared: &Shared<D, S, T, A>,
     gate: &G,
 ) -> Flushed {
     let flusher = Flusher::new(rt, shared, gate);
-    let mut last = Commit::none();
+    let mut silence = Silence::new();
     for _ in rt.forever() {
-        if flusher.begin_snapshot() {
-            flusher.settle();
-        }
-        flusher.wait_for_group(&last);
-        if let Some(flushed) = flusher.wait_for_work() {
-            return flushed;
-        }
-        flusher.retire();
-        if let Some(commit) = flusher.settle() {
-            last = commit;
-        }
+        match flusher.wait(&mut silence) {
+            Ok(Due::Snapshot) => flusher.renew(),
+            Ok(Due::Commit(settled)) => {
+                flusher.retire();
+                flusher.commit(settled)
+            }
+            Ok(Due::Nothing | Due::In(_)) => false,
+            Err(flushed) => return flushed,
+        };
     }
     unreachable!()
 }
@@ -75,40 +71,34 @@ impl<'a, D: Device, S: Tally, T: Tally, A: Allocator + Copy, G: Gate, H: Wait + 
         Flusher { rt, shared, gate }
     }
 
-    /// Begins a snapshot where one is wanted and its memory isn't refused. Whether it did.
-    pub fn begin_snapshot(&self) -> bool {
+    // Waits until something is due. Else it says why the flusher ends.
+    fn wait(&self, silence: &mut Silence) -> Result<Due, Flushed> {
         let shared = self.shared;
+        let mut gathering = Gathering::new();
         let mut desk = shared.desk.lock(self.rt);
-        desk.wants_snapshot() && desk.start_on() == Ok(Started::Yes)
-    }
-
-    // Waits until as many entries wait as did when the last commit ended, and goes on without those that don't come: it ends at the
-    // first look at which no more wait than at the look before.
-    fn wait_for_group(&self, last: &Commit) {
-        let shared = self.shared;
-        let mut seen = 0;
-        for look in 1..LOOKS + 1 {
-            let Some(left) = last.left(self.rt, look) else {
-                continue;
+        for _ in self.rt.forever() {
+            let left = match desk.due(self.rt, &mut gathering, silence) {
+                Due::Nothing => None,
+                Due::In(left) => Some(left),
+                due => return Ok(due),
             };
-            let desk = shared.desk.lock(self.rt);
-            let (desk, waited) = shared
-                .work
-                .wait_timeout_while(self.rt, desk, left, |desk| desk.gathers());
-            let waiting = desk.waiting();
-            if !waited.timed_out() || waiting <= seen {
-                return;
+            if let (None, Some(flushed)) = (left, desk.flushed()) {
+                return Err(flushed);
             }
-            seen = waiting;
+            let was_quiet = desk.is_quiet();
+            desk = match left {
+                None => shared
+                    .work
+                    .wait_while(self.rt, desk, |desk| desk.sleeps(was_quiet)),
+                Some(left) => {
+                    let waited = shared
+                        .work
+                        .wait_timeout_while(self.rt, desk, left, |desk| desk.sleeps(was_quiet));
+                    waited.0
+                }
+            };
         }
-    }
-
-    // Waits until there is something to pump, and then answers none.
-    fn wait_for_work(&self) -> Option<Flushed> {
-        let shared = self.shared;
-        let desk = shared.desk.lock(self.rt);
-        let desk = shared.work.wait_while(self.rt, desk, |desk| desk.rests());
-        desk.flushed()
+        Ok(Due::Nothing)
     }
 
     /// Lets the entries go that are settled and whose tickets aren't out, the oldest first. Whether there were any. Whoever was told by
@@ -126,9 +116,30 @@ impl<'a, D: Device, S: Tally, T: Tally, A: Allocator + Copy, G: Gate, H: Wait + 
         had_one
     }
 
-    /// Pumps until entries are settled, or a device call failed, and wakes the workers that wait at the desk. What it made, where it
-    /// called the device.
-    pub fn settle(&self) -> Option<Commit> {
+    /// Makes a snapshot, unless it can't be begun. Whether it was.
+    pub fn renew(&self) -> bool {
+        let shared = self.shared;
+        let started = shared.desk.lock(self.rt).start_on();
+        let has_begun = started == Ok(Started::Yes);
+        if has_begun {
+            self.settle();
+        }
+        has_begun
+    }
+
+    /// Commits what is staged, behind so many entries that are settled. Whether it called the device.
+    pub fn commit(&self, settled: u64) -> bool {
+        let shared = self.shared;
+        let Some(commit) = self.settle() else {
+            return false;
+        };
+        shared.desk.lock(self.rt).committed(settled, commit);
+        true
+    }
+
+    // Pumps until entries are settled, or a device call failed, and wakes the workers that wait at the desk. What it made, where it
+    // called the device.
+    fn settle(&self) -> Option<Commit> {
         let shared = self.shared;
         let began = Instant::now(self.rt).ok();
         let mut was_moved = false;
@@ -148,10 +159,10 @@ impl<'a, D: Device, S: Tally, T: Tally, A: Allocator + Copy, G: Gate, H: Wait + 
         }
     }
 
-    /// When to commit, for threads that do so in between.
-    pub fn due(&self, gathering: &mut Gathering) -> Due {
+    /// What is to be done at the files, for threads that do it in between.
+    pub fn due(&self, gathering: &mut Gathering, silence: &mut Silence) -> Due {
         let shared = self.shared;
-        shared.desk.lock(self.rt).due(self.rt, gathering)
+        shared.desk.lock(self.rt).due(self.rt, gathering, silence)
     }
 
     /// How many entries are settled. None where the vault is broken.
@@ -160,11 +171,10 @@ impl<'a, D: Device, S: Tally, T: Tally, A: Allocator + Copy, G: Gate, H: Wait + 
         shared.desk.lock(self.rt).settled()
     }
 
-    /// A commit ended so, before which so many entries were settled. Before the next one it is waited for as many as there are now
-    /// behind those, whom it settled and who came since it began, and for so many more, whose lines are there and not heard yet. So it is
-    /// to be called before anybody is told, who then comes back.
-    pub fn expects(&self, settled: u64, commit: Commit, coming: u64) {
+    /// The next commit waits for so many more than those whom the last one settled, and who came since it began: whose lines are there, and
+    /// aren't heard yet. Is called before anybody is told, who then comes back, and would be counted twice.
+    pub fn expects_more(&self, coming: u64) {
         let shared = self.shared;
-        shared.desk.lock(self.rt).expects(settled, commit, coming);
+        shared.desk.lock(self.rt).expects_more(coming);
     }
 }

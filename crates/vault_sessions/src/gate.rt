@@ -1,5 +1,7 @@
 //! Points at which a test can hold a thread, and what a server tells at once.
 
+use std::io;
+
 /// Where a thread stands, with the number of its connection.
 #[derive(Debug, Clone, Copy, PartialEq, Eq)]
 pub enum Point {
@@ -20,8 +22,8 @@ pub trait Gate {
     /// Returns once the thread may go on.
     fn at(&self, point: Point);
 
-    /// A server can accept no more connections, and ends with those that it has.
-    fn accepts_no_more(&self) {}
+    /// A server can accept no more connections, and ends with those that it has. The system said why.
+    fn accepts_no_more(&self, _why: io::Error) {}
 }
 
 /// Holds nobody.

@@ -5,7 +5,7 @@ ghost use Rattle.vault_sessions.specs.Talking.{TellsOn};
 
 use crate::connection::Connection;
 use crate::report::{Ended, Out};
-use crate::waits::Kept;
+use crate::waits::PendingWait;
 use group_commit::Ticket;
 use std::alloc::Allocator;
 use std::io::ErrorKind;
@@ -28,7 +28,7 @@ pub enum Turn<A: Allocator> {
     /// It hears a line.
     Hear,
     /// It keeps a `wait`, and stages it later.
-    Keep(Kept),
+    Keep(PendingWait),
     /// It waits for the reply to its command.
     Wait(Ticket<A>),
     /// It tells an answer.

@@ -4,7 +4,7 @@ use vault_model::{ClaimId, Command};
 
 /// A `wait` that was heard and isn't staged yet.
 #[derive(Debug, Clone, Copy, PartialEq, Eq)]
-pub struct Kept {
+pub struct PendingWait {
     /// The claim that it waits for.
     pub claim: ClaimId,
     /// How many commands that may move the line were staged when that was looked at last.

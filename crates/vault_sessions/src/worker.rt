@@ -18,7 +18,7 @@ use crate::report::{Ended, Out};
 use crate::shared::Shared;
 use crate::tally::{Share, Tally};
 use crate::turn::{Telling, Turn, is_left, session_after, text_of_out};
-use crate::waits::Kept;
+use crate::waits::PendingWait;
 use flusher_pace::may_change;
 use group_commit::{Redeemed, Ticket};
 use line_inlet::{NextByte, NextLine};
@@ -29,7 +29,7 @@ use vault_lines::{LineError, read_line_of};
 use vault_model::{Command, CommandIn, NoMemory, Outside};
 
 // The most lines of a connection that are answered. It ends at the first byte behind them.
-const MOST_LINES: usize = 4096;
+const MAX_LINES: usize = 4096;
 
 /// Takes the steps of conversations over one vault.
 #[derive(Drop)]
@@ -51,7 +51,7 @@ enum Heard<A: Allocator> {
     // Its command is staged.
     Asked(Ticket<A>),
     // Its `wait` is kept.
-    Kept(Kept),
+    Kept(PendingWait),
     Refused(Outside),
     // It isn't whole, and more may come.
     NotYet,
@@ -80,7 +80,7 @@ impl<D: Device, S: Tally, T: Tally, A: Allocator + Copy, G: Gate, H: Wait> Worke
         ensures same { (C.contents connection.new ≡ C.contents connection.old) × (C.names connection.new ≡ C.names connection.old) }
         ensures kept { talk.new.answers.is_kept ≡ talk.old.answers.is_kept }
     {
-        if talk.answers.len() >= MOST_LINES {
+        if talk.answers.len() >= MAX_LINES {
             return match connection.next_byte(&mut talk.inlet) {
                 NextByte::Byte(_) | NextByte::Limit => Turn::Over(Ended::Limit),
                 NextByte::End => Turn::Over(Ended::EndOfInput),
@@ -184,7 +184,7 @@ impl<D: Device, S: Tally, T: Tally, A: Allocator + Copy, G: Gate, H: Wait> Worke
     }
 
     // Keeps a `wait` for a claim that is queued, unless as many wait as may.
-    fn keep(&self, session: u32, command: &CommandIn<A>) -> Option<Kept>
+    fn keep(&self, session: u32, command: &CommandIn<A>) -> Option<PendingWait>
         ensures { IfSome result (λ kept. command.now ≡ Await kept.claim) }
     {
         let Command::Await(claim) = command else {
@@ -201,7 +201,7 @@ impl<D: Device, S: Tally, T: Tally, A: Allocator + Copy, G: Gate, H: Wait> Worke
     }
 
     // Whether a kept `wait` is to be staged now.
-    fn lets_go(&self, kept: &mut Kept) -> bool
+    fn lets_go(&self, kept: &mut PendingWait) -> bool
         ensures { kept.new.claim ≡ kept.old.claim }
     {
         let shared = self.shared;
@@ -224,7 +224,7 @@ impl<D: Device, S: Tally, T: Tally, A: Allocator + Copy, G: Gate, H: Wait> Worke
     pub(crate) fn stage_kept(
         &self,
         talk: &mut Conversation<S, T, A>,
-        kept: Kept,
+        kept: PendingWait,
         waits: bool,
     ) -> Turn<A>
         ensures stands { (reader_old reader_new writer_old writer_new : Option (List ℕ)) (counts : Totals)

@@ -5,7 +5,7 @@ use crate::mood::Beginning;
 use crate::run::Run;
 use crate::speech::PARTS;
 use group_commit::Vault;
-use test_judge::{Files, Judge, Left, new_vault};
+use test_oracle::{Files, Judge, Left, new_vault};
 use vault_device::MemDevice;
 
 // What most runs begin with.

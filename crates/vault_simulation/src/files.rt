@@ -2,7 +2,7 @@
 
 use group_commit::{File, OpenError};
 use std::alloc::Global;
-use test_judge::{Verdict, agree};
+use test_oracle::{Verdict, agree};
 
 // The first file of a new vault, once `/e` was made in it.
 const FILE: [u8; 47] = [

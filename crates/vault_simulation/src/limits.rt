@@ -4,7 +4,7 @@ use crate::line::Line;
 use design_tree::Tree;
 use part_versions::Shelf;
 use std::alloc::Global;
-use test_judge::{Talk, Verdict, are_alike};
+use test_oracle::{Talk, Verdict, are_alike};
 use vault_checkout::Book;
 use vault_lines::read_line_of;
 use vault_model::{ClaimId, Command, LAST_NUMBER, Refusal, Reply};
@@ -177,13 +177,15 @@ impl Asking {
         self.ask(1, is_past);
     }
 
-    // With the library there are 4,096.
+    // With the library there are 4,096. The longest list of names is told then, too.
     fn reach_places(&mut self) {
         self.does(0, "hello anna");
         for number in 0..4095 {
             self.make_place(number, false);
         }
         self.make_place(4095, true);
+        self.does(1, "list /");
+        self.does(1, "list /63");
     }
 
     // Session 1 makes one more version of a part.

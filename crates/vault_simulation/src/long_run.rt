@@ -3,7 +3,7 @@
 use crate::beginning::{fill, make_places};
 use crate::line::Line;
 use group_commit::Vault;
-use test_judge::{Files, Judge, Left, new_vault};
+use test_oracle::{Files, Judge, Left, new_vault};
 use vault_device::{MemDevice, Pick};
 
 /// A step of the long run.

@@ -3,7 +3,7 @@
 //! Promises: nothing; it is safe, and it ends. What it finds is tested, and not proved: it looks at the vault from outside, as a
 //! client that keeps its own list of all commands.
 //! Stands on: vault_model, vault_device, design_tree, part_versions, long_locks, vault_checkout, group_commit, vault_lines,
-//! test_judge. Must not know: how any of these keeps what it keeps.
+//! test_oracle. Must not know: how any of these keeps what it keeps.
 //! Only tested: what stands in stdout, for the words in args.
 //! Start at: docs/SIMULATION.md; run.rt, speech.rt, stopping.rt, tearing.rt and spoiling.rt (random runs); long_run.rt and
 //! stops.rt; files.rt; limits.rt.

@@ -8,7 +8,7 @@ use crate::stops::{Covered, judge_calls};
 use group_commit::File;
 use std::alloc::Global;
 use std::io;
-use test_judge::{COUNTED, Counts, Verdict};
+use test_oracle::{COUNTED, Counts, Verdict};
 
 /// So many random runs of so many commands each, with the seeds from this one on.
 #[derive(Clone, Copy)]

@@ -7,7 +7,7 @@ use crate::speakers::Speakers;
 use crate::speech::{claim, id, names_claim, spell};
 use group_commit::{Phase, Vault};
 use std::alloc::Global;
-use test_judge::{Files, Judge, Met, Verdict};
+use test_oracle::{Files, Judge, Met, Verdict};
 use vault_device::MemDevice;
 use vault_model::{Claim, Reply};
 

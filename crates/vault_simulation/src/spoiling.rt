@@ -2,7 +2,7 @@
 
 use crate::dice::Dice;
 use std::alloc::Global;
-use test_judge::{Bytes, Files, Met, Verdict, agree};
+use test_oracle::{Bytes, Files, Met, Verdict, agree};
 
 // Bytes that stand for something in a file, and others.
 const BYTES: [u32; 10] = [0, 1, 2, 7, 8, 10, 63, 127, 128, 255];

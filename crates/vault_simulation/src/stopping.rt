@@ -4,7 +4,7 @@ use crate::run::Run;
 use crate::spoiling::spoil;
 use crate::tearing::tear;
 use group_commit::{File, OpenError, Vault};
-use test_judge::{Files, Left, Met, are_alike};
+use test_oracle::{Files, Left, Met, are_alike};
 use vault_checkout::Book;
 use vault_device::MemDevice;
 

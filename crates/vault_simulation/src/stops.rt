@@ -1,9 +1,9 @@
 //! The long run, stopped inside each device call, with each pair of what crashes leave.
 
 use crate::long_run::{LONG_RUN, Start, Step, play, play_all, prepared};
-use group_commit::{File, OpenError, Vault};
+use group_commit::{File, OpenError, Pumped, Started, Vault};
 use std::alloc::Global;
-use test_judge::{Bytes, Files, Judge, Left, Talk, Verdict, World, are_alike, are_states};
+use test_oracle::{Bytes, Files, Judge, Left, Talk, Verdict, World, are_alike, are_states};
 use vault_checkout::Book;
 use vault_device::{MemDevice, Pick};
 
@@ -18,7 +18,10 @@ const PICKS: [Pick; 6] = [
 ];
 
 // More device calls of a file than the long run makes.
-const MOST_CALLS: u64 = 1000;
+const MAX_CALLS: u64 = 1000;
+
+// More pumps than a snapshot takes.
+const MAX_PUMPS: u32 = 100;
 
 // What is done behind a fault: the vault takes no command and makes no device call, but tells what is settled.
 const BROKEN: [Step; 5] = [
@@ -123,6 +126,10 @@ fn stopped_by(judge: &mut Judge, cut: Cut, pick: Pick) -> Option<Stop> {
     files.fail_at(cut.which, cut.call);
     judge.armed = Some(cut.which);
     let files = played(judge, files);
+    let has_told = judge.history.has_told(judge.world.settled);
+    judge
+        .verdict
+        .sure(has_told, "a told command is not in what a stop leaves");
     left_by(judge, files, pick)
 }
 
@@ -142,6 +149,44 @@ fn prefix(stop: &Stop, kept: u64) -> &Book {
     }
 }
 
+// Has a vault that was just opened write all that it holds: whether it begins as a new life does, and a snapshot is settled.
+fn is_written(vault: &mut Vault<MemDevice>) -> bool {
+    let is_new = (vault.len(), vault.told(), vault.is_broken()) == (0, 0, false);
+    if vault.start_snapshot() != Ok(Started::Yes) {
+        return false;
+    }
+    for _ in 0..MAX_PUMPS {
+        if vault.pump() == Ok(Pumped::Settled) {
+            return is_new;
+        }
+    }
+    false
+}
+
+// Whether the files are opened as this vault. What it holds is seen by the snapshot that it writes.
+fn is_opened(alloc: Global, life: u64, want: &Book, files: Files) -> bool {
+    let mut vault = match files.open(alloc, life) {
+        Ok(vault) => vault,
+        Err((_, files)) => {
+            drop(files);
+            return false;
+        }
+    };
+    let is_written = is_written(&mut vault);
+    let mut files = Files::of(vault);
+    files.crash(Left::Crashed(Pick::Old), Left::Crashed(Pick::Old));
+    let (read, files) = files.read(alloc);
+    drop(files);
+    match read {
+        Ok(book) => {
+            let same = are_alike(&book, want);
+            drop(book);
+            is_written && same
+        }
+        Err(_) => false,
+    }
+}
+
 // Whether the files are reported as they were left, and open as this vault.
 fn is_found(alloc: Global, world: &World, want: &Book, files: Files) -> bool {
     let mut files = files;
@@ -153,16 +198,7 @@ fn is_found(alloc: Global, world: &World, want: &Book, files: Files) -> bool {
         }
         None => false,
     };
-    let (read, files) = files.read(alloc);
-    drop(files);
-    match read {
-        Ok(book) => {
-            let same = are_alike(&book, want);
-            drop(book);
-            states && same
-        }
-        Err(_) => false,
-    }
+    is_opened(alloc, world.life, want, files) && states
 }
 
 // The first file of one stop and the second of another open as the settled prefix, or as the sealed one where that is kept.
@@ -252,7 +288,7 @@ pub(crate) fn judge_calls(
         sealed: 0,
         told: 0,
     };
-    for call in 1..MOST_CALLS {
+    for call in 1..MAX_CALLS {
         let cut = Cut { start, which, call };
         if !judge_cut(verdict, alloc, &mut covered, cut) {
             return covered;

@@ -2,7 +2,7 @@
 
 use crate::dice::Dice;
 use group_commit::File;
-use test_judge::{Bytes, World};
+use test_oracle::{Bytes, World};
 
 // How many bytes of an older file are read.
 const HEADER: usize = 24;

@@ -5,7 +5,7 @@ use Rattle.std.specs.Int.{w32, from_be_bytes}
 use Rattle.std.proofs.lemmas.Nat.{from_be_bytes-to_be_bytes_4}
 use Rattle.std.specs.Result.{IsErrAnd}
 use Rattle.std.proofs.Math.Seq.{take-add}
-use Rattle.std.proofs.lemmas.List.{drop_more, drop_all, drop-drop, drop-take, take-take}
+use Rattle.std.proofs.lemmas.List.{drop_more, drop_all, drop-drop, drop-take, take-take, length-drop, length-take-le}
 use Rattle.vault_model.specs.Vault.{Vault}
 use Rattle.vault_device.specs.Disk.{Disk, IsOneCall, IsRead}
 use Rattle.vault_journal.specs.Spelling.{in_four}
@@ -17,6 +17,8 @@ use Rattle.vault_format.specs.Files.{header, head_length, head_of, snapshot_byte
 use Rattle.vault_format.specs.Faults.{version_in, snapshot_length, snapshot_in, IsVersion, IsNoSnapshot, IsBodyFault}
 use Rattle.vault_store.specs.Parts.{IsWhole}
 use Rattle.vault_store.specs.Read.{AreReads, IsWhy, IsBaseRead, IsBaseFault, IsFrameWrong, AreAllRead, AreContents, IsFaultBehindHead}
+use Rattle.vault_format.specs.Laws.{most_snapshot}
+use Rattle.vault_format.proofs.Short.{none_is_longer}
 use Rattle.vault_format.proofs.Rights.{version_told, told_once}
 use Rattle.vault_store.proofs.Wholes.{whole_holds}
 use Rattle.vault_store.proofs.Behind.{honest_behind, and_reads, why_behind, passed_on}
@@ -59,6 +61,26 @@ module _ (file four : List ℕ) (n : ℕ) (there : four ≡ slice_range file 20 
   pub too_short : length file ≤ header + n → IsBaseFault file head_length
   too_short short version told = inl (refl, omega (arith, short, length_is))
 
+  snapshot_size : header + n < length file → length (snapshot_in file) ≡ n
+  snapshot_size within =
+      ap (λ (k : ℕ). length (slice_range file header (header + k))) length_is
+      ∙ length-take-le (header + n - header) (drop header file) (omega (arith, within, whole, length-drop header file)) ∙ whole
+    where
+      whole : header + n - header ≡ n
+      whole = omega arith
+
+  -- so long is no vault's
+  pub too_long : header + n < length file → most_snapshot < n → IsBaseFault file header
+  too_long within more version told =
+      inr (
+        refl,
+        omega (arith, within, length_is),
+        λ v has same.
+            let size = snapshot_size within in
+            let most = none_is_longer version v has in
+            absurd (omega (arith, size, ap length same, most, more)),
+      )
+
   pub none_spelled : (version : FileVersion) (bytes : List ℕ) → bytes ≡ slice_range file header (header + n) → header + n < length file → IsVersion version (version_in file)
       → ((v : Vault) → HasSpelling version v → bytes ≢ spelling_of version v) → IsBaseFault file header
   none_spelled version bytes are within here none other told =
@@ -68,6 +90,20 @@ module _ (file four : List ℕ) (n : ℕ) (there : four ≡ slice_range file 20 
         subst (λ (v : FileVersion). IsNoSnapshot v (snapshot_in file)) (told_once version other (version_in file) here told)
             (λ v has same. none v has (are ∙ ap (λ (k : ℕ). slice_range file header (header + k)) (sym length_is) ∙ same)),
       )
+
+-- a file without a whole header
+pub short_file : (file : List ℕ) → length file < header → IsBaseFault file head_length
+short_file file short version told = inl (refl, omega (arith, short))
+
+-- what was read of a snapshot behind other reads
+pub base_moved : (old one : Disk) (len : ℕ) (version : FileVersion) (base : Vault) (end : ℕ) → AreReads old one → len ≡ length old.shown → IsBaseRead one len version base end → IsBaseRead old (length old.shown) version base end
+base_moved old one len version base end reads size read = record {
+  told = λ honest. subst (λ (file : List ℕ). IsVersion version (version_in file)) (reads.read honest).shown (read.told (honest_behind old one reads honest));
+  spelled = read.spelled;
+  size = read.size;
+  within = omega (arith, size, read.within);
+  bytes = λ honest. subst (λ (file : List ℕ). take end file ≡ take head_length file ++ snapshot_bytes version base) (reads.read honest).shown (read.bytes (honest_behind old one reads honest));
+}
 
 -- the snapshot, then the frames
 module _ (old one two : Disk) (first : AreReads old one) (second : AreReads one two) (len end : ℕ) (size : IsTrue old.honest → len ≡ length old.shown) (version : FileVersion) (base : Vault) (read : IsBaseRead one len version base end) where

@@ -119,7 +119,7 @@ module _ (x : List ℕ) (r : Reading) (h : Holds x r) where
     | inr frame ↦ no_frame_fault at frame
   ]
 
-one_file : (x : List ℕ) (r q : Reading) → Holds x r → Holds x q → r ≡ q
+pub one_file : (x : List ℕ) (r q : Reading) → Holds x r → Holds x q → r ≡ q
 one_file x r q one two =
     let versions : q.version ≡ r.version = sym (same_version x r q one two) in
     same_reading x r q one two
@@ -141,7 +141,7 @@ pub one_vault : OneVault
 one_vault first second v w one two = sym one.2 ∙ ap (λ (r : Reading). r.vault) (one_reading first second one.0 two.0 one.1 two.1) ∙ two.2
 
 -- nor with that of a file with such a head
-wrong_body : (x : List ℕ) (r : Reading) → Holds x r → (at : ℕ) (v : FileVersion) (g : ℕ) → HasHead v g x → IsBodyFault v x at → ⊥
+pub wrong_body : (x : List ℕ) (r : Reading) → Holds x r → (at : ℕ) (v : FileVersion) (g : ℕ) → HasHead v g x → IsBodyFault v x at → ⊥
 wrong_body x r h at v g right fault = no_fault x r h at (subst (λ (n : FileVersion). IsBodyFault n x at) (one_told x v r.version g r.generation right (holds_head x r h)) fault)
 
 -- a file that is read, beside its spare

@@ -17,6 +17,10 @@ pub mod Creating
 mod Sized
 mod Exact
 mod OneFault
+mod Begun
+pub mod Growing
+pub mod TwoVaults
+mod Passes
 mod Headed
 mod Pieces
 mod Made

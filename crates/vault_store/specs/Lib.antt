@@ -12,5 +12,7 @@ pub mod Opening
 pub mod Parts
 pub mod Read
 pub mod Front
+pub mod Earlier
 pub mod Laws
+pub mod TwoVaults
 pub mod Rows

@@ -16,7 +16,7 @@ use Rattle.vault_format.specs.Files.{header, most_records, frame_extra, applied,
 use Rattle.vault_store.specs.Phases.{is_idle, is_snapshot, is_opening, may_open}
 use Rattle.vault_store.specs.State.{StoreState}
 use Rattle.vault_store.specs.OnDisk.{IsOnDisk}
-use Rattle.vault_store.specs.declared.store.TheConstants.{MOST_NOTED}
+use Rattle.vault_store.specs.declared.store.TheConstants.{MAX_NOTED}
 use Rattle.vault_store.specs.Spares.{IsSpareOn}
 
 -- the devices of the active file and of its spare, and which file is the active one; the bytes of the records in the open buffer, and
@@ -59,7 +59,7 @@ second_of store = of_file store.which store.spare store.active
 
 -- the most bytes of records in the buffer where there is room for any other record
 abbrev pub most_noted : ℕ
-most_noted = MOST_NOTED
+most_noted = MAX_NOTED
 
 -- from where on no frame may begin
 abbrev pub last_tail : ℕ

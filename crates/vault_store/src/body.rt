@@ -14,7 +14,7 @@ use std::alloc::Allocator;
 use thiserror::Error;
 use vault_checkout::Book;
 use vault_device::{Device, Fault};
-use vault_format::{FileVersion, HEADER, version_of};
+use vault_format::{FileVersion, HEADER, MAX_SNAPSHOT, version_of};
 
 /// What stands behind the head of a file.
 #[derive(Drop)]
@@ -52,10 +52,10 @@ impl From<Fault> for ReadError {
 
 // The version of a file, the vault of its snapshot, and where the frames begin behind it.
 #[derive(Drop)]
-struct Base<A: Allocator> {
-    version: FileVersion,
-    book: Book<A>,
-    end: u64,
+pub(crate) struct Base<A: Allocator> {
+    pub(crate) version: FileVersion,
+    pub(crate) book: Book<A>,
+    pub(crate) end: u64,
 }
 
 // Behind the head: the snapshot, the frames, and the tail gate. In the head stand at 8 the version, which says how the snapshot is
@@ -88,6 +88,10 @@ fn read_base<D: Device, A: Allocator + Copy>(
     if len - HEADER <= u64::from(length) {
         return Err(ReadError::Damaged(20));
     }
+    // So long is no vault's, and no memory is asked for it.
+    if length > MAX_SNAPSHOT {
+        return Err(ReadError::Damaged(HEADER));
+    }
     match read_book(alloc, version, device, length)? {
         Some(book) => Ok(Base {
             version,
@@ -96,6 +100,24 @@ fn read_base<D: Device, A: Allocator + Copy>(
         }),
         None => Err(ReadError::Damaged(HEADER)),
     }
+}
+
+/// Reads the snapshot of a file whose length isn't known.
+pub(crate) fn read_first_base<D: Device, A: Allocator + Copy>(
+    alloc: A,
+    device: &mut D,
+) -> Result<Base<A>, ReadError>
+    ensures reads { AreReads (D.disk device.old) (D.disk device.new) }
+    ensures base { IsTrue (D.disk device.old).honest
+        → IfOk result (λ base. IsBaseRead (D.disk device.old) (length (D.disk device.old).shown) base.version base.book base.end) }
+    ensures refused { IfErr result (λ why. IsWhy (D.disk device.old) (D.disk device.new) (IsBaseFault (D.disk device.old).shown) why) }
+    ensures quiet { OnOk result (IsQuiet (D.disk device.old) (D.disk device.new)) }
+{
+    let len = device.len()?;
+    if len < HEADER {
+        return Err(ReadError::Damaged(20));
+    }
+    read_base(alloc, device, len)
 }
 
 /// What stands in a file behind its head.

@@ -98,6 +98,10 @@ impl<D: Device, A: Allocator> Store<D, A> {
         ensures rests { (result ≡ Ok answers.Idle) ⊎ (result ≡ Ok answers.Broken) → self.new ≡ self.old }
         ensures broken { self.old.broken ≡ true → result ≡ Ok answers.Broken }
 
+        // The first step of a snapshot makes no device call where the spare's head gate is closed already.
+        ensures shut { self.old.phase ≡ phases.Start → self.old.broken ≡ false → self.old.shut ≡ true
+            → self.new ≡ record self.old { phase = phases.Closing } }
+
         // What a stop at any moment inside leaves is read as what is settled or, where a gate may be opened, as what is sealed.
         ensures moments { (s : StoreState) (x y : List ℕ) → Keeps D.disk self.old s → IsTrue (D.disk (first_of self.old)).honest
             → IsTrue (D.disk (second_of self.old)).honest

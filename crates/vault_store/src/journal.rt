@@ -10,7 +10,7 @@ use crate::body::ReadError;
 use std::alloc::Allocator;
 use vault_checkout::{ApplyError, Book};
 use vault_device::{Device, Fault};
-use vault_format::{FRAME_EXTRA, MOST_RECORDS};
+use vault_format::{FRAME_EXTRA, MAX_RECORDS};
 use vault_journal::{Damage, read_effects};
 use vault_model::EffectIn;
 
@@ -38,7 +38,7 @@ pub fn number_in(bytes: &[u8; 4]) -> u32
 fn is_length(length: u32, room: u64) -> bool
     ensures { IsTrue result ↔ ((1 ≤ length) × (length ≤ most_records) × (frame_extra + length < room)) }
 {
-    1 <= length && length <= MOST_RECORDS && FRAME_EXTRA + u64::from(length) < room
+    1 <= length && length <= MAX_RECORDS && FRAME_EXTRA + u64::from(length) < room
 }
 
 // How many bytes of records the frame has whose open gate stands here. One device call at most.

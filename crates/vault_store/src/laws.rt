@@ -1,6 +1,7 @@
 //! Laws of what is kept, on which the program's theorems rest.
 ghost use Rattle.vault_store.specs.Laws.{CrashLeavesWhatIsKept, OneGateIsOpened, NotedIsSpelled, OneReading, EitherWay, OneVault, NothingIsWrong, OneFault};
 ghost use Rattle.vault_store.specs.Rows.{Rows};
+ghost use Rattle.vault_store.specs.TwoVaults.{NothingIsTakenAway, ClosedFilesPass, FramesLeaveIt, TornGatesPass, SnapshotsPass};
 
 use vault_device::Device;
 
@@ -29,4 +30,15 @@ pub fn files_stand_for_one_vault()
 /// The definitions give the files that were worked out by hand.
 pub fn rows_are_given()
     ensures { Rows }
+{}
+
+/// What `are_of_two_vaults` answers of the files of one vault, call by call. Files as a creation leaves them pass: one is closed. A commit
+/// writes behind the snapshot of the newer file alone. A snapshot's first call may tear the older file's gate; while its bytes are written that file is
+/// closed; and where its gate is opened, the older of the two leads to an earlier vault of its, since effects take nothing away.
+pub fn files_of_one_vault_pass<D: Device>()
+    ensures closed { ClosedFilesPass }
+    ensures committed { FramesLeaveIt }
+    ensures torn { TornGatesPass }
+    ensures renewed { SnapshotsPass D.disk }
+    ensures effects { NothingIsTakenAway }
 {}

@@ -7,7 +7,8 @@
 //! leaves the new vault or none (`create`). Two files stand for at most one vault, and each durable vault has at most one spelling in
 //! each version of the files (`laws`). Both versions are read, and the second alone is written. Opening gives that vault, or tells the
 //! first thing that is wrong with its file and offset, and writes nothing
-//! (`open`; of one file alone `read_head` and `read_body`).
+//! (`open`; of one file alone `read_head` and `read_body`). Two files are told as those of two vaults exactly where both are open and the
+//! older one leads to no earlier vault of the newer one's snapshot's (`are_of_two_vaults`; that those of one vault pass, call by call: `laws`).
 //! Stands on: vault_model, vault_device, vault_journal, design_tree, part_versions, vault_checkout. Must not know: commands,
 //! replies, sessions, tickets, how many entries there are.
 //!
@@ -30,6 +31,7 @@ mod body;
 mod calls;
 mod commit;
 mod creation;
+mod earlier;
 mod front;
 mod journal;
 pub mod laws;
@@ -40,14 +42,17 @@ mod renewal;
 mod snapshot;
 mod starting;
 mod store;
+mod two_vaults;
 
 pub use body::{Body, BodyError, read_body};
 pub use calls::settle_both;
 pub use creation::CreateError;
+pub use earlier::is_earlier;
 pub use front::{Head, read_head};
 pub use opening::{File, OpenError};
 pub use phase::{Advanced, Phase};
 pub use refused::Refused;
 pub use starting::Started;
 pub use store::Store;
+pub use two_vaults::are_of_two_vaults;
 pub use vault_format::FileVersion;

@@ -1,5 +1,5 @@
 //! The steps of a snapshot, one function for each row of the phase table.
-ghost use Rattle.std.specs.Prelude.{◌≡◌, ◌<◌, ◌≤◌, ◌+◌, ◌-◌, ◌^◌, [], ◌∷◌, IsTrue, false, length, take, drop};
+ghost use Rattle.std.specs.Prelude.{◌≡◌, ◌<◌, ◌≤◌, ◌+◌, ◌-◌, ◌^◌, [], ◌∷◌, IsTrue, true, false, length, take, drop};
 ghost use Rattle.std.specs.Option.{option_map_or};
 ghost use Rattle.vault_device.specs.Disk.{IsOneCall, IsWrite};
 ghost use Rattle.vault_store.specs.declared.phase.Phase.TheVariants as phases;
@@ -15,7 +15,7 @@ use vault_device::{Device, Fault};
 use vault_journal::{open_gate, settle_body, settle_gate};
 
 // How many bytes of a snapshot one step writes at most.
-const MOST_PIECE: u64 = 65_536;
+const MAX_PIECE: u64 = 65_536;
 
 // The bytes of a buffer; where there is none, there are no bytes.
 fn bytes_of<A: Allocator>(buffer: &Option<Vec<u8, A>>) -> &[u8]
@@ -48,17 +48,17 @@ fn other(which: File) -> File
 fn piece_size(left: u64) -> u64
     ensures { result ≡ piece_size left }
 {
-    if left <= MOST_PIECE { left } else { MOST_PIECE }
+    if left <= MAX_PIECE { left } else { MAX_PIECE }
 }
 
 // The phase behind that piece.
 fn behind_piece(left: u64) -> Phase
     ensures { result ≡ behind_piece left }
 {
-    if left <= MOST_PIECE {
+    if left <= MAX_PIECE {
         Phase::Filled
     } else {
-        Phase::Writing(left - MOST_PIECE)
+        Phase::Writing(left - MAX_PIECE)
     }
 }
 
@@ -90,7 +90,8 @@ impl<D: Device, A: Allocator> Store<D, A> {
     pub(crate) fn close_head(&mut self) -> Result<Advanced, Fault>
         requires phase { self.old.phase ≡ phases.Start }
         requires whole { self.old.broken ≡ false }
-        ensures { IsAdvance D.disk self.old self.new result }
+        ensures advance { IsAdvance D.disk self.old self.new result }
+        ensures shut { self.old.shut ≡ true → self.new ≡ record self.old { phase = phases.Closing } }
     {
         if self.spare_shut {
             self.phase = Phase::Closing;

@@ -1,5 +1,5 @@
 //! A store: two devices, and the frame that is filled.
-ghost use Rattle.std.specs.Prelude.{◌≡◌, ◌++◌, length, IsTrue};
+ghost use Rattle.std.specs.Prelude.{◌≡◌, ◌-◌, ◌++◌, length, IsTrue};
 ghost use Rattle.vault_journal.specs.Spelling.{record_of, HasRecord};
 ghost use Rattle.vault_model.specs.Vault.{Vault};
 ghost use Rattle.vault_model.specs.After.{after};
@@ -15,7 +15,7 @@ use vault_journal::Frame;
 use vault_model::EffectIn;
 
 // The most bytes of records in the buffer where there is room for any other record.
-const MOST_NOTED: usize = 261_104;
+const MAX_NOTED: usize = 261_104;
 
 // From where on no frame may begin, so that each write ends below 2^63.
 const LAST_TAIL: u64 = 1 << 62;
@@ -88,6 +88,13 @@ impl<D: Device, A: Allocator> Store<D, A> {
         self.journal_length
     }
 
+    /// How many bytes the active file had before its first frame: its header and its snapshot.
+    pub fn snapshot_len(&self) -> u64
+        ensures { result ≡ self.now.tail - self.now.journal_length }
+    {
+        self.tail - self.journal_length
+    }
+
     /// The devices of the first file and of the second. What was noted and isn't settled is lost.
     pub fn into_devices(self) -> (D, D)
         ensures first { result.0 ≡ first_of self }
@@ -116,7 +123,7 @@ impl<D: Device, A: Allocator> Store<D, A> {
     pub fn room(&self) -> bool
         ensures { result ≡ has_room self.now }
     {
-        self.frame.len() <= MOST_NOTED && self.tail < LAST_TAIL
+        self.frame.len() <= MAX_NOTED && self.tail < LAST_TAIL
     }
 
     /// Notes an effect for the next frame. Takes no memory.

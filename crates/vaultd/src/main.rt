@@ -1,7 +1,7 @@
 //! The program of the design vault: `create`, `serve`, `check`, `inspect` and `script`.
 //!
 //! Promises: it is safe and, but for `serve`, total. Each subcommand is one call of a crate beneath.
-//! Stands on: vaultd_tasks, vault_device, group_commit, vault_sessions, vault_server. Must not know: anything that a contract should say;
+//! Stands on: vaultd_tasks, group_commit, vault_sessions, vault_server. Must not know: anything that a contract should say;
 //! it is kept thin.
 //! Only tested: the stored run of a script; by `tools/try-program`, behind the proofs, what the words ask for, statuses, texts and order
 //! of failures, `create`, `inspect` and `serve` on real files and beside their locks, signals, closed streams, odd clients.
@@ -16,7 +16,9 @@ use crate::serving::serve;
 use clap::error::ErrorKind;
 use std::process::ExitCode;
 use std::{env, io};
-use vaultd_tasks::{Failure, Task, check, create, inspect, script, take_streams, task_of};
+use vaultd_tasks::{
+    Failure, Serving, Task, Teller, asked_of, check, create, inspect, script, take_streams,
+};
 
 /// The status after a failure.
 const FAULT: u8 = 1;
@@ -33,11 +35,9 @@ fn words(rt: &HostRuntime) -> io::Result<Vec<String>> {
     Ok(words)
 }
 
-/// Says in one line what went wrong, unless that was said as soon as it was so.
+/// Says in one line what went wrong, where nothing else is to be said.
 fn told(rt: &HostRuntime, failure: Failure) -> ExitCode {
-    if !matches!(failure, Failure::Accept) {
-        let _ = eprintln!(rt; "{failure}");
-    }
+    Teller::new(rt, false).tell(failure);
     ExitCode::from(FAULT)
 }
 
@@ -65,6 +65,22 @@ fn unread(rt: &HostRuntime, error: &io::Error) -> ExitCode {
     ExitCode::from(REFUSED)
 }
 
+/// Does what is asked for. How to serve comes back, where that is asked for, since a server needs threads.
+fn answered<'p>(
+    rt: &HostRuntime,
+    teller: &Teller<'p, HostRuntime>,
+    task: Task<'p>,
+) -> Result<Option<Serving<'p>>, Failure> {
+    match task {
+        Task::Script => script(rt, teller)?,
+        Task::Create(first, second) => create(rt, teller, first, second)?,
+        Task::Check(first, second, json) => check(rt, teller, first, second, json)?,
+        Task::Inspect(first, second) => inspect(rt, teller, first, second)?,
+        Task::Serve(serving) => return Ok(Some(serving)),
+    }
+    Ok(None)
+}
+
 fn main(rt: HostRuntime) -> ExitCode {
     // Before anything is opened, so that no file of a vault is taken for a stream.
     let _streams = match take_streams(&rt) {
@@ -75,19 +91,21 @@ fn main(rt: HostRuntime) -> ExitCode {
         Ok(words) => words,
         Err(error) => return unread(&rt, &error),
     };
-    let task = match task_of(rt.alloc(), words.as_slice()) {
-        Ok(task) => task,
+    let asked = match asked_of(rt.alloc(), words.as_slice()) {
+        Ok(asked) => asked,
         Err(error) => return shown(&rt, &error),
     };
-    let done = match task {
-        Task::Script => script(&rt),
-        Task::Create(first, second) => create(&rt, first, second),
-        Task::Check(first, second, json) => check(&rt, first, second, json),
-        Task::Inspect(first, second) => inspect(&rt, first, second),
-        Task::Serve(serving) => serve(&rt, &serving),
+    let teller = Teller::new(&rt, asked.verbose);
+    let done = match answered(&rt, &teller, asked.task) {
+        Ok(Some(serving)) => serve(&rt, &teller, &serving),
+        Ok(None) => Ok(()),
+        Err(failure) => Err(failure),
     };
     match done {
         Ok(()) => ExitCode::SUCCESS,
-        Err(failure) => told(&rt, failure),
+        Err(failure) => {
+            teller.tell(failure);
+            ExitCode::from(FAULT)
+        }
     }
 }

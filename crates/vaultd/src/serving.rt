@@ -5,15 +5,18 @@ ghost use Rattle.std.specs.Prelude.{◌<◌, ◌≤◌};
 use crate::descriptors::check_limit;
 use group_commit::Vault;
 use std::fs::File;
+use std::io;
 use std::net::{Net, TcpListener, TcpStream};
 use std::rt::Files;
 use std::sync::Wait;
 use std::thread::Threads;
 use std::time::{Clock, Duration};
-use vault_device::FileDevice;
-use vault_server::{Full, Patience, ServerError, Terms, run_server_on};
+use vault_server::{Full, Patience, ServerError, ServerOptions, run_server_on};
 use vault_sessions::{Gate, Point};
-use vaultd_tasks::{Failure, Serving, open_locked};
+use vaultd_tasks::{
+    Action, Cause, Failure, Serving, Subject, Survey, Teller, WatchedDevice, open_locked,
+    print_line, refuse_two_vaults, take_survey,
+};
 
 /// The number of the program's one life of a vault.
 const LIFE: u64 = 1;
@@ -26,34 +29,63 @@ fn seconds(count: u32) -> Duration {
     Duration::from_secs(u64::from(count))
 }
 
-/// Opens the vault in the two files.
-fn open<R: Files<File = File> + AllocGlobal>(
+/// Opens the vault in the two files. With it comes how it stands, where that is to be said.
+fn open<'a, 'p, R: Files<File = File> + Eprint + AllocGlobal>(
     rt: &R,
-    serving: &Serving<'_>,
-) -> Result<Vault<FileDevice>, Failure> {
-    let first = FileDevice::over(open_locked(rt, serving.first)?);
-    let second = match open_locked(rt, serving.second) {
-        Ok(file) => FileDevice::over(file),
+    teller: &'a Teller<'p, R>,
+    serving: &Serving<'p>,
+) -> Result<(Vault<WatchedDevice<'a, 'p, R>>, Option<Survey>), Failure> {
+    let mut first = open_locked(rt, teller, serving.first)?;
+    let mut second = match open_locked(rt, teller, serving.second) {
+        Ok(second) => second,
         Err(failure) => {
             drop(first);
             return Err(failure);
         }
     };
-    Vault::open(rt.alloc(), first, second, LIFE).map_err(|refused| {
-        let why = refused.why;
-        drop(refused);
-        Failure::from(why)
-    })
+    if let Err(failure) = refuse_two_vaults(rt.alloc(), &mut first, &mut second) {
+        drop(first);
+        drop(second);
+        return Err(failure);
+    }
+    let survey = take_survey(rt.alloc(), teller, &mut first, &mut second);
+    match Vault::open(rt.alloc(), first, second, LIFE) {
+        Ok(vault) => Ok((vault, survey)),
+        Err(refused) => {
+            let why = refused.why;
+            drop(refused);
+            Err(Failure::from(why))
+        }
+    }
 }
 
 /// Binds the address, and says so on standard output.
-fn listen<R: Print + Net<Listener = TcpListener, Stream = TcpStream>>(
+fn listen<'p, R: Print + Eprint + Net<Listener = TcpListener, Stream = TcpStream>>(
+    rt: &R,
+    teller: &Teller<'p, R>,
+    serving: &Serving<'p>,
+) -> Result<TcpListener, Failure> {
+    let listener = TcpListener::bind(rt, serving.address).map_err(|error| {
+        let address = Subject::Address(serving.address);
+        teller.note(address, Action::Bound, Cause::System(error));
+        Failure::Bind
+    })?;
+    print_line(rt, teller, "listening")?;
+    Ok(listener)
+}
+
+/// Says on standard error what is served, and where.
+fn introduce<R: Eprint>(
     rt: &R,
     serving: &Serving<'_>,
-) -> Result<TcpListener, Failure> {
-    let listener = TcpListener::bind(rt, serving.address).or(Err(Failure::Bind))?;
-    println!(rt; "listening").or(Err(Failure::Write))?;
-    Ok(listener)
+    listener: &TcpListener,
+    survey: Option<Survey>,
+) {
+    let (Some(survey), Ok(address)) = (survey, listener.local_addr()) else {
+        return;
+    };
+    let (first, second) = (Subject::File(serving.first), Subject::File(serving.second));
+    let _ = eprintln!(rt; "listening on {address}, over {first} and {second}: {survey}");
 }
 
 /// How many may wait for a claim at once: so many as are given, or three quarters of the places, so that who holds can come and give up.
@@ -65,10 +97,10 @@ fn most_waits(serving: &Serving<'_>) -> u32 {
 }
 
 /// What the server is to keep to.
-fn terms_of(serving: &Serving<'_>) -> Terms
+fn options_of(serving: &Serving<'_>) -> ServerOptions
     ensures { (0 < result.workers) × (result.workers ≤ 64) }
 {
-    Terms {
+    ServerOptions {
         workers: serving.workers.clamp(1, 64) as usize,
         threads: serving.threads as usize,
         connections: serving.connections,
@@ -98,21 +130,32 @@ fn failure_of(error: ServerError) -> Failure {
 
 /// Says on standard error what ends the server, as soon as it is so.
 #[derive(Drop)]
-struct Teller<'a, R> {
-    rt: &'a R,
+struct Door<'a, 'p, R> {
+    teller: &'a Teller<'p, R>,
+    address: &'p str,
 }
 
-impl<R: Eprint> Gate for Teller<'_, R> {
+impl<R: Eprint> Gate for Door<'_, '_, R> {
     fn at(&self, _point: Point) {}
 
-    fn accepts_no_more(&self) {
-        let error = ServerError::Accept;
-        let _ = eprintln!(self.rt; "{error}");
+    fn accepts_no_more(&self, why: io::Error) {
+        self.teller.accepts_no_more(self.address, why);
     }
 }
 
-/// Opens the vault, binds the address, says so on standard output, and serves until enough connections were served.
+/// What the end of a server is told as, whose vault broke.
+fn broken<R: Eprint>(teller: &Teller<'_, R>) -> Failure {
+    if teller.has_broken() {
+        Failure::Broken
+    } else {
+        Failure::Device
+    }
+}
+
+/// Opens the vault, binds the address, says so on standard output, and serves until enough connections were served. Where a file fails
+/// meanwhile, that is said at once.
 pub(crate) fn serve<
+    'p,
     R: Files<File = File>
         + Print
         + Eprint
@@ -122,24 +165,29 @@ pub(crate) fn serve<
         + Wait
         + Clock
         + Sync,
->(rt: &R, serving: &Serving<'_>) -> Result<(), Failure> {
+>(rt: &R, teller: &Teller<'p, R>, serving: &Serving<'p>) -> Result<(), Failure> {
     check_limit(serving.workers)?;
-    let vault = open(rt, serving)?;
-    let listener = match listen(rt, serving) {
+    let (vault, survey) = open(rt, teller, serving)?;
+    let listener = match listen(rt, teller, serving) {
         Ok(listener) => listener,
         Err(failure) => {
             drop(vault);
             return Err(failure);
         }
     };
-    let terms = terms_of(serving);
-    let teller = Teller { rt };
-    let served = run_server_on(rt, rt.alloc(), listener, vault, &terms, &teller);
+    introduce(rt, serving, &listener, survey);
+    let options = options_of(serving);
+    let door = Door {
+        teller,
+        address: serving.address,
+    };
+    teller.begin_serving();
+    let served = run_server_on(rt, rt.alloc(), listener, vault, &options, &door);
     let (vault, _) = served.map_err(failure_of)?;
     let is_broken = vault.is_broken();
     drop(vault);
     if is_broken {
-        return Err(Failure::Device);
+        return Err(broken(teller));
     }
     Ok(())
 }

@@ -1,14 +1,16 @@
 //! Checking two files: whether a server would start over them, and how full their vault is.
 
 use crate::failure::Failure;
+use crate::files::{WatchedDevice, device_over, unopened};
+use crate::teller::Teller;
 use crate::told::{Finding, tell};
+use crate::two_vaults::refuse_two_vaults;
 use std::fs;
-use vault_device::FileDevice;
 use vault_inspector::{FileState, InspectError, Report, inspect, snapshot_length, why_of};
 use vault_store::{File, Head, OpenError, read_head};
 
 /// How often two files are read at most until two readings agree.
-const MOST_READINGS: u32 = 16;
+const MAX_READINGS: u32 = 16;
 
 /// What two files hold, by one reading.
 #[derive(Drop)]
@@ -17,22 +19,30 @@ pub(crate) struct Reading {
     pub(crate) report: Report,
     /// How many bytes the active file's snapshot has.
     pub(crate) snapshot: Option<u32>,
+    /// Why the two aren't of one vault, where they aren't, or why that isn't known.
+    two_vaults: Option<Failure>,
 }
 
 /// The files of a vault, opened for reading alone. They aren't locked, so that no server is kept from starting.
 #[derive(Drop)]
-struct Files {
-    first: FileDevice,
-    second: FileDevice,
+struct Files<'a, 'p> {
+    first: WatchedDevice<'a, 'p, HostRuntime>,
+    second: WatchedDevice<'a, 'p, HostRuntime>,
 }
 
 /// Opens a file for reading alone.
-fn opened(rt: &HostRuntime, path: &str) -> Result<FileDevice, Failure> {
-    let file = fs::File::open(rt, path).or(Err(Failure::Device))?;
-    Ok(FileDevice::over(file))
+fn opened<'a, 'p>(
+    rt: &HostRuntime,
+    teller: &'a Teller<'p, HostRuntime>,
+    path: &'p str,
+) -> Result<WatchedDevice<'a, 'p, HostRuntime>, Failure> {
+    match fs::File::open(rt, path) {
+        Ok(file) => Ok(device_over(file, path, teller)),
+        Err(error) => Err(unopened(teller, path, error)),
+    }
 }
 
-impl Files {
+impl Files<'_, '_> {
     /// How long the snapshot of the active file is.
     fn snapshot(&mut self, report: &Report) -> Result<Option<u32>, InspectError> {
         match (report.first, report.second) {
@@ -46,11 +56,13 @@ impl Files {
     fn read(&mut self, rt: &HostRuntime) -> Result<Reading, InspectError> {
         let heads = (read_head(&mut self.first)?, read_head(&mut self.second)?);
         let report = inspect(rt.alloc(), &mut self.first, &mut self.second)?;
+        let two_vaults = refuse_two_vaults(rt.alloc(), &mut self.first, &mut self.second).err();
         match self.snapshot(&report) {
             Ok(snapshot) => Ok(Reading {
                 heads,
                 report,
                 snapshot,
+                two_vaults,
             }),
             Err(error) => {
                 drop(report);
@@ -63,7 +75,7 @@ impl Files {
     /// of one moment: while the heads stay, an active file is only added to, and what another holds isn't touched.
     fn read_agreed(&mut self, rt: &HostRuntime) -> Result<Option<Reading>, InspectError> {
         let mut last = self.read(rt)?;
-        for _ in 0..MOST_READINGS {
+        for _ in 0..MAX_READINGS {
             let next = match self.read(rt) {
                 Ok(next) => next,
                 Err(error) => {
@@ -101,7 +113,7 @@ fn file_of(why: OpenError) -> Option<File> {
 fn failure_of(reading: &Reading) -> (Option<Failure>, Option<File>) {
     match why_of(reading.report.first, reading.report.second) {
         Some(why) => (Some(Failure::from(why)), file_of(why)),
-        None => (None, None),
+        None => (reading.two_vaults, None),
     }
 }
 
@@ -115,7 +127,7 @@ fn unread(failure: Failure, file: Option<File>) -> Finding {
 }
 
 /// What was found in two open files.
-fn found(rt: &HostRuntime, files: &mut Files) -> Finding {
+fn found(rt: &HostRuntime, files: &mut Files<'_, '_>) -> Finding {
     match files.read_agreed(rt) {
         Ok(Some(reading)) => {
             let (failure, file) = failure_of(&reading);
@@ -131,12 +143,17 @@ fn found(rt: &HostRuntime, files: &mut Files) -> Finding {
 }
 
 /// What is found in the files of these two paths.
-fn look(rt: &HostRuntime, first: &str, second: &str) -> Finding {
-    let first = match opened(rt, first) {
+fn look<'p>(
+    rt: &HostRuntime,
+    teller: &Teller<'p, HostRuntime>,
+    first: &'p str,
+    second: &'p str,
+) -> Finding {
+    let first = match opened(rt, teller, first) {
         Ok(device) => device,
         Err(failure) => return unread(failure, Some(File::First)),
     };
-    match opened(rt, second) {
+    match opened(rt, teller, second) {
         Ok(second) => found(rt, &mut Files { first, second }),
         Err(failure) => {
             drop(first);
@@ -147,9 +164,15 @@ fn look(rt: &HostRuntime, first: &str, second: &str) -> Finding {
 
 /// Says on standard output what the files of these two paths are, whether a server starts over them, and how full their vault is. Where
 /// none starts, the failure is why.
-pub fn check(rt: &HostRuntime, first: &str, second: &str, json: bool) -> Result<(), Failure> {
-    let finding = look(rt, first, second);
-    let told = tell(rt, &finding, (first, second), json);
+pub fn check<'p>(
+    rt: &HostRuntime,
+    teller: &Teller<'p, HostRuntime>,
+    first: &'p str,
+    second: &'p str,
+    json: bool,
+) -> Result<(), Failure> {
+    let finding = look(rt, teller, first, second);
+    let told = tell(rt, teller, &finding, (first, second), json);
     let failure = finding.failure;
     drop(finding);
     told?;

@@ -43,7 +43,8 @@ Examples:
 /// What a client says and is told, below the help of `serve`.
 const SERVED: &str = "\
 Prints 'listening' once it accepts connections, and runs until it is stopped: by any signal, at any time. What a client
-was told is on disk then. A client sends lines as those of a script without '@K ', and is told one line for each.
+was told is on disk then. Where a file fails, 'device fault' is said at once on standard error, and each command is
+answered 'ERR 82' from then on. A client sends lines as those of a script without '@K ', and is told one line for each.
 There are no passwords: the name in 'hello' is believed, so bind an address that only trusted people reach.
 Example:
   vaultd create vault.a vault.b
@@ -104,6 +105,14 @@ pub enum Task<'a> {
     Serve(Serving<'a>),
 }
 
+/// What the program is asked to do, and how much to say of it.
+#[derive(Clone, Copy)]
+pub struct Asked<'a> {
+    pub task: Task<'a>,
+    /// Whether standard error is to have more than what failed.
+    pub verbose: bool,
+}
+
 /// An argument that has to be there.
 fn needed<'a>(alloc: Global, id: &'a str, help: &'a str) -> Arg<'a> {
     Arg::new(alloc, id).required(true).help(help)
@@ -117,6 +126,14 @@ fn option<'a>(alloc: Global, name: &'a str, value: &'a str, help: &'a str) -> Ar
         .help(help)
 }
 
+/// Whether to say more.
+fn verbose<'a>(alloc: Global, help: &'a str) -> Arg<'a> {
+    Arg::new(alloc, "verbose")
+        .long("verbose")
+        .action(ArgAction::SetTrue)
+        .help(help)
+}
+
 /// A subcommand over two files.
 fn over_files<'a>(alloc: Global, name: &'a str) -> Result<Command<'a>, AllocError> {
     let command = Command::new(alloc, name);
@@ -126,31 +143,36 @@ fn over_files<'a>(alloc: Global, name: &'a str) -> Result<Command<'a>, AllocErro
     command.arg(needed(alloc, "B", second))
 }
 
+/// A subcommand that says what the system said of a fault, where it is asked to.
+fn says_why<'a>(command: Command<'a>, alloc: Global) -> Result<Command<'a>, AllocError> {
+    let help = "Says behind a fault of what it is, what was done and what the system said";
+    command.arg(verbose(alloc, help))
+}
+
 /// The subcommand that runs a script.
-fn script<'a>(alloc: Global) -> Command<'a> {
-    Command::new(alloc, "script")
+fn script<'a>(alloc: Global) -> Result<Command<'a>, AllocError> {
+    let command = Command::new(alloc, "script")
         .about("Runs a script from standard input over a new vault, replies to standard output")
-        .after_help(SCRIPT_HELP)
+        .after_help(SCRIPT_HELP);
+    says_why(command, alloc)
 }
 
 /// The subcommand that makes a vault.
 fn create<'a>(alloc: Global) -> Result<Command<'a>, AllocError> {
     let about =
         "Makes two files where they are missing and a new vault in them, and prints 'created'";
-    Ok(
-        over_files(alloc, "create")?
-            .about(about)
-            .after_help(CREATED),
-    )
+    let command = over_files(alloc, "create")?
+        .about(about)
+        .after_help(CREATED);
+    says_why(command, alloc)
 }
 
 /// The subcommand that reports.
 fn inspect<'a>(alloc: Global) -> Result<Command<'a>, AllocError> {
-    Ok(
-        over_files(alloc, "inspect")?
-            .about("Prints a report on the two files of a vault, and changes neither")
-            .after_help(INSPECTED),
-    )
+    let command = over_files(alloc, "inspect")?
+        .about("Prints a report on the two files of a vault, and changes neither")
+        .after_help(INSPECTED);
+    says_why(command, alloc)
 }
 
 /// The subcommand that checks.
@@ -158,10 +180,11 @@ fn check<'a>(alloc: Global) -> Result<Command<'a>, AllocError> {
     let json = Arg::new(alloc, "json")
         .long("json")
         .action(ArgAction::SetTrue);
-    over_files(alloc, "check")?
+    let command = over_files(alloc, "check")?
         .about("Says whether a server starts over the two files of a vault, and how full it is")
         .after_help(CHECKED)
-        .arg(json.help("Prints one object of JSON in the place of sentences"))
+        .arg(json.help("Prints one object of JSON in the place of sentences"))?;
+    says_why(command, alloc)
 }
 
 /// How many connections are served at a time.
@@ -239,7 +262,10 @@ fn serve<'a>(alloc: Global) -> Result<Command<'a>, AllocError> {
     let command = command.arg(time(alloc, "full", full))?;
     let command = command.arg(per_address(alloc))?;
     let command = command.arg(wait(alloc))?;
-    command.arg(waits(alloc))
+    let command = command.arg(waits(alloc))?;
+    let help =
+        "Says on standard error what is served where, and behind a fault what the system said";
+    command.arg(verbose(alloc, help))
 }
 
 /// One subcommand more, where there was memory for it.
@@ -261,7 +287,7 @@ fn command_line<'a>(alloc: Global) -> Result<Command<'a>, AllocError> {
         .after_help(EXAMPLE)
         .subcommand_required(true)
         .arg_required_else_help(true);
-    let command = command.subcommand(script(alloc))?;
+    let command = with(command, script(alloc))?;
     let command = with(command, create(alloc))?;
     let command = with(command, check(alloc))?;
     let command = with(command, inspect(alloc))?;
@@ -292,6 +318,13 @@ fn serving_of<'a>(matches: &ArgMatches<'a>) -> Serving<'a> {
     }
 }
 
+/// Whether to say more of the subcommand that was matched.
+fn is_verbose(matches: &ArgMatches<'_>) -> bool {
+    matches
+        .subcommand()
+        .is_some_and(|(_, words)| words.get_flag("verbose"))
+}
+
 /// What was matched, if it is one of the subcommands.
 fn task_in<'a>(matches: &ArgMatches<'a>) -> Option<Task<'a>> {
     match matches.subcommand() {
@@ -317,12 +350,12 @@ fn lacks_subcommand(alloc: Global) -> Result<Error, AllocError> {
 }
 
 /// What the words ask for, the program's own name first. Its error is what clap says of them, or the help that they ask for.
-pub fn task_of<'a, S: AsStr>(alloc: Global, words: &'a [S]) -> Result<Task<'a>, Error> {
+pub fn asked_of<'a, S: AsStr>(alloc: Global, words: &'a [S]) -> Result<Asked<'a>, Error> {
     let matches = command_line(alloc)?.try_get_matches_from(words)?;
-    let task = task_in(&matches);
+    let (task, verbose) = (task_in(&matches), is_verbose(&matches));
     drop(matches);
     match task {
-        Some(task) => Ok(task),
+        Some(task) => Ok(Asked { task, verbose }),
         None => Err(lacks_subcommand(alloc)?),
     }
 }

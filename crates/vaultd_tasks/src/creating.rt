@@ -1,10 +1,11 @@
 //! Making a vault in two files.
 
 use crate::failure::Failure;
-use crate::files::lock;
+use crate::files::{device_over, lock, unopened};
+use crate::standard::print_line;
+use crate::teller::Teller;
 use std::fs::{self, File, OpenOptions};
-use std::io::ErrorKind;
-use vault_device::FileDevice;
+use std::io::{self, ErrorKind};
 use vault_store::Store;
 
 /// A file that is open for a new vault, and whether it was made for it.
@@ -15,16 +16,16 @@ struct Opened {
 }
 
 /// Opens a file, or makes it where it is missing.
-fn open_or_make(rt: &HostRuntime, path: &str) -> Result<Opened, Failure> {
+fn open_or_make(rt: &HostRuntime, path: &str) -> io::Result<Opened> {
     let mut options = OpenOptions::new();
     options.read(true).write(true);
     match options.open(rt, path) {
         Ok(file) => Ok(Opened { file, made: false }),
         Err(error) if error.kind() == ErrorKind::NotFound => {
-            let file = File::create_new(rt, path).or(Err(Failure::Device))?;
+            let file = File::create_new(rt, path)?;
             Ok(Opened { file, made: true })
         }
-        Err(_) => Err(Failure::Device),
+        Err(error) => Err(error),
     }
 }
 
@@ -36,17 +37,30 @@ fn take_back(rt: &HostRuntime, path: &str, made: bool) {
 }
 
 /// Opens a file and locks it. One that another program has by now isn't taken away, whoever made it.
-fn locked(rt: &HostRuntime, path: &str) -> Result<Opened, Failure> {
-    let opened = open_or_make(rt, path)?;
-    lock(&opened.file)?;
-    Ok(opened)
+fn locked<'p>(
+    rt: &HostRuntime,
+    teller: &Teller<'p, HostRuntime>,
+    path: &'p str,
+) -> Result<Opened, Failure> {
+    match open_or_make(rt, path) {
+        Ok(opened) => {
+            lock(teller, path, &opened.file)?;
+            Ok(opened)
+        }
+        Err(error) => Err(unopened(teller, path, error)),
+    }
 }
 
 /// Makes a vault in the files of these two paths, which are made where they are missing. Where that is refused, no file is
 /// changed, and those made for it are taken away again.
-fn create_files(rt: &HostRuntime, first: &str, second: &str) -> Result<(), Failure> {
-    let a = locked(rt, first)?;
-    let b = match locked(rt, second) {
+fn create_files<'p>(
+    rt: &HostRuntime,
+    teller: &Teller<'p, HostRuntime>,
+    first: &'p str,
+    second: &'p str,
+) -> Result<(), Failure> {
+    let a = locked(rt, teller, first)?;
+    let b = match locked(rt, teller, second) {
         Ok(b) => b,
         Err(failure) => {
             take_back(rt, first, a.made);
@@ -56,8 +70,8 @@ fn create_files(rt: &HostRuntime, first: &str, second: &str) -> Result<(), Failu
     let (made_first, made_second) = (a.made, b.made);
     match Store::create(
         rt.alloc(),
-        FileDevice::over(a.file),
-        FileDevice::over(b.file),
+        device_over(a.file, first, teller),
+        device_over(b.file, second, teller),
     ) {
         Ok(_) => Ok(()),
         Err(refused) => {
@@ -69,7 +83,12 @@ fn create_files(rt: &HostRuntime, first: &str, second: &str) -> Result<(), Failu
 }
 
 /// Makes a vault in the files of these two paths, and says so on standard output.
-pub fn create(rt: &HostRuntime, first: &str, second: &str) -> Result<(), Failure> {
-    create_files(rt, first, second)?;
-    println!(rt; "created").or(Err(Failure::Write))
+pub fn create<'p>(
+    rt: &HostRuntime,
+    teller: &Teller<'p, HostRuntime>,
+    first: &'p str,
+    second: &'p str,
+) -> Result<(), Failure> {
+    create_files(rt, teller, first, second)?;
+    print_line(rt, teller, "created")
 }

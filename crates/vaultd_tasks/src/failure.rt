@@ -29,9 +29,15 @@ pub enum Failure {
     /// The first fault stands in the second file, at this offset.
     #[error("file b damaged at {0}")]
     SecondDamaged(u64),
+    /// The older file is not of the newer one's vault.
+    #[error("files of two vaults")]
+    TwoVaults,
     /// A file can't be opened, made, read or written.
     #[error("device fault")]
     Device,
+    /// A file failed that is served. The server said so at once.
+    #[error("device fault")]
+    Broken,
     /// The system lets the program have fewer descriptors than its workers need.
     #[error("want of descriptors: {needed} are needed, and the limit is {limit}")]
     Descriptors { needed: u64, limit: u64 },

@@ -1,9 +1,11 @@
 //! Reporting on two files.
 
 use crate::failure::Failure;
+use crate::files::{device_over, unopened};
+use crate::standard::buffered_output;
+use crate::teller::Teller;
 use std::fs::{File, TryLockError};
-use std::io::{self, BufWriter, Write};
-use vault_device::FileDevice;
+use std::io::Write;
 use vault_inspector::{Report, print};
 
 /// What two files were found to hold.
@@ -15,8 +17,12 @@ struct Inspection {
 }
 
 /// Opens a file for reading alone.
-fn opened(rt: &HostRuntime, path: &str) -> Result<File, Failure> {
-    File::open(rt, path).or(Err(Failure::Device))
+fn opened<'p>(
+    rt: &HostRuntime,
+    teller: &Teller<'p, HostRuntime>,
+    path: &'p str,
+) -> Result<File, Failure> {
+    File::open(rt, path).map_err(|error| unopened(teller, path, error))
 }
 
 /// Whether another program has the file for writing. Where none has, none gets it while this one is open.
@@ -25,29 +31,44 @@ fn is_in_use(file: &File) -> bool {
 }
 
 /// Reads the files of these two paths.
-fn read_files(rt: &HostRuntime, first: &str, second: &str) -> Result<Inspection, Failure> {
-    let a = opened(rt, first)?;
-    let b = opened(rt, second)?;
+fn read_files<'p>(
+    rt: &HostRuntime,
+    teller: &Teller<'p, HostRuntime>,
+    first: &'p str,
+    second: &'p str,
+) -> Result<Inspection, Failure> {
+    let a = opened(rt, teller, first)?;
+    let b = opened(rt, teller, second)?;
     let in_use = is_in_use(&a) || is_in_use(&b);
-    let (mut a, mut b) = (FileDevice::over(a), FileDevice::over(b));
+    let mut a = device_over(a, first, teller);
+    let mut b = device_over(b, second, teller);
     let report = vault_inspector::inspect(rt.alloc(), &mut a, &mut b)?;
     Ok(Inspection { report, in_use })
 }
 
 /// Prints a report on standard output.
-fn print_out(rt: &HostRuntime, report: &Report) -> Result<(), Failure> {
-    let mut writer = BufWriter::new(rt.alloc(), io::writer(rt)).or(Err(Failure::NoMemory))?;
+fn print_out(
+    rt: &HostRuntime,
+    teller: &Teller<'_, HostRuntime>,
+    report: &Report,
+) -> Result<(), Failure> {
+    let mut writer = buffered_output(rt, teller)?;
     print(report, &mut writer)?;
     writer.flush().or(Err(Failure::Write))
 }
 
 /// Prints a report on the files of these two paths on standard output. Where a server has them, it says so on standard error.
-pub fn inspect(rt: &HostRuntime, first: &str, second: &str) -> Result<(), Failure> {
-    let inspection = read_files(rt, first, second)?;
+pub fn inspect<'p>(
+    rt: &HostRuntime,
+    teller: &Teller<'p, HostRuntime>,
+    first: &'p str,
+    second: &'p str,
+) -> Result<(), Failure> {
+    let inspection = read_files(rt, teller, first, second)?;
     if inspection.in_use {
         let _ = eprintln!(rt; "vault in use: a server may have written while the files were read");
     }
-    let printed = print_out(rt, &inspection.report);
+    let printed = print_out(rt, teller, &inspection.report);
     drop(inspection);
     printed
 }

@@ -3,10 +3,10 @@
 //! Promises: it is safe and total. Each subcommand is one call of a crate beneath.
 //! Stands on: vault_device, vault_store, vault_protocol, vault_inspector. Must not know: the server, and anything that a contract should
 //! say; it is kept thin.
-//! Only tested, by `tools/try-program`: what the words ask for, statuses, texts and order of failures, `create` and `inspect` on real files
-//! and beside their locks, closed streams.
-//! Neither: texts of help and usage; what standard input and output are.
-//! Start at: command_line.rt, then the file of a subcommand.
+//! Only tested, by `tools/try-program`: what the words ask for, statuses, texts and order of failures, why something failed, `create` and
+//! `inspect` on real files and beside their locks, closed streams.
+//! Neither: texts of help and usage; what standard input and output are; that a real file is honest.
+//! Start at: command_line.rt, then the file of a subcommand; files.rt (a file whose calls that fail are told), teller.rt (to whom).
 #![tactic(auto)]
 
 mod checking;
@@ -15,15 +15,25 @@ mod creating;
 mod failure;
 mod files;
 mod inspecting;
+mod reason;
 mod scripting;
+mod standard;
 mod streams;
+mod survey;
+mod teller;
 mod told;
+mod two_vaults;
 
 pub use checking::check;
-pub use command_line::{Serving, Task, task_of};
+pub use command_line::{Asked, Serving, Task, asked_of};
 pub use creating::create;
 pub use failure::Failure;
-pub use files::open_locked;
+pub use files::{WatchedDevice, WatchedFile, open_locked};
 pub use inspecting::inspect;
+pub use reason::{Action, Cause, Reason, Subject};
 pub use scripting::script;
+pub use standard::print_line;
 pub use streams::{Streams, take_streams};
+pub use survey::{Survey, take_survey};
+pub use teller::Teller;
+pub use two_vaults::refuse_two_vaults;

@@ -4,9 +4,11 @@ ghost use Rattle.std.specs.Prelude.{◌≡◌, ◌<◌, ◌^◌};
 
 use crate::checking::Reading;
 use crate::failure::Failure;
+use crate::standard::{buffered_output, print_line};
+use crate::teller::Teller;
 use serde::Serialize;
 use std::alloc::{AllocError, Global};
-use std::io::{self, BufWriter, Write};
+use std::io::{self, Write};
 use vault_inspector::{Figures, FileState, Limit};
 use vault_store::{File, FileVersion};
 
@@ -70,6 +72,9 @@ fn advice_of(failure: Failure) -> &'static str {
         }
         Failure::NoVault => {
             "docs/OPERATING.md, 'When the machine stops': a create was stopped, or these aren't a vault's files"
+        }
+        Failure::TwoVaults => {
+            "docs/OPERATING.md, 'Files of two vaults': give each vault its own two files"
         }
         Failure::InUse => "a server writes to these files: check again, or a copy of both",
         _ => "docs/OPERATING.md, 'Statuses and messages'",
@@ -291,15 +296,16 @@ fn write_told<W: Write>(
 /// Prints what was found on standard output: in sentences, or as one object of JSON.
 pub(crate) fn tell(
     rt: &HostRuntime,
+    teller: &Teller<'_, HostRuntime>,
     finding: &Finding,
     paths: (&str, &str),
     json: bool,
 ) -> Result<(), Failure> {
     if json {
         let text = json_of(rt.alloc(), finding, paths)?;
-        return println!(rt; "{text}").or(Err(Failure::Write));
+        return print_line(rt, teller, text);
     }
     let figures = figures_of(finding)?;
-    let mut writer = BufWriter::new(rt.alloc(), io::writer(rt)).or(Err(Failure::NoMemory))?;
+    let mut writer = buffered_output(rt, teller)?;
     write_told(&mut writer, finding, figures, paths).or(Err(Failure::Write))
 }

@@ -19,20 +19,20 @@ const LENGTH_AT: usize = 19;
 const SNAPSHOT_AT: usize = 23;
 
 // The most bytes that a place has beside its versions, a check-out beside its drafts, and a draft beside its content.
-const MOST_OF_PLACE: usize = 40;
+const MAX_OF_PLACE: usize = 40;
 
-const MOST_OF_CLAIM: usize = 144;
+const MAX_OF_CLAIM: usize = 144;
 
-const MOST_OF_DRAFT: usize = 6;
+const MAX_OF_DRAFT: usize = 6;
 
 // What a file has behind its head gate beside its places and check-outs.
-const MOST_BESIDE: usize = 34;
+const MAX_BESIDE: usize = 34;
 
 // The most bytes that drafts are spelled in.
 fn room_of_drafts<B: Allocator>(drafts: &[DraftIn<B>]) -> usize {
     let mut room = 0usize;
     for draft in drafts {
-        room = room.saturating_add(draft.content.as_slice().len().saturating_add(MOST_OF_DRAFT));
+        room = room.saturating_add(draft.content.as_slice().len().saturating_add(MAX_OF_DRAFT));
     }
     room
 }
@@ -41,7 +41,7 @@ fn room_of_drafts<B: Allocator>(drafts: &[DraftIn<B>]) -> usize {
 fn room_of_claim<B: Allocator + Copy>(book: &Book<B>, claim: &Claim) -> usize {
     match claim.id {
         ClaimId::Long(number) => {
-            room_of_drafts(book.drafts(number)).saturating_add(MOST_OF_CLAIM)
+            room_of_drafts(book.drafts(number)).saturating_add(MAX_OF_CLAIM)
         }
         ClaimId::Short(_) => 0,
     }
@@ -58,11 +58,11 @@ fn room_of_claims<B: Allocator + Copy>(book: &Book<B>) -> usize {
 
 // The most bytes that stand behind the head gate.
 fn room_of<B: Allocator + Copy>(book: &Book<B>) -> usize {
-    let places = book.tree().len().saturating_mul(MOST_OF_PLACE);
+    let places = book.tree().len().saturating_mul(MAX_OF_PLACE);
     places
         .saturating_add(book.shelf().weight())
         .saturating_add(room_of_claims(book))
-        .saturating_add(MOST_BESIDE)
+        .saturating_add(MAX_BESIDE)
 }
 
 // Adds what stands before the snapshot, with a length of 0.

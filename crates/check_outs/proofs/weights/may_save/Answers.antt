@@ -7,9 +7,9 @@ use Rattle.check_outs.specs.Typed.{saved, drafts_at}
 use Rattle.check_outs.proofs.Weighing.{own_light, own_lighter, too_many, by_weight}
 use Rattle.check_outs.proofs.weights.may_save.Goals as goal
 
-pub returns-then-count_beside-ge-MOST_DRAFTS : goal.returns-then-count_beside-ge-MOST_DRAFTS
-returns-then-count_beside-ge-MOST_DRAFTS g c =
-    let many : most_drafts ≤ count_by (λ (x : Draft). not (x.place == c.args.place)) (drafts_at c.args.check_outs.now c.args.number) = rw (← c.drafts_at-own.ensures, ← c.count_beside.ensures) c.if-count_beside-ge-MOST_DRAFTS.true in
+pub returns-then-count_beside-ge-MAX_DRAFTS : goal.returns-then-count_beside-ge-MAX_DRAFTS
+returns-then-count_beside-ge-MAX_DRAFTS g c =
+    let many : most_drafts ≤ count_by (λ (x : Draft). not (x.place == c.args.place)) (drafts_at c.args.check_outs.now c.args.number) = rw (← c.drafts_at-own.ensures, ← c.count_beside.ensures) c.if-count_beside-ge-MAX_DRAFTS.true in
     too_many c.args.shelf.now c.args.check_outs.now c.args.number c.args.place c.args.content.now c.requires.ascending c.requires.held many
 
 pub weight_of-requires : goal.weight_of-requires

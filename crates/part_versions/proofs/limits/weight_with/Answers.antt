@@ -17,7 +17,7 @@ pub returns-then-len-gt-LONGEST_CONTENT : goal.returns-then-len-gt-LONGEST_CONTE
 returns-then-len-gt-LONGEST_CONTENT g c =
     none_by_length c.args.weight c.args.drafts.now c.loop-draft.draft-index c.draft-item.result c.as_slice-len.result.now c.loop-draft-test.true c.as_slice-len.ensures c.draft-item.is c.if-len-gt-LONGEST_CONTENT.true
 
-pub returns-then-sum-gt-MOST_WEIGHT : goal.returns-then-sum-gt-MOST_WEIGHT
-returns-then-sum-gt-MOST_WEIGHT g c =
+pub returns-then-sum-gt-MAX_WEIGHT : goal.returns-then-sum-gt-MAX_WEIGHT
+returns-then-sum-gt-MAX_WEIGHT g c =
     none_by_weight c.args.weight c.args.drafts.now c.loop-draft.draft-index c.draft-item.result c.as_slice-len.result.now c.loop-draft.sum c.loop-draft-test.true c.as_slice-len.ensures c.draft-item.is
-    c.loop-draft.invariant.sum_is c.if-sum-gt-MOST_WEIGHT.true
+    c.loop-draft.invariant.sum_is c.if-sum-gt-MAX_WEIGHT.true

@@ -2,7 +2,7 @@ use Rattle.std.proofs.Common.{◌≡◌, ℕ, ◌+◌, length, take, Some, None,
 use Rattle.std.specs.Prelude.{slice_range}
 use Rattle.vault_format.specs.Snapshot.{spelling_of}
 use Rattle.vault_store.proofs.Behind.{and_reads}
-use Rattle.vault_store.proofs.Bodies.{one_read, base_bytes, version_there, length_there, too_short, none_spelled}
+use Rattle.vault_store.proofs.Bodies.{one_read, base_bytes, version_there, length_there, too_short, too_long, none_spelled}
 use Rattle.vault_store.proofs.InPieces.{snapshot_moved}
 use Rattle.vault_store.proofs.body.read_base.Goals as goal
 
@@ -50,3 +50,9 @@ returns-in-None-clause-refused g c = λ honest.
     (omega (arith, size, c.if-len-from.false, c.from.ensures))
     (sym (version_there old.shown c.read_at.new.buffer (c.in_ok-read_at.ensures.bytes honest)) ∙ c.in-Some.ensures)
     (none honest)
+
+pub returns-then-length-gt-MAX_SNAPSHOT-clause-refused : goal.returns-then-length-gt-MAX_SNAPSHOT-clause-refused
+returns-then-length-gt-MAX_SNAPSHOT-clause-refused g c = λ honest.
+    let last = length_there (g.D.Device.disk c.args.device.now).shown c.read_at.new.buffer (c.in_ok-read_at.ensures.bytes honest) (omega arith) in
+    let size = c.requires.len honest in
+    too_long (g.D.Device.disk c.args.device.now).shown _ c.number_in-length.result last c.number_in-length.ensures (omega arith) (omega (arith, size, c.if-len-from.false, c.from.ensures)) (omega (arith, c.if-length-gt-MAX_SNAPSHOT.true))

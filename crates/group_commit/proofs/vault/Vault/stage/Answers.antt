@@ -19,7 +19,7 @@ note_any-requires-clause-has g c =
 
 pub invariant_of-self-2 : goal.invariant_of-self-2
 invariant_of-self-2 g c =
-    let few : length c.self.inside.kept < 4096 = (let l : c.len.result ≡ length c.self.inside.kept = c.len.ensures.len in let k : c.len.result < 4096 = c.if-len-ge-MOST_KEPT.false in omega arith) in
+    let few : length c.self.inside.kept < 4096 = (let l : c.len.result ≡ length c.self.inside.kept = c.len.ensures.len in let k : c.len.result < 4096 = c.if-len-ge-MAX_KEPT.false in omega arith) in
     let is : c.len-position.result ≡ length_of (seen_of c.self.inside).view = c.len-position.ensures ∙ ap (λ (s : VaultSeen _). length_of s.view) (sym c.self.view_is) in (
       stage_kept g.D.Device.disk (seen_of c.self.inside) c.self.inside.book c.args.session c.args.command c.self.invariant.0
           c.in-Ok.acted.1 c.note_any.new.store c.of-before.result.value c.act.new.self c.in-Ok.acted.0 c.open-entry.result c.push.new.self

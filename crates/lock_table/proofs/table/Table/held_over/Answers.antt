@@ -5,7 +5,7 @@ use Rattle.vault_model.specs.Tree.{parent_of}
 use Rattle.lock_table.specs.declared.entry.Entry.{Entry}
 use Rattle.lock_table.specs.Tables.{IsTable}
 use Rattle.lock_queue.specs.Queue.{CellSeen, first_of, is_cover}
-use Rattle.lock_table.specs.Queues.{AreQueues, seats_at, place_of, earlier}
+use Rattle.lock_table.specs.Queues.{AreQueues, seats_at, position_of, earlier}
 use Rattle.lock_table.proofs.Positions.{earlier_associative, earlier_none}
 use Rattle.lock_table.proofs.Covering.{cover_of, cover_above, cover_step, over_id}
 use Rattle.lock_table.proofs.table.Table.held_over.Goals as goal
@@ -17,7 +17,7 @@ loop-parent-init g c =
     let queues : AreQueues table c.self.inside.cells.items = subst (λ (t : List Entry). AreQueues t c.self.inside.cells.items) c.self.view_is c.self.invariant.1 in
     record {
       there = omega (arith, c.requires);
-      first = λ tree. ap (λ o. earlier o (cover_above c.args.tree.now table c.args.place)) (c.place_of-first.ensures ∙ (ap (λ (xs : List Entry). place_of xs c.cover_at.result) (c.as_slice-entries.ensures.value ∙ c.self.view_is) ∙ ap (place_of table) (c.cover_at.ensures ∙ ap (λ (xs : List CellSeen). first_of is_cover (seats_at xs c.args.place)) c.as_slice-cells.ensures.value)))
+      first = λ tree. ap (λ o. earlier o (cover_above c.args.tree.now table c.args.place)) (c.position_of-first.ensures ∙ (ap (λ (xs : List Entry). position_of xs c.cover_at.result) (c.as_slice-entries.ensures.value ∙ c.self.view_is) ∙ ap (position_of table) (c.cover_at.ensures ∙ ap (λ (xs : List CellSeen). first_of is_cover (seats_at xs c.args.place)) c.as_slice-cells.ensures.value)))
           ∙ cover_step c.args.tree.now tree.parents table c.self.inside.cells.items kept queues c.args.place;
     }
 
@@ -31,8 +31,8 @@ loop-parent-preserved g c =
     record {
       there = omega (arith, c.in-Some.ensures.there);
       first = λ tree. ap (λ o. earlier o (cover_above c.args.tree.now table r))
-          (c.earlier_of-first.ensures ∙ ap (earlier c.loop-parent.first) (ap (λ (xs : List Entry). place_of xs c.cover_at-in-Some.result) (c.as_slice-entries.ensures.value ∙ c.self.view_is) ∙ ap (place_of table) (c.cover_at-in-Some.ensures ∙ ap (λ (xs : List CellSeen). first_of is_cover (seats_at xs r)) c.as_slice-cells.ensures.value)))
-          ∙ (earlier_associative c.loop-parent.first (place_of table (first_of is_cover (seats_at c.self.inside.cells.items r))) (cover_above c.args.tree.now table r)
+          (c.earlier_of-first.ensures ∙ ap (earlier c.loop-parent.first) (ap (λ (xs : List Entry). position_of xs c.cover_at-in-Some.result) (c.as_slice-entries.ensures.value ∙ c.self.view_is) ∙ ap (position_of table) (c.cover_at-in-Some.ensures ∙ ap (λ (xs : List CellSeen). first_of is_cover (seats_at xs r)) c.as_slice-cells.ensures.value)))
+          ∙ (earlier_associative c.loop-parent.first (position_of table (first_of is_cover (seats_at c.self.inside.cells.items r))) (cover_above c.args.tree.now table r)
           ∙ (ap (earlier c.loop-parent.first) (cover_step c.args.tree.now whole.parents table c.self.inside.cells.items kept queues r)
           ∙ (ap (λ o. earlier c.loop-parent.first (cover_of c.args.tree.now table o)) c.in-Some.ensures.parent ∙ c.loop-parent.invariant.first whole)));
     }

@@ -14,7 +14,7 @@ ask-requires-clause-some g c =
 
 pub ask-requires-clause-few : goal.ask-requires-clause-few
 ask-requires-clause-few g c =
-    let few = c.if-wanted-gt-MOST_ITEMS.false in
+    let few = c.if-wanted-gt-MAX_ITEMS.false in
     let same : length c.in-Some.items ≡ length c.args.wanted.now = length-placed c.self.inside.tree c.args.wanted.now c.in-Some.items (sym c.in-Some.ensures.placed) in
     omega arith
 

@@ -20,6 +20,6 @@ returns-clause-counts g c = λ bound h. rw c.in_ok-push.ensures.items (counts_jo
 pub returns-clause-told : goal.returns-clause-told
 unfolding join chained
 returns-clause-told g c =
-    let full : nat_le most_sessions (length c.self.inside.sessions.items) ≡ false = let few = c.if-len-ge-MOST_SESSIONS.false in grind (arith, nat_tests, few) in
+    let full : nat_le most_sessions (length c.self.inside.sessions.items) ≡ false = let few = c.if-len-ge-MAX_SESSIONS.false in grind (arith, nat_tests, few) in
     let spent : (c.self.inside.last_session == last_number) ≡ false = let other = c.if-self.false in grind (arith, nat_tests, other) in
     rw (← c.self.view_is, c.in_ok-push.ensures.items, full, spent) refl

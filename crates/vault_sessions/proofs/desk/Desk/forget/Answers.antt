@@ -1,6 +1,6 @@
 use Rattle.std.proofs.Common.{◌∙◌, sym, subst}
 use Rattle.group_commit.specs.Calls.{IsForgotten}
-use Rattle.group_commit.specs.Pasts.{IsNext}
+use Rattle.group_commit.specs.Pasts.{IsAnswered}
 use Rattle.vault_sessions.specs.AtDesk.{AtDesk}
 use Rattle.vault_sessions.proofs.Desks.{forget_keeps}
 use Rattle.vault_sessions.proofs.desk.Desk.forget.Goals as goal
@@ -14,5 +14,5 @@ pub returns-clause-closed : goal.returns-clause-closed
 returns-clause-closed g c =
     subst (λ (s : AtDesk g.row.D.Denot). IsForgotten s.vault c.forget.new.self c.args.ticket c.forget.result) c.self.view_is c.forget.ensures.closed
 
-pub returns-clause-next : goal.returns-clause-next
-returns-clause-next g c = subst (λ (s : AtDesk g.row.D.Denot). IsNext g.D.Device.disk s.vault c.forget.new.self) c.self.view_is c.forget.ensures.next
+pub returns-clause-answered : goal.returns-clause-answered
+returns-clause-answered g c = subst (λ (s : AtDesk g.row.D.Denot). IsAnswered s.vault c.forget.new.self) c.self.view_is c.forget.ensures.answered

@@ -1,5 +1,5 @@
 use Rattle.std.proofs.Common.{subst, sym, ap, ◌∙◌}
-use Rattle.group_commit.specs.Pasts.{IsNext}
+use Rattle.group_commit.specs.Pasts.{IsAnswered}
 use Rattle.group_commit.specs.View.{length_of}
 use Rattle.vault_sessions.specs.AtDesk.{AtDesk}
 use Rattle.vault_sessions.specs.Pumping.{IsPumped}
@@ -26,5 +26,5 @@ returns-clause-same g c =
       k.1 ∙ ap (λ (s : AtDesk g.row.D.Denot). s.vault.view.told) c.self.view_is,
     )
 
-pub returns-clause-next : goal.returns-clause-next
-returns-clause-next g c = subst (λ (s : AtDesk g.row.D.Denot). IsNext g.D.Device.disk s.vault c.pump.new.self) c.self.view_is c.pump.ensures.next
+pub returns-clause-answered : goal.returns-clause-answered
+returns-clause-answered g c = subst (λ (s : AtDesk g.row.D.Denot). IsAnswered s.vault c.pump.new.self) c.self.view_is c.pump.ensures.answered

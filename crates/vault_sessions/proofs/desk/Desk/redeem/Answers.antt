@@ -1,7 +1,7 @@
 use Rattle.std.proofs.Common.{ℕ, ◌∙◌, sym, ap, subst, refl, ◌+◌}
 use Rattle.group_commit.specs.declared.answers.Redeemed.TheVariants.{Told}
 use Rattle.group_commit.specs.Calls.{IsRedeemed}
-use Rattle.group_commit.specs.Pasts.{IsNext}
+use Rattle.group_commit.specs.Pasts.{IsAnswered}
 use Rattle.vault_sessions.specs.AtDesk.{AtDesk}
 use Rattle.vault_sessions.specs.declared.tally.Totals.{Totals}
 use Rattle.vault_sessions.proofs.Desks.{told_counts, redeem_keeps, same_lengths, least_staged, least_told, counted_fits}
@@ -64,9 +64,9 @@ returns-in-Told-clause-of_ticket g c =
 pub returns-in-Told-clause-counted : goal.returns-in-Told-clause-counted
 returns-in-Told-clause-counted g c = ap (λ (t : Totals). record t { told = t.told + 1 }) (c.share.view_is ∙ c.audit_beside.ensures.same.0)
 
-pub returns-in-Told-clause-next : goal.returns-in-Told-clause-next
-returns-in-Told-clause-next g c =
-    subst (λ (s : AtDesk g.row.D.Denot). IsNext g.D.Device.disk s.vault c.redeem.new.self) c.self.view_is c.in-Told.ensures.next
+pub returns-in-Told-clause-answered : goal.returns-in-Told-clause-answered
+returns-in-Told-clause-answered g c =
+    subst (λ (s : AtDesk g.row.D.Denot). IsAnswered s.vault c.redeem.new.self) c.self.view_is c.in-Told.ensures.answered
 
 pub returns-in_default : goal.returns-in_default
 returns-in_default g c =
@@ -83,5 +83,5 @@ returns-in_default g c =
         least_staged refl (ap (λ (t : Totals). t.told) audit.same.1 ∙ i.3) audit.told (audit.books.1 ∙ i.1 ∙ sym k.1),
       );
       «open» = ap (λ (s : AtDesk g.row.D.Denot). s.closed) c.self.view_is;
-      next = subst (λ (s : AtDesk g.row.D.Denot). IsNext g.D.Device.disk s.vault c.redeem.new.self) c.self.view_is c.redeem.ensures.next;
+      answered = subst (λ (s : AtDesk g.row.D.Denot). IsAnswered s.vault c.redeem.new.self) c.self.view_is c.redeem.ensures.answered;
     }

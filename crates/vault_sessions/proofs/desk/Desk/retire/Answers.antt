@@ -1,7 +1,7 @@
 use Rattle.std.proofs.Common.{◌∙◌, sym, ap, subst}
 use Rattle.group_commit.specs.View.{length_of}
 use Rattle.group_commit.specs.Calls.{IsRetired}
-use Rattle.group_commit.specs.Pasts.{IsNext}
+use Rattle.group_commit.specs.Pasts.{IsAnswered}
 use Rattle.vault_sessions.specs.AtDesk.{AtDesk}
 use Rattle.vault_sessions.proofs.desk.Desk.retire.Goals as goal
 
@@ -21,5 +21,5 @@ returns-clause-same g c =
       k.1 ∙ ap (λ (s : AtDesk g.row.D.Denot). s.vault.view.told) c.self.view_is,
     )
 
-pub returns-clause-next : goal.returns-clause-next
-returns-clause-next g c = subst (λ (s : AtDesk g.row.D.Denot). IsNext g.D.Device.disk s.vault c.retire.new.self) c.self.view_is c.retire.ensures.next
+pub returns-clause-answered : goal.returns-clause-answered
+returns-clause-answered g c = subst (λ (s : AtDesk g.row.D.Denot). IsAnswered s.vault c.retire.new.self) c.self.view_is c.retire.ensures.answered

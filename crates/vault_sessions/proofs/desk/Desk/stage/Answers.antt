@@ -5,14 +5,14 @@ use Rattle.group_commit.specs.View.{length_of, book_of, view_acted}
 use Rattle.group_commit.specs.Seen.{snapshot_length}
 use Rattle.group_commit.specs.Ticket.{TicketSeen, ticket_of}
 use Rattle.group_commit.specs.Calls.{IsReason}
-use Rattle.group_commit.specs.Pasts.{IsNext}
+use Rattle.group_commit.specs.Pasts.{IsAnswered}
 use Rattle.vault_sessions.specs.AtDesk.{AtDesk}
 use Rattle.vault_sessions.specs.declared.tally.Totals.{Totals}
 use Rattle.vault_sessions.proofs.Desks.{stage_counts, same_desk, same_lengths, least_staged, least_told, counted_fits}
 use Rattle.vault_sessions.proofs.desk.Desk.stage.Goals as goal
 
-pub returns-in-Ok-clause-next : goal.returns-in-Ok-clause-next
-returns-in-Ok-clause-next g c = subst (λ (s : AtDesk g.row.D.Denot). IsNext g.D.Device.disk s.vault c.stage.new.self) c.self.view_is c.in-Ok.ensures.next
+pub returns-in-Ok-clause-answered : goal.returns-in-Ok-clause-answered
+returns-in-Ok-clause-answered g c = subst (λ (s : AtDesk g.row.D.Denot). IsAnswered s.vault c.stage.new.self) c.self.view_is c.in-Ok.ensures.answered
 
 pub invariant_of-self : goal.invariant_of-self
 invariant_of-self g c =
@@ -89,5 +89,5 @@ returns-in-Err-clause-least g c =
       least_staged refl (ap (λ (t : Totals). t.told) audit.same.1 ∙ i.3) audit.told (audit.books.1 ∙ i.1 ∙ sym k.1),
     )
 
-pub returns-in-Err-clause-next : goal.returns-in-Err-clause-next
-returns-in-Err-clause-next g c = subst (λ (s : AtDesk g.row.D.Denot). IsNext g.D.Device.disk s.vault c.stage.new.self) c.self.view_is c.in-Err.ensures.next
+pub returns-in-Err-clause-answered : goal.returns-in-Err-clause-answered
+returns-in-Err-clause-answered g c = subst (λ (s : AtDesk g.row.D.Denot). IsAnswered s.vault c.stage.new.self) c.self.view_is c.in-Err.ensures.answered

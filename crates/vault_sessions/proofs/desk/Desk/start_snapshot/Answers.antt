@@ -4,7 +4,7 @@ use Rattle.group_commit.specs.World.{StartSnapshot}
 use Rattle.group_commit.specs.View.{length_of, view_acted}
 use Rattle.group_commit.specs.Seen.{snapshot_length}
 use Rattle.group_commit.specs.Calls.{MayStart}
-use Rattle.group_commit.specs.Pasts.{IsNext}
+use Rattle.group_commit.specs.Pasts.{IsAnswered}
 use Rattle.vault_sessions.specs.AtDesk.{AtDesk}
 use Rattle.vault_sessions.proofs.Desks.{start_keeps, same_desk, same_on_error}
 use Rattle.vault_sessions.proofs.desk.Desk.start_snapshot.Goals as goal
@@ -44,5 +44,5 @@ returns-clause-same g c =
       k.1 ∙ ap (λ (s : AtDesk g.row.D.Denot). s.vault.view.told) c.self.view_is,
     )
 
-pub returns-clause-next : goal.returns-clause-next
-returns-clause-next g c = subst (λ (s : AtDesk g.row.D.Denot). IsNext g.D.Device.disk s.vault c.start_snapshot.new.self) c.self.view_is c.start_snapshot.ensures.next
+pub returns-clause-answered : goal.returns-clause-answered
+returns-clause-answered g c = subst (λ (s : AtDesk g.row.D.Denot). IsAnswered s.vault c.start_snapshot.new.self) c.self.view_is c.start_snapshot.ensures.answered

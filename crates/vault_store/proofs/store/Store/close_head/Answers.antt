@@ -8,14 +8,14 @@ use Rattle.vault_store.proofs.Renewed.{head_closed, head_failed}
 use Rattle.vault_store.proofs.Failed.{failed_by}
 use Rattle.vault_store.proofs.store.Store.close_head.Goals as goal
 
-pub returns-in-Ok : goal.returns-in-Ok
-returns-in-Ok g c =
+pub returns-in-Ok-clause-advance : goal.returns-in-Ok-clause-advance
+returns-in-Ok-clause-advance g c =
     subst (λ (o : StoreSeen g.row.D.Denot). IsAdvance g.D.Device.disk o (record (seen_of c.self.inside) { spare = c.write_shut-closed.new.device; phase = phases.Closing }) (Ok answers.Moved)) c.self.view_is
     (head_closed g.D.Device.disk (seen_of c.self.inside) c.write_shut-closed.new.device (ap (λ (o : StoreSeen g.row.D.Denot). o.broken) c.self.view_is ∙ c.requires.whole) (g.met.D.Device.lawful c.self.inside.active) (g.met.D.Device.lawful c.self.inside.spare)
     (ap (λ (o : StoreSeen g.row.D.Denot). o.phase) c.self.view_is ∙ c.requires.phase) c.if-self.false c.in-Ok.ensures.one_call c.in-Ok.ensures.write)
 
-pub returns-in-Err : goal.returns-in-Err
-returns-in-Err g c =
+pub returns-in-Err-clause-advance : goal.returns-in-Err-clause-advance
+returns-in-Err-clause-advance g c =
     failed_by g.D.Device.disk (seen_of c.self.inside) (record (seen_of c.self.inside) { spare = c.write_shut-closed.new.device; phase = phases.Closing; broken = true }) c.in-Err.fault c.self.view_is c.broken_by.ensures.broken c.broken_by.ensures.told
     (head_failed g.D.Device.disk (seen_of c.self.inside) c.write_shut-closed.new.device (ap (λ (o : StoreSeen g.row.D.Denot). o.broken) c.self.view_is ∙ c.requires.whole) (g.met.D.Device.lawful c.self.inside.active) (g.met.D.Device.lawful c.self.inside.spare)
     c.in-Err.fault (ap (λ (o : StoreSeen g.row.D.Denot). o.phase) c.self.view_is ∙ c.requires.phase) c.if-self.false c.in-Err.ensures.one_call c.in-Err.ensures.write)

@@ -1,4 +1,0 @@
-use Rattle.commit_rows.proofs.vault.past.made.Goals as goal
-
-pub returns : goal.returns
-returns g c = c.a_past_goes_on.ensures.begins c.in-Ok.ensures.view

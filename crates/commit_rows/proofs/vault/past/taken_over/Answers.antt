@@ -1,4 +1,0 @@
-use Rattle.commit_rows.proofs.vault.past.taken_over.Goals as goal
-
-pub returns : goal.returns
-returns g c = c.a_past_goes_on.ensures.opened c.in-Ok.ensures.begins

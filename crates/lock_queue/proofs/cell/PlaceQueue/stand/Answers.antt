@@ -1,0 +1,64 @@
+use Rattle.std.specs.Prelude.{◌≡◌, ◌<◌, ◌≤◌, length, position, None, set, false, refl}
+use Rattle.std.proofs.Common.{sym, ap, subst, ◌∙◌, arith, rules}
+use Rattle.std.specs.Vec.{vec_capacity}
+use Rattle.vault_model.specs.Limits.{most_claims}
+use Rattle.lock_modes.specs.Groups.{Counts, count_of, group_of}
+use Rattle.lock_queue.specs.Queue.{CellSeen, seat_modes, held_seats, restood}
+use Rattle.lock_queue.proofs.Counts.{size_held_is}
+use Rattle.lock_queue.proofs.Groups.{count_own}
+use Rattle.lock_queue.proofs.Seated.{is_its, IsAt, seat_read, seat_absent, counted_restood, seen, cell_same, other_flag, other_flag_up}
+use Rattle.lock_queue.proofs.cell.PlaceQueue.stand.Goals as goal
+
+pub returns-in_default : goal.returns-in_default
+returns-in_default g c =
+    let items = c.self.inside.queue.items in
+    let none : c.index_of.result ≡ None = search rules in
+    let absent = seat_absent c.args.id items c.args.is_held (ap (position (is_its c.args.id)) (sym c.deref.ensures.value) ∙ (sym c.index_of.ensures ∙ none)) in
+    subst (λ (v : CellSeen). v ≡ seen (restood c.args.id c.args.is_held v.seats) v.room) c.self.view_is (ap (λ xs. seen xs (vec_capacity c.self.inside.queue)) (sym absent))
+
+pub returns-then-seat-is_held : goal.returns-then-seat-is_held
+returns-then-seat-is_held g c =
+    let items = c.self.inside.queue.items in
+    let s = c.index-seat.result.now in
+    let at = seat_read c.args.id items c.deref.result.now c.in-Some.index s c.deref.ensures.value (sym c.index_of.ensures ∙ c.in-Some.is) c.index-seat.ensures in
+    let same : s.is_held ≡ c.args.is_held = search rules in
+    let kept : restood c.args.id c.args.is_held items ≡ items = ap (λ b. restood c.args.id b items) (sym same) ∙ at.same in
+    subst (λ (v : CellSeen). v ≡ seen (restood c.args.id c.args.is_held v.seats) v.room) c.self.view_is (ap (λ xs. seen xs (vec_capacity c.self.inside.queue)) (sym kept))
+
+-- the claim's seat, and that it is to stand otherwise
+its : (g : _) (c : goal.After-changed-arg-1 g) → IsAt c.args.id c.self.inside.queue.items c.in-Some.index c.index-seat.result.now
+its g c = seat_read c.args.id c.self.inside.queue.items c.deref.result.now c.in-Some.index c.index-seat.result.now c.deref.ensures.value (sym c.index_of.ensures ∙ c.in-Some.is) c.index-seat.ensures
+
+otherwise : (g : _) (c : goal.After-changed-arg-1 g) → c.index-seat.result.now.is_held ≡ c.args.is_held → ⊥
+otherwise g c = search rules
+
+pub changed-self-inside-requires-clause-more : goal.changed-self-inside-requires-clause-more
+changed-self-inside-requires-clause-more g c = λ h.
+    let items = c.self.inside.queue.items in
+    let few : length items ≤ most_claims = subst (λ (v : CellSeen). length v.seats ≤ most_claims) (sym c.self.view_is) c.requires in
+    let less = (its g c).fewer (other_flag c.index-seat.result.now.is_held c.args.is_held (otherwise g c) h) in
+    let size = size_held_is items c.self.inside.all c.self.inside.held c.self.invariant in
+    omega (arith, few, less, size)
+
+pub changed-self-inside-requires-clause-less : goal.changed-self-inside-requires-clause-less
+changed-self-inside-requires-clause-less g c = λ h.
+    let s = c.index-seat.result.now in
+    let down = (its g c).down (other_flag_up s.is_held c.args.is_held (otherwise g c) h) in
+    subst (λ (k : Counts). 0 < count_of k s.mode) (sym (c.self.invariant.1 ∙ down)) (count_own (group_of (seat_modes (held_seats (restood c.args.id false c.self.inside.queue.items)))) s.mode)
+
+pub invariant_of-self : goal.invariant_of-self
+invariant_of-self g c =
+    let items = c.self.inside.queue.items in
+    let s = c.index-seat.result.now in
+    let at = seat_read c.args.id items c.deref.result.now c.in-Some.index s c.deref.ensures.value (sym c.index_of.ensures ∙ c.in-Some.is) c.index-seat.ensures in
+    let differs : s.is_held ≡ c.args.is_held → ⊥ = search rules in
+    counted_restood items (set items c.in-Some.index (record { id = s.id; mode = s.mode; is_held = c.args.is_held })) c.args.id c.in-Some.index s c.args.is_held c.self.inside.all c.self.inside.held c.changed-self-inside.result c.self.invariant at differs
+    c.changed-self-inside.ensures.more c.changed-self-inside.ensures.less (at.changed c.args.is_held)
+
+pub returns : goal.returns
+returns g c =
+    let items = c.self.inside.queue.items in
+    let s = c.index-seat.result.now in
+    let at = seat_read c.args.id items c.deref.result.now c.in-Some.index s c.deref.ensures.value (sym c.index_of.ensures ∙ c.in-Some.is) c.index-seat.ensures in
+    cell_same (set items c.in-Some.index (record { id = s.id; mode = s.mode; is_held = c.args.is_held })) (restood c.args.id c.args.is_held items) (vec_capacity c.self.inside.queue) (vec_capacity c.self.inside.queue) (at.changed c.args.is_held) refl
+    ∙ ap (λ (v : CellSeen). seen (restood c.args.id c.args.is_held v.seats) v.room) c.self.view_is

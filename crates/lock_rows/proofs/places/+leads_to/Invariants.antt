@@ -1,4 +1,0 @@
-use Rattle.lock_rows.proofs.places.+leads_to.Given as goal
-
-abbrev pub decreases-leads_to : goal.decreases-leads_to
-decreases-leads_to g l = l.place

@@ -1,5 +1,0 @@
-use Rattle.std.proofs.Common.{length}
-use Rattle.test_judge.proofs.tickets.give_all_up.Given as goal
-
-abbrev pub decreases-loop-held : goal.decreases-loop-held
-decreases-loop-held l = length l.tickets.items

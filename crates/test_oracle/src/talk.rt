@@ -1,0 +1,56 @@
+//! A book that is told commands.
+ghost use Rattle.std.specs.Prelude.{◌+◌};
+ghost use Rattle.vault_model.specs.Vault.{CountsBelow};
+
+use std::alloc::Global;
+use vault_checkout::Book;
+use vault_model::{Command, Effect, Reply};
+
+// How many commands a book is given at most, before it is restarted.
+const MAX_SAID: u64 = 1 << 40;
+
+/// A book, and how many commands it was given since it was made or restarted.
+#[derive(Drop)]
+pub struct Talk {
+    book: Book,
+    said: u64,
+    ghost counts: { CountsBelow (said + 1) book },
+}
+
+impl Talk {
+    /// The book of a new vault.
+    pub fn new(alloc: Global) -> Option<Talk> {
+        match Book::new(alloc) {
+            Ok(book) => Some(Talk { book, said: 0 }),
+            Err(_) => None,
+        }
+    }
+
+    /// A book as it is opened.
+    pub fn over(book: Book) -> Talk {
+        let mut book = book;
+        book.restart();
+        Talk { book, said: 0 }
+    }
+
+    /// The book itself.
+    pub fn book(&self) -> &Book {
+        &self.book
+    }
+
+    /// The reply to a session's command, and its effect. None where memory is wanted.
+    pub fn tell(&mut self, session: u32, command: &Command) -> Option<(Reply, Option<Effect>)> {
+        if self.said >= MAX_SAID {
+            return None;
+        }
+        let told = self.book.act(session, command).ok()?;
+        self.said += 1;
+        Some(told)
+    }
+
+    /// The book is restarted.
+    pub fn restart(&mut self) {
+        self.book.restart();
+        self.said = 0;
+    }
+}

@@ -1,0 +1,255 @@
+//! A client that is served beside others that do their worst.
+
+use crate::filling::{Start, begun};
+use crate::server::{PATIENT, shut};
+use std::alloc::Global;
+use std::io::{self, ErrorKind, Read, Write};
+use std::net::{Net, SocketAddr, TcpListener, TcpStream};
+use std::process::Abort;
+use std::sync::Wait;
+use std::sync::atomic::{AtomicBool, Ordering};
+use std::thread::{self, Threads};
+use std::time::{Clock, Duration};
+use test_memory::Refusing;
+use vault_server::{ServerError, ServerOptions, run_server_on};
+use vault_sessions::OpenGate;
+
+// How many places there are.
+const WORKERS: usize = 8;
+
+// How often one of them calls its connection before it comes again.
+const CALLS: usize = 20_000;
+
+// For how many seconds the honest one waits for a reply.
+const LONGEST_WAIT: u64 = 30;
+
+// For how many milliseconds it lets the others begin.
+const BEGUN: u64 = 50;
+
+// What a hostile client does over and over, until the honest one was told.
+struct Hostility {
+    name: &'static str,
+    // It sends these bytes, so often, in writes of so many at most.
+    says: &'static [u8],
+    times: usize,
+    most: usize,
+    // Whether it reads what it is told.
+    reads: bool,
+}
+
+const X: &[u8] = &[b'x'; 4096];
+
+static ROWS: [Hostility; 6] = [
+    Hostility {
+        name: "lines that are refused without end, and connecting again",
+        says: b"\n",
+        times: 4097,
+        most: 4097,
+        reads: true,
+    },
+    Hostility {
+        name: "connecting and closing",
+        says: b"",
+        times: 0,
+        most: 0,
+        reads: false,
+    },
+    Hostility {
+        name: "16 MiB without a line feed",
+        says: X,
+        times: 4097,
+        most: 4096,
+        reads: true,
+    },
+    Hostility {
+        name: "a byte at a time",
+        says: b"foo\n",
+        times: 4096,
+        most: 1,
+        reads: true,
+    },
+    Hostility {
+        name: "reading no reply",
+        says: b"list /\n",
+        times: 4097,
+        most: 28_679,
+        reads: false,
+    },
+    Hostility {
+        name: "4,096 lines in one packet, and one more",
+        says: b"list /\n",
+        times: 4097,
+        most: 28_679,
+        reads: true,
+    },
+];
+
+// Whether a call of a connection went well, or may go well later.
+fn goes_on(called: io::Result<usize>) -> bool {
+    match called {
+        Ok(count) => count > 0,
+        Err(error) => error.kind() == ErrorKind::WouldBlock,
+    }
+}
+
+// Sends what comes next of the bytes behind so many. How many were sent.
+fn send(stream: &mut TcpStream, said: &[u8], sent: usize, most: usize) -> io::Result<usize> {
+    let left = said.get(sent..).unwrap_or(b"");
+    stream.write(&left[..left.len().min(most)])
+}
+
+// One connection of a hostile client, which it gives up once the honest one was told.
+fn act(stream: &mut TcpStream, row: &Hostility, said: &[u8], is_over: &AtomicBool) {
+    let mut chunk = [0; 4096];
+    let mut sent = 0usize;
+    for _ in 0..CALLS {
+        if is_over.load(Ordering::SeqCst) || (row.reads && !goes_on(stream.read(&mut chunk))) {
+            return;
+        }
+        if sent < said.len() {
+            match send(stream, said, sent, row.most) {
+                Ok(count) => sent = sent.saturating_add(count),
+                Err(error) if error.kind() == ErrorKind::WouldBlock => {}
+                Err(_) => return,
+            }
+        } else if !row.reads {
+            return;
+        }
+        thread::yield_now();
+    }
+}
+
+// A hostile client, which comes again and again until the honest one was told.
+fn be_hostile<R: Net<Listener = TcpListener, Stream = TcpStream> + Wait + Abort>(
+    rt: &R,
+    global: Global,
+    address: SocketAddr,
+    row: &Hostility,
+    is_over: &AtomicBool,
+) {
+    let mut said = Vec::new(global);
+    for _ in 0..row.times {
+        said.extend_from_slice(row.says).expect(rt, "memory");
+    }
+    for _ in rt.forever() {
+        if is_over.load(Ordering::SeqCst) {
+            break;
+        }
+        if let Ok(mut stream) = TcpStream::connect(rt, address) {
+            if stream.set_nonblocking(true).is_ok() {
+                act(&mut stream, row, &said, is_over);
+            }
+            drop(stream);
+        }
+    }
+    drop(said);
+}
+
+// What an honest client is told beside them to its end. Nothing, where it was told nothing for long.
+fn ask<R: Net<Listener = TcpListener, Stream = TcpStream> + Clock + Abort>(
+    rt: &R,
+    global: Global,
+    address: SocketAddr,
+) -> String {
+    let mut stream = TcpStream::connect(rt, address).expect(rt, "a client");
+    let wait = Some(Duration::from_secs(LONGEST_WAIT));
+    assert!(rt; stream.set_read_timeout(wait).is_ok());
+    thread::sleep(rt, Duration::from_millis(BEGUN));
+    assert!(rt;
+        stream
+            .write_all(b"hello anna\nmake /e\nlist /\nquit\n")
+            .is_ok()
+    );
+    let told = io::read_to_string(global, &mut stream);
+    drop(stream);
+    told.unwrap_or(String::new(global))
+}
+
+// What the honest client is told beside two of a row. Then these end, and nobody is accepted any more.
+fn ask_beside<
+    R: Net<Listener = TcpListener, Stream = TcpStream> + Threads + Wait + Clock + Sync + Abort,
+>(rt: &R, global: Global, listener: &TcpListener, row: &Hostility) -> String {
+    let address = listener.local_addr().expect(rt, "an address");
+    let is_over = AtomicBool::new(false);
+    let (told, _) = thread::join(
+        rt,
+        || {
+            let told = ask(rt, global, address);
+            is_over.store(true, Ordering::SeqCst);
+            told
+        },
+        || {
+            thread::join(
+                rt,
+                || be_hostile(rt, global, address, row, &is_over),
+                || be_hostile(rt, global, address, row, &is_over),
+            )
+        },
+    );
+    shut(listener);
+    told
+}
+
+// How a server over a new vault ends.
+fn serves<H: Net + Threads + Wait + Clock + Sync + Abort>(
+    rt: &H,
+    global: Global,
+    memory: &Refusing<Global>,
+    listener: TcpListener,
+) -> Option<ServerError> {
+    let vault = begun(rt, global, memory, Start::New(0));
+    let options = ServerOptions {
+        workers: WORKERS,
+        threads: 1,
+        connections: None,
+        patience: PATIENT,
+        waits: 0,
+        refuses_foreign: false,
+        full: None,
+        per_address: None,
+    };
+    let served = run_server_on(rt, memory, listener, vault, &options, &OpenGate);
+    match served {
+        Ok(served) => {
+            drop(served);
+            None
+        }
+        Err(error) => Some(error),
+    }
+}
+
+// How a server ends, and what the honest client is told beside two of a row.
+fn ends_beside<
+    R: Net<Listener = TcpListener, Stream = TcpStream> + Threads + Wait + Clock + Sync + Abort,
+>(
+    rt: &R,
+    global: Global,
+    memory: &Refusing<Global>,
+    row: &Hostility,
+) -> (Option<ServerError>, String) {
+    let listener = TcpListener::bind(rt, "127.0.0.1:0").expect(rt, "a listener");
+    let again = listener.try_clone().expect(rt, "the same listener");
+    let ended = thread::join(
+        rt,
+        || serves(rt, global, memory, listener),
+        || ask_beside(rt, global, &again, row),
+    );
+    drop(again);
+    ended
+}
+
+#[test]
+fn a_client_is_told_all_beside_others_that_go_on_until_then(rt: HostRuntime) {
+    let memory = Refusing::new(rt.alloc());
+    for row in &ROWS {
+        let (ended, told) = ends_beside(&rt, rt.alloc(), &memory, row);
+        assert_eq!(&rt; ended, Some(ServerError::Accept), "{}", row.name);
+        assert_eq!(&rt;
+            told.as_str(),
+            "OK session 1\nOK place 1\nOK list 1 e\nOK left\n",
+            "{}",
+            row.name
+        );
+        drop(told);
+    }
+}

@@ -1,0 +1,273 @@
+//! For how many a commit waits, and when a snapshot is begun.
+
+use flusher_pace::{Commit, Gathering, Pace, Silence, begins_snapshot, may_change};
+use group_commit::{FileVersion, Pumped, Started};
+use std::thread;
+use std::time::{Duration, Instant};
+use vault_lines::read_line_of;
+use vault_model::NoMemory;
+
+/// What a pace is told, and what it answers then.
+#[derive(Clone, Copy)]
+enum Step {
+    /// A commit, which told so many, or they came meanwhile.
+    Commit(u64),
+    /// What only asks was settled.
+    Settled,
+    /// A snapshot was begun.
+    Snapshot,
+    /// One wasn't, for want of memory or since it wasn't the time.
+    NoSnapshot,
+    /// Whether a snapshot is put off.
+    PutOff(bool),
+    /// So many wait now, and the last one may change the vault or not. Whether the flusher is woken.
+    Staged(u64, bool, bool),
+    /// It sleeps until so many wait.
+    Sleeps(u64),
+    /// Whether it waits for more, while so many wait.
+    Lacks(u64, bool),
+    /// A ticket is forgotten.
+    Forgets,
+    /// Whether somebody isn't told yet, where so many are settled and so many were told.
+    Owes(u64, u64, bool),
+}
+
+// Whether a pace answers so.
+fn is_answered(pace: &mut Pace, step: Step) -> bool {
+    match step {
+        Step::Commit(group) => {
+            for _step in 0..3 {
+                pace.pumped(Ok(Pumped::Moved));
+            }
+            pace.pumped(Ok(Pumped::Settled));
+            pace.expects(group);
+        }
+        Step::Settled => pace.pumped(Ok(Pumped::Settled)),
+        Step::Snapshot => {
+            pace.started(Ok(Started::Yes));
+            pace.pumped(Ok(Pumped::Moved));
+            pace.pumped(Ok(Pumped::Settled));
+        }
+        Step::NoSnapshot => {
+            pace.started(Err(NoMemory));
+            pace.started(Ok(Started::NotNow));
+        }
+        Step::PutOff(is_put_off) => return pace.is_put_off == is_put_off,
+        Step::Staged(waiting, may_change, wakes) => {
+            return pace.staged(waiting, may_change) == wakes;
+        }
+        Step::Sleeps(least) => return pace.sleeps(true, least),
+        Step::Lacks(waiting, lacks) => return pace.lacks(waiting) == lacks,
+        Step::Forgets => pace.forgets(),
+        Step::Owes(settled, told, owes) => return pace.owes(settled, told) == owes,
+    }
+    true
+}
+
+static ROWS: [(&str, &[Step]); 7] = [
+    (
+        "behind a commit of three it waits for three, then without one that stays away for two, and behind one alone for none",
+        &[
+            Step::Staged(1, true, false),
+            Step::Lacks(1, false),
+            Step::Commit(3),
+            Step::Lacks(0, false),
+            Step::Staged(1, true, false),
+            Step::Lacks(1, true),
+            Step::Staged(2, true, false),
+            Step::Lacks(2, true),
+            Step::Staged(3, true, false),
+            Step::Lacks(3, false),
+            Step::Commit(2),
+            Step::Staged(1, true, false),
+            Step::Lacks(1, true),
+            Step::Lacks(2, false),
+            Step::Commit(1),
+            Step::Staged(1, true, false),
+            Step::Lacks(1, false),
+        ],
+    ),
+    (
+        "what only asks is pumped at once, and is no commit; behind a change it waits with it",
+        &[
+            Step::Commit(3),
+            Step::Staged(1, false, false),
+            Step::Lacks(1, false),
+            Step::Settled,
+            Step::Staged(1, true, false),
+            Step::Staged(2, false, false),
+            Step::Lacks(2, true),
+        ],
+    ),
+    (
+        "behind a snapshot it waits for as many as before",
+        &[
+            Step::Commit(3),
+            Step::Staged(1, true, false),
+            Step::Snapshot,
+            Step::Lacks(1, false),
+            Step::Staged(1, true, false),
+            Step::Lacks(1, true),
+            Step::Lacks(3, false),
+        ],
+    ),
+    (
+        "a snapshot that isn't begun is put off until a commit, and changes nothing else",
+        &[
+            Step::Commit(3),
+            Step::Staged(1, true, false),
+            Step::PutOff(false),
+            Step::NoSnapshot,
+            Step::PutOff(true),
+            Step::Lacks(1, true),
+            Step::Settled,
+            Step::PutOff(true),
+            Step::Commit(3),
+            Step::PutOff(false),
+        ],
+    ),
+    (
+        "a flusher that sleeps since nothing is to be done is woken once, by whatever is staged",
+        &[
+            Step::Staged(1, true, false),
+            Step::Sleeps(1),
+            Step::Staged(2, true, true),
+            Step::Staged(3, true, false),
+        ],
+    ),
+    (
+        "a flusher that sleeps until three are there is woken by the third, and at once by a question that no change waits with",
+        &[
+            Step::Commit(3),
+            Step::Staged(1, true, false),
+            Step::Sleeps(3),
+            Step::Staged(2, false, false),
+            Step::Staged(3, true, true),
+            Step::Commit(3),
+            Step::Sleeps(3),
+            Step::Staged(1, false, true),
+        ],
+    ),
+    (
+        "whoever is settled and neither told nor forgotten is waited for, where a change waits",
+        &[
+            Step::Owes(3, 2, false),
+            Step::Staged(1, false, false),
+            Step::Owes(3, 2, false),
+            Step::Staged(2, true, false),
+            Step::Owes(3, 2, true),
+            Step::Owes(3, 3, false),
+            Step::Forgets,
+            Step::Owes(3, 2, false),
+            Step::Owes(4, 2, true),
+            Step::Owes(4, 3, false),
+        ],
+    ),
+];
+
+// A commit that ended now and took so many milliseconds.
+fn commit_of(rt: &HostRuntime, millis: u64) -> Commit {
+    let began = match Instant::now(rt) {
+        Ok(now) => now.checked_sub(Duration::from_millis(millis)),
+        Err(_) => None,
+    };
+    Commit::since(rt, began)
+}
+
+// Whether an eighth of a commit that took a second is waited for, from one look to the next.
+fn is_eighth_waited(rt: &HostRuntime) -> bool {
+    match Gathering::new().left(rt, &commit_of(rt, 1000), 1, false) {
+        Some(left) => left <= Duration::from_millis(130) && left > Duration::from_millis(1),
+        None => false,
+    }
+}
+
+// Whether a thread that saw nothing come or be told for a whole part of a commit goes on, but waits where more came, or where somebody
+// isn't told yet. The second look is over behind 200 milliseconds, and the last behind 800.
+fn is_waited_for_more(rt: &HostRuntime) -> bool {
+    let commit = commit_of(rt, 800);
+    let mut gathering = Gathering::new();
+    if gathering.left(rt, &commit, 3, false).is_none() {
+        return false;
+    }
+    thread::sleep(rt, Duration::from_millis(250));
+    let (mut quiet, mut moved, mut owed) = (gathering, gathering, gathering);
+    quiet.left(rt, &commit, 3, false).is_none()
+        && moved.left(rt, &commit, 4, false).is_some()
+        && owed.left(rt, &commit, 3, true).is_some()
+}
+
+// Whether nobody is waited for once a commit of a millisecond has been over for some time: whoever isn't told holds nobody up for long.
+fn is_waited_for_no_longer(rt: &HostRuntime) -> bool {
+    let commit = commit_of(rt, 1);
+    thread::sleep(rt, Duration::from_millis(10));
+    Gathering::new().left(rt, &commit, 1, true).is_none()
+}
+
+#[test]
+fn a_thread_waits_for_a_part_of_a_commit(rt: HostRuntime) {
+    let mut gathering = Gathering::new();
+    assert!(rt; gathering.left(&rt, &Commit::none(), 1, true).is_none());
+    assert!(rt; is_eighth_waited(&rt));
+    assert!(rt; is_waited_for_more(&rt));
+    assert!(rt; is_waited_for_no_longer(&rt));
+}
+
+// Whether a snapshot is begun: of a file of this version, with a journal and a snapshot of so many bytes, while nobody asks or somebody does.
+static SNAPSHOTS: [(FileVersion, u64, u64, bool, bool); 7] = [
+    (FileVersion::Two, 1_048_576, 34, false, true),
+    (FileVersion::Two, 1_048_576, 2_097_153, false, true),
+    (FileVersion::Two, 1_048_576, 2_097_154, false, false),
+    (FileVersion::Two, 1_048_576, 2_097_154, true, true),
+    (FileVersion::Two, 8_388_607, 16_777_216, false, false),
+    (FileVersion::Two, 8_388_608, 16_777_216, false, true),
+    (FileVersion::One, 0, 16_777_216, false, true),
+];
+
+// Whether a silence begins when it is looked at first, and anew by each command, and is over behind a tenth of a second.
+fn is_silent(rt: &HostRuntime) -> bool {
+    let mut silence = Silence::new();
+    if silence.left(rt, 7).is_none() {
+        return false;
+    }
+    thread::sleep(rt, Duration::from_millis(120));
+    silence.left(rt, 7).is_none() && silence.left(rt, 8).is_some()
+}
+
+#[test]
+fn a_snapshot_is_begun_as_the_rows_say(rt: HostRuntime) {
+    for (version, journal, snapshot, is_quiet, begins) in &SNAPSHOTS {
+        assert_eq!(rt;
+            begins_snapshot(*version, *journal, *snapshot, *is_quiet),
+            *begins
+        );
+    }
+    assert!(rt; is_silent(&rt));
+}
+
+// What may change the vault.
+static CHANGES: [(&[u8], bool); 8] = [
+    (b"state c1", false),
+    (b"note c1", false),
+    (b"show c1", false),
+    (b"claims /", false),
+    (b"drafts c1", false),
+    (b"draft c1 /e", false),
+    (b"wait c1", false),
+    (b"abandon c1", true),
+];
+
+#[test]
+fn the_flusher_waits_as_the_rows_say(rt: HostRuntime) {
+    for (name, steps) in &ROWS {
+        let mut pace = Pace::new();
+        for step in *steps {
+            assert!(rt; is_answered(&mut pace, *step), "{name}");
+        }
+    }
+    for (line, changes) in &CHANGES {
+        let command = read_line_of(rt.alloc(), line).expect(&rt, "a command");
+        assert!(rt; may_change(&command) == *changes);
+        drop(command);
+    }
+}

@@ -1,0 +1,371 @@
+//! One thread that serves several connections, and commits what they staged.
+
+use crate::bells::{Bell, ring_others};
+use crate::commits::{CommitToken, CommitTry, Committer};
+use crate::door::{Crowd, News};
+use crate::server::Connection;
+use crate::slot::{Patience, Progress, Slot, first_of};
+use crossbeam_channel::{Receiver, Sender};
+use mio::unix::SourceFd;
+use mio::{Events, Interest, Poll, Registry, Token};
+use std::alloc::Allocator;
+use std::os::fd::AsRawFd;
+use std::sync::{Mutex, Wait};
+use std::thread::yield_now;
+use std::time::{Clock, Duration, Instant};
+use vault_device::Device;
+use vault_sessions::{Flusher, Gate, Share, Tally, Worker};
+
+// How many events one look at the kernel gives at most.
+const MAX_EVENTS: usize = 65;
+
+// The kernel waits for whole milliseconds. For less than so many microseconds a thread looks again and again.
+const SHORTEST_WAIT: u64 = 200;
+
+/// A thread's part of a server.
+#[derive(Drop)]
+pub(crate) struct EventLoop<'a, D: Device, S: Tally, T: Tally, A: Allocator, G: Gate, H: Wait> {
+    pub worker: Worker<'a, D, S, T, A, G, H>,
+    /// Who has it commits.
+    pub token: &'a Mutex<CommitToken>,
+    /// What wakes it.
+    pub bell: &'a Bell,
+    /// What wakes each thread.
+    pub bells: &'a Vec<Bell, A>,
+    /// Its number among the threads.
+    pub number: usize,
+    /// The connections that come to it.
+    pub coming: Receiver<Connection, A>,
+    /// Where it says that a place is free, or that it can't serve for want of memory.
+    pub says: Sender<News, A>,
+    /// Those who wait for a place.
+    pub crowd: &'a Crowd,
+    /// For how long clients may take.
+    pub patience: Patience,
+    /// Whether another protocol's first line ends a connection.
+    pub refuses_foreign: bool,
+    /// How long a connection has to be silent that is ended for one who waits for a place. None: none is.
+    pub silence: Option<Duration>,
+}
+
+// For how long a thread waits until the next round.
+#[derive(Debug, Clone, Copy, PartialEq, Eq)]
+enum Pause {
+    // There is more to do.
+    Nothing,
+    // Others may come in so little time that the kernel can't wait for it. A client may be waiting for the processor, too.
+    Blink,
+    // Until something happens, but so long at most.
+    AtMost(Duration),
+    // Until something happens.
+    Long,
+}
+
+impl Pause {
+    // Behind such a turn of all connections and such a try to commit.
+    fn behind(progress: Progress, tried: CommitTry) -> Pause {
+        if progress == Progress::On {
+            return Pause::Nothing;
+        }
+        match tried {
+            CommitTry::NotNow => Pause::Long,
+            CommitTry::Early(left) if left < Duration::from_micros(SHORTEST_WAIT) => Pause::Blink,
+            CommitTry::Early(left) => Pause::AtMost(left),
+            // Who wants room tries again soon: another's ticket is still out.
+            CommitTry::InVain => Pause::AtMost(Duration::from_millis(1)),
+            CommitTry::Settled | CommitTry::Committed => Pause::Nothing,
+        }
+    }
+}
+
+impl<D: Device, S: Tally, T: Tally, A: Allocator + Copy, G: Gate, H: Wait + Clock> EventLoop<
+    '_,
+    D,
+    S,
+    T,
+    A,
+    G,
+    H,
+> {
+    /// Serves connections, as many at a time as there are shares, until no more come. The shares come back.
+    pub fn run(&self, poll: Poll, shares: Vec<Share<S, T>, A>) -> Vec<Share<S, T>, A> {
+        let mut shares = shares;
+        let Ok(mut events) = Events::with_capacity(self.worker.alloc, MAX_EVENTS) else {
+            self.say(News::Lacks);
+            return shares;
+        };
+        let Some(mut slots) = slots_of(self.worker.alloc, &mut shares) else {
+            self.say(News::Lacks);
+            return shares;
+        };
+        for _ in 0..slots.len() {
+            self.say(News::Place(self.number));
+        }
+        let mut poll = poll;
+        let flusher = Flusher::new(self.worker.rt, self.worker.shared, self.worker.gate);
+        let mut committer = Committer::new(flusher, self.token);
+        self.serve(&mut committer, &mut poll, &mut events, &mut slots);
+        while let Some(slot) = slots.pop() {
+            if let Some(share) = slot.into_share(&self.worker) {
+                let _ = shares.push(share);
+            }
+        }
+        slots.destroy_empty();
+        shares
+    }
+
+    // Says that a place is free, or that it can't serve.
+    fn say(&self, news: News) {
+        let _ = self.says.send(self.worker.rt, news);
+        self.crowd.ring();
+    }
+
+    fn now(&self) -> Option<Instant> {
+        Instant::now(self.worker.rt).ok()
+    }
+
+    // Serves connections until no more come. In each round it looks at the kernel, lets each connection take its steps, and commits where
+    // that is due, whatever else there is to do.
+    fn serve(
+        &self,
+        committer: &mut Committer<'_, D, S, T, A, G, H>,
+        poll: &mut Poll,
+        events: &mut Events<A>,
+        slots: &mut Vec<Slot<S, T, A>, A>,
+    ) {
+        let mut tried = CommitTry::NotNow;
+        let mut pause = Pause::Long;
+        let mut moves = 0;
+        for _ in self.worker.rt.forever() {
+            self.look(poll, events, slots, pause);
+            self.announce(committer, slots, tried);
+            let now = self.now();
+            let may_come = self.take(poll.registry(), slots, now);
+            self.make_room(slots, now);
+            let mut progress = self.turn(slots, now);
+            if self.line_moved(slots, &mut moves) {
+                progress = self.turn(slots, now);
+            }
+            tried = committer.commit();
+            if tried.may_settle() {
+                look_again(slots);
+            }
+            pause = Pause::behind(progress, tried);
+            if progress == Progress::Over && pause == Pause::Long {
+                self.bell.attend(false);
+                if !may_come {
+                    return;
+                }
+            }
+        }
+    }
+
+    // Whether a connection waits for a claim, and the line may have moved since it was asked last. Then each that waits has something to do: its
+    // `wait` goes with the commit of what moved the line.
+    fn line_moved(&self, slots: &mut Vec<Slot<S, T, A>, A>, seen: &mut u64) -> bool {
+        if !slots.iter().any(|slot| slot.waits_for_claim()) {
+            return false;
+        }
+        let moves = self.worker.moves();
+        if moves == *seen {
+            return false;
+        }
+        *seen = moves;
+        for slot in slots.as_mut_slice() {
+            slot.look_for_claim();
+        }
+        true
+    }
+
+    // Behind a commit, before anybody is told or heard: what came meanwhile is counted, since who is told comes back, and would be counted
+    // twice; and the other threads are woken, since who hears a line may be held up.
+    fn announce(
+        &self,
+        committer: &Committer<'_, D, S, T, A, G, H>,
+        slots: &Vec<Slot<S, T, A>, A>,
+        tried: CommitTry,
+    ) {
+        if tried == CommitTry::Committed {
+            committer.expect(lines_of(slots));
+        }
+        if tried.may_settle() {
+            ring_others(self.bells, self.number);
+        }
+    }
+
+    // Waits until something happens where there is nothing to do, and notes what did. The kernel isn't asked where there is something to do,
+    // and each connection waits for that alone.
+    fn look(
+        &self,
+        poll: &mut Poll,
+        events: &mut Events<A>,
+        slots: &mut Vec<Slot<S, T, A>, A>,
+        pause: Pause,
+    ) {
+        if pause == Pause::Nothing && !slots.iter().any(|slot| slot.is_outside()) {
+            return;
+        }
+        let wait = match pause {
+            Pause::Nothing => Some(Duration::ZERO),
+            Pause::Blink => {
+                yield_now();
+                Some(Duration::ZERO)
+            }
+            Pause::AtMost(left) => Some(self.wait_for(slots).map_or(left, |wait| wait.min(left))),
+            Pause::Long => self.wait_for(slots),
+        };
+        let mut is_rung = poll.poll(events, wait).is_err();
+        for event in events.iter() {
+            let token = event.token();
+            if Bell::is_token(token) {
+                is_rung = true;
+            } else if let Some(slot) = slots.as_mut_slice().get_mut(token.0) {
+                slot.wake(event.is_read_closed() || event.is_error());
+            }
+        }
+        if is_rung {
+            look_again(slots);
+        }
+    }
+
+    // How long it may wait where nothing happens. None: for ever.
+    fn wait_for(&self, slots: &Vec<Slot<S, T, A>, A>) -> Option<Duration> {
+        let mut first = None;
+        for slot in slots {
+            first = first_of(first, slot.deadline(self.patience));
+        }
+        if let Some(silence) = self.pressing_silence(slots) {
+            for slot in slots {
+                let gone = slot
+                    .silent_since()
+                    .and_then(|since| since.checked_add(silence));
+                first = first_of(first, gone);
+            }
+        }
+        Some(first?.saturating_duration_since(self.now()?))
+    }
+
+    // Behind how long a silence a connection is ended now, since somebody waits for a place, and none is free.
+    fn pressing_silence(&self, slots: &Vec<Slot<S, T, A>, A>) -> Option<Duration> {
+        let silence = self.silence?;
+        if self.crowd.presses() && !slots.iter().any(|slot| slot.is_free()) {
+            Some(silence)
+        } else {
+            None
+        }
+    }
+
+    // Ends the connection that has been silent longest, where somebody waits for its place, and it was silent for long enough.
+    fn make_room(&self, slots: &mut Vec<Slot<S, T, A>, A>, now: Option<Instant>) {
+        let Some(silence) = self.pressing_silence(slots) else {
+            return;
+        };
+        let last = now.and_then(|now| now.checked_sub(silence));
+        let mut first = None;
+        for slot in slots.iter() {
+            first = first_of(first, slot.silent_since());
+        }
+        let (Some(first), Some(last)) = (first, last) else {
+            return;
+        };
+        for slot in slots.as_mut_slice() {
+            if first <= last && slot.silent_since() == Some(first) {
+                slot.give_up(&self.worker);
+                return;
+            }
+        }
+    }
+
+    // Puts connections that came into free places. Whether more may come.
+    fn take(
+        &self,
+        registry: &Registry,
+        slots: &mut Vec<Slot<S, T, A>, A>,
+        now: Option<Instant>,
+    ) -> bool {
+        for (number, slot) in slots.iter_mut().enumerate() {
+            if slot.is_free() {
+                match self.coming.try_recv(self.worker.rt) {
+                    Ok(connection) => self.begin(registry, number, slot, connection, now),
+                    Err(error) => return !error.is_disconnected(),
+                }
+            }
+        }
+        true
+    }
+
+    // Serves a connection in a place, unless the kernel can't tell of it.
+    fn begin(
+        &self,
+        registry: &Registry,
+        number: usize,
+        slot: &mut Slot<S, T, A>,
+        connection: Connection,
+        now: Option<Instant>,
+    ) {
+        let fd = connection.stream.as_raw_fd();
+        let both = Interest::READABLE | Interest::WRITABLE;
+        if registry
+            .register(&mut SourceFd(&fd), Token(number), both)
+            .is_err()
+        {
+            self.say(News::Over(self.number, connection.number));
+            drop(connection);
+            return;
+        }
+        self.bell.attend(true);
+        let over = News::Over(self.number, connection.number);
+        slot.serve(&self.worker, connection, self.refuses_foreign, now);
+        if slot.is_free() {
+            self.say(over);
+        }
+    }
+
+    // Lets each connection do what it has to do. Whether there is more to do, also where a place is free now, or any connection.
+    fn turn(&self, slots: &mut Vec<Slot<S, T, A>, A>, now: Option<Instant>) -> Progress {
+        let mut all = Progress::Over;
+        for slot in slots.as_mut_slice() {
+            let Some(connection) = slot.number() else {
+                continue;
+            };
+            match slot.turn(&self.worker, self.patience, now) {
+                Progress::On => all = Progress::On,
+                Progress::Rests if all == Progress::Over => all = Progress::Rests,
+                Progress::Rests => {}
+                Progress::Over => {
+                    self.say(News::Over(self.number, connection));
+                    all = Progress::On;
+                }
+            }
+        }
+        all
+    }
+}
+
+// Entries may be settled for which connections wait.
+fn look_again<S: Tally, T: Tally, A: Allocator + Copy>(slots: &mut Vec<Slot<S, T, A>, A>) {
+    for slot in slots.as_mut_slice() {
+        slot.look_again();
+    }
+}
+
+// How many connections have something that isn't heard.
+fn lines_of<S: Tally, T: Tally, A: Allocator + Copy>(slots: &Vec<Slot<S, T, A>, A>) -> u64 {
+    slots.iter().filter(|slot| slot.has_news()).count() as u64
+}
+
+// A free place for each share, unless there is no memory for them.
+fn slots_of<S: Tally, T: Tally, A: Allocator + Copy>(
+    alloc: A,
+    shares: &mut Vec<Share<S, T>, A>,
+) -> Option<Vec<Slot<S, T, A>, A>> {
+    let mut slots = Vec::new(alloc);
+    let Ok(()) = slots.reserve(shares.len()) else {
+        slots.destroy_empty();
+        return None;
+    };
+    while let Some(share) = shares.pop() {
+        slots.push_reserved(Slot::Free(share));
+    }
+    Some(slots)
+}
