@@ -22,9 +22,9 @@ from vault_files import Vault, vault_of
 CLIENTS = 8
 SAVES = 5
 CYCLE = SAVES + 2
-CALL = re.compile(r"\d+ (pwrite64|fsync|sendto)\((\d+)<([^>]*)>(?:, \"((?:\\x[0-9a-f]{2})*)\"(\.\.\.)?)?.*?(?:, (\d+))?\)\s+= (-?\d+)")
-UNFINISHED = re.compile(r"(\d+) (.*?)\s*<unfinished \.\.\.>$")
-RESUMED = re.compile(r"(\d+) <\.\.\. \w+ resumed>(.*)$")
+CALL = re.compile(r"\d+ +(pwrite64|fsync|sendto)\((\d+)<([^>]*)>(?:, \"((?:\\x[0-9a-f]{2})*)\"(\.\.\.)?)?.*?(?:, (\d+))?\)\s+= (-?\d+)")
+UNFINISHED = re.compile(r"(\d+) +(.*?)\s*<unfinished \.\.\.>$")
+RESUMED = re.compile(r"(\d+) +<\.\.\. \w+ resumed>(.*)$")
 
 
 def content(client: int, cycle: int, save: int) -> bytes:

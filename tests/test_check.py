@@ -124,6 +124,23 @@ class NotServed(Tries):
             self.check(f"{name}, in sentences", f"No server starts over these files: file {letter} damaged at {offset} ({letter}).\n" in out, out)
             self.same(f"{name}: nothing is changed", held("a", "b"), [first, second])
 
+    def test_files_of_two_vaults(self) -> None:
+        """The older file has to lead to an earlier vault of the newer one's snapshot, by its frames, too. Nothing is changed."""
+        plant, office = (bytes(4) + b"\0\0\0\2\0\0\0\0" + bytes([len(name)]) + name + bytes(3) for name in (b"plant", b"office"))
+        made = NEW[:34] + b"\1\0\0\0\x0b\1\0\0\0\0\5plant\0"
+        for name, first, second, served in (
+                ("of two vaults", file_of(3, plant), file_of(2, office), False), ("exchanged", file_of(2, office), file_of(3, plant), False),
+                ("by a frame", made, file_of(2, office), False), ("generations apart", file_of(3, plant), NEW, False),
+                ("of one vault", file_of(3, plant), file_of(2, plant), True), ("of one vault, by a frame", made, file_of(2, plant), True)):
+            lay(a=first, b=second)
+            said = (0, True, None, "") if served else (1, False, "files of two vaults", "files of two vaults\n")
+            status, found, errors = checked()
+            self.same(name, (status, found["served"], found["reason"], errors), said)
+            if not served:
+                self.same(f"{name}, as a server says it", run("serve", "a", "b", "none"), (1, "", "files of two vaults\n"))
+                self.check(f"{name}: what to do", "Files of two vaults" in found["advice"], found)
+            self.same(f"{name}: nothing is changed", held("a", "b"), [first, second])
+
     def test_no_vault(self) -> None:
         lay(a=b"", b=b"")
         status, found, errors = checked()

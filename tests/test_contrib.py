@@ -164,6 +164,12 @@ class Contrib(unittest.TestCase):
             for word, value in ALLOCATOR.items():
                 self.assertIn(f"Environment={word}={value}", lines)
 
+    def test_units_say_why(self) -> None:
+        """Both units of the server ask it to say more."""
+        for name in ("vaultd.service", "vaultd@.service"):
+            start = re.findall(r"^ExecStart=(.*)$", (CONTRIB / "systemd" / name).read_text("utf-8"), re.MULTILINE)
+            self.assertEqual([line.split()[-1] for line in start], ["--verbose"])
+
     @unittest.skipUnless(shutil.which("man"), "needs man")
     def test_manual(self) -> None:
         """No page has a warning, and each names every command and option of its program."""
@@ -203,6 +209,8 @@ class Contrib(unittest.TestCase):
         self.assertEqual(self.completed("vault", "_vault", "vault", "checkin", "c1", "-"), ["-m"])
         self.assertEqual(self.completed("vaultd", "_vaultd", "vaultd", "se"), ["serve"])
         self.assertEqual(self.completed("vaultd", "_vaultd", "vaultd", "serve", "a", "b", "x", "--wo"), ["--workers"])
+        for command in ("script", "create", "check", "inspect", "serve"):
+            self.assertEqual(self.completed("vaultd", "_vaultd", "vaultd", command, "--v"), ["--verbose"])
 
 
 if __name__ == "__main__":

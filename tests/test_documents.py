@@ -1,15 +1,19 @@
-"""The pages are true of this tree: what they link to, name as a path or a crate, and give to a program as an option exists."""
+"""The pages are true of this tree: what they link to, name as a path or a crate, and give to a program as an option exists; and each block
+of commands is run by a test, or stands here with the reason why none runs it."""
 
 import os
 import re
+import shutil
 import subprocess
 import sys
+import tempfile
+import time
 import unittest
 from functools import cache
 from pathlib import Path
-from typing import Iterator, List, Set, Tuple
+from typing import Dict, Iterator, List, Set, Tuple
 
-from servers import TOP, VAULTD, program, scripts
+from servers import MEMORY, TOP, VAULTD, Server, free_port, program, scripts
 
 PAGES = sorted(path for path in [*TOP.glob("*.md"), *TOP.glob("docs/*.md"), *TOP.glob("bench/*.md"), *TOP.glob("contrib/**/*.md")])
 # Folders at the top, by which a word is known to be a path of this tree.
@@ -20,8 +24,27 @@ LINK = re.compile(r"\[[^]]*\]\(([^)\s]+)\)")
 SPAN = re.compile(r"`([^`\n]+)`")
 FENCE = re.compile(r"^```.*?\n(.*?)^```", re.DOTALL | re.MULTILINE)
 OPTION = re.compile(r"(?<![\w-])--[a-z][a-z-]*")
+# A block anywhere on a page, also in a list, with its language, and a line of one that is a command, or said to a server.
+BLOCK = re.compile(r"^ *```(\w*)\n(.*?)^ *```$", re.DOTALL | re.MULTILINE)
+COMMAND = re.compile(r"^ *(\w*\$|>|vaultd?|rt|cd|cp|install|systemctl|apt-get|python3|(tools|tests|bench|contrib)/\S+) \S", re.MULTILINE)
+# The tests that run all such blocks of a page, by their language.
+RUN_BY = {("README.md", "console"): "test_readme", ("docs/OPERATING.md", "sh"): "test_packages", ("docs/OPERATING.md", "console"): "test_documents",
+          ("docs/TUTORIAL.md", "console"): "test_tutorial", ("docs/SCALE.md", "console"): "test_tutorial",
+          ("docs/SCALE.md", "sh"): "test_packages", ("docs/PROTOCOL.md", ""): "test_documents", ("bench/README.md", "sh"): "test_documents"}
+# Blocks that no test runs, by how they begin.
+NOT_RUN = {("docs/SIMULATION.md", "cd crates/vault_simulation"): "needs the prover, and minutes; the gate runs the crate by its args",
+           ("contrib/replicated/README.md", "./volume vault"): "needs three nodes: tests/by_hand/replicated makes them",
+           ("contrib/replicated/README.md", "cd /usr/share/vaultd/replicated"): "needs two machines: tests/by_hand/replicated makes them"}
+# Programs of bench/ that no test runs.
+BENCH_NOT_RUN = {"bench/line.py": "proves the crates of a commit from nothing"}
+# A name of code in a span: with an underscore, or of two words as types have it.
+NAME = re.compile(r"(?<![}\w])(?:[A-Za-z]\w*_\w+|[A-Z][a-z]+[A-Z]\w*)")
+# Names of others: of the language's library and tools, of the kernel, of a cluster's fences; and one of an example.
+FOREIGN = {"writes_back", "shift_remove", "RT_JOBS", "sched_vcpu_pack", "fence_scsi", "fence_mpath", "try_it"}
 # Words before a program's name in a command.
 BEFORE = ("runuser", "-u", "vaultd-watch", "--", "sudo", "/usr/bin/python3", "python3")
+# What a program says, and no command.
+MESSAGES = ("vault in use", "vault in use: ..", "vault exists")
 SUBCOMMANDS = ("create", "serve", "inspect", "check", "script")
 
 
@@ -65,6 +88,31 @@ def commands_of(page: Path) -> Iterator[Tuple[str, str]]:
                 yield words[0], part
 
 
+def names_in_code() -> Set[str]:
+    """All words of the tree's files but its pages, and the names of files."""
+    found: Set[str] = set()
+    for folder in FOLDERS:
+        for above, below, files in os.walk(TOP / folder):
+            below[:] = [each for each in below if each not in ("out", "__pycache__", "node_modules")]
+            for file in files:
+                path = Path(above, file)
+                found.update({path.stem, path.parent.name})
+                if path.suffix not in (".md", ".png", ".pyc"):
+                    found.update(re.findall(r"\w+", path.read_text("utf-8", "ignore")))
+    return found
+
+
+def clauses_of_functions() -> Dict[str, Set[str]]:
+    """The names of the clauses that the functions of each name have, in all crates."""
+    found: Dict[str, Set[str]] = {}
+    for path in TOP.glob("crates/*/src/**/*.rt"):
+        pieces = re.split(r"\bfn (\w+)", text_of(path))
+        for name, behind in zip(pieces[1::2], pieces[2::2]):
+            contract = re.split(r"^ *\{$", behind, maxsplit=1, flags=re.MULTILINE)[0]
+            found.setdefault(name, set()).update(re.findall(r"\bensures (\w+) \{", contract))
+    return found
+
+
 @cache
 def options_of(name: str) -> Set[str]:
     """The options that a program's help or, of a script of this tree, its text has."""
@@ -76,7 +124,8 @@ def options_of(name: str) -> Set[str]:
             words = re.findall(r"^\s{2,}([a-z]+)\b", said([*program(name), "--help"]), re.MULTILINE)
             calls += [[*program(name), each, "--help"] for each in words]
     else:
-        return set(OPTION.findall(text_of(TOP / name)))
+        path = TOP / name
+        return {option for file in ([path] if path.is_file() else path.glob("*.py")) for option in OPTION.findall(text_of(file))}
     return {option for call in calls for option in OPTION.findall(said(call))}
 
 
@@ -118,6 +167,35 @@ class Pages(unittest.TestCase):
                 with self.subTest(page=name_of(page), named=word):
                     self.assertIn(word, names)
 
+    def test_names_of_code_are_there(self) -> None:
+        known = names_in_code() | FOREIGN
+        seen = set()
+        for page in PAGES:
+            if page.name == "CHANGELOG.md":
+                continue
+            for span in SPAN.findall(FENCE.sub("", text_of(page))):
+                for name in NAME.findall(span):
+                    seen.add(name)
+                    with self.subTest(page=name_of(page), name=name):
+                        self.assertTrue(name in known or name.removeprefix("vaultd_") in known)
+        self.assertGreater(len(seen), 200)
+        self.assertEqual(FOREIGN - seen, set())
+
+    def test_clauses_of_the_theorem_are_there(self) -> None:
+        """Each clause that a promise names behind functions is one of theirs."""
+        clauses = clauses_of_functions()
+        seen = 0
+        for row in text_of(TOP / "docs" / "THEOREM.md").splitlines():
+            for named, _, of_them in re.findall(r"((`[\w:{}, ]+`(?:, | and )?)+),? \(?clauses? ((?:`\w+`(?:, | and )?)+)", row.rpartition(" | ")[2]):
+                paths = [path.partition("{") for path in re.findall(r"`([^`]+)`", named)]
+                functions = [name for path, _, names in paths for name in (names.strip("}").split(", ") if names else [path.rpartition("::")[2]])]
+                for function in functions:
+                    for clause in re.findall(r"`(\w+)`", of_them):
+                        seen += 1
+                        with self.subTest(function=function, clause=clause):
+                            self.assertIn(clause, clauses.get(function, {clause}))
+        self.assertGreater(seen, 60)
+
     def test_each_crate_has_its_row(self) -> None:
         page = text_of(TOP / "docs" / "ARCHITECTURE.md")
         named = {word for row in re.findall(r"^\| ([a-z_, ]+) \|", page, re.MULTILINE) for word in row.split(", ")}
@@ -137,6 +215,218 @@ class Pages(unittest.TestCase):
                         self.assertIn(option, options_of(name))
         print(f"options of {seen} calls", file=sys.stderr)
         self.assertGreater(seen, 20)
+
+
+def blocks_of(page: Path) -> Iterator[Tuple[str, str]]:
+    """The blocks of commands of a page, each with its language."""
+    for language, block in BLOCK.findall(text_of(page)):
+        if language in ("sh", "console") or COMMAND.search(block):
+            yield language, block
+
+
+def section(page: str, heading: str) -> str:
+    """What stands on a page behind a heading, up to the next of its kind."""
+    text = text_of(TOP / "docs" / page).partition(f"\n{heading}\n")[2]
+    assert text, (page, heading)
+    return text.partition("\n" + heading.partition(" ")[0] + " ")[0]
+
+
+class Commands(unittest.TestCase):
+    """The commands of the pages."""
+
+    deadline = 900          # a program of bench/ takes some seconds, on a busy machine more
+
+    def test_each_block_is_run(self) -> None:
+        seen = set()
+        for page in PAGES:
+            for language, block in blocks_of(page):
+                test = RUN_BY.get((name_of(page), language))
+                begins = {key for key in NOT_RUN if key[0] == name_of(page) and block.strip().startswith(key[1])}
+                seen |= begins | ({(name_of(page), language)} if test else set())
+                with self.subTest(page=name_of(page), block=block.partition("\n")[0]):
+                    self.assertEqual(bool(test) + len(begins), 1)
+        self.assertEqual(seen, {*RUN_BY, *NOT_RUN})
+        for (named, _), test in RUN_BY.items():
+            self.assertTrue(Path(named).name in text_of(TOP / "tests" / f"{test}.py"), (named, test))
+
+    def test_each_program_has_its_help(self) -> None:
+        bench = [path for path in TOP.glob("bench/*.py") if "__main__" in text_of(path)]
+        calls = [[VAULTD, word, "--help"] for word in SUBCOMMANDS] + [[*program(name), "--help"] for name in scripts()]
+        calls += [["/usr/bin/python3", str(path), "--help"] for path in bench]
+        for call in calls:
+            with self.subTest(call[-2:]):
+                done = subprocess.run(call, capture_output=True, text=True, timeout=60, check=False)
+                self.assertEqual((done.returncode, done.stderr), (0, ""))
+                self.assertIn("usage", done.stdout.lower())
+        self.assertEqual({path.name for path in bench} - set(re.findall(r"bench/(\w+\.py)", text_of(TOP / "bench" / "README.md"))), set())
+
+    def test_what_tools_check_of_the_theorem(self) -> None:
+        """The contracts that it names are there, and its list of modules is that of the `use` lines."""
+        for tool in ("definitions", "theorem-modules"):
+            done = subprocess.run([str(TOP / "tools" / tool), "--check"], cwd=TOP, capture_output=True, text=True, timeout=120, check=False)
+            with self.subTest(tool):
+                self.assertEqual((done.returncode, done.stdout + done.stderr), (0, ""))
+
+    def test_words_of_commands_are_known(self) -> None:
+        known = {"vaultd": set(SUBCOMMANDS), "vault": set(re.findall(r"^\s{2,}([a-z]+)\b", said([*program("vault"), "--help"]), re.MULTILINE))}
+        rt = set(re.findall(r"[a-z]+(?:-[a-z]+)?", said(["rt", "help"]))) if shutil.which("rt") else None
+        for page in PAGES:
+            for name, line in commands_of(page):
+                said_of_it = re.search(rf"\b{name} (?:--as \S+ |--json |--patience \S+ )*([a-z]+)\b", line)
+                if name in known and said_of_it and line.strip() not in MESSAGES:
+                    with self.subTest(page=name_of(page), line=line.strip()):
+                        self.assertIn(said_of_it[1], known[name])
+            for word in re.findall(r"(?m)^rt ([a-z-]+)", "\n".join(code_of(page))):
+                with self.subTest(page=name_of(page), rt=word):
+                    self.assertTrue(rt is None or word in rt)
+
+    def test_conversation_of_the_protocol(self) -> None:
+        lines = [block for _, block in blocks_of(TOP / "docs" / "PROTOCOL.md")][0].splitlines()
+        server = Server(folder=MEMORY)
+        self.addCleanup(server.close)
+        server.start()
+        with server.connect() as client, client.makefile("rw", encoding="ascii", newline="\n") as stream:
+            for asked, told in zip(lines[::2], lines[1::2], strict=True):
+                stream.write(asked.removeprefix("> ") + "\n")
+                stream.flush()
+                self.assertEqual("< " + stream.readline().rstrip("\n"), told)
+
+    def test_log_of_the_gate(self) -> None:
+        page = section("OPERATING.md", "### The log of who did what")
+        (_, logged), (language, shown) = BLOCK.findall(page)
+        self.assertEqual(language, "console")
+        command, _, wanted = shown.partition("\n")
+        with tempfile.NamedTemporaryFile("w", encoding="utf-8") as log:
+            log.write(logged)
+            log.flush()
+            words = command.removeprefix("$ ").replace("/var/log/vaultd-gate.log", log.name).split()
+            self.assertEqual(said([*program(words[0]), *words[1:]]), wanted)
+
+    @unittest.skipUnless(shutil.which("gcc") and shutil.which("strace"), "needs gcc and strace")
+    def test_programs_of_bench(self) -> None:
+        """Each line of the page, at a hundredth of its size."""
+        (_, block), = blocks_of(TOP / "bench" / "README.md")
+        self.assertGreater(len(block.splitlines()), 15)
+        for line in block.splitlines():
+            words = line.partition("  #")[0].split()[1:]
+            if words[0] in BENCH_NOT_RUN:
+                continue
+            with self.subTest(line), tempfile.TemporaryDirectory(prefix="vault-test-", dir=MEMORY) as folder:
+                meant = {"DISK": folder, "/dev/shm/FOLDER": folder, "PROGRAM": VAULTD}
+                call = ["/usr/bin/python3", *(meant.get(word, word) for word in words), "--tiny", "--program", VAULTD]
+                if '"--port"' in text_of(TOP / words[0]):
+                    call += ["--port", str(free_port())]
+                done = subprocess.run(call, cwd=TOP, capture_output=True, text=True, timeout=120, check=False)
+                self.assertEqual(done.returncode, 0, done.stdout + done.stderr)
+                self.assertIn("|---|", done.stdout)
+
+
+def bytes_of(block: str, before: bytes = b"", column: int = 11, until: int = 42) -> bytes:
+    """The bytes that a block of the page on files shows, behind those that stand before its first line; `..` stands for 34 of them."""
+    file = bytearray()
+    for line in block.splitlines():
+        offset = re.match(r"(?:offset)? *(\d+)$", line[:column - 2]) if column else None
+        if offset and not file:
+            file += before[:int(offset[1])]
+        if offset:
+            assert len(file) == int(offset[1]), line
+        file += bytes.fromhex(line[column:until].replace("..", before.hex()))
+    return bytes(file)
+
+
+class Files(unittest.TestCase):
+    """The worked files of the page on files, made by the program or read by it."""
+
+    def setUp(self) -> None:
+        self.server = Server(folder=MEMORY)
+        self.addCleanup(self.server.close)
+        self.first, self.second = map(Path, self.server.files)
+        worked = [block for _, block in BLOCK.findall(section("FORMAT.md", "## Worked files"))]
+        self.assertEqual(len(worked), 5)
+        self.new = bytes_of(worked[0])
+        self.made, self.session = (bytes_of(block, self.new) for block in worked[1:3])
+        snapshots = [block for _, block in BLOCK.findall(section("FORMAT.md", "## The snapshot"))]
+        self.snapshot, self.longer, self.older = (bytes_of(block, column=0, until=49) for block in snapshots)
+        self.renewed, self.again = bytes_of(worked[3]), bytes_of(worked[4], self.snapshot)
+
+    def told(self, *lines: str) -> None:
+        """Has the server do these commands."""
+        with self.server.connect() as client, client.makefile("rw", encoding="ascii", newline="\n") as stream:
+            for line in lines:
+                stream.write(line + "\n")
+                stream.flush()
+                self.assertEqual(stream.readline()[:2], "OK")
+
+    def inspected(self, first: bytes, second: bytes = b"") -> List[str]:
+        """What `vaultd inspect` says of two files."""
+        with tempfile.TemporaryDirectory(prefix="vault-test-", dir=MEMORY) as folder:
+            for name, content in (("a", first), ("b", second)):
+                (Path(folder) / name).write_bytes(content)
+            return said([VAULTD, "inspect", f"{folder}/a", f"{folder}/b"]).splitlines()
+
+    def test_new_and_made(self) -> None:
+        self.assertEqual((self.first.read_bytes(), self.second.read_bytes()), (self.new, b""))
+        self.server.start()
+        self.told("hello anna", "make /e")
+        self.assertEqual(self.first.read_bytes(), self.made)
+
+    def test_session(self) -> None:
+        self.server.start()
+        self.told("hello anna", "make /engine")
+        self.told("hello anna", "checkout w:/engine")
+        self.assertEqual(self.first.read_bytes(), self.session)
+
+    def test_snapshots(self) -> None:
+        self.assertEqual([len(each) for each in (self.snapshot, self.longer, self.older, self.renewed)], [34, 82, 32, 59])
+        self.assertEqual(self.inspected(self.made, self.renewed)[-1], "c1 anna held w:/e")
+        file = self.new[:20] + len(self.longer).to_bytes(4, "big") + self.longer + b"\0"
+        self.assertEqual(self.inspected(file)[-3:], ["places 4, versions 2, claims 2, drafts 1", "c1 anna held w:/e/b",
+                                                     "c2 ben queued behind c1 r:/e note 6162"])
+
+    def test_renewal_of_older_files(self) -> None:
+        version = (1).to_bytes(4, "big")
+        self.first.write_bytes(self.made[:8] + version + self.made[12:])
+        self.second.write_bytes(self.renewed[:8] + version + self.renewed[12:20] + (32).to_bytes(4, "big") + self.older + b"\0")
+        before = self.second.read_bytes()
+        self.assertEqual(len(before), 57)
+        self.server.start()
+        self.told("hello anna")
+        for _ in range(100):
+            if self.first.read_bytes() == self.again:
+                break
+            time.sleep(0.05)
+        self.assertEqual((self.first.read_bytes(), self.second.read_bytes()), (self.again, before))
+
+    def test_cut_by_hand(self) -> None:
+        """What the page on operating has somebody do with a damaged file."""
+        command = re.search(r"`(head -c O a > cut; [^`]*)`", section("OPERATING.md", "## A damaged file"))
+        assert command is not None
+        damaged = self.session[:56] + b"c" + self.session[57:]
+        self.assertEqual(self.inspected(damaged)[0], "file a: damaged at 51")
+        self.first.write_bytes(damaged)
+        subprocess.run(["bash", "-c", command[1].replace(" O ", " 51 ")], cwd=self.first.parent, check=True)
+        self.assertEqual(self.inspected((self.first.parent / "cut").read_bytes())[-1], "places 2, versions 0, claims 0, drafts 0")
+
+    def test_what_opening_says(self) -> None:
+        page = section("FORMAT.md", "## Opening")
+        cuts = re.findall(r"^\| (\d+)(?: to (\d+))? \| (.*) \|$", page, re.MULTILINE)
+        self.assertEqual(len(cuts), 4)
+        for least, most, says in cuts:
+            for length in range(int(least), int(most or least) + 1):
+                with self.subTest(length=length):
+                    wanted = says.strip("`").replace("a vault with two places", "places 2")
+                    self.assertIn(wanted, "\n".join(self.inspected(self.made[:length])))
+        changes = {"the head gate to 0": (0, b"\0"), "byte 1 to 0": (1, b"\0"), "the version to 3": (11, b"\3"),
+                   "the generation to 0": (19, b"\0"), "the snapshot's length to 11": (23, b"\x0b"),
+                   "the frame's length to 0": (38, b"\0"), "its first record's kind to 0x63": (39, b"c"),
+                   "the gate at 34 to 7": (34, b"\7")}
+        for change, (offset, byte) in changes.items():
+            row = re.search(rf"^\|.*{re.escape(change)}.*\| (.*) \|$", page, re.MULTILINE)
+            self.assertIsNotNone(row, change)
+            says = row[1].strip("`").partition(":")[0].replace("a new vault", "places 1") if row else ""
+            with self.subTest(change):
+                changed = self.made[:offset] + byte + self.made[offset + 1:]
+                self.assertIn(says, "\n".join(self.inspected(changed)))
 
 
 if __name__ == "__main__":

@@ -238,12 +238,10 @@ class Roles(WithDoor):
                 waiting.stdin.write(line)
                 waiting.stdin.flush()
                 self.assertEqual(waiting.stdout.readline()[:4] if reply else b"", reply)
-            early = select.select([waiting.stdout], [], [], 2)[0]
+            self.assertEqual(select.select([waiting.stdout], [], [], 2)[0], [], "it was answered while the claim was queued")
             self.assertEqual(self.conversation("eva", b"hello ben\nabandon c1\nquit\n"), ["OK session", "OK abandoned", "OK left"])
-            self.assertEqual(waiting.stdout.readline(), b"OK queued c2 behind c1\n" if early else b"OK held c2\n")
+            self.assertEqual(waiting.stdout.readline(), b"OK held c2\n")
         self.assertEqual([line for line in self.door.logged() if " wait " in line], [])
-        if early:
-            self.skipTest("this server answers `wait` at once, so nothing waited")
 
     def test_any_name(self) -> None:
         self.assertEqual(self.conversation("eva", b"hello ben\nabandon c1\nquit\n"), ["OK session", "OK abandoned", "OK left"])

@@ -1,5 +1,5 @@
-"""The two packages for Debian: what is in them, and a Debian of its own in which they are installed, used by the commands of the page on
-operating, and removed."""
+"""The two packages for Debian: what is in them, and a Debian of its own in which they are installed, used by the commands of the pages on
+operating and on several vaults, and removed."""
 
 import re
 import shutil
@@ -12,7 +12,7 @@ from typing import Dict, List
 import machines
 from servers import TOP, VAULTD
 
-OPERATING = (TOP / "docs" / "OPERATING.md").read_text("utf-8")
+OPERATING, SCALE = ((TOP / "docs" / page).read_text("utf-8") for page in ("OPERATING.md", "SCALE.md"))
 # How each block of the page begins that the machine runs.
 BLOCKS = {"start.sh": "contrib/install", "watch.sh": "systemctl enable --now vaultd-watch.timer", "broken.sh": "journalctl -u vaultd -n 20",
           "metrics.sh": "apt-get install prometheus-node-exporter", "store.sh": "install -d -g designers",
@@ -20,6 +20,8 @@ BLOCKS = {"start.sh": "contrib/install", "watch.sh": "systemctl enable --now vau
           "page.sh": "apt-get install python3-aiohttp",
           "backup.sh": "systemctl enable --now vaultd-backup.timer", "by_hand.sh": "same() {", "look.sh": "vaultd check /backup/vault/a",
           "gate.sh": "apt-get install openssh-server nftables"}
+# The one of the page on several vaults.
+PLANT = "sed 's/7070/7071/' /etc/default/vaultd"
 # The others: the packages are made before, and tests/test_rclone.py has a remote.
 OTHER_BLOCKS = ("contrib/package --to", "rclone config create")
 # There is no network in the machine, and the packages are there.
@@ -27,14 +29,14 @@ PREAMBLE = "set -eux\napt-get() { true; }\ncontrib/install() { true; }\n"
 MACHINE_SECONDS = 300
 
 
-def blocks() -> List[str]:
+def blocks(page: str = OPERATING) -> List[str]:
     """The blocks of the page that a shell reads."""
-    return re.findall(r"```sh\n(.*?)```", OPERATING, re.DOTALL)
+    return re.findall(r"```sh\n(.*?)```", page, re.DOTALL)
 
 
 def block_of(first: str) -> str:
-    """The block of the page that begins so."""
-    found = [block for block in blocks() if block.startswith(first)]
+    """The block of the pages that begins so."""
+    found = [block for block in (*blocks(), *blocks(SCALE)) if block.startswith(first)]
     assert len(found) == 1, (first, len(found))
     return found[0]
 
@@ -104,12 +106,13 @@ class Packages(unittest.TestCase):
         known = (*BLOCKS.values(), *OTHER_BLOCKS)
         self.assertEqual([block for block in blocks() if not block.startswith(known)], [])
         self.assertEqual(len(blocks()), len(known))
+        self.assertEqual(blocks(SCALE), [block_of(PLANT)])
 
     @unittest.skipIf(machines.wanting(), machines.wanting())
     def test_in_a_machine(self) -> None:
         """Installed, used, and removed, with systemd as the first process and its journal."""
         files: Dict[str, Path] = {package.name: package for package in self.packages}
-        for name, first in BLOCKS.items():
+        for name, first in {**BLOCKS, "plant.sh": PLANT}.items():
             files[name] = self.folder / name
             files[name].write_text(PREAMBLE + block_of(first), "utf-8")
         files["script"] = TOP / "tests" / "data" / "in-a-machine"

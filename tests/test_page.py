@@ -494,7 +494,7 @@ class SlowReaders(unittest.IsolatedAsyncioTestCase):
     async def test_of_messages(self) -> None:
         """So many messages wait for a reader, and with one more it is dropped."""
         stream = page_web.Stream()
-        for _ in range(page_web.MOST_WAITING):
+        for _ in range(page_web.MAX_WAITING):
             stream.push(b"x")
         self.assertFalse(stream.over)
         stream.push(b"x")

@@ -1,5 +1,5 @@
 """Files that a stop of the machine could leave under a server of eight clients, by its own calls: each opens as the vault that was settled,
-or the one that was being written, with all that a client was told by then.
+or the one that was being written, with all that a client was told by then, and a server starts over them.
 
 `VAULT_SEED` names the moments. A large run, by hand: `VAULT_MOMENTS_OF_STOPS=8000 VAULT_SNAPSHOTS=6 tests/run test_stops` looks at four pairs
 of files at each of 8,000 moments (150), over six snapshots (2).
@@ -73,11 +73,17 @@ class Stops(unittest.TestCase):
         paths = [self.folder / f"image-{name}" for name in image]
         for path, data in zip(paths, image.values()):
             path.write_bytes(data)
-        said = subprocess.run([VAULTD, "inspect", *map(str, paths)], capture_output=True, text=True, timeout=60, check=False).stdout.splitlines()
+        said = self.said("inspect", paths).splitlines()
         found = vault_of(image["a"], image["b"])
         if said[2:3] != [found.counts]:
             raise Damaged(f"inspect says {said[:3]}, and the files hold {found.counts}")
+        if "A server starts" not in self.said("check", paths):
+            raise Damaged(f"check says {self.said('check', paths)}, and a stop left these files")
         return found
+
+    def said(self, word: str, paths: List[Path]) -> str:
+        """What the program says of two files."""
+        return subprocess.run([VAULTD, word, *map(str, paths)], capture_output=True, text=True, timeout=60, check=False).stdout
 
     def wrong_in(self, recording: Recording, count: int) -> List[str]:
         """What is wrong at so many moments of a recording."""

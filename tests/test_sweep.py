@@ -14,7 +14,7 @@ from servers import VAULTD, Server, program
 from stores import PART, ROD, WithStore
 
 from vault import Misused, VaultError
-from vault.cache import MOST_BYTES, Cache, most_bytes
+from vault.cache import MAX_BYTES, Cache, most_bytes
 from vault.card import Card
 from vault.checking import check_store
 from vault.parts import Parts
@@ -245,7 +245,7 @@ class Kept(WithFiles):
         self.assertFalse((self.root / "near").exists())
 
     def test_words(self) -> None:
-        self.assertEqual((most_bytes(None), most_bytes("0")), (MOST_BYTES, 0))
+        self.assertEqual((most_bytes(None), most_bytes("0")), (MAX_BYTES, 0))
         with self.assertRaises(Misused):
             most_bytes("-1")
 

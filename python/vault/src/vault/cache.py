@@ -11,14 +11,14 @@ from vault.store import Store, Wrong, compare
 from vault.transfer import Meter, Own, copy_through_hash
 from vault.words import Misused
 
-MOST_BYTES = 1 << 30
+MAX_BYTES = 1 << 30
 PART_OF_ALL = 4
 
 
 class Cache:
     """A folder of bytes by their SHA-256. Whatever goes wrong with it costs time alone."""
 
-    def __init__(self, folder: Path, most: int = MOST_BYTES):
+    def __init__(self, folder: Path, most: int = MAX_BYTES):
         self.folder, self.most = folder, most
         self.size: Optional[int] = None
 
@@ -111,7 +111,7 @@ class Both:
 def most_bytes(word: Optional[str]) -> int:
     """How many bytes may be kept, by the word that says so."""
     if word is None:
-        return MOST_BYTES
+        return MAX_BYTES
     if not word.isascii() or not word.isdigit():
         raise Misused(f"VAULT_CACHE_BYTES is {word!a}, and has to be a number of bytes. 0 keeps none.")
     return int(word)

@@ -8,7 +8,7 @@ from vault.words import CLAIM, Holder, Wait, holder_in, listed_in, odd, under
 
 UNKNOWN_COMMAND = 10
 # More claims than these are told by no vault server, whose limit is 256.
-MOST_CLAIMS = 1024
+MAX_CLAIMS = 1024
 
 
 class Line:
@@ -25,7 +25,7 @@ class Line:
         if self.older:
             return None
         claims = listed_in(told, CLAIM)
-        if len(claims) > MOST_CLAIMS:
+        if len(claims) > MAX_CLAIMS:
             raise odd(told)
         return self.of(claims)
 

@@ -5,7 +5,7 @@ from typing import Optional, Tuple
 
 from vault.files import write_whole
 from vault.folders import state_folder
-from vault.transport import MOST_SERVERS, Address, read_servers
+from vault.transport import MAX_SERVERS, Address, read_servers
 from vault.words import Misused
 
 
@@ -17,7 +17,7 @@ def read_address(word: str) -> Tuple[str, Tuple[Address, ...]]:
     if not designer or not found:
         raise Misused(f"`{word}` is no designer at a server: write NAME@HOST:PORT, as anna@127.0.0.1:7070, or through ssh"
                       " NAME@ssh:HOST or NAME@ssh:USER@HOST:PORT; or a vault's addresses with commas between, each once and at most"
-                      f" {MOST_SERVERS}.")
+                      f" {MAX_SERVERS}.")
     return designer, found
 
 

@@ -19,7 +19,7 @@ GATE = "vaultd-gate"
 OPTIONS = ("BatchMode=yes", "ClearAllForwardings=yes", "ForwardAgent=no", "ForwardX11=no", "PermitLocalCommand=no", "RequestTTY=no",
            "ServerAliveInterval=15", "ServerAliveCountMax=4")
 NOT_YOURS = 31
-MOST_SERVERS = 8
+MAX_SERVERS = 8
 SAID_BYTES = 4096
 PIECE = 65536
 
@@ -64,7 +64,7 @@ def read_servers(word: str) -> Tuple[Address, ...]:
     """The same of some addresses with commas between, each once; none where one of them is none, or where these are too many."""
     found = [read_server(each) for each in word.split(",")]
     several = tuple(dict.fromkeys(each for each in found if each is not None))
-    return several if len(several) == len(found) <= MOST_SERVERS else ()
+    return several if len(several) == len(found) <= MAX_SERVERS else ()
 
 
 def shown(host: str, port: int) -> str:

@@ -17,8 +17,8 @@ from vaultd_tools.lines import Command, Lines, command_of, name
 READ_BYTES = 8192
 WRITE_BYTES = 4096
 LONGEST_REPLY = 65536
-MOST_LINES = 4096
-MOST_BYTES = 16777216
+MAX_LINES = 4096
+MAX_BYTES = 16777216
 CONNECT_SECONDS = 10
 REPLY_SECONDS = 60
 TAKE_SECONDS = 600
@@ -125,7 +125,7 @@ class Gate:
                 for line in lines.ended_by(piece):
                     self._answer(line)
                 self.bytes += len(piece)
-                if self.bytes >= MOST_BYTES:
+                if self.bytes >= MAX_BYTES:
                     return
         except (Over, OSError):
             return
@@ -139,7 +139,7 @@ class Gate:
             self._refuse(command)
         else:
             self._hand_on(command)
-        if self.lines >= MOST_LINES:
+        if self.lines >= MAX_LINES:
             raise Over("a connection has no more lines")
 
     def _refuse(self, command: Command) -> None:

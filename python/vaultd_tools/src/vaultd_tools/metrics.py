@@ -21,7 +21,7 @@ IN_USE = "vault in use"
 # Each figure of `vaultd check --json` that is a metric of its own, and what it says.
 FIGURES = {
     "generation": "How many snapshots the vault had, the first included.",
-    "journal": "Bytes of the journal; at 1 MiB it gives way to a snapshot.",
+    "journal": "Bytes of the journal; from 1 MiB on it gives way to a snapshot, at half the last snapshot's length at the latest.",
     "snapshot": "Bytes of the snapshot in the active file.",
     "places": "Places, the library counted.",
     "versions": "Versions of all parts.",

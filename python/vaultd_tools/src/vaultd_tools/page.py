@@ -12,7 +12,7 @@ import signal
 import sys
 
 from vault.words import NAME
-from vaultd_tools.page_web import HOST, MOST_STREAMS, Doors, Page
+from vaultd_tools.page_web import HOST, MAX_STREAMS, Doors, Page
 
 BACKLOG = 128
 KEEPALIVE_SECONDS = 20
@@ -61,8 +61,8 @@ def words(given: list[str] | None = None) -> argparse.Namespace:
                         " and, on this machine, localhost")
     parser.add_argument("--as", dest="designer", type=designer, default="page", metavar="NAME", help="the page's own designer's name (page)")
     parser.add_argument("--title", default="The design vault", help="the vault's name on the page")
-    parser.add_argument("--streams", type=stream_count, default=MOST_STREAMS, metavar="N",
-                        help=f"how many open pages are told of changes at once ({MOST_STREAMS})")
+    parser.add_argument("--streams", type=stream_count, default=MAX_STREAMS, metavar="N",
+                        help=f"how many open pages are told of changes at once ({MAX_STREAMS})")
     return parser.parse_args(given)
 
 

@@ -10,11 +10,11 @@ from datetime import datetime, timezone
 from vault.card import Card
 from vaultd_tools.files import Claim
 
-MOST_PLACES = 4096
-MOST_BENEATH = 64
-MOST_CLAIMS = 256
-MOST_VERSIONS = 65535
-MOST_NAMES = 7
+MAX_PLACES = 4096
+MAX_BENEATH = 64
+MAX_CLAIMS = 256
+MAX_VERSIONS = 65535
+MAX_NAMES = 7
 KEPT_VERSIONS = 8192
 KEPT_NEWS = 60
 KINDS = ("library", "project", "assembly")
@@ -104,7 +104,7 @@ class Model:
     def add(self, path: str) -> Place:
         """A place that wasn't known. By how deep it stands it is a part, none, or either."""
         names = depth(path)
-        self.places[path] = place = Place(path, False if names <= 2 else True if names == MOST_NAMES else None)
+        self.places[path] = place = Place(path, False if names <= 2 else True if names == MAX_NAMES else None)
         return place
 
     def keep(self, path: str, version: Version, size: int) -> None:

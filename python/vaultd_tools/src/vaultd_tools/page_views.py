@@ -13,7 +13,7 @@ from markupsafe import Markup
 from vault.words import NAME
 from vaultd_tools.files import Claim
 from vaultd_tools.page_line import ways
-from vaultd_tools.page_model import MOST_BENEATH, MOST_CLAIMS, MOST_PLACES, MOST_VERSIONS, Model, Place, depth
+from vaultd_tools.page_model import MAX_BENEATH, MAX_CLAIMS, MAX_PLACES, MAX_VERSIONS, Model, Place, depth
 from vaultd_tools.page_render import APART, TAKEN, Line, Mark, Pieces, Renderer, Row, address
 from vaultd_tools.page_watch import Watcher, changes, concerns, is_place
 
@@ -365,11 +365,11 @@ def gauges(model: Model) -> Iterator[Gauge]:
     widest = max(places, key=lambda place: len(place.children), default=Place("/", False))
     most = max(places, key=lambda place: place.versions, default=Place("/", False))
     library = model.places.get("/") or Place("/", False)
-    yield Gauge("places, with the library", len(places), MOST_PLACES)
-    yield Gauge("projects", len(library.children), MOST_BENEATH)
-    yield Gauge("places beneath the one with most", len(widest.children), MOST_BENEATH, widest.path if widest.children else "")
-    yield Gauge("claims", len(model.claims), MOST_CLAIMS)
-    yield Gauge("versions of the part with most", most.versions, MOST_VERSIONS, most.path if most.versions else "")
+    yield Gauge("places, with the library", len(places), MAX_PLACES)
+    yield Gauge("projects", len(library.children), MAX_BENEATH)
+    yield Gauge("places beneath the one with most", len(widest.children), MAX_BENEATH, widest.path if widest.children else "")
+    yield Gauge("claims", len(model.claims), MAX_CLAIMS)
+    yield Gauge("versions of the part with most", most.versions, MAX_VERSIONS, most.path if most.versions else "")
 
 
 def view_at(path: str, query: dict[str, str]) -> View | None:

@@ -15,7 +15,7 @@ from vault.words import CONTENT_BYTES, NAME, NOTE_BYTES, SHOWN
 from vaultd_tools.files import Claim
 from vaultd_tools.page_line import under, ways
 from vaultd_tools.page_model import (
-    MOST_BENEATH, MOST_CLAIMS, MOST_NAMES, MOST_PLACES, Link, Model, Place, Since, Version, depth, now)
+    MAX_BENEATH, MAX_CLAIMS, MAX_NAMES, MAX_PLACES, Link, Model, Place, Since, Version, depth, now)
 from vaultd_tools.page_wire import Broken, Wire, refused
 
 TURN_SECONDS = 0.45
@@ -309,7 +309,7 @@ class Watcher:
     def _take_list(self, path: str, reply: bytes) -> None:
         found = LISTED.fullmatch(reply)
         names = found[2].decode("ascii").split() if found else []
-        if found is None or len(names) != int(found[1]) or len(names) > MOST_BENEATH or len(set(names)) != len(names):
+        if found is None or len(names) != int(found[1]) or len(names) > MAX_BENEATH or len(set(names)) != len(names):
             raise refused(reply)
         place = self.model.places.get(path) or self.model.add(path)
         children = [path.rstrip("/") + "/" + name for name in names]
@@ -319,7 +319,7 @@ class Watcher:
         place.part, place.children, self._changed = False, children, True
 
     def _add(self, path: str) -> None:
-        if depth(path) > MOST_NAMES or len(self.model.places) >= MOST_PLACES:
+        if depth(path) > MAX_NAMES or len(self.model.places) >= MAX_PLACES:
             raise Broken("lists more places than a vault has; it is no vault server")
         part = self.model.add(path).part
         self._urgent.append(("list " if part is False else "count ") + path)
@@ -397,7 +397,7 @@ def claims_in(reply: bytes) -> list[str]:
     """The claims that a reply lists."""
     found = CLAIMS.fullmatch(reply)
     names = found[2].decode("ascii").split() if found else []
-    if found is None or len(names) != int(found[1]) or len(names) > MOST_CLAIMS or len(set(names)) != len(names):
+    if found is None or len(names) != int(found[1]) or len(names) > MAX_CLAIMS or len(set(names)) != len(names):
         raise refused(reply)
     return names
 
@@ -431,4 +431,4 @@ def changes(claim: Claim, path: str) -> bool:
 
 def is_place(path: str) -> bool:
     """Whether a text is the path of a place."""
-    return path == "/" or path[:1] == "/" and 0 < depth(path) <= MOST_NAMES and all(NAME.fullmatch(name) for name in path[1:].split("/"))
+    return path == "/" or path[:1] == "/" and 0 < depth(path) <= MAX_NAMES and all(NAME.fullmatch(name) for name in path[1:].split("/"))

@@ -23,11 +23,11 @@ from vaultd_tools.page_render import STATIC, Pieces, Renderer, fingerprint, stat
 from vaultd_tools.page_views import Source, View, view_at
 from vaultd_tools.page_watch import Watcher
 
-MOST_STREAMS = 256
-MOST_CONNECTIONS = 1024
-MOST_WAITING = 32
-MOST_PIPELINED = 16
-MOST_FIELDS = 16
+MAX_STREAMS = 256
+MAX_CONNECTIONS = 1024
+MAX_WAITING = 32
+MAX_PIPELINED = 16
+MAX_FIELDS = 16
 BEAT_SECONDS = 10.0
 TAKE_SECONDS = 20.0
 FIRST_SECONDS = 15.0
@@ -66,7 +66,7 @@ class Stream:
     def push(self, message: bytes) -> None:
         """Tells the page something. One that takes nothing is dropped."""
         self.messages.append(message)
-        if len(self.messages) > MOST_WAITING:
+        if len(self.messages) > MAX_WAITING:
             self.end()
         self.wake.set()
 
@@ -144,7 +144,7 @@ class Door(web.RequestHandler):
 
     def connection_made(self, transport: asyncio.BaseTransport) -> None:
         """Takes a connection, where there is room for one more."""
-        if len(self.doors.connections) >= MOST_CONNECTIONS and isinstance(transport, asyncio.Transport):
+        if len(self.doors.connections) >= MAX_CONNECTIONS and isinstance(transport, asyncio.Transport):
             transport.abort()
             return
         super().connection_made(transport)
@@ -160,7 +160,7 @@ class Door(web.RequestHandler):
     def data_received(self, data: bytes) -> None:
         """Takes bytes; requests that wait behind others are few."""
         super().data_received(data)
-        if len(self._messages) > MOST_PIPELINED:
+        if len(self._messages) > MAX_PIPELINED:
             self.force_close()
 
     def connection_lost(self, error: BaseException | None) -> None:
@@ -190,7 +190,7 @@ class Doors(web.Server):
 class Page:
     """The page of one vault."""
 
-    def __init__(self, host: str, port: int, designer: str, hosts: Iterable[str], title: str, most_streams: int = MOST_STREAMS):
+    def __init__(self, host: str, port: int, designer: str, hosts: Iterable[str], title: str, most_streams: int = MAX_STREAMS):
         self.watcher = Watcher(host, port, designer, self.publish)
         server = f"[{host}]:{port}" if ":" in host else f"{host}:{port}"
         self.source = Source(Renderer(links=True), self.watcher.model, server, title)
@@ -250,7 +250,7 @@ class Page:
         if not path.startswith("/") or not request.raw_path.isascii():
             raise Refusal(400, "This is no address of the page.")
         try:
-            return path, dict(parse_qsl(query, keep_blank_values=True, max_num_fields=MOST_FIELDS, errors="replace"))
+            return path, dict(parse_qsl(query, keep_blank_values=True, max_num_fields=MAX_FIELDS, errors="replace"))
         except ValueError as error:
             raise Refusal(400, "This asks for too much at once.") from error
 
@@ -323,7 +323,7 @@ class Page:
     async def _stream(self, request: web.BaseRequest, query: dict[str, str]) -> web.StreamResponse:
         """Tells one open page of changes until it is closed."""
         path, _, rest = query.get("see", "").partition("?")
-        view = self._view(path, dict(parse_qsl(rest, max_num_fields=MOST_FIELDS)))
+        view = self._view(path, dict(parse_qsl(rest, max_num_fields=MAX_FIELDS)))
         if not view.live:
             raise Refusal(404, "This page doesn't change.")
         if self.watcher.streams >= self.most_streams:

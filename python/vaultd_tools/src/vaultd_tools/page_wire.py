@@ -6,7 +6,7 @@ import asyncio
 import contextlib
 from collections.abc import Sequence
 
-MOST_LINES = 4000
+MAX_LINES = 4000
 LONGEST_REPLY = 16384
 READ_BYTES = 65536
 CONNECT_SECONDS = 5.0
@@ -57,7 +57,7 @@ class Wire:
 
     def has_room_for(self, count: int) -> bool:
         """Whether so many lines may still be sent, and `quit` behind them."""
-        return self.lines + count < MOST_LINES
+        return self.lines + count < MAX_LINES
 
     async def ask(self, questions: Sequence[str]) -> list[bytes]:
         """The replies to some questions, which are sent at once. Where that fails the connection is of no more use."""

@@ -123,7 +123,7 @@
 
   function demandAgain() {
     if (again) return again;
-    again = readAgain().then(() => { again = null; pill(); }, error => { again = null; throw error; });
+    again = readAgain().then(() => { again = lostAt = null; pill(); }, error => { again = null; throw error; });
     return again;
   }
 
@@ -172,7 +172,6 @@
     retry = setTimeout(async () => {
       try {
         await demandAgain();
-        lostAt = null;
       } catch {
         lostAt = lostAt || new Date();
       }
