@@ -23,7 +23,7 @@ from measure import arguments, head, prepared, table
 
 HERE = os.path.dirname(os.path.abspath(__file__))
 # So many cycles stay below 1 MiB of journal, so that no snapshot comes between.
-MOST_CYCLES = 960
+MAX_CYCLES = 960
 PARTS = 64
 
 
@@ -70,7 +70,7 @@ def started(program, folder, options):
     return subprocess.Popen(words, stdout=subprocess.PIPE, env=os.environ | slow)
 
 
-def measured(program, folder, options, load, clients, before=(), most=MOST_CYCLES):
+def measured(program, folder, options, load, clients, before=(), most=MAX_CYCLES):
     """One run over a new vault, behind these lines: load.c's figures, and the server's processor time a cycle in microseconds."""
     server = started(program, folder, options)
     try:

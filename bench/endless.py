@@ -35,7 +35,7 @@ SESSIONS = WORKERS = 64
 # kilobytes: a snapshot's bytes, and what an allocator keeps.
 FIRST, OF_CONTENTS, MEMORY = 100_000, 4, 4096
 # The most that all contents may weigh, of which versions are given a part, and what a short one weighs.
-MOST_WEIGHT, SHORT = 16_777_216 * 3 // 4, 16
+MAX_WEIGHT, SHORT = 16_777_216 * 3 // 4, 16
 COLUMNS = ("Commands", "A second", "Longest wait", "Refused 80, and the longest", "Snapshots so far",
            "Resident memory (VmRSS): first, last, greatest", "Changes under way at the kill", "Replies compared behind it")
 # The memory is looked at so often in a life. In so many lives drafts are checked in behind a stop, which takes room for good.
@@ -167,7 +167,7 @@ class Endless:
         self.first = min(FIRST, self.kill_every // 2)
         # A step is some 1.3 commands: so the last part is made by about four fifths of the first commands.
         steps = max(5, self.first * 3 // (5 * len(designers) * PARTS))
-        most = MOST_WEIGHT // (len(designers) * SHORT)
+        most = MAX_WEIGHT // (len(designers) * SHORT)
         self.works: Dict[int, Work] = {
             designer.number: Work(designer, random.Random(options.seed * 1000 + designer.number), steps, most) for designer in designers
         }

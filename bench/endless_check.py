@@ -14,7 +14,7 @@ Talk = Generator[str, str, Tuple[bytes, bool]]
 # A part of it.
 Step = Generator[str, str, None]
 # A server ends a connection after 4,096 lines.
-MOST_LINES = 4000
+MAX_LINES = 4000
 # So many projects there are at most.
 PROJECTS = 32
 
@@ -144,7 +144,7 @@ class Search:
         yield from self._check_out()
         for part in designer.parts:
             yield from self._versions(part)
-        self.is_done = self.lines < MOST_LINES
+        self.is_done = self.lines < MAX_LINES
         yield from expected("quit", "OK left")
         return b"", False
 
@@ -189,7 +189,7 @@ class Search:
         designer = self.designer
         versions = designer.versions[part]
         yield from expected(f"count {part}", f"OK versions {len(versions)}")
-        while designer.found[part] < len(versions) and self.lines < MOST_LINES:
+        while designer.found[part] < len(versions) and self.lines < MAX_LINES:
             number = designer.found[part] + 1
             yield from expected(f"fetch {part} {number}", f"OK content {versions[number - 1]}")
             designer.found[part] = number

@@ -11,7 +11,7 @@ import statistics
 
 from measure import arguments, head, megabytes, prepared, run_once, sized, table
 
-MOST_RECORDS = 262139
+MAX_RECORDS = 262139
 PARTS = 64
 # What each journal is called, about how many MiB of records it has, and how many bytes each content has.
 JOURNALS = [("1 MiB", 1, 1024), ("2 MiB", 2, 1024), ("4 MiB", 4, 1024), ("8 MiB", 8, 1024), ("16 MiB, all that a vault holds", 16, 1024),
@@ -65,7 +65,7 @@ def file_of(all_records):
 
     for record in all_records:
         count += 1
-        if length + len(record) > MOST_RECORDS:
+        if length + len(record) > MAX_RECORDS:
             close()
             frame, length = [], 0
         frame.append(record)

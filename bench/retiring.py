@@ -30,6 +30,11 @@ def plan(assembly, client):
         ("cycle", "OK saved", f"save {{c}} {part} {{fresh:32}}\\n"), ("cycle", "OK abandoned", "abandon {c}\\n"), ("leave", "OK left", "quit\\n")))
 
 
+def change(before, after):
+    """By how much a figure differs; a tiny run may have measured none."""
+    return f"{(after / before - 1) * 100:+.1f} %" if before else "not measured"
+
+
 def compared(programs, folder, options, load):
     """Rows of cycles a second and processor time of all programs, run by turns, and how the last one differs from the first."""
     for clients in map(int, options.clients.split(",")):
@@ -42,7 +47,7 @@ def compared(programs, folder, options, load):
         used = [statistics.mean(run["cpu_us"] for run in found) for found in runs]
         yield (str(clients), *(f"{middle:,.0f} ({found[0]:,.0f} to {found[-1]:,.0f})" for middle, found in zip(middles, rates)),
                *(f"{time:.0f} µs" for time in used),
-               *([f"{(middles[1] / middles[0] - 1) * 100:+.1f} %, {(used[1] / used[0] - 1) * 100:+.1f} %"] if len(programs) > 1 else []))
+               *([f"{change(*middles)}, {change(*used)}"] if len(programs) > 1 else []))
 
 
 def block(load, folder, options, cycles, assembly):

@@ -21,7 +21,7 @@ from measure import arguments, head, megabytes, prepared, table
 
 WORKERS = 64
 # So many cycles stay below 1 MiB of journal, so that no snapshot comes between; bench/snapshot.py measures those.
-MOST_CYCLES = 960
+MAX_CYCLES = 960
 CONTENT = "61" * 1000
 
 
@@ -127,7 +127,7 @@ def measured(program, folder, options, connections, before=(), ready=lambda: Non
     subprocess.run([program, "create", *files], check=True, stdout=subprocess.DEVNULL)
     SERVE[:] = ["serve", *files, f"127.0.0.1:{options.port}", "--workers", str(WORKERS), "--connections", str(connections)]
     server = served(program, before)
-    cycles = MOST_CYCLES // connections
+    cycles = MAX_CYCLES // connections
     cycles = 2 if options.tiny else cycles
     shares = [range(1, connections + 1)[n::options.processes] for n in range(min(options.processes, connections))]
     gates = [multiprocessing.Barrier(len(shares) + 1) for _ in range(3)]

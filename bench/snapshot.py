@@ -6,7 +6,7 @@ in parts (`Pss`), looked at each half millisecond. The first reply behind a kill
 left as it is.
 
 The files are written by this program, by docs/FORMAT.md: a snapshot with 4,096 places, 256 check-outs of 8 items and 16 MiB of contents, and
-frames of almost 1 MiB behind it. A few saves over TCP then make the server begin a snapshot, into the empty second file. Each connection
+frames of almost half as many bytes behind it. A few saves over TCP then make the server begin a snapshot, into the empty second file. Each connection
 saves 1,024 bytes again and again, each save told before the next is sent. A run has one snapshot, so each row is of several runs.
 
 usage, at the top of the repository:  python3 bench/snapshot.py [--program PROGRAM] [--folder FOLDER] [--connections 1,16,64] [--runs N]
@@ -31,8 +31,9 @@ PLACES, CLAIMS, ITEMS = 4096, 256, 8
 WEIGHT = 16_777_216
 CONTENT = 1024
 SAVE = 1035
-# A frame has at most 253 records of a save. The last one leaves room for 14 saves below 1 MiB.
-FRAMES = (253, 253, 253, 240)
+# A frame has at most so many records of a save. The frames leave room for 14 saves before a snapshot is begun.
+FRAME = 253
+LEFT = 14
 
 
 def places():
@@ -66,12 +67,18 @@ def snapshot_of(weight):
     return b"".join(out)
 
 
+def frames_behind(snapshot):
+    """How many records each frame has: with a few more, and their own heads, they are as long as a journal gets."""
+    records = max(1 << 20, len(snapshot) // 2) // SAVE - LEFT
+    return [FRAME] * (records // FRAME) + [records % FRAME]
+
+
 def full_file(weight):
-    """A file of generation 1: this snapshot, frames of almost 1 MiB, and a tail gate."""
+    """A file of generation 1: this snapshot, frames of almost half its length, and a tail gate."""
     snapshot = snapshot_of(weight)
     out = [b"\x01LLVAULT" + number(2, 4) + number(1, 8) + number(len(snapshot), 4) + snapshot]
     record = 0
-    for count in FRAMES:
+    for count in frames_behind(snapshot):
         out.append(b"\x01" + number(count * SAVE, 4))
         for _ in range(count):
             claim = record % WORKERS + 1
@@ -113,7 +120,7 @@ class Client(threading.Thread):
             raise SystemExit(f"a connection was told: {told.decode()}")
 
     def run(self):
-        # A few of all these saves reach 1 MiB.
+        # A few of all these saves make the journal long enough.
         for _ in range(3500 // WORKERS):
             if self.stop.is_set():
                 return
