@@ -21,11 +21,12 @@ fn pad<A: Allocator + Copy>(parts: &mut Vec<Part<A>, A>, len: usize)
     }
 }
 
-// Appends one version to a place. Room is asked for before anything changes.
-fn append<A: Allocator + Copy>(
+/// Appends one version to a place. Room is asked for before anything changes, for at least so many bytes of that place's versions.
+pub(crate) fn append<A: Allocator + Copy>(
     parts: &mut Vec<Part<A>, A>,
     place: PlaceId,
     content: &[u8],
+    room: usize,
 ) -> Result<(), AllocError>
     requires short { length content.now ≤ longest_content }
     requires light { weight parts.old.items + content_weight content.now ≤ most_weight }
@@ -34,10 +35,10 @@ fn append<A: Allocator + Copy>(
 {
     let index = place.number() as usize;
     if index < parts.len() {
-        return parts[index].push(content);
+        return parts[index].push(content, room);
     }
     let mut part = Part::new(*parts.allocator());
-    part.push(content)?;
+    part.push(content, room)?;
     parts.reserve(index + 1 - parts.len())?;
     pad(parts, index);
     parts.push(part).unwrap();
@@ -69,7 +70,7 @@ pub(crate) fn append_each<A: Allocator + Copy, B: Allocator>(
     let len = parts.len();
     for done in 0..drafts.len() {
         let draft = &drafts[done];
-        if let Err(error) = append(parts, draft.place, draft.content.as_slice()) {
+        if let Err(error) = append(parts, draft.place, draft.content.as_slice(), 0) {
             take_back(parts, &drafts[..done]);
             parts.truncate(len);
             return Err(error);

@@ -1,7 +1,7 @@
 //! The shelf: the versions of each part.
 //!
 //! Promises: it is the definition's lists of contents. Drafts become versions all or none, in order; a limit refuses them
-//! exactly where it would be passed, and the very list comes back (`append_all`, `laws`).
+//! exactly where it would be passed, and the very list comes back (`append_all`, `laws`). One content may be appended alone (`append`).
 //! Stands on: vault_model. Must not know: places of a tree, claims, who saved a draft.
 //!
 //! Invariants:
@@ -19,4 +19,4 @@ mod limits;
 mod part;
 mod shelf;
 
-pub use shelf::{NotAppended, Shelf};
+pub use shelf::{AppendError, NotAppended, Shelf};

@@ -1,6 +1,6 @@
 //! Whether drafts may be appended.
-ghost use Rattle.std.specs.Prelude.{◌≡◌, ℕ, ◌+◌, ◌≤◌, nat_le, length, All};
-ghost use Rattle.vault_model.specs.Shelf.{versions_of};
+ghost use Rattle.std.specs.Prelude.{◌≡◌, ℕ, List, [], ◌∷◌, ◌+◌, ◌≤◌, nat_le, length, All};
+ghost use Rattle.vault_model.specs.Shelf.{draft_at, versions_of};
 ghost use Rattle.vault_model.specs.Limits.{most_versions, most_weight};
 ghost use Rattle.part_versions.specs.Rooms.{count_of, weight_with, have_room};
 
@@ -24,6 +24,23 @@ pub(crate) fn weight_with<B: Allocator>(weight: usize, drafts: &[DraftIn<B>]) ->
         if sum > MAX_WEIGHT {
             return None;
         }
+    }
+    Some(sum)
+}
+
+/// What a shelf of this weight weighs with one more content, where that isn't too long and the weight
+/// isn't too much.
+pub(crate) fn weight_with_one(weight: usize, content: &[u8]) -> Option<usize>
+    requires { weight ≤ most_weight }
+    ensures { (place : ℕ) → result ≡ weight_with weight (draft_at place content.now ∷ []) }
+{
+    let len = content.len();
+    if len > LONGEST_CONTENT {
+        return None;
+    }
+    let sum = weight + (len + EXTRA_WEIGHT);
+    if sum > MAX_WEIGHT {
+        return None;
     }
     Some(sum)
 }
@@ -57,6 +74,14 @@ fn has_room<A: Allocator, B: Allocator>(
 {
     let room = MAX_VERSIONS - count_in(parts, place);
     drafts.len() <= room || count_of(drafts, place) <= room
+}
+
+/// Whether a place has room for one more version.
+pub(crate) fn has_room_for_one<A: Allocator>(parts: &[Part<A>], place: PlaceId) -> bool
+    requires { All (λ versions. length versions ≤ most_versions) parts.now }
+    ensures { (content : List ℕ) → result ≡ have_room parts.now (draft_at place content ∷ []) }
+{
+    count_in(parts, place) < MAX_VERSIONS
 }
 
 /// Whether each draft's place has room for all drafts of that place.

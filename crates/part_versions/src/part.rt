@@ -106,8 +106,9 @@ impl<A: Allocator> Part<A> {
         &self.bytes
     }
 
-    /// Puts one more version behind the others. Room is asked for before anything changes.
-    pub(crate) fn push(&mut self, content: &[u8]) -> Result<(), AllocError>
+    /// Puts one more version behind the others. Room is asked for before anything changes: for at least so many bytes of versions, where
+    /// more of them follow this one.
+    pub(crate) fn push(&mut self, content: &[u8], room: usize) -> Result<(), AllocError>
         requires short { length content.now ≤ longest_content }
         requires light { versions_weight self.old + content_weight content.now ≤ most_weight }
         ensures ok { OnOk result (self.new ≡ self.old ++ content.now ∷ []) }
@@ -115,7 +116,7 @@ impl<A: Allocator> Part<A> {
     {
         let len = content.len() as u16;
         self.ends.reserve(1)?;
-        make_room(&mut self.bytes, LENGTH_BYTES + content.len())?;
+        make_room(&mut self.bytes, room.max(LENGTH_BYTES + content.len()))?;
         self.bytes.extend_from_slice(&len.to_be_bytes()).unwrap();
         self.bytes.extend_from_slice(content).unwrap();
         self.ends.push(self.bytes.len() as u32).unwrap();

@@ -1,13 +1,13 @@
 //! The shelf.
-ghost use Rattle.std.specs.Prelude.{◌≡◌, ℕ, true, None, List, [], length, OnOk, OnErr, IfOk, IfErr};
+ghost use Rattle.std.specs.Prelude.{◌≡◌, ℕ, true, None, List, [], ◌∷◌, length, OnOk, OnErr, IfOk, IfErr};
 ghost use Rattle.std.specs.Option.{option_copied};
-ghost use Rattle.vault_model.specs.Shelf.{versions_of, numbered, weight, shelved_all, is_shelvable, IsShelf};
+ghost use Rattle.vault_model.specs.Shelf.{versions_of, numbered, weight, draft_at, shelved, shelved_all, is_shelvable, IsShelf};
 ghost use Rattle.std.specs.List.{flat_map};
-ghost use Rattle.part_versions.specs.Appended.{IsRefusalOf};
+ghost use Rattle.part_versions.specs.Appended.{IsRefusalOf, IsWhyNot};
 ghost use Rattle.part_versions.specs.Cuts.{spelled};
 
-use crate::append::append_each;
-use crate::limits::{count_in, have_room, weight_with};
+use crate::append::{append, append_each};
+use crate::limits::{count_in, has_room_for_one, have_room, weight_with, weight_with_one};
 use crate::part::Part;
 use std::alloc::{Allocator, Global};
 use std::marker::Model;
@@ -49,6 +49,15 @@ pub enum NotAppended<Back = Drafts<Global>> {
     Limit(Back),
     #[error("want of memory")]
     NoMemory(Back),
+}
+
+/// Why a content was not appended.
+#[derive(Clone, Copy, Debug, PartialEq, Eq, Error)]
+pub enum AppendError {
+    #[error("a limit would be passed")]
+    Limit,
+    #[error("want of memory")]
+    NoMemory,
 }
 
 impl<A: Allocator> Shelf<A> {
@@ -116,6 +125,32 @@ impl<A: Allocator + Copy> Shelf<A> {
             parts: Vec::from_clones(alloc, &self.parts)?,
             weight: self.weight,
         })
+    }
+
+    /// Appends a content as one more version of a place. The limits are tried first, then memory is asked for.
+    ///
+    /// Whoever appends many versions of a place one after another says with each how many bytes this one and the others are spelled in:
+    /// room for all is taken at once, and exactly, so that each is copied once. With 0 the block grows as by `append_all`.
+    pub fn append(&mut self, place: PlaceId, content: &[u8], room: usize) -> Result<(), AppendError>
+        ensures shelf { IsShelf self.new }
+        ensures allowed { OnOk result (is_shelvable self.old (draft_at place content.now ∷ []) ≡ true) }
+        ensures appended { OnOk result (self.new ≡ shelved self.old place content.now) }
+        ensures refused { IfErr result (IsWhyNot (is_shelvable self.old (draft_at place content.now ∷ []))) }
+        ensures unchanged { OnErr result (self.new ≡ self.old) }
+    {
+        let Some(weight) = weight_with_one(self.weight, content) else {
+            return Err(AppendError::Limit);
+        };
+        if !has_room_for_one(&self.parts, place) {
+            return Err(AppendError::Limit);
+        }
+        match append(&mut self.parts, place, content, room) {
+            Ok(()) => {
+                self.weight = weight;
+                Ok(())
+            }
+            Err(_) => Err(AppendError::NoMemory),
+        }
     }
 
     /// Appends all drafts, each as one more version of its place, or gives the very drafts back. The

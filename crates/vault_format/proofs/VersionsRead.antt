@@ -39,11 +39,6 @@ module _ (part : ℕ) (shelf : List (List (List ℕ))) (bytes : List ℕ) where
       let here = fields_are_spelled.content.spelled bytes content rest are read in
       record { content = content; short = here.1; spelled = here.0; shelf_is = appended ∙ ap (shelved_all shelf) is }
 
--- a list that one draft was put into
-pub one_draft : (part : ℕ) (content given : List ℕ) (drafts items before : List Draft) → drafts ≡ items → items ≡ before ++ draft_at part given ∷ [] → before ≡ [] → given ≡ content → drafts ≡ draft_at part content ∷ []
-one_draft part content given drafts items before is pushed empty same =
-    is ∙ pushed ∙ ap (λ (l : List Draft). l ++ draft_at part given ∷ []) empty ∙ ap (λ (c : List ℕ). draft_at part c ∷ []) same
-
 -- ---- all versions
 
 -- so many versions were read

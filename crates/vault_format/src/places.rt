@@ -11,10 +11,10 @@ use crate::error::SnapshotError;
 use crate::fields::kind_byte;
 use crate::version::FileVersion;
 use design_tree::{AddError, Tree};
-use part_versions::{NotAppended, Shelf};
+use part_versions::{AppendError, Shelf};
 use std::alloc::Allocator;
 use vault_journal::{content_at, name_at, u8_at, u16_at, u32_at};
-use vault_model::{Draft, Kind, Listing, PlaceId};
+use vault_model::{Kind, PlaceId};
 
 /// The places of a snapshot, the versions of their parts, and the bytes behind them.
 #[derive(Drop)]
@@ -49,10 +49,11 @@ impl From<AddError> for SnapshotError {
 //       2  how many versions it has
 //   2 + n  each version: n, at most 1,024, and n bytes
 
-// Reads one version of a part onto the shelf, and answers the bytes behind it.
+// Reads one version of a part onto the shelf, and answers the bytes behind it. So many bytes stand behind the part's last version: the
+// shelf takes room for those before them.
 fn read_version<'a, A: Allocator + Copy>(
-    alloc: A,
     part: PlaceId,
+    behind: usize,
     shelf: &mut Shelf<A>,
     bytes: &'a [u8],
 ) -> Result<&'a [u8], SnapshotError>
@@ -63,22 +64,23 @@ fn read_version<'a, A: Allocator + Copy>(
     let Some((content, rest)) = content_at(bytes) else {
         return Err(SnapshotError::NotWellFormed);
     };
-    let content = Listing::from_vec(Vec::from_slice(alloc, content)?);
-    let mut drafts = Vec::new(alloc);
-    drafts.push(Draft {
-        place: part,
-        content,
-    })?;
-    match shelf.append_all(Listing::from_vec(drafts)) {
+    match shelf.append(part, content, bytes.len().saturating_sub(behind)) {
         Ok(()) => Ok(rest),
-        Err(NotAppended::Limit(_)) => Err(SnapshotError::NotWellFormed),
-        Err(NotAppended::NoMemory(_)) => Err(SnapshotError::NoMemory),
+        Err(AppendError::Limit) => Err(SnapshotError::NotWellFormed),
+        Err(AppendError::NoMemory) => Err(SnapshotError::NoMemory),
+    }
+}
+
+// How many bytes stand behind so many versions in front; all, where the versions aren't all there.
+fn length_behind(count: u16, bytes: &[u8]) -> usize {
+    match behind_versions(count, bytes) {
+        Some(rest) => rest.len(),
+        None => bytes.len(),
     }
 }
 
 // Reads the versions of a part onto the shelf, and answers the bytes behind them.
 fn read_versions<'a, A: Allocator + Copy>(
-    alloc: A,
     part: PlaceId,
     shelf: &mut Shelf<A>,
     bytes: &'a [u8],
@@ -90,9 +92,10 @@ fn read_versions<'a, A: Allocator + Copy>(
     let Some((count, after)) = u16_at(bytes) else {
         return Err(SnapshotError::NotWellFormed);
     };
+    let behind = length_behind(count, after);
     let mut rest = after;
     for _ in 0..count {
-        rest = read_version(alloc, part, shelf, rest)?;
+        rest = read_version(part, behind, shelf, rest)?;
     }
     Ok(rest)
 }
@@ -157,7 +160,6 @@ fn read_name<'a, A: Allocator + Copy>(
 
 // Reads the place of this number, with its versions where it is a part, and answers the bytes behind it.
 fn read_place<'a, A: Allocator + Copy>(
-    alloc: A,
     version: FileVersion,
     place: PlaceId,
     tree: &mut Tree<A>,
@@ -173,7 +175,7 @@ fn read_place<'a, A: Allocator + Copy>(
     if !tree.is_part(place) {
         return Ok(rest);
     }
-    read_versions(alloc, place, shelf, rest)
+    read_versions(place, shelf, rest)
 }
 
 // What stands behind so many versions in front, where all of them are there.
@@ -212,10 +214,9 @@ fn behind_place(bytes: &[u8]) -> Option<&[u8]>
 /// Answers the bytes behind them. `NotWellFormed`: so many places don't stand there, whatever follows these bytes.
 ///
 /// The places are spelled as in today's version. The work grows with the bytes that are read, the bytes of one place more and, for each
-/// place, with the number of its siblings. Beside the tree and the shelf it takes memory for one version at a time. After an error the tree
-/// and the shelf may have part of a place.
+/// place, with the number of its siblings. It takes memory for the tree and the shelf alone, and of a part's versions for all at once. After
+/// an error the tree and the shelf may have part of a place.
 pub fn read_places_on<'a, A: Allocator + Copy>(
-    alloc: A,
     count: u32,
     tree: &mut Tree<A>,
     shelf: &mut Shelf<A>,
@@ -233,14 +234,13 @@ pub fn read_places_on<'a, A: Allocator + Copy>(
         if behind_place(rest).is_none() {
             return Ok(rest);
         }
-        rest = read_place(alloc, FileVersion::Two, PlaceId(number), tree, shelf, rest)?;
+        rest = read_place(FileVersion::Two, PlaceId(number), tree, shelf, rest)?;
     }
     Ok(rest)
 }
 
 // Reads how many places there are and each of them, and answers the bytes behind them.
 fn read_each_place<'a, A: Allocator + Copy>(
-    alloc: A,
     version: FileVersion,
     tree: &mut Tree<A>,
     shelf: &mut Shelf<A>,
@@ -259,15 +259,15 @@ fn read_each_place<'a, A: Allocator + Copy>(
     }
     let mut rest = after;
     for number in 1..count {
-        rest = read_place(alloc, version, PlaceId(number), tree, shelf, rest)?;
+        rest = read_place(version, PlaceId(number), tree, shelf, rest)?;
     }
     Ok(rest)
 }
 
 /// The places whose spelling in this version stands at the front of the bytes, with the versions of their parts.
 ///
-/// The work grows with the bytes that are read and, for each place, with the number of its siblings. Beside the tree and the
-/// shelf it takes memory for one version at a time.
+/// The work grows with the bytes that are read and, for each place, with the number of its siblings. It takes memory for the tree and the
+/// shelf alone, and of a part's versions for all at once: each of them is copied once.
 pub fn read_places<'a, A: Allocator + Copy>(
     alloc: A,
     version: FileVersion,
@@ -278,6 +278,6 @@ pub fn read_places<'a, A: Allocator + Copy>(
 {
     let mut tree = Tree::new(alloc)?;
     let mut shelf = Shelf::new(alloc);
-    let rest = read_each_place(alloc, version, &mut tree, &mut shelf, bytes)?;
+    let rest = read_each_place(version, &mut tree, &mut shelf, bytes)?;
     Ok(Places { tree, shelf, rest })
 }

@@ -61,7 +61,6 @@ struct Front<A: Allocator> {
 // Reads a piece, and the places in it behind those that are there. Whether there was one. If not, and more are wanted, one of them doesn't
 // fit into a piece, or they don't stand there.
 fn read_on<D: Device, A: Allocator + Copy>(
-    alloc: A,
     device: &mut D,
     extent: Extent,
     piece: &mut Vec<u8, A>,
@@ -82,13 +81,7 @@ fn read_on<D: Device, A: Allocator + Copy>(
 {
     let count = (extent.end - front.at).min(u64::from(PIECE)) as u32;
     read_over(device, front.at, count, piece)?;
-    let taken = match read_places_on(
-        alloc,
-        extent.count,
-        &mut front.tree,
-        &mut front.shelf,
-        piece,
-    ) {
+    let taken = match read_places_on(extent.count, &mut front.tree, &mut front.shelf, piece) {
         Ok(rest) => count as usize - rest.len(),
         Err(SnapshotError::NotWellFormed) => return Ok(false),
         Err(SnapshotError::NoMemory) => return Err(ReadError::NoMemory),
@@ -122,7 +115,7 @@ fn read_front<D: Device, A: Allocator + Copy>(
     };
     let mut piece = Vec::new(alloc);
     while front.tree.len() < extent.count as usize {
-        if !read_on(alloc, device, extent, &mut piece, &mut front)? {
+        if !read_on(device, extent, &mut piece, &mut front)? {
             return Ok(None);
         }
     }
