@@ -18,12 +18,16 @@ use Rattle.vault_store.specs.Phases.{is_idle, is_snapshot, may_open}
 use Rattle.vault_store.specs.State.{StoreState}
 use Rattle.vault_store.specs.OnDisk.{IsEither, IsOnDisk}
 use Rattle.vault_store.specs.Spares.{IsSpareOn}
-use Rattle.vault_store.specs.Seen.{StoreSeen, of_file, other, first_of, second_of, Keeps, IsLeftInside}
+use Rattle.vault_store.specs.Seen.{StoreSeen, of_file, other, first_of, second_of, Keeps, IsLeftInside, settled_reading}
+use Rattle.vault_store.specs.Companions.{MayPrecede, IsOfOneVault}
+use Rattle.vault_store.specs.TwoVaults.{AreOfTwoVaults}
 use Rattle.vault_store.specs.Step.{renews, gained, IsAtMostOneCall, IsStep, AreNumbers, MayBeLeft, IsAdvance}
-use Rattle.vault_store.proofs.Asides.{aside_of}
+use Rattle.vault_store.proofs.Asides.{aside_of, aside_leaves, still_aside}
+use Rattle.vault_store.proofs.Companions.{IsBegun, begun_ends, begun_either, begun_shorter, begun_on, front_based, beside_pass, one_in, pass_here}
 use Rattle.vault_store.proofs.Disks.{to_written, to_bodied, to_gated, to_idle, behind_ends, opening_either}
 use Rattle.vault_store.proofs.Kept.{IsMove, phase_kept, sealed_kept, settled_kept}
 use Rattle.vault_store.proofs.Left.{IsLeftHere, left, inside_front, inside_either}
+use Rattle.vault_store.proofs.Passes.{two_exchanged}
 use Rattle.vault_store.proofs.Placed.{inside_exchanged, calls_placed, moments_placed}
 use Rattle.vault_store.proofs.Rests.{still_numbers}
 use Rattle.vault_format.specs.Snapshot.{current_version}
@@ -73,10 +77,27 @@ unmoved disk store lawful lawful_spare s x y keeps =
     moments_placed disk store.which store.active store.spare store.active store.spare (IsLeftInside store s) (inside_exchanged store s)
     (λ v w one two may. inside_in store s s.phase v w (left disk store s keeps one two v w ((lawful one).only_now v may.0) ((lawful_spare two).only_now w may.1))) x y
 
+-- of files of one vault, too
+pub unmoved_passes : {D : Type 0} (disk : D → Disk) (store : StoreSeen D) → (IsTrue (disk store.active).honest → IsLawful (disk store.active)) → (IsTrue (disk store.spare).honest → IsLawful (disk store.spare))
+    → (s : StoreState) (x y : List ℕ) → Keeps disk store s → IsOfOneVault disk store → IsTrue (disk (first_of store)).honest → IsTrue (disk (second_of store)).honest
+    → MayBeLeft (disk (first_of store)) (disk (second_of store)) (disk (first_of store)) (disk (second_of store)) x y → AreOfTwoVaults x y → ⊥
+unmoved_passes disk store lawful lawful_spare s x y keeps one_vault =
+    moments_placed disk store.which store.active store.spare store.active store.spare (λ v w. AreOfTwoVaults v w → ⊥) (λ v w pass two. pass (two_exchanged w v two))
+    (λ v w one two may. pass_here disk store s keeps one_vault one two v w ((lawful one).only_now v may.0) ((lawful_spare two).only_now w may.1)) x y
+
 -- what a stop inside a step that makes this of the active device leaves is read
 abbrev pub AreMoments : {D : Type 0} → (D → Disk) → StoreSeen D → D → StoreState → List ℕ → List ℕ → Type 0
 AreMoments disk old active s x y =
     IsTrue (disk (first_of old)).honest → IsTrue (disk (second_of old)).honest → MayBeLeft (disk (first_of old)) (disk (second_of old)) (disk (of_file old.which active old.spare)) (disk (of_file old.which old.spare active)) x y → IsLeftInside old s x y
+
+-- of files of one vault it leaves what isn't told as two
+abbrev pub ArePassed : {D : Type 0} → (D → Disk) → StoreSeen D → D → List ℕ → List ℕ → Type 0
+ArePassed disk old active x y =
+    IsTrue (disk (first_of old)).honest → IsTrue (disk (second_of old)).honest → MayBeLeft (disk (first_of old)) (disk (second_of old)) (disk (of_file old.which active old.spare)) (disk (of_file old.which old.spare active)) x y → AreOfTwoVaults x y → ⊥
+
+pub record IsInside {D : Type 0} (disk : D → Disk) (old : StoreSeen D) (active : D) : Type 0 where
+  pub moments : (s : StoreState) (x y : List ℕ) → Keeps disk old s → AreMoments disk old active s x y
+  pub passes : (s : StoreState) (x y : List ℕ) → Keeps disk old s → IsOfOneVault disk old → ArePassed disk old active x y
 
 -- what a disk in one phase may show, whatever the front and the records, where a stop leaves the front, or the gate open or closed
 abbrev pub LeavesFront : Disk → Disk → ℕ → Phase → Type 0
@@ -85,7 +106,7 @@ LeavesFront old new tail p = (front records x : List ℕ) → length front ≡ t
 abbrev pub LeavesEither : Disk → Disk → ℕ → Phase → Type 0
 LeavesEither old new tail p = (front records x : List ℕ) → length front ≡ tail → IsOnDisk old p false front records → new.WasImage old.moment x → IsEither front records x
 
-module _ {D : Type 0} (disk : D → Disk) (old : StoreSeen D) (active : D) (p : Phase) (is : old.phase ≡ p) (unbroken : old.broken ≡ false) (lawful_spare : IsTrue (disk old.spare).honest → IsLawful (disk old.spare)) where
+module _ {D : Type 0} (disk : D → Disk) (old : StoreSeen D) (active : D) (p : Phase) (is : old.phase ≡ p) (unbroken : old.broken ≡ false) (lawful : IsTrue (disk old.active).honest → IsLawful (disk old.active)) (lawful_spare : IsTrue (disk old.spare).honest → IsLawful (disk old.spare)) where
   -- a state that the store keeps, as one in the phase
   pub in_phase : (s : StoreState) → Keeps disk old s → record s { phase = p; broken = false } ≡ s
   in_phase s keeps = at_phase s p (sym keeps.phase ∙ is) (sym keeps.broken ∙ unbroken)
@@ -94,43 +115,84 @@ module _ {D : Type 0} (disk : D → Disk) (old : StoreSeen D) (active : D) (p : 
   keeps_in s keeps = subst (Keeps disk old) (sym (in_phase s keeps)) keeps
 
   -- the spare of a commit
-  aside_left : is_snapshot p ≡ false → IsSpareOn (IsSpare old.generation) (disk old.spare) p false old.shut old.rest → (y : List ℕ) → (disk old.spare).IsImage y → IsSpare old.generation y
-  aside_left commit is y image = let aside = aside_of (IsSpare old.generation) (disk old.spare) old.shut old.rest p commit is in subst (IsSpare old.generation) (sym (aside.settled.only y image)) aside.stands
+  aside_left : (MayStand : List ℕ → Type 0) → is_snapshot p ≡ false → IsSpareOn MayStand (disk old.spare) p false old.shut old.rest → (y : List ℕ) → (disk old.spare).IsImage y → MayStand y
+  aside_left MayStand commit is y image = aside_leaves MayStand (disk old.spare) old.shut old.rest (aside_of MayStand (disk old.spare) old.shut old.rest p commit is) y image
+
+  -- a stop inside a step that leaves the front, whatever it leaves behind that
+  passes_begun : is_snapshot p ≡ false → (IsTrue (disk old.active).honest → (front records x : List ℕ) → length front ≡ old.tail → IsOnDisk (disk old.active) p false front records → (disk active).WasImage (disk old.active).moment x → IsBegun front x)
+      → (s : StoreState) (x y : List ℕ) → Keeps disk old s → IsOfOneVault disk old → ArePassed disk old active x y
+  passes_begun commit move s x y keeps one_vault =
+      moments_placed disk old.which old.active old.spare active old.spare (λ v w. AreOfTwoVaults v w → ⊥) (λ v w pass two. pass (two_exchanged w v two))
+      (λ v w one two may.
+      let files = (keeps_in s keeps).files one two in
+      let are = one_in disk old p false is unbroken one_vault one two in
+      beside_pass v w old.generation are.base
+      (front_based (disk old.active) files.front (settled_reading old (record s { phase = p; broken = false })) files.is_front are.base (lawful one) (begun_on (disk old.active) p false files.front (records_of s.sealing) files.active) are.based v
+      (move one files.front (records_of s.sealing) v (sym files.is_front.tail_is) files.active may.0)) (aside_left (MayPrecede old.generation are.base) commit are.beside w ((lawful_spare two).only_now w may.1))) x y
 
   -- a stop inside a step that leaves the front
-  pub leaves_front : is_snapshot p ≡ false → (IsTrue (disk old.active).honest → LeavesFront (disk old.active) (disk active) old.tail p) → (s : StoreState) (x y : List ℕ) → Keeps disk old s → AreMoments disk old active s x y
-  leaves_front commit move s x y keeps =
-      moments_placed disk old.which old.active old.spare active old.spare (IsLeftInside old s) (inside_exchanged old s)
-      (λ v w one two may.
-      let here = keeps_in s keeps in
-      let files = here.files one two in
-      subst (λ (t : StoreState). IsLeftInside old t v w) (in_phase s keeps)
-      (inside_front disk old (record s { phase = p; broken = false }) here files.front files.is_front v w
-      (move one files.front (records_of s.sealing) v (sym files.is_front.tail_is) files.active may.0) (aside_left commit files.spare w ((lawful_spare two).only_now w may.1)))) x y
+  pub leaves_front : is_snapshot p ≡ false → (IsTrue (disk old.active).honest → LeavesFront (disk old.active) (disk active) old.tail p) → IsInside disk old active
+  leaves_front commit move = record {
+    moments = λ s x y keeps.
+        moments_placed disk old.which old.active old.spare active old.spare (IsLeftInside old s) (inside_exchanged old s)
+        (λ v w one two may.
+        let here = keeps_in s keeps in
+        let files = here.files one two in
+        subst (λ (t : StoreState). IsLeftInside old t v w) (in_phase s keeps)
+        (inside_front disk old (record s { phase = p; broken = false }) here files.front files.is_front v w
+        (move one files.front (records_of s.sealing) v (sym files.is_front.tail_is) files.active may.0) (aside_left (IsSpare old.generation) commit files.spare w ((lawful_spare two).only_now w may.1)))) x y;
+    passes = passes_begun commit (λ honest front records x stands on was. begun_ends front x (move honest front records x stands on was));
+  }
 
   -- a stop inside a step that leaves the gate open or closed
-  pub leaves_either : is_idle p ≡ false → is_snapshot p ≡ false → may_open p ≡ true → (IsTrue (disk old.active).honest → LeavesEither (disk old.active) (disk active) old.tail p) → (s : StoreState) (x y : List ℕ) → Keeps disk old s → AreMoments disk old active s x y
-  leaves_either busy commit opens move s x y keeps =
-      moments_placed disk old.which old.active old.spare active old.spare (IsLeftInside old s) (inside_exchanged old s)
-      (λ v w one two may.
+  pub leaves_either : is_idle p ≡ false → is_snapshot p ≡ false → may_open p ≡ true → (IsTrue (disk old.active).honest → LeavesEither (disk old.active) (disk active) old.tail p) → IsInside disk old active
+  leaves_either busy commit opens move = record {
+    moments = λ s x y keeps.
+        moments_placed disk old.which old.active old.spare active old.spare (IsLeftInside old s) (inside_exchanged old s)
+        (λ v w one two may.
+        let here = keeps_in s keeps in
+        let files = here.files one two in
+        subst (λ (t : StoreState). IsLeftInside old t v w) (in_phase s keeps)
+        (inside_either disk old (record s { phase = p; broken = false }) here files.front files.is_front v w busy commit opens
+        (move one files.front (records_of s.sealing) v (sym files.is_front.tail_is) files.active may.0) (aside_left (IsSpare old.generation) commit files.spare w ((lawful_spare two).only_now w may.1)))) x y;
+    passes = passes_begun commit (λ honest front records x stands on was. begun_either front records x (move honest front records x stands on was));
+  }
+
+  -- a step that leaves the front keeps files of one vault so
+  pub commit_one : (disk active).honest ≡ (disk old.active).honest → is_snapshot p ≡ false → (q : Phase) (broken : Bool) → is_snapshot q ≡ false
+      → (IsTrue (disk old.active).honest → (front records : List ℕ) → length front ≡ old.tail → length records ≡ old.sealed → IsOnDisk (disk old.active) p false front records → (x : List ℕ) → (disk active).IsImage x → IsBegun front x)
+      → (s : StoreState) → Keeps disk old s → IsOfOneVault disk old → IsOfOneVault disk (record old { active = active; phase = q; broken = broken })
+  commit_one same commit q broken of_q begun s keeps one_vault one two =
       let here = keeps_in s keeps in
-      let files = here.files one two in
-      subst (λ (t : StoreState). IsLeftInside old t v w) (in_phase s keeps)
-      (inside_either disk old (record s { phase = p; broken = false }) here files.front files.is_front v w busy commit opens
-      (move one files.front (records_of s.sealing) v (sym files.is_front.tail_is) files.active may.0) (aside_left commit files.spare w ((lawful_spare two).only_now w may.1)))) x y
+      let was = subst IsTrue same one in
+      let files = here.files was two in
+      let are = one_in disk old p false is unbroken one_vault was two in
+      let size : old.sealed ≡ length (records_of s.sealing) = here.sealed_bytes ∙ ap (λ (b : Bool). cond b 0 (length (records_of s.sealing))) commit in record {
+        base = are.base;
+        based = λ x image.
+            front_based (disk old.active) files.front (settled_reading old (record s { phase = p; broken = false })) files.is_front are.base (lawful was) (begun_on (disk old.active) p false files.front (records_of s.sealing) files.active) are.based x
+            (begun was files.front (records_of s.sealing) (sym files.is_front.tail_is) (sym size) files.active x image);
+        beside = still_aside (MayPrecede old.generation are.base) (disk old.spare) old.shut old.rest p q broken commit of_q are.beside;
+      }
 
   -- a step that changes the phase alone, by a call that was counted
-  pub phase_advance : {A E : Type 0} (q : Phase) (broken : Bool) (made : Result A E) (result : Result Advanced Fault) → is_idle p ≡ false → renews old result ≡ false → gained old result ≡ 0 → ((result ≡ Ok answers.Idle) ⊎ (result ≡ Ok answers.Broken) → ⊥)
+  pub phase_advance : {A E : Type 0} (q : Phase) (broken : Bool) (made : Result A E) (result : Result Advanced Fault) → is_idle p ≡ false → is_snapshot p ≡ false → is_idle q ≡ false → is_snapshot q ≡ false → renews old result ≡ false → gained old result ≡ 0
+      → ((result ≡ Ok answers.Idle) ⊎ (result ≡ Ok answers.Broken) → ⊥)
       → IsOneCall (disk old.active) (disk active) made → (IsErr result → IsErr made)
-      → ((s : StoreState) → Keeps disk old (record s { phase = p; broken = false }) → IsStep disk old (record old { active = active; phase = q; broken = broken }) result (record s { phase = p; broken = false }))
-      → ((s : StoreState) (x y : List ℕ) → Keeps disk old s → AreMoments disk old active s x y)
+      → (IsTrue (disk old.active).honest → IsMove (disk old.active) (disk active) old.tail old.sealed p q broken)
+      → ((s : StoreState) → Keeps disk (record old { active = active; phase = q; broken = broken }) (record s { phase = q; broken = broken }) → IsStep disk old (record old { active = active; phase = q; broken = broken }) result (record s { phase = p; broken = false }))
+      → IsInside disk old active
       → IsAdvance disk old (record old { active = active; phase = q; broken = broken }) result
-  phase_advance q broken made result busy still none moved call failed step moments = record {
-    step = λ s keeps. subst (λ (t : StoreState). IsStep disk old (record old { active = active; phase = q; broken = broken }) result t) (in_phase s keeps) (step s (keeps_in s keeps));
+  phase_advance q broken made result busy commit quiet of_q still none moved call failed move step inside = record {
+    step = λ s keeps.
+        subst (λ (t : StoreState). IsStep disk old (record old { active = active; phase = q; broken = broken }) result t) (in_phase s keeps)
+        (step s (phase_kept disk old active call.same_honesty s p q broken busy quiet commit of_q move (keeps_in s keeps)));
     numbers = still_numbers old active old.spare old.buffer old.sealed q broken result still none (ap (λ (b : Bool). cond (b && not old.broken) [] old.buffer) (sym (ap is_idle is ∙ busy)));
     rests = λ idle. absurd (moved idle);
     calls = calls_placed disk old.which old.active old.spare active old.spare result (active_called (disk old.active) (disk old.spare) (disk active) made result call failed);
-    moments = moments;
+    moments = inside.moments;
+    one_vault = commit_one call.same_honesty commit q broken of_q (λ honest front records stands size on. begun_on (disk active) q broken front records (move honest front records stands size on));
+    passes = inside.passes;
   }
 
 -- an answer that is neither of these
@@ -154,18 +216,18 @@ module _ {D : Type 0} (disk : D → Disk) (old : StoreSeen D) (active : D) (unbr
       → (IsTrue (disk old.active).honest → LeavesSince (disk old.active) (disk active) (disk old.active).IsImage) → IsAdvance disk old (record old { active = active; phase = Bodied }) (Ok answers.Moved)
   body_settled is call sync moments =
       subst (λ (b : Bool). IsAdvance disk old (record old { active = active; phase = Bodied; broken = b }) (Ok answers.Moved)) (sym unbroken)
-      (phase_advance disk old active Written is unbroken lawful_spare Bodied false (Ok tt) (Ok answers.Moved) refl refl refl (moved_on answers.Moved (λ e. cc) (λ e. cc)) call (λ err. err)
-      (λ s keeps. (refl, phase_kept disk old active call.same_honesty s Written Bodied false refl refl refl refl (λ honest. settles_body honest (sync honest)) keeps))
-      (leaves_front disk old active Written is unbroken lawful_spare refl (λ honest front records x stands on was. on.images x ((moments honest).each x was))))
+      (phase_advance disk old active Written is unbroken lawful lawful_spare Bodied false (Ok tt) (Ok answers.Moved) refl refl refl refl refl refl (moved_on answers.Moved (λ e. cc) (λ e. cc)) call (λ err. err) (λ honest. settles_body honest (sync honest))
+      (λ s keeps. (refl, keeps))
+      (leaves_front disk old active Written is unbroken lawful lawful_spare refl (λ honest front records x stands on was. on.images x ((moments honest).each x was))))
 
   -- the body's sync failed
   pub body_left : (fault : Fault) → old.phase ≡ Written → IsOneCall {A = Unit {0}} {E = Fault} (disk old.active) (disk active) (Err fault) → (IsTrue (disk old.active).honest → IsSync (Err fault) (disk old.active) (disk active))
       → (IsTrue (disk old.active).honest → LeavesSince (disk old.active) (disk active) (disk old.active).IsImage) → IsAdvance disk old (record old { active = active; broken = true }) (Err fault)
   body_left fault is call sync moments =
       subst (λ (q : Phase). IsAdvance disk old (record old { active = active; phase = q; broken = true }) (Err fault)) (sym is)
-      (phase_advance disk old active Written is unbroken lawful_spare Written true (Err fault) (Err fault) refl refl refl (failed_on fault) call (λ err. err)
-      (λ s keeps. (refl, λ e. cc, phase_kept disk old active call.same_honesty s Written Written true refl refl refl refl (λ honest. body_unsettled fault (sync honest)) keeps))
-      (leaves_front disk old active Written is unbroken lawful_spare refl (λ honest front records x stands on was. on.images x ((moments honest).each x was))))
+      (phase_advance disk old active Written is unbroken lawful lawful_spare Written true (Err fault) (Err fault) refl refl refl refl refl refl (failed_on fault) call (λ err. err) (λ honest. body_unsettled fault (sync honest))
+      (λ s keeps. (refl, λ e. cc, keeps))
+      (leaves_front disk old active Written is unbroken lawful lawful_spare refl (λ honest front records x stands on was. on.images x ((moments honest).each x was))))
 
   pub opens_gate : IsWrite {E = Fault} old.tail (1 ∷ []) (Ok tt) (disk old.active) (disk active) → (disk active).shown ≡ set (disk old.active).shown old.tail 1
       → ((x : List ℕ) → (disk active).IsImage x → IsOpening old.tail (disk old.active).shown x) → ((x : List ℕ) → (disk active).IsImage x → SameBut old.tail (disk active).shown x)
@@ -188,17 +250,17 @@ module _ {D : Type 0} (disk : D → Disk) (old : StoreSeen D) (active : D) (unbr
       → IsAdvance disk old (record old { active = active; phase = Opening }) (Ok answers.Moved)
   gate_opened is call wrote shown images same moments =
       subst (λ (b : Bool). IsAdvance disk old (record old { active = active; phase = Opening; broken = b }) (Ok answers.Moved)) (sym unbroken)
-      (phase_advance disk old active Bodied is unbroken lawful_spare Opening false (Ok tt) (Ok answers.Moved) refl refl refl (moved_on answers.Moved (λ e. cc) (λ e. cc)) call (λ err. err)
-      (λ s keeps. (refl, phase_kept disk old active call.same_honesty s Bodied Opening false refl refl refl refl (λ honest. opens_gate (wrote honest) (shown honest) (images honest) (same honest)) keeps))
-      (leaves_either disk old active Bodied is unbroken lawful_spare refl refl refl (opening_inside moments)))
+      (phase_advance disk old active Bodied is unbroken lawful lawful_spare Opening false (Ok tt) (Ok answers.Moved) refl refl refl refl refl refl (moved_on answers.Moved (λ e. cc) (λ e. cc)) call (λ err. err) (λ honest. opens_gate (wrote honest) (shown honest) (images honest) (same honest))
+      (λ s keeps. (refl, keeps))
+      (leaves_either disk old active Bodied is unbroken lawful lawful_spare refl refl refl (opening_inside moments)))
 
   -- the gate's write failed
   pub gate_left : (fault : Fault) → old.phase ≡ Bodied → IsOneCall {A = Unit {0}} {E = Fault} (disk old.active) (disk active) (Err fault) → (IsTrue (disk old.active).honest → (x : List ℕ) → (disk active).IsImage x → IsOpening old.tail (disk old.active).shown x)
       → (IsTrue (disk old.active).honest → LeavesSince (disk old.active) (disk active) (IsOpening old.tail (disk old.active).shown)) → IsAdvance disk old (record old { active = active; phase = Opening; broken = true }) (Err fault)
   gate_left fault is call images moments =
-      phase_advance disk old active Bodied is unbroken lawful_spare Opening true (Err fault) (Err fault) refl refl refl (failed_on fault) call (λ err. err)
-      (λ s keeps. (refl, λ e. cc, phase_kept disk old active call.same_honesty s Bodied Opening true refl refl refl refl (λ honest. gate_torn (images honest)) keeps))
-      (leaves_either disk old active Bodied is unbroken lawful_spare refl refl refl (opening_inside moments))
+      phase_advance disk old active Bodied is unbroken lawful lawful_spare Opening true (Err fault) (Err fault) refl refl refl refl refl refl (failed_on fault) call (λ err. err) (λ honest. gate_torn (images honest))
+      (λ s keeps. (refl, λ e. cc, keeps))
+      (leaves_either disk old active Bodied is unbroken lawful lawful_spare refl refl refl (opening_inside moments))
 
   pub gate_unsettled : (fault : Fault) → IsSync (Err fault) (disk old.active) (disk active) → IsMove (disk old.active) (disk active) old.tail old.sealed Opening Opening true
   gate_unsettled fault sync front records stands size on = λ x image. on.images x (sync.images x image)
@@ -211,9 +273,9 @@ module _ {D : Type 0} (disk : D → Disk) (old : StoreSeen D) (active : D) (unbr
       → (IsTrue (disk old.active).honest → LeavesSince (disk old.active) (disk active) (disk old.active).IsImage) → IsAdvance disk old (record old { active = active; broken = true }) (Err fault)
   gate_still_open fault is call sync moments =
       subst (λ (q : Phase). IsAdvance disk old (record old { active = active; phase = q; broken = true }) (Err fault)) (sym is)
-      (phase_advance disk old active Opening is unbroken lawful_spare Opening true (Err fault) (Err fault) refl refl refl (failed_on fault) call (λ err. err)
-      (λ s keeps. (refl, λ e. cc, phase_kept disk old active call.same_honesty s Opening Opening true refl refl refl refl (λ honest. gate_unsettled fault (sync honest)) keeps))
-      (leaves_either disk old active Opening is unbroken lawful_spare refl refl refl (gate_inside moments)))
+      (phase_advance disk old active Opening is unbroken lawful lawful_spare Opening true (Err fault) (Err fault) refl refl refl refl refl refl (failed_on fault) call (λ err. err) (λ honest. gate_unsettled fault (sync honest))
+      (λ s keeps. (refl, λ e. cc, keeps))
+      (leaves_either disk old active Opening is unbroken lawful lawful_spare refl refl refl (gate_inside moments)))
 
   -- what the sync of the gate makes of the disk
   abbrev pub Settles : Type 0
@@ -229,8 +291,8 @@ module _ {D : Type 0} (disk : D → Disk) (old : StoreSeen D) (active : D) (unbr
   gate_settled tail journal_length tail_is journal_is is call sync moments =
       subst (λ (b : Bool). IsAdvance disk old (record old { active = active; tail = tail; journal_length = journal_length; sealed = 0; phase = Idle; broken = b }) (Ok answers.Settled)) (sym unbroken) (record {
         step = λ s keeps.
-            subst (λ (t : StoreState). IsStep disk old (record old { active = active; tail = tail; journal_length = journal_length; sealed = 0; phase = Idle; broken = false }) (Ok answers.Settled) t) (in_phase disk old active Opening is unbroken lawful_spare s keeps)
-            (refl, settled_kept disk old active call.same_honesty s tail journal_length tail_is journal_is (λ honest. settles_gate honest (sync honest)) (keeps_in disk old active Opening is unbroken lawful_spare s keeps));
+            subst (λ (t : StoreState). IsStep disk old (record old { active = active; tail = tail; journal_length = journal_length; sealed = 0; phase = Idle; broken = false }) (Ok answers.Settled) t) (in_phase disk old active Opening is unbroken lawful lawful_spare s keeps)
+            (refl, settled_kept disk old active call.same_honesty s tail journal_length tail_is journal_is (λ honest. settles_gate honest (sync honest)) (keeps_in disk old active Opening is unbroken lawful lawful_spare s keeps));
         numbers = record {
           which = ap (λ (p : Phase). cond (is_snapshot p) (other old.which) old.which) (sym is);
           version = ap (λ (p : Phase). cond (is_snapshot p) current_version old.version) (sym is);
@@ -241,8 +303,15 @@ module _ {D : Type 0} (disk : D → Disk) (old : StoreSeen D) (active : D) (unbr
         };
         rests = λ idle. absurd (moved_on answers.Settled (λ e. cc) (λ e. cc) idle);
         calls = calls_placed disk old.which old.active old.spare active old.spare (Ok answers.Settled) (active_called (disk old.active) (disk old.spare) (disk active) (Ok tt) (Ok answers.Settled) call (λ err. err));
-        moments = leaves_either disk old active Opening is unbroken lawful_spare refl refl refl (gate_inside moments);
+        moments = (inside moments).moments;
+        one_vault =
+            commit_one disk old active Opening is unbroken lawful lawful_spare call.same_honesty refl Idle false refl
+            (λ honest front records stands size on x image. begun_shorter front (frame_bytes records) x (begun_on (disk active) Idle false (front ++ frame_bytes records) [] (settles_gate honest (sync honest) front records stands on) x image));
+        passes = (inside moments).passes;
       })
+    where
+      inside : (IsTrue (disk old.active).honest → LeavesSince (disk old.active) (disk active) (disk old.active).IsImage) → IsInside disk old active
+      inside moments = leaves_either disk old active Opening is unbroken lawful lawful_spare refl refl refl (gate_inside moments)
 
   -- what the write of the body makes of the disk
   abbrev pub Writes : Bool → Type 0
@@ -258,6 +327,14 @@ module _ {D : Type 0} (disk : D → Disk) (old : StoreSeen D) (active : D) (unbr
 
   body_inside : (IsTrue (disk old.active).honest → LeavesSince (disk old.active) (disk active) (IsBehind old.tail (disk old.active))) → IsTrue (disk old.active).honest → LeavesFront (disk old.active) (disk active) old.tail Idle
   body_inside moments honest front records x stands on was = behind_ends (disk old.active) front x on (subst (λ (n : ℕ). IsBehind n (disk old.active) x) (sym stands) ((moments honest).each x was))
+
+  body_left_inside : old.phase ≡ Idle → (IsTrue (disk old.active).honest → LeavesSince (disk old.active) (disk active) (IsBehind old.tail (disk old.active))) → IsInside disk old active
+  body_left_inside is moments = leaves_front disk old active Idle is unbroken lawful lawful_spare refl (body_inside moments)
+
+  body_one : (is : old.phase ≡ Idle) (broken : Bool) → (disk active).honest ≡ (disk old.active).honest → (IsTrue (disk old.active).honest → Writes broken) → (s : StoreState) → Keeps disk old s → IsOfOneVault disk old
+      → IsOfOneVault disk (record old { active = active; phase = Written; broken = broken })
+  body_one is broken same writes =
+      commit_one disk old active Idle is unbroken lawful lawful_spare same refl Written broken refl (λ honest front records stands size on. begun_on (disk active) Written broken front old.buffer (writes honest front stands on))
 
   abbrev sealed_seen : Bool → StoreSeen D
   sealed_seen broken = record old { active = active; buffer = []; sealed = length old.buffer; phase = Written; broken = broken }
@@ -288,12 +365,14 @@ module _ {D : Type 0} (disk : D → Disk) (old : StoreSeen D) (active : D) (unbr
   body_behind is some room call wrote images moments =
       subst (λ (b : Bool). IsAdvance disk old (sealed_seen b) (Ok answers.Moved)) (sym unbroken) (record {
         step = λ s keeps.
-            subst (λ (t : StoreState). IsStep disk old (sealed_seen false) (Ok answers.Moved) t) (in_phase disk old active Idle is unbroken lawful_spare s keeps)
-            (seal_ok s s.buffer (some_effects s keeps some) (omega (arith, room)) (λ honest. writes_body (wrote honest) (images honest)) call.same_honesty (keeps_in disk old active Idle is unbroken lawful_spare s keeps));
+            subst (λ (t : StoreState). IsStep disk old (sealed_seen false) (Ok answers.Moved) t) (in_phase disk old active Idle is unbroken lawful lawful_spare s keeps)
+            (seal_ok s s.buffer (some_effects s keeps some) (omega (arith, room)) (λ honest. writes_body (wrote honest) (images honest)) call.same_honesty (keeps_in disk old active Idle is unbroken lawful lawful_spare s keeps));
         numbers = seal_numbers false (Ok answers.Moved) is refl refl;
         rests = λ idle. absurd (moved_on answers.Moved (λ e. cc) (λ e. cc) idle);
         calls = calls_placed disk old.which old.active old.spare active old.spare (Ok answers.Moved) (active_called (disk old.active) (disk old.spare) (disk active) (Ok tt) (Ok answers.Moved) call (λ err. err));
-        moments = leaves_front disk old active Idle is unbroken lawful_spare refl (body_inside moments);
+        moments = (body_left_inside is moments).moments;
+        one_vault = body_one is false call.same_honesty (λ honest. writes_body (wrote honest) (images honest));
+        passes = (body_left_inside is moments).passes;
       })
 
   -- the body's write failed
@@ -302,12 +381,14 @@ module _ {D : Type 0} (disk : D → Disk) (old : StoreSeen D) (active : D) (unbr
       → (IsTrue (disk old.active).honest → LeavesSince (disk old.active) (disk active) (IsBehind old.tail (disk old.active))) → IsAdvance disk old (sealed_seen true) (Err fault)
   body_failed fault is some room call images moments = record {
     step = λ s keeps.
-        subst (λ (t : StoreState). IsStep disk old (sealed_seen true) (Err fault) t) (in_phase disk old active Idle is unbroken lawful_spare s keeps)
-        (seal_err fault s s.buffer (some_effects s keeps some) (omega (arith, room)) (λ honest. body_torn (images honest)) call.same_honesty (keeps_in disk old active Idle is unbroken lawful_spare s keeps));
+        subst (λ (t : StoreState). IsStep disk old (sealed_seen true) (Err fault) t) (in_phase disk old active Idle is unbroken lawful lawful_spare s keeps)
+        (seal_err fault s s.buffer (some_effects s keeps some) (omega (arith, room)) (λ honest. body_torn (images honest)) call.same_honesty (keeps_in disk old active Idle is unbroken lawful lawful_spare s keeps));
     numbers = seal_numbers true (Err fault) is refl refl;
     rests = λ idle. absurd (failed_on fault idle);
     calls = calls_placed disk old.which old.active old.spare active old.spare (Err fault) (active_called (disk old.active) (disk old.spare) (disk active) (Err fault) (Err fault) call (λ err. err));
-    moments = leaves_front disk old active Idle is unbroken lawful_spare refl (body_inside moments);
+    moments = (body_left_inside is moments).moments;
+    one_vault = body_one is true call.same_honesty (λ honest. body_torn (images honest));
+    passes = (body_left_inside is moments).passes;
   }
 
 no_effects : (effects : List Effect) (bytes : List ℕ) → AreRecordsOf effects bytes → length bytes ≡ 0 → effects ≡ []
@@ -323,12 +404,14 @@ module _ {D : Type 0} (disk : D → Disk) (store : StoreSeen D) (is : store.phas
   pub nothing_to_do : (IsTrue (disk store.active).honest → IsLawful (disk store.active)) → (IsTrue (disk store.spare).honest → IsLawful (disk store.spare)) → IsAdvance disk store store (Ok answers.Idle)
   nothing_to_do lawful lawful_spare = record {
     step = λ s keeps.
-        subst (λ (t : StoreState). IsStep disk store store (Ok answers.Idle) t) (in_phase disk store store.active Idle is unbroken lawful_spare s keeps)
-        (rest_step s s.buffer (no_effects s.buffer store.buffer keeps.buffer none) (keeps_in disk store store.active Idle is unbroken lawful_spare s keeps));
+        subst (λ (t : StoreState). IsStep disk store store (Ok answers.Idle) t) (in_phase disk store store.active Idle is unbroken lawful lawful_spare s keeps)
+        (rest_step s s.buffer (no_effects s.buffer store.buffer keeps.buffer none) (keeps_in disk store store.active Idle is unbroken lawful lawful_spare s keeps));
     numbers = record { which = refl; version = refl; generation = refl; tail = omega arith; journal_length = omega arith; buffer = still };
     rests = λ idle. refl;
     calls = none_called (disk (first_of store)) (disk (second_of store)) (Ok answers.Idle) (λ err. absurd (search rules));
     moments = unmoved disk store lawful lawful_spare;
+    one_vault = λ s keeps one_vault. one_vault;
+    passes = unmoved_passes disk store lawful lawful_spare;
   }
     where
       empty : store.buffer ≡ []

@@ -10,27 +10,31 @@ use Rattle.vault_journal.specs.Gate.{IsClosed}
 use Rattle.vault_store.specs.declared.phase.Phase.{Phase}
 use Rattle.vault_store.specs.declared.phase.Phase.TheVariants.{Idle, Written, Bodied, Opening, Start, Closing, Writing, Filled, Ready, SnapOpening}
 use Rattle.vault_format.specs.Snapshot.{current_version, snapshot_of, HasSnapshot}
-use Rattle.vault_format.specs.Files.{header, mark, version_number, current_head, snapshot_bytes, behind_gate, IsFront, EndsBehind, IsSpare}
+use Rattle.vault_format.specs.Files.{header, mark, version_number, current_head, snapshot_bytes, behind_gate, IsFront, EndsBehind, IsClosedFile, IsSpare}
 use Rattle.vault_store.specs.Phases.{is_snapshot}
 use Rattle.vault_store.specs.Spares.{ClosedMayStand, HasFirst, IsAside, IsSpareIn, LeavesSpareIn, IsSpareOn}
 use Rattle.vault_store.proofs.Fronts.{ends_before}
 use Rattle.vault_format.proofs.Spelled.{now_spelled}
 
--- a closed file is a spare, and so is what a torn write leaves of a spare without a closed head gate
+-- a closed file is a spare
 pub closed_spare : (g : ℕ) → ClosedMayStand (IsSpare g)
 closed_spare g x closed = inl (inr closed.shut)
 
-pub torn_spare : (g : ℕ) (x y : List ℕ) → IsSpare g x → (IsClosed 0 x → ⊥) → IsTorn 0 1 x y → IsSpare g y
-torn_spare g x y spare isnt torn = elim (cases_lt 0 (length x)) [
+-- what a torn write leaves of what may stand there without a closed head gate may stand there, where each closed file may
+pub torn_stands : (MayStand : List ℕ → Type 0) → ((x : List ℕ) → IsClosedFile x → MayStand x) → (x y : List ℕ) → MayStand x → (IsClosed 0 x → ⊥) → IsTorn 0 1 x y → MayStand y
+torn_stands MayStand closed x y stands isnt torn = elim (cases_lt 0 (length x)) [
   | inl some ↦ elim (cases_eq (get_or y 0 0) 1) [
     | inl one ↦ elim (cases_eq (get_or x 0 0) 1) [
-      | inl was ↦ subst (IsSpare g) (sym (torn_byte 0 x y some torn ∙ ap (λ (b : ℕ). set x 0 b) (one ∙ sym was) ∙ set-get_or x 0 0)) spare
+      | inl was ↦ subst MayStand (sym (torn_byte 0 x y some torn ∙ ap (λ (b : ℕ). set x 0 b) (one ∙ sym was) ∙ set-get_or x 0 0)) stands
       | inr shut ↦ absurd (isnt (record { stands = some; shut = shut }))
     ]
-    | inr shut ↦ inl (inr shut)
+    | inr shut ↦ closed y (inr shut)
   ]
-  | inr none ↦ inl (inl (omega (arith, none, torn.no_longer)))
+  | inr none ↦ closed y (inl (omega (arith, none, torn.no_longer)))
 ]
+
+pub torn_spare : (g : ℕ) (x y : List ℕ) → IsSpare g x → (IsClosed 0 x → ⊥) → IsTorn 0 1 x y → IsSpare g y
+torn_spare g x y spare isnt torn = torn_stands (IsSpare g) (λ file closed. inl closed) x y spare isnt torn
 
 module _ (MayStand : List ℕ → Type 0) (disk : Disk) (shut : Bool) (rest : List ℕ) where
   pub aside_of : (p : Phase) → is_snapshot p ≡ false → IsSpareIn MayStand disk p shut rest → IsAside MayStand disk shut
@@ -46,7 +50,7 @@ module _ (MayStand : List ℕ → Type 0) (disk : Disk) (shut : Bool) (rest : Li
   aside_of SnapOpening commit is = absurd (false≢true (sym commit))
 
   -- what a crash leaves of it
-  aside_leaves : IsAside MayStand disk shut → (x : List ℕ) → disk.IsImage x → MayStand x
+  pub aside_leaves : IsAside MayStand disk shut → (x : List ℕ) → disk.IsImage x → MayStand x
   aside_leaves aside x image = subst MayStand (sym (aside.settled.only x image)) aside.stands
 
   pub aside_in : (p : Phase) (broken : Bool) → is_snapshot p ≡ false → IsAside MayStand disk shut → IsSpareOn MayStand disk p broken shut rest

@@ -8,7 +8,8 @@ use Rattle.vault_device.proofs.Moments.{and_then, stands_now}
 use Rattle.vault_device.proofs.Torn.{torn_byte, torn_none}
 use Rattle.vault_format.specs.Files.{IsClosedFile, StandFor}
 use Rattle.vault_store.specs.OnDisk.{IsSettled}
-use Rattle.vault_store.specs.Create.{new_front, new_file, IsClosedOrNew, StopsInCreation}
+use Rattle.vault_store.specs.Create.{new_front, new_file, IsClosedOrNew, StopsInCreation, PassesInCreation}
+use Rattle.vault_store.proofs.Passes.{closed_pass}
 use Rattle.vault_store.proofs.New.{new_reading, new_is_front, new_ends}
 
 -- what is said of more is said of less
@@ -95,6 +96,10 @@ stops_in_creation first second first_new second_new made left = λ honest other 
       | inl closed ↦ inl (closed, shut)
       | inr new ↦ inr (subst (λ (l : List ℕ). StandFor l y new_vault) (sym new) (new_is_read y shut))
     ]
+
+-- the second one stays closed, so they aren't told as the files of two vaults
+pub passes_in_creation : (first second first_new second_new : Disk) → (IsTrue second.honest → LeavesSince second second_new second.IsImage) → PassesInCreation first second first_new second_new
+passes_in_creation first second first_new second_new left = λ honest other none none_there x y was. closed_pass x y (inr (stays_closed y (none_there y ((left other).each y was.1))))
 
 -- devices that no call was made of
 pub none_made : (first second : Disk) → (IsTrue first.honest → IsLawful first) → (IsTrue second.honest → IsLawful second) → StopsInCreation first second first second

@@ -13,22 +13,28 @@ use Rattle.vault_store.specs.declared.phase.Phase.TheVariants.{Idle, Start, Snap
 use Rattle.vault_store.specs.declared.phase.Advanced.{Advanced}
 use Rattle.vault_store.specs.declared.phase.Advanced.TheVariants as answers
 use Rattle.vault_format.specs.Snapshot.{current_version, snapshot_of, HasSnapshot}
-use Rattle.vault_format.specs.Files.{mark, version_number, current_head, snapshot_bytes, behind_gate, applied, IsFront, IsSpare, HasHead}
+use Rattle.vault_format.specs.Files.{mark, version_number, current_head, snapshot_bytes, behind_gate, applied, Holds, IsFront, IsSpare, HasHead}
 use Rattle.vault_store.specs.Phases.{is_idle, is_snapshot}
 use Rattle.vault_store.specs.State.{StoreState, started}
 use Rattle.vault_store.specs.OnDisk.{IsIdle}
 use Rattle.vault_store.specs.Spares.{IsAside, IsSpareIn, IsSpareOn}
 use Rattle.vault_store.specs.Seen.{StoreSeen, of_file, other, first_of, second_of, Keeps, IsRenewal, settled_reading, started_seen}
 use Rattle.vault_store.specs.Sound.{IsReached, IsRest, IsActive, IsSoundStore}
+use Rattle.vault_store.specs.Companions.{MayPrecede, IsOfOneVault}
+use Rattle.vault_store.specs.Earlier.{IsEarlier}
 use Rattle.vault_store.specs.Step.{IsAtMostOneCall, IsStep, MayBeLeft, IsAdvance}
 use Rattle.vault_store.proofs.Advances.{moved_on}
 use Rattle.vault_store.proofs.Asides.{torn_spare, renewed_front, length-behind}
 use Rattle.vault_format.proofs.Named.{spelled_stays}
+use Rattle.vault_store.proofs.Companions.{one_in, torn_precedes}
+use Rattle.vault_store.proofs.Growing.{grown}
+use Rattle.vault_store.proofs.TwoVaults.{one_led}
+use Rattle.vault_store.proofs.Passes.{head_based}
 use Rattle.vault_store.proofs.Placed.{calls_placed}
-use Rattle.vault_store.proofs.Renewals.{to_active}
+use Rattle.vault_store.proofs.Renewals.{idle_leaves, to_active}
 use Rattle.vault_store.proofs.Rests.{rest_kept}
-use Rattle.vault_store.proofs.Renewed.{spare_called, leaves_renewed, snap_phase, snap_keeps}
-use Rattle.vault_format.proofs.Rights.{holds_head, head_open}
+use Rattle.vault_store.proofs.Renewed.{IsInsideSpare, spare_called, leaves_renewed, snap_phase, snap_keeps}
+use Rattle.vault_format.proofs.Rights.{holds_head, head_open, one_generation}
 use Rattle.vault_format.proofs.Short.{spelled_short}
 
 -- the same files, the other way round
@@ -58,6 +64,16 @@ module _ {D : Type 0} (disk : D → Disk) (old : StoreSeen D) (v : Vault) (is : 
         subst (λ (p : Phase). IsSpareIn (λ x. Unit {0}) (disk old.spare) p old.shut old.rest) is (subst (λ (b : Bool). IsSpareOn (λ x. Unit {0}) (disk old.spare) old.phase b old.shut old.rest) unbroken (sound.spare honest)) in
         subst (λ (b : Bool). IsSpareOn (λ x. Unit {0}) (disk old.spare) Start b old.shut (behind_gate (old.generation + 1) v)) (sym unbroken) was;
   }
+
+  -- files of one vault stay so
+  pub started_one : IsOfOneVault disk old → IsOfOneVault disk (started_seen old v)
+  started_one one_vault one two =
+      let are = one_in disk old Idle false is unbroken one_vault one two in record {
+        base = are.base;
+        based = are.based;
+        beside =
+            subst (λ (b : Bool). IsSpareOn (MayPrecede old.generation are.base) (disk old.spare) Start b old.shut (behind_gate (old.generation + 1) v)) (sym unbroken) are.beside;
+      }
 
   started_in : (s : StoreState) → Keeps disk old (record s { phase = Idle; broken = false }) → s.noted ≡ v → Keeps disk (record (started_seen old v) { broken = false }) (started (record s { phase = Idle; broken = false }))
   started_in s keeps noted = record {
@@ -168,6 +184,49 @@ module _ {D : Type 0} (disk : D → Disk) (old : StoreSeen D) (spare : D) (unbro
       renewal : IsRenewal old.generation s.sealed old.rest
       renewal = keeps.renewal refl
 
+  -- the old file, which leads to an earlier vault of the new one's snapshot's, stands beside that
+  exchanged_one : (s : StoreState) → Keeps disk old (record s { phase = SnapOpening; broken = false }) → IsOfOneVault disk (exchanged_seen false)
+  exchanged_one s keeps one two =
+      let files = keeps.files two (was_honest one) in
+      let holds : Holds (disk old.active).shown (settled_reading old s) = record { front = files.front; is_front = files.is_front; ends = files.active.ends } in
+      let head = holds_head (disk old.active).shown (settled_reading old s) holds in
+      let stands : MayPrecede (old.generation + 1) s.sealed (disk old.active).shown =
+      λ older right.
+      let same = one_generation (disk old.active).shown older old.generation right.1 head in (
+        omega (arith, same),
+        λ v leads later. later
+            (subst (λ (w : Vault). IsEarlier w s.sealed) (one_led (disk old.active).shown old.generation older s.settled v (settled_reading old s, holds, refl, refl) leads) (grown s.settled s.sealed s.sealing keeps.sealed)),
+      ) in record {
+        base = s.sealed;
+        based = λ x image.
+            head_based (old.generation + 1) s.sealed x renewal.spelled (omega arith) renewal.fits
+            (idle_leaves (disk spare) new_front []
+            (to_active (disk old.spare) (disk spare) old.rest new_front (ap (λ (l : List ℕ). 1 ∷ l) (sym renewal.bytes)) (lawful_spare (was_honest one)) files.spare (sync (was_honest one))) x image);
+        beside = record {
+          settled = files.active.settled;
+          stands = stands;
+          closed = λ e. absurd (false≢true e);
+          torn = λ e y. torn_precedes (old.generation + 1) s.sealed (disk old.active).shown y stands (λ closed. closed.shut (head_open (disk old.active).shown old.generation head).gate);
+        };
+      }
+    where
+      renewal : IsRenewal old.generation s.sealed old.rest
+      renewal = keeps.renewal refl
+
+      new_front : List ℕ
+      new_front = current_head (old.generation + 1) ++ snapshot_bytes current_version s.sealed
+
+  -- a stop inside leaves the old file, and the new one with its head gate open or closed
+  exchanged_inside : (IsTrue (disk old.spare).honest → LeavesSince (disk old.spare) (disk spare) (disk old.spare).IsImage) → IsInsideSpare disk old spare
+  exchanged_inside moments = leaves_renewed disk old spare SnapOpening is refl unbroken lawful refl (λ honest v renewing was. renewing.images v ((moments honest).each v was))
+
+  -- of the files exchanged
+  may_exchanged : (x y : List ℕ) → MayBeLeft (disk (first_of old)) (disk (second_of old)) (disk (of_file (other old.which) spare old.active)) (disk (of_file (other old.which) old.active spare)) x y
+      → MayBeLeft (disk (first_of old)) (disk (second_of old)) (disk (of_file old.which old.active spare)) (disk (of_file old.which spare old.active)) x y
+  may_exchanged x y may =
+      subst (λ (d : D). MayBeLeft (disk (first_of old)) (disk (second_of old)) (disk d) (disk (of_file old.which spare old.active)) x y) (exchanged old.which spare old.active)
+      (subst (λ (d : D). MayBeLeft (disk (first_of old)) (disk (second_of old)) (disk (of_file (other old.which) spare old.active)) (disk d) x y) (exchanged old.which old.active spare) may)
+
   -- the open head gate is settled
   pub head_settled : (IsTrue (disk old.spare).honest → LeavesSince (disk old.spare) (disk spare) (disk old.spare).IsImage) → IsAdvance disk old (exchanged_seen old.broken) (Ok answers.Settled)
   head_settled moments =
@@ -188,8 +247,7 @@ module _ {D : Type 0} (disk : D → Disk) (old : StoreSeen D) (spare : D) (unbro
             subst (λ (d : D). IsAtMostOneCall {A = Advanced} {E = Fault} (disk (first_of old)) (disk (second_of old)) (disk d) (disk (of_file (other old.which) old.active spare)) (Ok answers.Settled)) (sym (exchanged old.which spare old.active))
             (subst (λ (d : D). IsAtMostOneCall {A = Advanced} {E = Fault} (disk (first_of old)) (disk (second_of old)) (disk (of_file old.which old.active spare)) (disk d) (Ok answers.Settled)) (sym (exchanged old.which old.active spare))
             (calls_placed disk old.which old.active old.spare old.active spare (Ok answers.Settled) (spare_called (disk old.active) (disk old.spare) (disk spare) (Ok tt) (Ok answers.Settled) call (λ err. err))));
-        moments = λ s x y keeps one two may.
-            leaves_renewed disk old spare SnapOpening is refl unbroken lawful refl (λ honest v renewing was. renewing.images v ((moments honest).each v was)) s x y keeps one two
-            (subst (λ (d : D). MayBeLeft (disk (first_of old)) (disk (second_of old)) (disk d) (disk (of_file old.which spare old.active)) x y) (exchanged old.which spare old.active)
-            (subst (λ (d : D). MayBeLeft (disk (first_of old)) (disk (second_of old)) (disk (of_file (other old.which) spare old.active)) (disk d) x y) (exchanged old.which old.active spare) may));
+        moments = λ s x y keeps one two may. (exchanged_inside moments).moments s x y keeps one two (may_exchanged x y may);
+        one_vault = λ s keeps one_vault. exchanged_one s (snap_keeps disk old spare SnapOpening is refl unbroken lawful s keeps);
+        passes = λ s x y keeps one_vault one two may. (exchanged_inside moments).passes s x y keeps one_vault one two (may_exchanged x y may);
       })

@@ -21,6 +21,7 @@ mod Begun
 pub mod Growing
 pub mod TwoVaults
 mod Passes
+mod Companions
 mod Headed
 mod Pieces
 mod Made

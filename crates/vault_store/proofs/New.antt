@@ -18,6 +18,10 @@ use Rattle.vault_store.specs.State.{at_rest}
 use Rattle.vault_store.specs.Seen.{StoreSeen, Keeps}
 use Rattle.vault_store.specs.Sound.{IsSoundStore}
 use Rattle.vault_store.specs.Create.{new_front, new_file, IsFilled}
+use Rattle.vault_store.specs.Companions.{MayPrecede, IsOfOneVault}
+use Rattle.vault_store.proofs.Companions.{closed_precedes}
+use Rattle.vault_store.proofs.Passes.{head_based}
+use Rattle.vault_store.proofs.Renewals.{idle_leaves}
 use Rattle.vault_store.proofs.Rests.{rest_kept}
 use Rattle.vault_format.proofs.Spelled.{now_spelled}
 
@@ -81,3 +85,11 @@ module _ {D : Type 0} (disk : D → Disk) (first second first_new second_new : D
         active = new_idle (disk first) (disk first_new) (file (subst IsTrue same one));
         spare = new_aside (IsSpare 1) (inl (inl (omega arith))) (λ y torn. inl (inl (omega (arith, torn.no_longer)))) two;
       })
+
+  -- the empty file may stand beside the new one
+  pub new_one : IsOfOneVault disk new_seen
+  new_one one two = record {
+    base = new_vault;
+    based = λ x image. head_based 1 new_vault x new_snapshot (omega arith) (omega arith) (idle_leaves (disk first_new) new_front [] (new_idle (disk first) (disk first_new) (file (subst IsTrue same one))) x image);
+    beside = new_aside (MayPrecede 1 new_vault) (closed_precedes 1 new_vault [] (inl (omega arith))) (λ y torn. closed_precedes 1 new_vault y (inl (omega (arith, torn.no_longer)))) two;
+  }

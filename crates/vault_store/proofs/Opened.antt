@@ -23,7 +23,11 @@ use Rattle.vault_store.specs.Read.{AreReads, AreContents, IsFaultBehindHead, IsG
 use Rattle.vault_store.specs.State.{at_rest}
 use Rattle.vault_store.specs.Seen.{StoreSeen, of_file, Keeps}
 use Rattle.vault_store.specs.Sound.{IsSoundStore}
+use Rattle.vault_store.specs.Companions.{MayPrecede, IsOfOneVault}
+use Rattle.vault_store.specs.TwoVaults.{IsBasedOn, AreOfTwoVaults}
 use Rattle.vault_store.proofs.Asides.{torn_spare}
+use Rattle.vault_store.proofs.Companions.{begun_ends, based_front, torn_precedes, precedes_beside}
+use Rattle.vault_store.proofs.Passes.{two_exchanged}
 use Rattle.vault_store.proofs.Behind.{quiet_then}
 use Rattle.vault_store.proofs.Bodies.{holds_read}
 use Rattle.vault_format.proofs.Named.{frames_spelled}
@@ -95,6 +99,11 @@ pub settled_each : {D : Type 0} (disk : D → Disk) (which : File) (active spare
     → AreSettled (disk (of_file which active spare)) (disk (of_file which spare active))
 settled_each disk First active spare h k = λ one two. (h one, k two)
 settled_each disk Second active spare h k = λ one two. (k one, h two)
+
+-- two files that aren't of two vaults, whichever is the active one
+pass_placed : (which : File) (first second : List ℕ) → (AreOfTwoVaults first second → ⊥) → AreOfTwoVaults (of_file which first second) (of_file which second first) → ⊥
+pass_placed First first second pass two = pass two
+pass_placed Second first second pass two = pass (two_exchanged second first two)
 
 -- two devices whose heads are read, of which one is read on
 module _ {D : Type 0} (disk : D → Disk) (which : File) (first second one two active spare active_new : D) (g : ℕ) (handed_first : IsHandedOn (disk first) (disk one)) (handed_second : IsHandedOn (disk second) (disk two))
@@ -222,6 +231,24 @@ module _ {D : Type 0} (disk : D → Disk) (which : File) (first second one two a
             active = record { settled = settled_active honest; ends = subst (EndsBehind holds.front) (sym (still_shown honest)) holds.ends };
             spare = let stands = subst (IsSpare g) (sym (spare_shown other)) (newer_here here.0 here.1).1 in opened_aside (IsSpare g) other stands (λ y isnt torn. torn_spare g (disk spare).shown y stands isnt torn);
           })
+
+      -- files that are not of two vaults are of one
+      pub opened_one : (AreOfTwoVaults (disk first).shown (disk second).shown → ⊥) → IsOfOneVault disk opened_seen
+      opened_one pass honest other =
+          let here = both_honest disk which first second (subst IsTrue handed_active.called.same_honesty (subst IsTrue reads.called.same_honesty honest)) (subst IsTrue handed_spare.called.same_honesty other) in
+          let holds = active_holds here.0 here.1 in
+          let based = based_front holds.front (disk active).shown reading holds.is_front (begun_ends holds.front (disk active).shown holds.ends) in
+          let beside : AreOfTwoVaults (disk active).shown (disk spare).shown → ⊥ =
+          subst (λ (l : List ℕ). AreOfTwoVaults l (disk spare).shown → ⊥) (sym (active_shown here.0 here.1))
+          (subst (λ (l : List ℕ). AreOfTwoVaults (of_file which (disk first).shown (disk second).shown) l → ⊥) (sym (spare_shown other ∙ shown_placed disk which second first))
+          (pass_placed which (disk first).shown (disk second).shown pass)) in
+          let spare_is = subst (IsSpare g) (sym (spare_shown other)) (newer_here here.0 here.1).1 in
+          let stands = precedes_beside (disk active).shown (disk spare).shown g holds.is_front.base based spare_is beside in record {
+            base = holds.is_front.base;
+            based = λ x image.
+                subst (λ (file : List ℕ). IsBasedOn g file holds.is_front.base) (sym ((settled_active honest).only x image ∙ still_shown honest)) based;
+            beside = opened_aside (MayPrecede g holds.is_front.base) other stands (λ y isnt torn. torn_precedes g holds.is_front.base (disk spare).shown y stands isnt torn);
+          }
 
 -- where no fault was counted until the active file was read on, and none then, none was counted of either device
 pub opened_quiet : {D : Type 0} (disk : D → Disk) (which : File) (first second one two active spare active_new : D) → AreQuiet (disk first) (disk second) (disk one) (disk two)

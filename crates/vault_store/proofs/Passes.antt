@@ -1,5 +1,5 @@
 -- The two files of one vault aren't told as those of two.
-use Rattle.std.proofs.Common.{◌≡◌, inl, inr, ℕ, ◌+◌, ◌<◌, IsTrue, Bool, true, false, List, ◌∷◌, ◌++◌, length, get_or, set, drop, refl, sym, ◌∙◌, ap, subst, arith, take-append-drop}
+use Rattle.std.proofs.Common.{◌≡◌, inl, inr, ℕ, ◌+◌, ◌<◌, ◌≤◌, ◌^◌, IsTrue, Bool, true, false, List, ◌∷◌, ◌++◌, length, get_or, set, drop, refl, sym, ◌∙◌, ap, subst, arith, take-append-drop}
 use Rattle.std.proofs.lemmas.Bool.{cases_eq}
 use Rattle.std.proofs.lemmas.List.{set-get_or, length-drop}
 use Rattle.vault_model.specs.Vault.{Vault}
@@ -7,7 +7,7 @@ use Rattle.vault_device.specs.Disk.{Disk}
 use Rattle.vault_device.proofs.Torn.{torn_byte}
 use Rattle.vault_journal.specs.Gate.{IsClosed}
 use Rattle.vault_journal.specs.Spelling.{records_of}
-use Rattle.vault_format.specs.Snapshot.{current_version, snapshot_of}
+use Rattle.vault_format.specs.Snapshot.{current_version, snapshot_of, HasSnapshot}
 use Rattle.vault_format.specs.Files.{header, current_head, snapshot_bytes, IsFront, EndsBehind, IsClosedFile, HasHead, HasRightHead}
 use Rattle.vault_format.specs.Faults.{IsOpenFile}
 use Rattle.vault_format.proofs.Spelled.{now_spelled}
@@ -28,13 +28,13 @@ use Rattle.vault_store.proofs.Placed.{both_honest}
 use Rattle.vault_store.proofs.Renewals.{idle_leaves}
 use Rattle.vault_store.proofs.TwoVaults.{one_based, decided, next_to, first_older, first_shut, second_shut}
 
-two_exchanged : (first second : List ℕ) → AreOfTwoVaults first second → AreOfTwoVaults second first
+pub two_exchanged : (first second : List ℕ) → AreOfTwoVaults first second → AreOfTwoVaults second first
 two_exchanged first second two = elim two [ inl is ↦ inr is | inr is ↦ inl is ]
 
-never : IsTrue false → ⊥
+pub never : IsTrue false → ⊥
 never is = cc
 
-closed_shut : (file : List ℕ) → IsClosedFile file → (g : ℕ) → HasRightHead g file → ⊥
+pub closed_shut : (file : List ℕ) → IsClosedFile file → (g : ℕ) → HasRightHead g file → ⊥
 closed_shut file closed g (v, head) = not_both file closed (head_open file g head)
 
 -- two files of which one is closed
@@ -42,7 +42,7 @@ pub closed_pass : ClosedFilesPass
 closed_pass first second (inl closed) two = never ((first_shut first second (closed_shut first closed)).1 two)
 closed_pass first second (inr closed) two = never ((second_shut first second (closed_shut second closed)).1 two)
 
-led_head : (file : List ℕ) (g : ℕ) (v : Vault) → LeadsTo g file v → HasRightHead g file
+pub led_head : (file : List ℕ) (g : ℕ) (v : Vault) → LeadsTo g file v → HasRightHead g file
 led_head file g v leads = (leads.0.version, subst (λ (k : ℕ). HasHead leads.0.version k file) leads.2 (holds_head file leads.0 leads.1))
 
 -- an older file that leads to an earlier vault
@@ -84,9 +84,24 @@ torn_pass older newer torn g head is pass two = elim (cases_eq (get_or torn 0 0)
     some : 0 < length older
     some = let long = opened.long in omega (arith, long)
 
+-- a file that ends behind a new snapshot is based on it
+pub head_based : (g : ℕ) (v : Vault) (file : List ℕ) → HasSnapshot v → 1 ≤ g → g < 2 ^ 64 → EndsBehind (current_head g ++ snapshot_bytes current_version v) file → IsBasedOn g file v
+head_based g v file has given fits ends =
+    let stands = ends.closed.stands in record {
+      version = current_version;
+      rest = drop (length front) file;
+      head = holds_head file (record { vault = v; version = current_version; generation = g; tail = header + length (snapshot_of v); journal_length = 0 }) (record { front = front; is_front = renewed_front g v has given fits; ends = ends });
+      spelled = now_spelled v has;
+      some = λ none. absurd (omega (arith, ap length none, length-drop (length front) file, stands));
+      bytes = sym (take-append-drop (length front) file) ∙ ap (λ (l : List ℕ). l ++ drop (length front) file) ends.begins;
+    }
+  where
+    front : List ℕ
+    front = current_head g ++ snapshot_bytes current_version v
+
 -- what a crash leaves where a snapshot is written, or its head gate opened
 module _ {D : Type 0} (disk : D → Disk) (store : StoreSeen D) (s : StoreState) (front x y : List ℕ) (is_front : IsFront front (settled_reading store s)) (ends : EndsBehind front x) where
-  renewed_pass : Keeps disk store s → is_snapshot s.phase ≡ true → HasFirst (length store.rest) store.rest y → AreOfTwoVaults x y → ⊥
+  pub renewed_pass : Keeps disk store s → is_snapshot s.phase ≡ true → HasFirst (length store.rest) store.rest y → AreOfTwoVaults x y → ⊥
   renewed_pass keeps snapshot has two = elim (cases_eq (get_or y 0 0) 1) [
     | inl one ↦ earlier_pass x y store.generation s.settled s.sealed leads (based_now one) (grown s.settled s.sealed s.sealing keeps.sealed) two
     | inr shut ↦ closed_pass x y (inr (inr shut)) two
@@ -105,17 +120,7 @@ module _ {D : Type 0} (disk : D → Disk) (store : StoreSeen D) (s : StoreState)
       ends_now one = file_opened new_front store.rest y (ap (λ (l : List ℕ). 1 ∷ l) (sym renewal.bytes)) has one
 
       based_now : get_or y 0 0 ≡ 1 → IsBasedOn (store.generation + 1) y s.sealed
-      based_now one =
-          let ends_here = ends_now one in
-          let stands = ends_here.closed.stands in record {
-            version = current_version;
-            rest = drop (length new_front) y;
-            head = holds_head y (record { vault = s.sealed; version = current_version; generation = store.generation + 1; tail = header + length (snapshot_of s.sealed); journal_length = 0 })
-                (record { front = new_front; is_front = renewed_front (store.generation + 1) s.sealed renewal.spelled (omega arith) renewal.fits; ends = ends_here });
-            spelled = now_spelled s.sealed renewal.spelled;
-            some = λ none. absurd (omega (arith, ap length none, length-drop (length new_front) y, stands));
-            bytes = sym (take-append-drop (length new_front) y) ∙ ap (λ (l : List ℕ). l ++ drop (length new_front) y) ends_here.begins;
-          }
+      based_now one = head_based (store.generation + 1) s.sealed y renewal.spelled (omega arith) renewal.fits (ends_now one)
 
 -- in each phase
 passes_in : {D : Type 0} (disk : D → Disk) (store : StoreSeen D) (s : StoreState) (p : Phase) → is_renewing p ≡ true → Keeps disk store (record s { phase = p; broken = false }) → IsTrue (disk store.active).honest → IsTrue (disk store.spare).honest
@@ -134,7 +139,7 @@ passes_in disk store s Start renewing keeps one two x y image other is = absurd 
 passes_in disk store s Closing renewing keeps one two x y image other is = absurd (cc)
 
 -- of the first file and the second
-passes_placed : {D : Type 0} (disk : D → Disk) (which : File) (active spare : D) → ((x y : List ℕ) → (disk active).IsImage x → (disk spare).IsImage y → AreOfTwoVaults x y → ⊥)
+pub passes_placed : {D : Type 0} (disk : D → Disk) (which : File) (active spare : D) → ((x y : List ℕ) → (disk active).IsImage x → (disk spare).IsImage y → AreOfTwoVaults x y → ⊥)
     → (x y : List ℕ) → (disk (of_file which active spare)).IsImage x → (disk (of_file which spare active)).IsImage y → AreOfTwoVaults x y → ⊥
 passes_placed disk First active spare pass x y image other two = pass x y image other two
 passes_placed disk Second active spare pass x y image other two = pass y x other image (two_exchanged x y two)

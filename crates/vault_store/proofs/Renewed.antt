@@ -18,9 +18,13 @@ use Rattle.vault_store.specs.State.{StoreState}
 use Rattle.vault_store.specs.Spares.{ClosedMayStand, HasFirst, IsAside, IsFilling, IsSpareIn, IsSpareOn}
 use Rattle.vault_store.specs.Seen.{StoreSeen, of_file, first_of, second_of, Keeps, IsLeftInside}
 use Rattle.vault_store.specs.Sound.{IsReached, IsBounded, IsActive, IsSoundStore}
+use Rattle.vault_store.specs.Companions.{MayPrecede, IsOfOneVault}
+use Rattle.vault_store.specs.TwoVaults.{AreOfTwoVaults}
 use Rattle.vault_store.specs.Step.{renews, gained, IsAtMostOneCall, IsStep, AreNumbers, MayBeLeft, IsAdvance}
 use Rattle.vault_store.proofs.Advances.{at_phase, moved_on, failed_on, none_called}
 use Rattle.vault_store.proofs.Asides.{closed_spare, spare_leaves, length-behind}
+use Rattle.vault_store.proofs.Companions.{shut_precedes, beside_pass, one_in}
+use Rattle.vault_store.proofs.Passes.{two_exchanged, renewed_pass}
 use Rattle.vault_store.proofs.Left.{inside_front, inside_renewed}
 use Rattle.vault_store.proofs.Placed.{inside_exchanged, calls_placed, moments_placed}
 use Rattle.vault_store.proofs.Rests.{still_numbers}
@@ -113,6 +117,20 @@ abbrev pub AreSpareMoments : {D : Type 0} → (D → Disk) → StoreSeen D → D
 AreSpareMoments disk old spare s x y =
     IsTrue (disk (first_of old)).honest → IsTrue (disk (second_of old)).honest → MayBeLeft (disk (first_of old)) (disk (second_of old)) (disk (of_file old.which old.active spare)) (disk (of_file old.which spare old.active)) x y → IsLeftInside old s x y
 
+-- of files of one vault it leaves what isn't told as two
+abbrev pub IsSparePassed : {D : Type 0} → (D → Disk) → StoreSeen D → D → List ℕ → List ℕ → Type 0
+IsSparePassed disk old spare x y =
+    IsTrue (disk (first_of old)).honest → IsTrue (disk (second_of old)).honest → MayBeLeft (disk (first_of old)) (disk (second_of old)) (disk (of_file old.which old.active spare)) (disk (of_file old.which spare old.active)) x y → AreOfTwoVaults x y → ⊥
+
+-- a stop inside such a step
+pub record IsInsideSpare {D : Type 0} (disk : D → Disk) (old : StoreSeen D) (spare : D) : Type 0 where
+  pub moments : (s : StoreState) (x y : List ℕ) → Keeps disk old s → AreSpareMoments disk old spare s x y
+  pub passes : (s : StoreState) (x y : List ℕ) → Keeps disk old s → IsOfOneVault disk old → IsSparePassed disk old spare x y
+
+-- a stop leaves what may stand there, whatever that is
+abbrev pub LeavesStanding : Disk → Disk → Phase → Bool → List ℕ → Type 1
+LeavesStanding old new p shut rest = (MayStand : List ℕ → Type 0) → ClosedMayStand MayStand → (y : List ℕ) → IsSpareIn MayStand old p shut rest → new.WasImage old.moment y → MayStand y
+
 module _ {D : Type 0} (disk : D → Disk) (old : StoreSeen D) (spare : D) (p : Phase) (is : old.phase ≡ p) (of_p : is_snapshot p ≡ true) (unbroken : old.broken ≡ false) (lawful : IsTrue (disk old.active).honest → IsLawful (disk old.active)) where
   pub snap_phase : (s : StoreState) → Keeps disk old s → record s { phase = p; broken = false } ≡ s
   snap_phase s keeps = at_phase s p (sym keeps.phase ∙ is) (sym keeps.broken ∙ unbroken)
@@ -121,28 +139,55 @@ module _ {D : Type 0} (disk : D → Disk) (old : StoreSeen D) (spare : D) (p : P
   snap_keeps s keeps = subst (Keeps disk old) (sym (snap_phase s keeps)) keeps
 
   -- a stop that leaves a spare
-  pub leaves_spare : (IsTrue (disk old.spare).honest → (y : List ℕ) → IsSpareIn (IsSpare old.generation) (disk old.spare) p old.shut old.rest → (disk spare).WasImage (disk old.spare).moment y → IsSpare old.generation y)
-      → (s : StoreState) (x y : List ℕ) → Keeps disk old s → AreSpareMoments disk old spare s x y
-  leaves_spare move s x y keeps =
-      moments_placed disk old.which old.active old.spare old.active spare (IsLeftInside old s) (inside_exchanged old s)
-      (λ v w one two may.
-      let here = snap_keeps s keeps in
-      let files = here.files one two in
-      subst (λ (t : StoreState). IsLeftInside old t v w) (snap_phase s keeps)
-      (inside_front disk old (record s { phase = p; broken = false }) here files.front files.is_front v w
-      (idle_leaves (disk old.active) files.front (records_of s.sealing) (idle_of (disk old.active) files.front (records_of s.sealing) p of_p files.active) v ((lawful one).only_now v may.0)) (move two w files.spare may.1))) x y
+  pub leaves_spare : (IsTrue (disk old.spare).honest → LeavesStanding (disk old.spare) (disk spare) p old.shut old.rest) → IsInsideSpare disk old spare
+  leaves_spare move = record {
+    moments = λ s x y keeps.
+        moments_placed disk old.which old.active old.spare old.active spare (IsLeftInside old s) (inside_exchanged old s)
+        (λ v w one two may.
+        let here = snap_keeps s keeps in
+        let files = here.files one two in
+        subst (λ (t : StoreState). IsLeftInside old t v w) (snap_phase s keeps)
+        (inside_front disk old (record s { phase = p; broken = false }) here files.front files.is_front v w
+        (idle_leaves (disk old.active) files.front (records_of s.sealing) (idle_of (disk old.active) files.front (records_of s.sealing) p of_p files.active) v ((lawful one).only_now v may.0))
+        (move two (IsSpare old.generation) (closed_spare old.generation) w files.spare may.1))) x y;
+    passes = λ s x y keeps one_vault.
+        moments_placed disk old.which old.active old.spare old.active spare (λ v w. AreOfTwoVaults v w → ⊥) (λ v w pass two. pass (two_exchanged w v two))
+        (λ v w one two may.
+        let are = one_in disk old p false is unbroken one_vault one two in
+        beside_pass v w old.generation are.base (are.based v ((lawful one).only_now v may.0)) (move two (MayPrecede old.generation are.base) (shut_precedes old.generation are.base) w are.beside may.1)) x y;
+  }
 
   -- a stop that leaves the head gate open or closed over the whole file
   pub leaves_renewed : may_open p ≡ true → (IsTrue (disk old.spare).honest → (y : List ℕ) → IsSpareIn (IsSpare old.generation) (disk old.spare) p old.shut old.rest → (disk spare).WasImage (disk old.spare).moment y → HasFirst (length old.rest) old.rest y)
-      → (s : StoreState) (x y : List ℕ) → Keeps disk old s → AreSpareMoments disk old spare s x y
-  leaves_renewed opens move s x y keeps =
-      moments_placed disk old.which old.active old.spare old.active spare (IsLeftInside old s) (inside_exchanged old s)
-      (λ v w one two may.
-      let here = snap_keeps s keeps in
-      let files = here.files one two in
-      subst (λ (t : StoreState). IsLeftInside old t v w) (snap_phase s keeps)
-      (inside_renewed disk old (record s { phase = p; broken = false }) here files.front files.is_front v w of_p opens
-      (idle_leaves (disk old.active) files.front (records_of s.sealing) (idle_of (disk old.active) files.front (records_of s.sealing) p of_p files.active) v ((lawful one).only_now v may.0)) (move two w files.spare may.1))) x y
+      → IsInsideSpare disk old spare
+  leaves_renewed opens move = record {
+    moments = λ s x y keeps.
+        moments_placed disk old.which old.active old.spare old.active spare (IsLeftInside old s) (inside_exchanged old s)
+        (λ v w one two may.
+        let here = snap_keeps s keeps in
+        let files = here.files one two in
+        subst (λ (t : StoreState). IsLeftInside old t v w) (snap_phase s keeps)
+        (inside_renewed disk old (record s { phase = p; broken = false }) here files.front files.is_front v w of_p opens
+        (idle_leaves (disk old.active) files.front (records_of s.sealing) (idle_of (disk old.active) files.front (records_of s.sealing) p of_p files.active) v ((lawful one).only_now v may.0)) (move two w files.spare may.1))) x y;
+    passes = λ s x y keeps one_vault.
+        moments_placed disk old.which old.active old.spare old.active spare (λ v w. AreOfTwoVaults v w → ⊥) (λ v w pass two. pass (two_exchanged w v two))
+        (λ v w one two may.
+        let here = snap_keeps s keeps in
+        let files = here.files one two in
+        renewed_pass disk old (record s { phase = p; broken = false }) files.front v w files.is_front
+        (idle_leaves (disk old.active) files.front (records_of s.sealing) (idle_of (disk old.active) files.front (records_of s.sealing) p of_p files.active) v ((lawful one).only_now v may.0)) here of_p (move two w files.spare may.1)) x y;
+  }
+
+  -- a step of the spare's keeps files of one vault so
+  pub spare_one : (disk spare).honest ≡ (disk old.spare).honest → (q : Phase) (broken : Bool) → (IsTrue (disk old.spare).honest → IsAnyMove (disk old.spare) (disk spare) p q broken old.shut old.rest)
+      → IsOfOneVault disk old → IsOfOneVault disk (record old { spare = spare; phase = q; broken = broken })
+  spare_one same q broken move one_vault one two =
+      let was = subst IsTrue same two in
+      let are = one_in disk old p false is unbroken one_vault one was in record {
+        base = are.base;
+        based = are.based;
+        beside = move was (MayPrecede old.generation are.base) (shut_precedes old.generation are.base) are.beside;
+      }
 
   -- the numbers of a step that isn't the last
   spare_numbers : (q : Phase) (broken : Bool) (result : Result Advanced Fault) → renews old result ≡ false → gained old result ≡ 0 → AreNumbers old (record old { spare = spare; phase = q; broken = broken }) result
@@ -151,16 +196,23 @@ module _ {D : Type 0} (disk : D → Disk) (old : StoreSeen D) (spare : D) (p : P
 
   -- such a step
   pub spare_advance : (q : Phase) (broken : Bool) (result : Result Advanced Fault) → renews old result ≡ false → gained old result ≡ 0 → ((result ≡ Ok answers.Idle) ⊎ (result ≡ Ok answers.Broken) → ⊥)
+      → (disk spare).honest ≡ (disk old.spare).honest
       → IsAtMostOneCall (disk old.active) (disk old.spare) (disk old.active) (disk spare) result
-      → ((s : StoreState) → Keeps disk old (record s { phase = p; broken = false }) → IsStep disk old (record old { spare = spare; phase = q; broken = broken }) result (record s { phase = p; broken = false }))
-      → ((s : StoreState) (x y : List ℕ) → Keeps disk old s → AreSpareMoments disk old spare s x y)
+      → (IsTrue (disk old.spare).honest → IsAnyMove (disk old.spare) (disk spare) p q broken old.shut old.rest)
+      → ((s : StoreState) → (IsTrue (disk old.spare).honest → IsSpareMove (IsSpare old.generation) (disk old.spare) (disk spare) p q broken old.shut old.rest) → Keeps disk old (record s { phase = p; broken = false })
+      → IsStep disk old (record old { spare = spare; phase = q; broken = broken }) result (record s { phase = p; broken = false }))
+      → IsInsideSpare disk old spare
       → IsAdvance disk old (record old { spare = spare; phase = q; broken = broken }) result
-  spare_advance q broken result still none moved call step moments = record {
-    step = λ s keeps. subst (λ (t : StoreState). IsStep disk old (record old { spare = spare; phase = q; broken = broken }) result t) (snap_phase s keeps) (step s (snap_keeps s keeps));
+  spare_advance q broken result still none moved same call move step inside = record {
+    step = λ s keeps.
+        subst (λ (t : StoreState). IsStep disk old (record old { spare = spare; phase = q; broken = broken }) result t) (snap_phase s keeps)
+        (step s (λ honest. move honest (IsSpare old.generation) (closed_spare old.generation)) (snap_keeps s keeps));
     numbers = spare_numbers q broken result still none;
     rests = λ idle. absurd (moved idle);
     calls = calls_placed disk old.which old.active old.spare old.active spare result call;
-    moments = moments;
+    moments = inside.moments;
+    one_vault = λ s keeps. spare_one same q broken move;
+    passes = inside.passes;
   }
 
 pub stays_shut : {D : Type 0} (disk : D → Disk) (old : StoreSeen D) → old.shut ≡ true → (MayStand : List ℕ → Type 0) → IsSpareMove MayStand (disk old.spare) (disk old.spare) Start Closing false old.shut old.rest
@@ -169,26 +221,25 @@ stays_shut disk old shut MayStand aside = still_shut MayStand (disk old.spare) (
 -- one step of each row that isn't the last
 module _ {D : Type 0} (disk : D → Disk) (old : StoreSeen D) (spare : D) (unbroken : old.broken ≡ false) (lawful : IsTrue (disk old.active).honest → IsLawful (disk old.active)) (lawful_spare : IsTrue (disk old.spare).honest → IsLawful (disk old.spare)) where
   -- the old phase and a new one, the answer Moved, or a fault
-  moved : (p q : Phase) → old.phase ≡ p → is_snapshot p ≡ true
-      → IsAtMostOneCall {E = Fault} (disk old.active) (disk old.spare) (disk old.active) (disk spare) (Ok answers.Moved)
-      → ((s : StoreState) → Keeps disk old (record s { phase = p; broken = false }) → IsStep disk old (record old { spare = spare; phase = q; broken = false }) (Ok answers.Moved) (record s { phase = p; broken = false }))
-      → ((s : StoreState) (x y : List ℕ) → Keeps disk old s → AreSpareMoments disk old spare s x y)
+  moved : (p q : Phase) → old.phase ≡ p → is_snapshot p ≡ true → IsOneCall {A = Unit {0}} {E = Fault} (disk old.spare) (disk spare) (Ok tt)
+      → (IsTrue (disk old.spare).honest → IsAnyMove (disk old.spare) (disk spare) p q false old.shut old.rest)
+      → ((s : StoreState) → (IsTrue (disk old.spare).honest → IsSpareMove (IsSpare old.generation) (disk old.spare) (disk spare) p q false old.shut old.rest) → Keeps disk old (record s { phase = p; broken = false })
+      → IsStep disk old (record old { spare = spare; phase = q; broken = false }) (Ok answers.Moved) (record s { phase = p; broken = false }))
+      → IsInsideSpare disk old spare
       → IsAdvance disk old (record old { spare = spare; phase = q }) (Ok answers.Moved)
-  moved p q is of_p call step moments =
+  moved p q is of_p call move step inside =
       subst (λ (b : Bool). IsAdvance disk old (record old { spare = spare; phase = q; broken = b }) (Ok answers.Moved)) (sym unbroken)
-      (spare_advance disk old spare p is of_p unbroken lawful q false (Ok answers.Moved) refl refl (moved_on answers.Moved (λ e. cc) (λ e. cc)) call step moments)
+      (spare_advance disk old spare p is of_p unbroken lawful q false (Ok answers.Moved) refl refl (moved_on answers.Moved (λ e. cc) (λ e. cc)) call.same_honesty
+      (spare_called (disk old.active) (disk old.spare) (disk spare) (Ok tt) (Ok answers.Moved) call (λ err. err)) move step inside)
 
-  faulted : (fault : Fault) (p q : Phase) → old.phase ≡ p → is_snapshot p ≡ true → IsAtMostOneCall {A = Advanced} (disk old.active) (disk old.spare) (disk old.active) (disk spare) (Err fault)
-      → ((s : StoreState) → Keeps disk old (record s { phase = p; broken = false }) → IsStep disk old (record old { spare = spare; phase = q; broken = true }) (Err fault) (record s { phase = p; broken = false }))
-      → ((s : StoreState) (x y : List ℕ) → Keeps disk old s → AreSpareMoments disk old spare s x y)
+  faulted : (fault : Fault) (p q : Phase) → old.phase ≡ p → is_snapshot p ≡ true → IsOneCall {A = Unit {0}} (disk old.spare) (disk spare) (Err fault)
+      → (IsTrue (disk old.spare).honest → IsAnyMove (disk old.spare) (disk spare) p q true old.shut old.rest)
+      → ((s : StoreState) → (IsTrue (disk old.spare).honest → IsSpareMove (IsSpare old.generation) (disk old.spare) (disk spare) p q true old.shut old.rest) → Keeps disk old (record s { phase = p; broken = false })
+      → IsStep disk old (record old { spare = spare; phase = q; broken = true }) (Err fault) (record s { phase = p; broken = false }))
+      → IsInsideSpare disk old spare
       → IsAdvance disk old (record old { spare = spare; phase = q; broken = true }) (Err fault)
-  faulted fault p q is of_p call step moments = spare_advance disk old spare p is of_p unbroken lawful q true (Err fault) refl refl (failed_on fault) call step moments
-
-  called_ok : IsOneCall {A = Unit {0}} {E = Fault} (disk old.spare) (disk spare) (Ok tt) → IsAtMostOneCall {A = Advanced} {E = Fault} (disk old.active) (disk old.spare) (disk old.active) (disk spare) (Ok answers.Moved)
-  called_ok call = spare_called (disk old.active) (disk old.spare) (disk spare) (Ok tt) (Ok answers.Moved) call (λ err. err)
-
-  called_err : (fault : Fault) → IsOneCall {A = Unit {0}} (disk old.spare) (disk spare) (Err fault) → IsAtMostOneCall {A = Advanced} (disk old.active) (disk old.spare) (disk old.active) (disk spare) (Err fault)
-  called_err fault call = spare_called (disk old.active) (disk old.spare) (disk spare) (Err fault) (Err fault) call (λ err. err)
+  faulted fault p q is of_p call move step inside =
+      spare_advance disk old spare p is of_p unbroken lawful q true (Err fault) refl refl (failed_on fault) call.same_honesty (spare_called (disk old.active) (disk old.spare) (disk spare) (Err fault) (Err fault) call (λ err. err)) move step inside
 
   -- Start
 
@@ -202,24 +253,26 @@ module _ {D : Type 0} (disk : D → Disk) (old : StoreSeen D) (spare : D) (unbro
   head_half_closed fault unshut wrote MayStand closed aside = λ x image. shut_torn MayStand (disk old.spare) (disk spare) (aside_open MayStand unshut aside) x (wrote.images x image)
 
   closing_inside : {E : Type 0} (made : Result (Unit {0}) E) → old.shut ≡ false → (IsTrue (disk old.spare).honest → IsWrite 0 (0 ∷ []) made (disk old.spare) (disk spare))
-      → IsTrue (disk old.spare).honest → (y : List ℕ) → IsSpareIn (IsSpare old.generation) (disk old.spare) Start old.shut old.rest → (disk spare).WasImage (disk old.spare).moment y → IsSpare old.generation y
-  closing_inside made unshut wrote honest y aside was =
-      (one_call (disk old.spare) (disk spare) _ (IsSpare old.generation) (lawful_spare honest) (wrote honest).time
-      (spare_leaves (IsSpare old.generation) (disk old.spare) old.shut old.rest (closed_spare old.generation) Start false aside)
-      (λ x torn. shut_torn (IsSpare old.generation) (disk old.spare) (disk spare) (aside_open (IsSpare old.generation) unshut aside) x torn)).each y was
+      → IsTrue (disk old.spare).honest → LeavesStanding (disk old.spare) (disk spare) Start old.shut old.rest
+  closing_inside made unshut wrote honest MayStand closed y aside was =
+      (one_call (disk old.spare) (disk spare) _ MayStand (lawful_spare honest) (wrote honest).time
+      (spare_leaves MayStand (disk old.spare) old.shut old.rest closed Start false aside)
+      (λ x torn. shut_torn MayStand (disk old.spare) (disk spare) (aside_open MayStand unshut aside) x torn)).each y was
 
   pub head_closed : old.phase ≡ Start → old.shut ≡ false → IsOneCall {A = Unit {0}} {E = Fault} (disk old.spare) (disk spare) (Ok tt) → (IsTrue (disk old.spare).honest → IsWrite {E = Fault} 0 (0 ∷ []) (Ok tt) (disk old.spare) (disk spare))
       → IsAdvance disk old (record old { spare = spare; phase = Closing }) (Ok answers.Moved)
   head_closed is unshut call wrote =
-      moved Start Closing is refl (called_ok call)
-      (λ s keeps. (refl, spare_kept disk old spare call.same_honesty s Start Closing false refl refl (λ honest. closes_head unshut (wrote honest) (IsSpare old.generation) (closed_spare old.generation)) keeps))
+      moved Start Closing is refl call
+      (λ honest. closes_head unshut (wrote honest))
+      (λ s move keeps. (refl, spare_kept disk old spare call.same_honesty s Start Closing false refl refl move keeps))
       (leaves_spare disk old spare Start is refl unbroken lawful (closing_inside (Ok tt) unshut wrote))
 
   pub head_failed : (fault : Fault) → old.phase ≡ Start → old.shut ≡ false → IsOneCall {A = Unit {0}} (disk old.spare) (disk spare) (Err fault) → (IsTrue (disk old.spare).honest → IsWrite 0 (0 ∷ []) (Err fault) (disk old.spare) (disk spare))
       → IsAdvance disk old (record old { spare = spare; phase = Closing; broken = true }) (Err fault)
   head_failed fault is unshut call wrote =
-      faulted fault Start Closing is refl (called_err fault call)
-      (λ s keeps. (refl, λ e. cc, spare_kept disk old spare call.same_honesty s Start Closing true refl refl (λ honest. head_half_closed fault unshut (wrote honest) (IsSpare old.generation) (closed_spare old.generation)) keeps))
+      faulted fault Start Closing is refl call
+      (λ honest. head_half_closed fault unshut (wrote honest))
+      (λ s move keeps. (refl, λ e. cc, spare_kept disk old spare call.same_honesty s Start Closing true refl refl move keeps))
       (leaves_spare disk old spare Start is refl unbroken lawful (closing_inside (Err fault) unshut wrote))
 
   -- Closing
@@ -233,15 +286,15 @@ module _ {D : Type 0} (disk : D → Disk) (old : StoreSeen D) (spare : D) (unbro
   pub shut_settled : old.phase ≡ Closing → IsOneCall {A = Unit {0}} {E = Fault} (disk old.spare) (disk spare) (Ok tt) → (IsTrue (disk old.spare).honest → IsSync {E = Fault} (Ok tt) (disk old.spare) (disk spare))
       → (IsTrue (disk old.spare).honest → LeavesSince (disk old.spare) (disk spare) (disk old.spare).IsImage) → IsAdvance disk old (record old { spare = spare; phase = Writing (length old.rest) }) (Ok answers.Moved)
   shut_settled is call sync moments =
-      moved Closing (Writing (length old.rest)) is refl (called_ok call)
-      (λ s keeps.
+      moved Closing (Writing (length old.rest)) is refl call (λ honest. settles_shut (sync honest))
+      (λ s move keeps.
       let size : length old.rest ≡ header + length (snapshot_of s.sealed) = let r = keeps.renewal refl in ap length r.bytes ∙ length-behind (old.generation + 1) s.sealed in (
         refl,
         subst (λ (n : ℕ). Keeps disk (record old { spare = spare; phase = Writing n; broken = false }) (record s { phase = Writing (header + length (snapshot_of s.sealed)); broken = false })) (sym size)
             (spare_kept disk old spare call.same_honesty s Closing (Writing (header + length (snapshot_of s.sealed))) false refl refl
-            (λ honest. subst (λ (n : ℕ). IsSpareMove (IsSpare old.generation) (disk old.spare) (disk spare) Closing (Writing n) false old.shut old.rest) size (settles_shut (sync honest) (IsSpare old.generation) (closed_spare old.generation))) keeps),
+            (λ honest. subst (λ (n : ℕ). IsSpareMove (IsSpare old.generation) (disk old.spare) (disk spare) Closing (Writing n) false old.shut old.rest) size (move honest)) keeps),
       ))
-      (leaves_spare disk old spare Closing is refl unbroken lawful (λ honest y shutting was. shutting.images y ((moments honest).each y was)))
+      (leaves_spare disk old spare Closing is refl unbroken lawful (λ honest MayStand closed y shutting was. shutting.images y ((moments honest).each y was)))
 
   -- a sync that failed: no more is left than before
   unsettled : (fault : Fault) (p : Phase) → IsSync (Err fault) (disk old.spare) (disk spare) → IsAnyMove (disk old.spare) (disk spare) p p true old.shut old.rest
@@ -249,16 +302,15 @@ module _ {D : Type 0} (disk : D → Disk) (old : StoreSeen D) (spare : D) (unbro
 
   still_there : (fault : Fault) (p : Phase) → old.phase ≡ p → is_snapshot p ≡ true → IsOneCall {A = Unit {0}} (disk old.spare) (disk spare) (Err fault) → (IsTrue (disk old.spare).honest → IsSync (Err fault) (disk old.spare) (disk spare))
       → ((s : StoreState) → Keeps disk (record old { spare = spare; phase = p; broken = true }) (record s { phase = p; broken = true }) → IsStep disk old (record old { spare = spare; phase = p; broken = true }) (Err fault) (record s { phase = p; broken = false }))
-      → ((s : StoreState) (x y : List ℕ) → Keeps disk old s → AreSpareMoments disk old spare s x y) → IsAdvance disk old (record old { spare = spare; broken = true }) (Err fault)
-  still_there fault p is of_p call sync step moments =
+      → IsInsideSpare disk old spare → IsAdvance disk old (record old { spare = spare; broken = true }) (Err fault)
+  still_there fault p is of_p call sync step inside =
       subst (λ (q : Phase). IsAdvance disk old (record old { spare = spare; phase = q; broken = true }) (Err fault)) (sym is)
-      (faulted fault p p is of_p (called_err fault call)
-      (λ s keeps. step s (spare_kept disk old spare call.same_honesty s p p true of_p of_p (λ honest. unsettled fault p (sync honest) (IsSpare old.generation) (closed_spare old.generation)) keeps)) moments)
+      (faulted fault p p is of_p call (λ honest. unsettled fault p (sync honest)) (λ s move keeps. step s (spare_kept disk old spare call.same_honesty s p p true of_p of_p move keeps)) inside)
 
   pub shut_unsettled : (fault : Fault) → old.phase ≡ Closing → IsOneCall {A = Unit {0}} (disk old.spare) (disk spare) (Err fault) → (IsTrue (disk old.spare).honest → IsSync (Err fault) (disk old.spare) (disk spare))
       → (IsTrue (disk old.spare).honest → LeavesSince (disk old.spare) (disk spare) (disk old.spare).IsImage) → IsAdvance disk old (record old { spare = spare; broken = true }) (Err fault)
   shut_unsettled fault is call sync moments =
-      still_there fault Closing is refl call sync (λ s keeps. (refl, λ e. cc, keeps)) (leaves_spare disk old spare Closing is refl unbroken lawful (λ honest y shutting was. shutting.images y ((moments honest).each y was)))
+      still_there fault Closing is refl call sync (λ s keeps. (refl, λ e. cc, keeps)) (leaves_spare disk old spare Closing is refl unbroken lawful (λ honest MayStand closed y shutting was. shutting.images y ((moments honest).each y was)))
 
   -- Writing
 
@@ -280,23 +332,24 @@ module _ {D : Type 0} (disk : D → Disk) (old : StoreSeen D) (spare : D) (unbro
     piece_half_written fault wrote MayStand closed filling = piece_leaves MayStand (disk spare) old.rest left (λ x image. closed x (closed_behind (length piece) filling x (wrote.images x image)))
 
     writing_inside : {E : Type 0} (made : Result (Unit {0}) E) → (IsTrue (disk old.spare).honest → IsWrite (length old.rest - left + 1) piece made (disk old.spare) (disk spare))
-        → IsTrue (disk old.spare).honest → (y : List ℕ) → IsSpareIn (IsSpare old.generation) (disk old.spare) (Writing left) old.shut old.rest → (disk spare).WasImage (disk old.spare).moment y → IsSpare old.generation y
-    writing_inside made wrote honest y filling was =
-        (one_call (disk old.spare) (disk spare) _ (IsSpare old.generation) (lawful_spare honest) (wrote honest).time (λ x image. closed_spare old.generation x (filling.closed x image))
-        (λ x torn. closed_spare old.generation x (closed_behind (length piece) filling x torn))).each y was
+        → IsTrue (disk old.spare).honest → LeavesStanding (disk old.spare) (disk spare) (Writing left) old.shut old.rest
+    writing_inside made wrote honest MayStand closed y filling was =
+        (one_call (disk old.spare) (disk spare) _ MayStand (lawful_spare honest) (wrote honest).time (λ x image. closed x (filling.closed x image)) (λ x torn. closed x (closed_behind (length piece) filling x torn))).each y was
 
     pub piece_written : old.phase ≡ Writing left → IsOneCall {A = Unit {0}} {E = Fault} (disk old.spare) (disk spare) (Ok tt) → (IsTrue (disk old.spare).honest → IsWrite {E = Fault} (length old.rest - left + 1) piece (Ok tt) (disk old.spare) (disk spare))
         → IsAdvance disk old (record old { spare = spare; phase = behind_piece left }) (Ok answers.Moved)
     piece_written is call wrote =
-        moved (Writing left) (behind_piece left) is refl (called_ok call)
-        (λ s keeps. (refl, spare_kept disk old spare call.same_honesty s (Writing left) (behind_piece left) false refl (piece_snapshot left) (λ honest. writes_piece (wrote honest) (IsSpare old.generation) (closed_spare old.generation)) keeps))
+        moved (Writing left) (behind_piece left) is refl call
+        (λ honest. writes_piece (wrote honest))
+        (λ s move keeps. (refl, spare_kept disk old spare call.same_honesty s (Writing left) (behind_piece left) false refl (piece_snapshot left) move keeps))
         (leaves_spare disk old spare (Writing left) is refl unbroken lawful (writing_inside (Ok tt) wrote))
 
     pub piece_failed : (fault : Fault) → old.phase ≡ Writing left → IsOneCall {A = Unit {0}} (disk old.spare) (disk spare) (Err fault) → (IsTrue (disk old.spare).honest → IsWrite (length old.rest - left + 1) piece (Err fault) (disk old.spare) (disk spare))
         → IsAdvance disk old (record old { spare = spare; phase = behind_piece left; broken = true }) (Err fault)
     piece_failed fault is call wrote =
-        faulted fault (Writing left) (behind_piece left) is refl (called_err fault call)
-        (λ s keeps. (refl, λ e. cc, spare_kept disk old spare call.same_honesty s (Writing left) (behind_piece left) true refl (piece_snapshot left) (λ honest. piece_half_written fault (wrote honest) (IsSpare old.generation) (closed_spare old.generation)) keeps))
+        faulted fault (Writing left) (behind_piece left) is refl call
+        (λ honest. piece_half_written fault (wrote honest))
+        (λ s move keeps. (refl, λ e. cc, spare_kept disk old spare call.same_honesty s (Writing left) (behind_piece left) true refl (piece_snapshot left) move keeps))
         (leaves_spare disk old spare (Writing left) is refl unbroken lawful (writing_inside (Err fault) wrote))
 
   -- Filled
@@ -307,15 +360,16 @@ module _ {D : Type 0} (disk : D → Disk) (old : StoreSeen D) (spare : D) (unbro
   pub all_settled : old.phase ≡ Filled → IsOneCall {A = Unit {0}} {E = Fault} (disk old.spare) (disk spare) (Ok tt) → (IsTrue (disk old.spare).honest → IsSync {E = Fault} (Ok tt) (disk old.spare) (disk spare))
       → (IsTrue (disk old.spare).honest → LeavesSince (disk old.spare) (disk spare) (disk old.spare).IsImage) → IsAdvance disk old (record old { spare = spare; phase = Ready }) (Ok answers.Moved)
   all_settled is call sync moments =
-      moved Filled Ready is refl (called_ok call)
-      (λ s keeps. (refl, spare_kept disk old spare call.same_honesty s Filled Ready false refl refl (λ honest. settles_all honest (sync honest) (IsSpare old.generation) (closed_spare old.generation)) keeps))
-      (leaves_spare disk old spare Filled is refl unbroken lawful (λ honest y filling was. closed_spare old.generation y (filling.closed y ((moments honest).each y was))))
+      moved Filled Ready is refl call
+      (λ honest. settles_all honest (sync honest))
+      (λ s move keeps. (refl, spare_kept disk old spare call.same_honesty s Filled Ready false refl refl move keeps))
+      (leaves_spare disk old spare Filled is refl unbroken lawful (λ honest MayStand closed y filling was. closed y (filling.closed y ((moments honest).each y was))))
 
   pub all_unsettled : (fault : Fault) → old.phase ≡ Filled → IsOneCall {A = Unit {0}} (disk old.spare) (disk spare) (Err fault) → (IsTrue (disk old.spare).honest → IsSync (Err fault) (disk old.spare) (disk spare))
       → (IsTrue (disk old.spare).honest → LeavesSince (disk old.spare) (disk spare) (disk old.spare).IsImage) → IsAdvance disk old (record old { spare = spare; broken = true }) (Err fault)
   all_unsettled fault is call sync moments =
       still_there fault Filled is refl call sync (λ s keeps. (refl, λ e. cc, keeps))
-      (leaves_spare disk old spare Filled is refl unbroken lawful (λ honest y filling was. closed_spare old.generation y (filling.closed y ((moments honest).each y was))))
+      (leaves_spare disk old spare Filled is refl unbroken lawful (λ honest MayStand closed y filling was. closed y (filling.closed y ((moments honest).each y was))))
 
   -- Ready
 
@@ -331,15 +385,17 @@ module _ {D : Type 0} (disk : D → Disk) (old : StoreSeen D) (spare : D) (unbro
       → (IsTrue (disk old.spare).honest → (x : List ℕ) → (disk spare).IsImage x → SameBut 0 (disk spare).shown x) → (IsTrue (disk old.spare).honest → LeavesSince (disk old.spare) (disk spare) (IsOpening 0 (disk old.spare).shown))
       → IsAdvance disk old (record old { spare = spare; phase = SnapOpening }) (Ok answers.Moved)
   head_opened is call wrote shown images same_but moments =
-      moved Ready SnapOpening is refl (called_ok call)
-      (λ s keeps. (refl, spare_kept disk old spare call.same_honesty s Ready SnapOpening false refl refl (λ honest. opens_head (wrote honest) (shown honest) (images honest) (same_but honest) (IsSpare old.generation) (closed_spare old.generation)) keeps))
+      moved Ready SnapOpening is refl call
+      (λ honest. opens_head (wrote honest) (shown honest) (images honest) (same_but honest))
+      (λ s move keeps. (refl, spare_kept disk old spare call.same_honesty s Ready SnapOpening false refl refl move keeps))
       (leaves_renewed disk old spare Ready is refl unbroken lawful refl (λ honest y ready was. head_torn (disk old.spare) (disk spare) old.rest ready y ((moments honest).each y was)))
 
   pub head_unopened : (fault : Fault) → old.phase ≡ Ready → IsOneCall {A = Unit {0}} (disk old.spare) (disk spare) (Err fault) → (IsTrue (disk old.spare).honest → (x : List ℕ) → (disk spare).IsImage x → IsOpening 0 (disk old.spare).shown x)
       → (IsTrue (disk old.spare).honest → LeavesSince (disk old.spare) (disk spare) (IsOpening 0 (disk old.spare).shown)) → IsAdvance disk old (record old { spare = spare; phase = SnapOpening; broken = true }) (Err fault)
   head_unopened fault is call images moments =
-      faulted fault Ready SnapOpening is refl (called_err fault call)
-      (λ s keeps. (refl, λ e. cc, spare_kept disk old spare call.same_honesty s Ready SnapOpening true refl refl (λ honest. head_half_open (images honest) (IsSpare old.generation) (closed_spare old.generation)) keeps))
+      faulted fault Ready SnapOpening is refl call
+      (λ honest. head_half_open (images honest))
+      (λ s move keeps. (refl, λ e. cc, spare_kept disk old spare call.same_honesty s Ready SnapOpening true refl refl move keeps))
       (leaves_renewed disk old spare Ready is refl unbroken lawful refl (λ honest y ready was. head_torn (disk old.spare) (disk spare) old.rest ready y ((moments honest).each y was)))
 
   -- SnapOpening
@@ -363,8 +419,9 @@ pub head_shut : {D : Type 0} (disk : D → Disk) (old : StoreSeen D) → old.bro
     → IsAdvance disk old (record old { phase = Closing }) (Ok answers.Moved)
 head_shut disk old unbroken is shut lawful lawful_spare =
     subst (λ (b : Bool). IsAdvance disk old (record old { phase = Closing; broken = b }) (Ok answers.Moved)) (sym unbroken)
-    (spare_advance disk old old.spare Start is refl unbroken lawful Closing false (Ok answers.Moved) refl refl (moved_on answers.Moved (λ e. cc) (λ e. cc))
+    (spare_advance disk old old.spare Start is refl unbroken lawful Closing false (Ok answers.Moved) refl refl (moved_on answers.Moved (λ e. cc) (λ e. cc)) refl
     (none_called (disk old.active) (disk old.spare) (Ok answers.Moved) (λ err. absurd (search rules)))
-    (λ s keeps. (refl, spare_kept disk old old.spare refl s Start Closing false refl refl (λ honest. stays_shut disk old shut (IsSpare old.generation)) keeps))
+    (λ honest MayStand closed. stays_shut disk old shut MayStand)
+    (λ s move keeps. (refl, spare_kept disk old old.spare refl s Start Closing false refl refl move keeps))
     (leaves_spare disk old old.spare Start is refl unbroken lawful
-    (λ honest y aside was. spare_leaves (IsSpare old.generation) (disk old.spare) old.shut old.rest (closed_spare old.generation) Start false aside y ((lawful_spare honest).only_now y was))))
+    (λ honest MayStand closed y aside was. spare_leaves MayStand (disk old.spare) old.shut old.rest closed Start false aside y ((lawful_spare honest).only_now y was))))

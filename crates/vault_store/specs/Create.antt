@@ -10,6 +10,7 @@ use Rattle.vault_store.specs.Calls.{HasCause}
 use Rattle.vault_store.specs.OnDisk.{IsSettled}
 use Rattle.vault_store.specs.Opening.{AreSettled}
 use Rattle.vault_store.specs.Step.{MayBeLeft}
+use Rattle.vault_store.specs.TwoVaults.{AreOfTwoVaults}
 
 -- the bytes of a new vault's file up to its tail gate
 abbrev pub new_front : List ℕ
@@ -54,3 +55,9 @@ StopsInCreation first second first_new second_new =
     IsTrue first.honest → IsTrue second.honest → LeavesOnly first [] → LeavesOnly second [] → (x y : List ℕ)
     → MayBeLeft first second first_new second_new x y
     → (IsClosedFile x × IsClosedFile y) ⊎ StandFor x y new_vault
+
+-- and it isn't told as the files of two vaults
+abbrev pub PassesInCreation : Disk → Disk → Disk → Disk → Type 0
+PassesInCreation first second first_new second_new =
+    IsTrue first.honest → IsTrue second.honest → LeavesOnly first [] → LeavesOnly second [] → (x y : List ℕ)
+    → MayBeLeft first second first_new second_new x y → AreOfTwoVaults x y → ⊥

@@ -15,4 +15,5 @@ pub mod Front
 pub mod Earlier
 pub mod Laws
 pub mod TwoVaults
+pub mod Companions
 pub mod Rows

@@ -7,9 +7,11 @@ use Rattle.vault_store.specs.declared.phase.Advanced.TheVariants as answers
 use Rattle.vault_format.specs.Snapshot.{current_version}
 use Rattle.vault_format.specs.Files.{frame_extra}
 use Rattle.vault_store.specs.Calls.{HasCause}
+use Rattle.vault_store.specs.Companions.{IsOfOneVault}
 use Rattle.vault_store.specs.Phases.{NoCall, is_idle, is_snapshot}
 use Rattle.vault_store.specs.State.{StoreState, row_of, answer_of, advanced, failed}
 use Rattle.vault_store.specs.Seen.{StoreSeen, other, first_of, second_of, Keeps, IsLeftInside}
+use Rattle.vault_store.specs.TwoVaults.{AreOfTwoVaults}
 
 -- what at most one call of the two devices leaves of their counts and of their honesty
 pub record IsAtMostOneCall {A E : Type 0} (first second first_new second_new : Disk) (result : Result A E) : Type 0 where
@@ -49,7 +51,7 @@ pub record AreNumbers {D : Type 0} (old new : StoreSeen D) (result : Result Adva
 abbrev pub MayBeLeft : Disk → Disk → Disk → Disk → List ℕ → List ℕ → Type 0
 MayBeLeft first second first_new second_new x y = first_new.WasImage first.moment x × second_new.WasImage second.moment y
 
--- what one step does: to what is kept, to the numbers, to the devices' counts, and what a stop inside it leaves
+-- what one step does: to what is kept, to the numbers, to the devices' counts, and to files of one vault; and what a stop inside it leaves
 pub record IsAdvance {D : Type 0} (disk : D → Disk) (old new : StoreSeen D) (result : Result Advanced Fault) : Type 0 where
   pub step : (s : StoreState) → Keeps disk old s → IsStep disk old new result s
   pub numbers : AreNumbers old new result
@@ -58,3 +60,7 @@ pub record IsAdvance {D : Type 0} (disk : D → Disk) (old new : StoreSeen D) (r
   pub moments : (s : StoreState) (x y : List ℕ) → Keeps disk old s → IsTrue (disk (first_of old)).honest
       → IsTrue (disk (second_of old)).honest
       → MayBeLeft (disk (first_of old)) (disk (second_of old)) (disk (first_of new)) (disk (second_of new)) x y → IsLeftInside old s x y
+  pub one_vault : (s : StoreState) → Keeps disk old s → IsOfOneVault disk old → IsOfOneVault disk new
+  pub passes : (s : StoreState) (x y : List ℕ) → Keeps disk old s → IsOfOneVault disk old → IsTrue (disk (first_of old)).honest
+      → IsTrue (disk (second_of old)).honest
+      → MayBeLeft (disk (first_of old)) (disk (second_of old)) (disk (first_of new)) (disk (second_of new)) x y → AreOfTwoVaults x y → ⊥

@@ -2,9 +2,11 @@
 ghost use Rattle.std.specs.Prelude.{◌≡◌, ◌⊎◌, ◌+◌, ℕ, List, IsTrue, Ok, Err, false, true};
 ghost use Rattle.vault_store.specs.declared.phase.Phase.TheVariants as phases;
 ghost use Rattle.vault_store.specs.declared.phase.Advanced.TheVariants as answers;
+ghost use Rattle.vault_store.specs.Companions.{IsOfOneVault};
 ghost use Rattle.vault_store.specs.State.{StoreState};
 ghost use Rattle.vault_store.specs.Seen.{first_of, second_of, Keeps, IsLeftInside};
 ghost use Rattle.vault_store.specs.Step.{IsStep, AreNumbers, IsAtMostOneCall, MayBeLeft, IsAdvance};
+ghost use Rattle.vault_store.specs.TwoVaults.{AreOfTwoVaults};
 
 use crate::{Advanced, Phase, Store};
 use std::alloc::Allocator;
@@ -107,6 +109,13 @@ impl<D: Device, A: Allocator> Store<D, A> {
             → IsTrue (D.disk (second_of self.old)).honest
             → MayBeLeft (D.disk (first_of self.old)) (D.disk (second_of self.old)) (D.disk (first_of self.new))
             (D.disk (second_of self.new)) x y → IsLeftInside self.old s x y }
+
+        // Files of one vault stay so, and what a stop at any moment inside leaves of them isn't told as the files of two.
+        ensures one_vault { (s : StoreState) → Keeps D.disk self.old s → IsOfOneVault D.disk self.old → IsOfOneVault D.disk self.new }
+        ensures passes { (s : StoreState) (x y : List ℕ) → Keeps D.disk self.old s → IsOfOneVault D.disk self.old
+            → IsTrue (D.disk (first_of self.old)).honest → IsTrue (D.disk (second_of self.old)).honest
+            → MayBeLeft (D.disk (first_of self.old)) (D.disk (second_of self.old)) (D.disk (first_of self.new))
+            (D.disk (second_of self.new)) x y → AreOfTwoVaults x y → ⊥ }
     {
         if self.broken {
             return Ok(Advanced::Broken);

@@ -5,7 +5,8 @@ ghost use Rattle.vault_store.specs.declared.creation.CreateError.TheVariants.{De
 ghost use Rattle.vault_device.specs.Disk.{LeavesOnly, LeavesSince};
 ghost use Rattle.vault_store.specs.Calls.{AreCalls, IsCalled, AreQuiet};
 ghost use Rattle.vault_store.specs.OnDisk.{IsSettled};
-ghost use Rattle.vault_store.specs.Create.{new_file, IsNotMade, IsFilled, IsClosedOrNew, StopsInCreation, AreSettledUnmade};
+ghost use Rattle.vault_store.specs.Companions.{IsOfOneVault};
+ghost use Rattle.vault_store.specs.Create.{new_file, IsNotMade, IsFilled, IsClosedOrNew, StopsInCreation, PassesInCreation, AreSettledUnmade};
 ghost use Rattle.vault_format.specs.Snapshot.{current_version};
 ghost use Rattle.vault_store.specs.State.{at_rest};
 ghost use Rattle.vault_store.specs.Seen.{first_of, second_of, Keeps};
@@ -138,6 +139,11 @@ impl<D: Device, A: Allocator> Store<D, A> {
             (λ store. StopsInCreation (D.disk first) (D.disk second) (D.disk (first_of store)) (D.disk (second_of store))) }
         ensures refused_stops { IfErr result
             (λ refused. StopsInCreation (D.disk first) (D.disk second) (D.disk refused.first) (D.disk refused.second)) }
+        ensures one_vault { IfOk result (λ store. IsOfOneVault D.disk store) }
+        ensures passes { IfOk result
+            (λ store. PassesInCreation (D.disk first) (D.disk second) (D.disk (first_of store)) (D.disk (second_of store))) }
+        ensures refused_passes { IfErr result
+            (λ refused. PassesInCreation (D.disk first) (D.disk second) (D.disk refused.first) (D.disk refused.second)) }
         ensures refused { IfErr result
             (λ refused. IsNotMade (D.disk first) (D.disk second) (D.disk refused.first) (D.disk refused.second) refused.why) }
         ensures left_settled { IfErr result (λ refused. AreSettledUnmade (D.disk refused.first) (D.disk refused.second) refused.why) }

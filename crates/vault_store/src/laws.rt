@@ -1,5 +1,6 @@
 //! Laws of what is kept, on which the program's theorems rest.
 ghost use Rattle.vault_store.specs.Laws.{CrashLeavesWhatIsKept, OneGateIsOpened, NotedIsSpelled, OneReading, EitherWay, OneVault, NothingIsWrong, OneFault};
+ghost use Rattle.vault_store.specs.Companions.{FilesPass};
 ghost use Rattle.vault_store.specs.Rows.{Rows};
 ghost use Rattle.vault_store.specs.TwoVaults.{NothingIsTakenAway, ClosedFilesPass, FramesLeaveIt, TornGatesPass, SnapshotsPass};
 
@@ -32,10 +33,15 @@ pub fn rows_are_given()
     ensures { Rows }
 {}
 
-/// What `are_of_two_vaults` answers of the files of one vault, call by call. Files as a creation leaves them pass: one is closed. A commit
-/// writes behind the snapshot of the newer file alone. A snapshot's first call may tear the older file's gate; while its bytes are written that file is
-/// closed; and where its gate is opened, the older of the two leads to an earlier vault of its, since effects take nothing away.
+/// The files of one vault are never told as those of two. Those of a creation are of one vault, and so are those that were opened and weren't
+/// told as two (`create`, `open`); each call keeps them so (`note`, `start_snapshot`, `advance`); and whatever a crash leaves of them
+/// passes `are_of_two_vaults`.
+///
+/// In words of the calls: files as a creation leaves them pass, since one is closed. A commit writes behind the snapshot of the newer file
+/// alone. A snapshot's first call may tear the older file's gate; while its bytes are written that file is closed; and where its gate is
+/// opened, the older of the two leads to an earlier vault of its, since effects take nothing away.
 pub fn files_of_one_vault_pass<D: Device>()
+    ensures reached { FilesPass D.disk }
     ensures closed { ClosedFilesPass }
     ensures committed { FramesLeaveIt }
     ensures torn { TornGatesPass }

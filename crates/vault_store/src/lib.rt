@@ -8,7 +8,8 @@
 //! each version of the files (`laws`). Both versions are read, and the second alone is written. Opening gives that vault, or tells the
 //! first thing that is wrong with its file and offset, and writes nothing
 //! (`open`; of one file alone `read_head` and `read_body`). Two files are told as those of two vaults exactly where both are open and the
-//! older one leads to no earlier vault of the newer one's snapshot's (`are_of_two_vaults`; that those of one vault pass, call by call: `laws`).
+//! older one leads to no earlier vault of the newer one's snapshot's (`are_of_two_vaults`). The files of one vault never are: a creation's
+//! are of one vault, each call keeps them so, and whatever a crash leaves of them, also inside a call, isn't told as two (`advance`, `laws`).
 //! Stands on: vault_model, vault_device, vault_journal, design_tree, part_versions, vault_checkout. Must not know: commands,
 //! replies, sessions, tickets, how many entries there are.
 //!

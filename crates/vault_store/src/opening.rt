@@ -5,11 +5,13 @@ ghost use Rattle.vault_store.specs.declared.opening.OpenError.TheVariants.{Devic
 ghost use Rattle.vault_store.specs.Calls.{HasCause, IsQuiet, AreQuiet};
 ghost use Rattle.vault_format.specs.Faults.{IsDamagedHead};
 ghost use Rattle.vault_format.specs.Files.{AreRead};
+ghost use Rattle.vault_store.specs.Companions.{IsOfOneVault};
 ghost use Rattle.vault_store.specs.OnDisk.{IsSettled};
 ghost use Rattle.vault_store.specs.Opening.{IsNotOpened, IsHandedOn, AreSettled, AreLeftSettled};
 ghost use Rattle.vault_store.specs.Read.{AreReads, AreContents, IsFaultBehindHead, IsGenerationRead, IsWhyNot, IsNewerIn};
 ghost use Rattle.vault_store.specs.State.{at_rest};
 ghost use Rattle.vault_store.specs.Seen.{of_file, first_of, second_of, Keeps, settled_reading};
+ghost use Rattle.vault_store.specs.TwoVaults.{AreOfTwoVaults};
 
 use crate::body::{Contents, ReadError, read_contents};
 use crate::front::{Head, read_head};
@@ -245,6 +247,8 @@ impl<D: Device, A: Allocator + Copy> Store<D, A> {
         ensures kept { IfOk result (λ opened. Keeps D.disk opened.0 (at_rest opened.1)) }
         ensures read { IsTrue (D.disk first).honest → IsTrue (D.disk second).honest
             → IfOk result (λ opened. AreRead (D.disk first).shown (D.disk second).shown (settled_reading opened.0 (at_rest opened.1))) }
+        ensures one_vault { (AreOfTwoVaults (D.disk first).shown (D.disk second).shown → ⊥)
+            → IfOk result (λ opened. IsOfOneVault D.disk opened.0) }
         ensures handed_on { IfOk result
             (λ opened. IsHandedOn (D.disk first) (D.disk (first_of opened.0)) × IsHandedOn (D.disk second) (D.disk (second_of opened.0))) }
         ensures refused { IsTrue (D.disk first).honest → IsTrue (D.disk second).honest

@@ -3,6 +3,7 @@ ghost use Rattle.std.specs.Prelude.{◌≡◌, Ok, OnErr};
 ghost use Rattle.vault_model.specs.Vault.{IsVault, durable};
 ghost use Rattle.vault_store.specs.declared.starting.Started.TheVariants as answers;
 ghost use Rattle.vault_format.specs.Snapshot.{HasSnapshot};
+ghost use Rattle.vault_store.specs.Companions.{IsOfOneVault};
 ghost use Rattle.vault_store.specs.State.{StoreState, started};
 ghost use Rattle.vault_store.specs.Seen.{Keeps, MayStart, started_seen, wants_snapshot};
 
@@ -48,6 +49,7 @@ impl<D: Device, A: Allocator> Store<D, A> {
         ensures yes { result ≡ Ok answers.Yes → self.new ≡ started_seen self.old (durable book.now) }
         ensures kept { (s : StoreState) → result ≡ Ok answers.Yes → Keeps D.disk self.old s → s.noted ≡ durable book.now
             → Keeps D.disk self.new (started s) }
+        ensures one_vault { result ≡ Ok answers.Yes → IsOfOneVault D.disk self.old → IsOfOneVault D.disk self.new }
         ensures may_not { result ≡ Ok answers.NotNow → MayStart self.old → ⊥ }
         ensures not_now { result ≡ Ok answers.NotNow → self.new ≡ self.old }
         ensures refused { OnErr result (self.new ≡ self.old) }

@@ -3,6 +3,7 @@ ghost use Rattle.std.specs.Prelude.{◌≡◌, ◌-◌, ◌++◌, length, IsTrue
 ghost use Rattle.vault_journal.specs.Spelling.{record_of, HasRecord};
 ghost use Rattle.vault_model.specs.Vault.{Vault};
 ghost use Rattle.vault_model.specs.After.{after};
+ghost use Rattle.vault_store.specs.Companions.{IsOfOneVault};
 ghost use Rattle.vault_store.specs.State.{StoreState, with_effect};
 ghost use Rattle.vault_store.specs.Seen.{first_of, second_of, Keeps, has_room};
 
@@ -133,6 +134,7 @@ impl<D: Device, A: Allocator> Store<D, A> {
         ensures noted { self.new ≡ record self.old { buffer = self.old.buffer ++ record_of effect.now } }
         ensures kept { (s : StoreState) (next : Vault) → Keeps D.disk self.old s → after s.noted effect.now ≡ Some next
             → Keeps D.disk self.new (with_effect s effect.now next) }
+        ensures one_vault { IsOfOneVault D.disk self.old → IsOfOneVault D.disk self.new }
     {
         self.frame.push_effect(effect);
     }

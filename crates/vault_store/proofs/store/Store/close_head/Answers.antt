@@ -4,9 +4,15 @@ use Rattle.vault_store.specs.declared.phase.Advanced.TheVariants as answers
 use Rattle.vault_store.specs.Seen.{StoreSeen}
 use Rattle.vault_store.specs.View.{seen_of}
 use Rattle.vault_store.specs.Step.{IsAdvance}
-use Rattle.vault_store.proofs.Renewed.{head_closed, head_failed}
+use Rattle.vault_store.proofs.Renewed.{head_shut, head_closed, head_failed}
 use Rattle.vault_store.proofs.Failed.{failed_by}
 use Rattle.vault_store.proofs.store.Store.close_head.Goals as goal
+
+pub returns-then-self-clause-advance : goal.returns-then-self-clause-advance
+returns-then-self-clause-advance g c =
+    subst (λ (o : StoreSeen g.row.D.Denot). IsAdvance g.D.Device.disk o (record (seen_of c.self.inside) { phase = phases.Closing }) (Ok answers.Moved)) c.self.view_is
+    (head_shut g.D.Device.disk (seen_of c.self.inside) (ap (λ (o : StoreSeen g.row.D.Denot). o.broken) c.self.view_is ∙ c.requires.whole) (ap (λ (o : StoreSeen g.row.D.Denot). o.phase) c.self.view_is ∙ c.requires.phase) c.if-self.true
+    (g.met.D.Device.lawful c.self.inside.active) (g.met.D.Device.lawful c.self.inside.spare))
 
 pub returns-in-Ok-clause-advance : goal.returns-in-Ok-clause-advance
 returns-in-Ok-clause-advance g c =

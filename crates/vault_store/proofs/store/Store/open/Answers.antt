@@ -5,7 +5,7 @@ use Rattle.vault_store.specs.Seen.{Keeps}
 use Rattle.vault_store.specs.Sound.{IsSoundStore}
 use Rattle.vault_store.specs.Opening.{IsHandedOn}
 use Rattle.vault_store.proofs.Looked.{left_by, in_turn, turned_settled, turned_cause, turned_quiet}
-use Rattle.vault_store.proofs.Opened.{opened_handed, opened_kept, opened_quiet, opened_read, opened_refused, opened_settled, opened_sound}
+use Rattle.vault_store.proofs.Opened.{opened_handed, opened_kept, opened_one, opened_quiet, opened_read, opened_refused, opened_settled, opened_sound}
 use Rattle.vault_store.proofs.store.Store.open.Goals as goal
 
 pub returns-in-Ok-read_active-clause-kept : goal.returns-in-Ok-read_active-clause-kept
@@ -70,3 +70,8 @@ returns-in-Err-read_active-clause-handed_back g c =
     (λ (a b : g.row.D.Denot). IsHandedOn (g.D.Device.disk c.args.first) (g.D.Device.disk a) × IsHandedOn (g.D.Device.disk c.args.second) (g.D.Device.disk b))
     (opened_handed g.D.Device.disk c.in-Ok.active.which c.args.first c.args.second c.find_active.new.first c.find_active.new.second c.in_turn-active.result.0 c.in_turn-active.result.1 c.read_active.new.active c.in-Ok.active.generation c.in-Ok.ensures.first c.in-Ok.ensures.second (g.met.D.Device.lawful c.in_turn-active.result.0)
     c.in_turn-active.ensures.0 c.in_turn-active.ensures.1 c.read_active.ensures.reads c.in-Ok.ensures.found)
+
+pub returns-in-Ok-read_active-clause-one_vault : goal.returns-in-Ok-read_active-clause-one_vault
+returns-in-Ok-read_active-clause-one_vault g c =
+    opened_one g.D.Device.disk c.in-Ok.active.which c.args.first c.args.second c.find_active.new.first c.find_active.new.second c.in_turn-active.result.0 c.in_turn-active.result.1 c.read_active.new.active c.in-Ok.active.generation c.in-Ok.ensures.first c.in-Ok.ensures.second (g.met.D.Device.lawful c.in_turn-active.result.0)
+    c.in_turn-active.ensures.0 c.in_turn-active.ensures.1 c.read_active.ensures.reads c.in-Ok.ensures.found c.in-Ok-read_active.contents.version c.in-Ok-read_active.contents.book c.in-Ok-read_active.contents.frames c.in-Ok-read_active.contents.tail c.in-Ok-read_active.contents.journal_length c.in-Ok-read_active.ensures.contents c.in-Ok.active.spare_shut c.in-Ok.ensures.settled_first c.in-Ok.ensures.settled_second c.in-Ok.ensures.shut

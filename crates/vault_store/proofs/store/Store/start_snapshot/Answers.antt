@@ -2,11 +2,12 @@ use Rattle.std.proofs.Common.{rules, ◌≡◌, ◌+◌, ◌<◌, ◌^◌, List,
 use Rattle.vault_model.specs.Vault.{durable}
 use Rattle.vault_store.specs.declared.phase.Phase.TheVariants.{Idle, Start}
 use Rattle.vault_format.specs.Files.{behind_gate}
+use Rattle.vault_store.specs.Companions.{IsOfOneVault}
 use Rattle.vault_store.specs.Seen.{StoreSeen, Keeps, started_seen}
 use Rattle.vault_store.specs.State.{started}
 use Rattle.vault_store.specs.View.{seen_of}
 use Rattle.vault_store.specs.Sound.{IsSoundStore}
-use Rattle.vault_store.proofs.Exchanged.{started_kept, started_sound}
+use Rattle.vault_store.proofs.Exchanged.{started_kept, started_one, started_sound}
 use Rattle.vault_store.proofs.store.Store.start_snapshot.Goals as goal
 
 pub invariant_of-self : goal.invariant_of-self
@@ -33,3 +34,10 @@ returns-clause-kept g c = λ s yes keeps noted.
     subst (λ (l : List ℕ). Keeps g.D.Device.disk (record (seen_of c.self.inside) { buffer = c.clear.new.self; phase = Start; rest = l }) (started s)) (sym c.in_ok-rest.ensures)
     (subst (λ (l : List ℕ). Keeps g.D.Device.disk (record (seen_of c.self.inside) { buffer = l; phase = Start; rest = behind_gate (c.self.inside.generation + 1) (durable c.args.book.now) }) (started s)) (sym c.clear.ensures)
     (started_kept g.D.Device.disk (seen_of c.self.inside) (durable c.args.book.now) is c.if-self.false fits s (subst (λ (o : StoreSeen g.row.D.Denot). Keeps g.D.Device.disk o s) (sym c.self.view_is) keeps) noted))
+
+pub returns-clause-one_vault : goal.returns-clause-one_vault
+returns-clause-one_vault g c = λ yes one_vault.
+    let is : c.self.inside.phase ≡ Idle = search rules in
+    let fits : c.self.inside.generation + 1 < 2 ^ 64 = search rules in
+    subst (λ (l : List ℕ). IsOfOneVault g.D.Device.disk (record (seen_of c.self.inside) { buffer = c.clear.new.self; phase = Start; rest = l })) (sym c.in_ok-rest.ensures)
+    (started_one g.D.Device.disk (seen_of c.self.inside) (durable c.args.book.now) is c.if-self.false fits (subst (λ (o : StoreSeen g.row.D.Denot). IsOfOneVault g.D.Device.disk o) (sym c.self.view_is) one_vault))
