@@ -29,6 +29,7 @@ pub mod Prefixes
 pub mod Pasts
 pub mod Headline
 pub mod Nexts
+mod Companions
 pub mod Positions
 pub mod Sends
 pub mod Openings

@@ -14,5 +14,6 @@ pub mod Calls
 pub mod Opened
 pub mod Promises
 pub mod Pasts
+pub mod Companions
 pub mod Recovered
 pub mod Positions

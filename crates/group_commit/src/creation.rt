@@ -4,7 +4,8 @@ ghost use Rattle.vault_model.specs.Vault.{new_vault};
 ghost use Rattle.vault_store.specs.declared.creation.CreateError.TheVariants.{Exists, Device as DeviceFailed, NoMemory as Wanted};
 ghost use Rattle.vault_store.specs.Calls.{IsCalled, HasCause, AreQuiet};
 ghost use Rattle.vault_store.specs.Opening.{IsHandedOn};
-ghost use Rattle.vault_store.specs.Create.{new_file, IsFilled, StopsInCreation, AreSettledUnmade};
+ghost use Rattle.vault_store.specs.Companions.{IsOfOneVault};
+ghost use Rattle.vault_store.specs.Create.{new_file, IsFilled, StopsInCreation, PassesInCreation, AreSettledUnmade};
 ghost use Rattle.vault_store.specs.State.{at_rest};
 ghost use Rattle.vault_store.specs.Seen.{first_of, second_of, Keeps};
 ghost use Rattle.group_commit.specs.View.{opened_view};
@@ -94,6 +95,11 @@ impl<D: Device, A: Allocator + Copy> Vault<D, A> {
             (λ vault. StopsInCreation (D.disk first) (D.disk second) (D.disk (first_of vault.store)) (D.disk (second_of vault.store))) }
         ensures refused_stops { IfErr result
             (λ refused. StopsInCreation (D.disk first) (D.disk second) (D.disk refused.first) (D.disk refused.second)) }
+        ensures one_vault { IfOk result (λ vault. IsOfOneVault D.disk vault.store) }
+        ensures passes { IfOk result
+            (λ vault. PassesInCreation (D.disk first) (D.disk second) (D.disk (first_of vault.store)) (D.disk (second_of vault.store))) }
+        ensures refused_passes { IfErr result
+            (λ refused. PassesInCreation (D.disk first) (D.disk second) (D.disk refused.first) (D.disk refused.second)) }
         ensures refused { IfErr result
             (λ refused. IsNotCreated (D.disk first) (D.disk second) (D.disk refused.first) (D.disk refused.second) refused.why) }
         ensures left_settled { IfErr result (λ refused. AreSettledUnmade (D.disk refused.first) (D.disk refused.second) refused.why) }

@@ -5,7 +5,8 @@
 //! (`stage`, `pump`, `start_snapshot`, `redeem`, `forget`, `retire`). A reply is told only once its entry is settled. Any past of
 //! calls, stops and openings is one run, call by call. What a crash leaves, between two calls or at any moment of a pump or of an
 //! opening, is the durable vault after one prefix of its one history, with all that was told (`promises::recovery_gives_one_prefix`);
-//! a receipt is found again in it. `laws` say the same of the definitions, over every run: a caller's view acts as the whole world.
+//! a receipt is found again in it. Files of one vault stay so, and what a crash leaves of them isn't told as those of two
+//! (`promises::files_pass`). `laws` say the same of the definitions, over every run: a caller's view acts as the whole world.
 //! Ten runs worked out by hand hold, by proof.
 //! Stands on: vault_model, vault_device, vault_journal, vault_checkout, vault_store. Must not know: lines, connections,
 //! threads, what a command does (proofs cite five laws of the step, in proofs/Facts.antt).

@@ -4,6 +4,7 @@ ghost use Rattle.vault_model.specs.Vault.{Vault};
 ghost use Rattle.vault_model.specs.After.{after};
 ghost use Rattle.vault_journal.specs.Spelling.{HasRecord};
 ghost use Rattle.vault_store.specs.State.{StoreState, with_effect};
+ghost use Rattle.vault_store.specs.Companions.{IsOfOneVault};
 ghost use Rattle.vault_store.specs.Seen.{Keeps, has_room};
 ghost use Rattle.group_commit.specs.Written.{IsOfItsType};
 ghost use Rattle.group_commit.specs.Calls.{noted};
@@ -38,6 +39,7 @@ pub(crate) fn note_any<D: Device, A: Allocator, B: Allocator>(
     ensures noted { store.new ≡ noted effect store.old }
     ensures kept { IfSome effect (λ e. (s : StoreState) (next : Vault) → Keeps D.disk store.old s → after s.noted e ≡ Some next
         → Keeps D.disk store.new (with_effect s e next)) }
+    ensures one_vault { IsOfOneVault D.disk store.old → IsOfOneVault D.disk store.new }
 {
     let Some(effect) = effect else {
         return;

@@ -3,9 +3,11 @@ ghost use Rattle.std.specs.Prelude.{◌≡◌, ◌⊎◌, [], IfOk, IfErr, IsTru
 ghost use Rattle.vault_store.specs.declared.opening.OpenError.TheVariants.{Device as DeviceFailed, NoMemory as Wanted};
 ghost use Rattle.vault_store.specs.Calls.{HasCause, AreQuiet};
 ghost use Rattle.vault_format.specs.Files.{AreRead};
+ghost use Rattle.vault_store.specs.Companions.{IsOfOneVault};
 ghost use Rattle.vault_store.specs.Opening.{IsNotOpened, IsHandedOn, AreLeftSettled};
 ghost use Rattle.vault_store.specs.State.{at_rest};
 ghost use Rattle.vault_store.specs.Seen.{first_of, second_of, Keeps};
+ghost use Rattle.vault_store.specs.TwoVaults.{AreOfTwoVaults};
 ghost use Rattle.group_commit.specs.View.{opened_view};
 ghost use Rattle.group_commit.specs.Seen.{VaultSeen};
 ghost use Rattle.group_commit.specs.Opened.{IsHandedOver};
@@ -61,6 +63,8 @@ impl<D: Device, A: Allocator + Copy> Vault<D, A> {
               tail = vault.store.tail;
               journal_length = vault.store.journal_length;
             })) }
+        ensures one_vault { (AreOfTwoVaults (D.disk first).shown (D.disk second).shown → ⊥)
+            → IfOk result (λ vault. IsOfOneVault D.disk vault.store) }
         ensures next { IsTrue (D.disk first).honest → IsTrue (D.disk second).honest
             → IfOk result (λ vault. (old : VaultSeen D) → IsStop D.disk old (D.disk first).shown (D.disk second).shown
             → IsNext D.disk old vault) }

@@ -5,6 +5,7 @@ ghost use Rattle.vault_store.specs.Seen.{Keeps};
 ghost use Rattle.group_commit.specs.View.{opened_view};
 ghost use Rattle.group_commit.specs.Seen.{VaultSeen, IsSoundView, state_of};
 ghost use Rattle.group_commit.specs.Promises.{ImagesStand, RecoveryGivesOnePrefix};
+ghost use Rattle.group_commit.specs.Companions.{FilesPass};
 ghost use Rattle.group_commit.specs.Pasts.{IsAnswered, IsNext, IsPast, beginning};
 ghost use Rattle.group_commit.specs.Recovered.{EachPastIsKept, ReceiptsAreFoundAgain};
 ghost use Rattle.group_commit.specs.Positions.{StagedAtItsPosition, PositionsStay, ReceiptsAreOfTheirEntries, ReceiptsAreTold};
@@ -12,7 +13,7 @@ ghost use Rattle.group_commit.specs.Positions.{StagedAtItsPosition, PositionsSta
 use crate::Vault;
 use std::alloc::Allocator;
 use vault_device::Device;
-use vault_store::laws::files_stand_for_one_vault;
+use vault_store::laws::{files_of_one_vault_pass, files_stand_for_one_vault};
 
 /// The kept history is legal from the base, told entries are settled, at most 4,096 entries are kept, and the store keeps the
 /// durable vaults that the view says.
@@ -45,6 +46,16 @@ pub fn images_stand_for_the_history<D: Device, A: Allocator>(vault: &Vault<D, A>
     ensures { ImagesStand D.disk vault.now }
 {
     a_vault_keeps_its_history(vault);
+}
+
+/// What a crash leaves of the files of a vault isn't told as the files of two (`vault_store::are_of_two_vaults`), where they are of one. So are
+/// those of a vault that was made, or opened on files that weren't told as two (`create`, `open`, clause `one_vault`), and they stay so
+/// (`stage`, `start_snapshot`, `pump`; no other call changes them).
+pub fn files_pass<D: Device, A: Allocator>(vault: &Vault<D, A>)
+    ensures { FilesPass D.disk vault.now }
+{
+    a_vault_keeps_its_history(vault);
+    files_of_one_vault_pass::<D>();
 }
 
 /// Whatever commands any number of sessions gave in any interleaving, and wherever the machine stopped, between two calls or inside

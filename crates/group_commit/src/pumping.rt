@@ -9,6 +9,7 @@ ghost use Rattle.group_commit.specs.View.{length_of, view_row, ViewAllows, view_
 ghost use Rattle.group_commit.specs.Seen.{snapshot_length};
 ghost use Rattle.group_commit.specs.Calls.{AreNumbers};
 ghost use Rattle.group_commit.specs.Promises.{MomentsStand};
+ghost use Rattle.group_commit.specs.Companions.{StaysOfOneVault, MomentsPass};
 ghost use Rattle.group_commit.specs.Pasts.{IsAnswered, IsNext, StopsInside};
 
 use crate::{Phase, Pumped, Vault};
@@ -50,6 +51,8 @@ impl<D: Device, A: Allocator + Copy> Vault<D, A> {
         ensures answered { IsAnswered self.old self.new }
         ensures next { IsNext D.disk self.old self.new }
         ensures stops { self.old.view.broken ≡ false → StopsInside D.disk self.old self.new }
+        ensures one_vault { StaysOfOneVault D.disk self.old self.new }
+        ensures passes { self.old.view.broken ≡ false → MomentsPass D.disk self.old self.new }
     {
         if self.broken {
             return Ok(Pumped::Broken);

@@ -7,6 +7,7 @@ ghost use Rattle.group_commit.specs.View.{length_of, book_of, ViewAllows, view_a
 ghost use Rattle.group_commit.specs.Ticket.{ticket_of};
 ghost use Rattle.group_commit.specs.Seen.{snapshot_length};
 ghost use Rattle.group_commit.specs.Calls.{IsBusy, IsReason, noted};
+ghost use Rattle.group_commit.specs.Companions.{StaysOfOneVault};
 ghost use Rattle.group_commit.specs.Pasts.{IsAnswered, IsNext};
 
 use crate::entry::Entry;
@@ -38,6 +39,7 @@ impl<D: Device, A: Allocator + Copy> Vault<D, A> {
         ensures reason { IfErr result (λ refusal. IsReason self.old refusal.0) }
         ensures answered { IsAnswered self.old self.new }
         ensures next { IsNext D.disk self.old self.new }
+        ensures one_vault { StaysOfOneVault D.disk self.old self.new }
     {
         if self.broken {
             return Err((Outside::Broken, command));

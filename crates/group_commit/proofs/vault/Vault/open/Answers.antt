@@ -1,5 +1,6 @@
 use Rattle.std.proofs.Common.{inr, sym, ap, ◌∙◌, subst}
 use Rattle.vault_store.specs.Calls.{AreQuiet}
+use Rattle.vault_store.specs.Companions.{IsOfOneVault}
 use Rattle.vault_format.specs.Files.{AreRead}
 use Rattle.vault_store.specs.State.{at_rest}
 use Rattle.vault_store.specs.Seen.{StoreSeen, first_of, second_of, settled_reading, Keeps}
@@ -94,3 +95,8 @@ returns-clause-handed_back g c =
     let disk = g.D.Device.disk in
     not_begun c.open.result c.args.life c.begin.result c.begin.ensures (λ store book. IsHandedOn (disk c.args.first) (disk (first_of store)) × IsHandedOn (disk c.args.second) (disk (second_of store))) _ c.open.ensures.handed_on c.open.ensures.handed_back
     (λ store book refused handed is. wanted store refused (λ a b. IsHandedOn (disk c.args.first) (disk a) × IsHandedOn (disk c.args.second) (disk b)) is handed)
+
+pub returns-clause-one_vault : goal.returns-clause-one_vault
+returns-clause-one_vault g c = λ pass.
+    begun c.open.result c.args.life c.begin.result c.begin.ensures (λ store book. IsOfOneVault g.D.Device.disk store) _ (c.open.ensures.one_vault pass)
+    (λ store book new one_vault is. subst (λ (s : StoreSeen g.row.D.Denot). IsOfOneVault g.D.Device.disk s) (sym is.store_is) one_vault)

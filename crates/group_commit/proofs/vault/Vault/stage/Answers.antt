@@ -3,6 +3,7 @@ use Rattle.group_commit.specs.World.{Stage}
 use Rattle.group_commit.specs.View.{length_of}
 use Rattle.group_commit.specs.Seen.{VaultSeen}
 use Rattle.group_commit.specs.Inside.{seen_of}
+use Rattle.group_commit.proofs.Companions.{stays}
 use Rattle.group_commit.proofs.Gone.{gone_staged}
 use Rattle.group_commit.proofs.Staged.{another_fits, counts_are_few, has_record, stage_kept}
 use Rattle.group_commit.proofs.vault.Vault.stage.Goals as goal
@@ -32,3 +33,6 @@ returns-clause-answered g c = inr (Stage c.args.session c.args.command, record {
 
 pub returns-clause-next : goal.returns-clause-next
 returns-clause-next g c = inl (returns-clause-answered g c)
+
+pub returns-clause-one_vault : goal.returns-clause-one_vault
+returns-clause-one_vault g c = stays g.D.Device.disk (seen_of c.self.inside) _ c.note_any.new.store c.self.view_is c.note_any.ensures.one_vault

@@ -5,6 +5,7 @@ use Rattle.group_commit.specs.View.{length_of}
 use Rattle.group_commit.specs.Seen.{VaultSeen, state_of}
 use Rattle.group_commit.specs.Inside.{seen_of}
 use Rattle.group_commit.specs.Pasts.{IsAnswered}
+use Rattle.group_commit.proofs.Companions.{stays}
 use Rattle.group_commit.proofs.Starts.{book_is_vault, book_is_spelled, started_kept, started_is_answered}
 use Rattle.group_commit.proofs.vault.Vault.start_snapshot.Goals as goal
 
@@ -37,3 +38,6 @@ returns-in-Ok-Yes-clause-answered g c =
 
 pub returns-in-Ok-Yes-clause-next : goal.returns-in-Ok-Yes-clause-next
 returns-in-Ok-Yes-clause-next g c = inl (returns-in-Ok-Yes-clause-answered g c)
+
+pub returns-in-Ok-Yes-clause-one_vault : goal.returns-in-Ok-Yes-clause-one_vault
+returns-in-Ok-Yes-clause-one_vault g c = stays g.D.Device.disk (seen_of c.self.inside) _ c.start_snapshot.new.self c.self.view_is (c.in-Ok-Yes.ensures.one_vault (ap Ok c.in-Ok-Yes.field-0-is))
