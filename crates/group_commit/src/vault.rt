@@ -85,6 +85,13 @@ impl<D: Device, A: Allocator + Copy> Vault<D, A> {
         self.told
     }
 
+    /// The number of this life.
+    pub fn life(&self) -> u64
+        ensures { result ≡ self.now.life }
+    {
+        self.life
+    }
+
     /// Which step of a commit or of a snapshot comes next.
     pub fn phase(&self) -> Phase
         ensures { result ≡ self.now.view.phase }

@@ -1,6 +1,6 @@
 //! The devices of a vault stop, and it is opened again.
 
-ghost use Rattle.std.specs.Prelude.{◌≡◌, ◌&&◌, IfOk, IfErr, Ok, [], if◌then◌else◌};
+ghost use Rattle.std.specs.Prelude.{◌≡◌, ◌+◌, ◌%◌, ◌^◌, ◌&&◌, IfOk, IfErr, Ok, [], if◌then◌else◌};
 ghost use Rattle.vault_model.specs.Vault.{durable};
 ghost use Rattle.vault_device.specs.Picks.{gives_one};
 ghost use Rattle.vault_store.specs.declared.phase.Advanced.TheVariants.{Settled};
@@ -15,16 +15,16 @@ use std::alloc::Allocator;
 use vault_device::{MemDevice, Pick};
 use vault_store::laws::files_stand_for_one_vault;
 
-/// Both devices stop with this pick, and the vault is opened again in another life.
+/// Both devices stop with this pick, and the vault is opened again in the life of the next number.
 pub(crate) fn reopened<A: Allocator + Copy>(
     alloc: A,
     vault: Vault<MemDevice<A>, A>,
     pick: Pick,
-    life: u64,
 ) -> Result<Vault<MemDevice<A>, A>, ScriptError>
     ensures view { IfOk result
         (λ next. next.view ≡ opened_view
         (durable (view_at vault.view (if gives_one pick && is_opening vault.view.phase then vault.view.sealed else vault.view.settled)))) }
+    ensures life { IfOk result (λ next. next.life ≡ (vault.life + 1) % 2 ^ 64) }
     ensures buffer { IfOk result (λ next. next.store.buffer ≡ []) }
     ensures generation { IfOk result
         (λ next. next.store.generation
@@ -44,6 +44,7 @@ pub(crate) fn reopened<A: Allocator + Copy>(
     images_stand_for_the_history(&vault);
     files_stand_for_one_vault();
 
+    let life = vault.life().wrapping_add(1);
     let (mut first, mut second) = vault.into_devices();
     first.crash(pick);
     second.crash(pick);

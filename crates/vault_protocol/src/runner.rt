@@ -29,7 +29,6 @@ use vault_model::{CommandIn, Listing, Outside, Reply, ReplyIn};
 /// connection's last command, and the lines that aren't printed yet. As these may hold tickets, it ends by `finish` or `close`.
 pub(crate) struct Runner<A: Allocator + Copy> {
     vault: Vault<MemDevice<A>, A>,
-    life: u64,
     sessions: [u32; LAST_CONNECTION as usize],
     asked: [u64; LAST_CONNECTION as usize],
     lines: VecDeque<Waiting<A>, A>,
@@ -117,7 +116,6 @@ impl<A: Allocator + Copy> Runner<A> {
         match Vault::create(alloc, first, second, 1) {
             Ok(vault) => Ok(Runner {
                 vault,
-                life: 1,
                 sessions: [0; LAST_CONNECTION as usize],
                 asked: [0; LAST_CONNECTION as usize],
                 lines: VecDeque::new(alloc),
@@ -133,7 +131,6 @@ impl<A: Allocator + Copy> Runner<A> {
     pub(crate) fn close(self) {
         let Runner {
             mut vault,
-            life: _,
             sessions: _,
             asked: _,
             lines,
@@ -418,7 +415,6 @@ impl<A: Allocator + Copy> Runner<A> {
     {
         let Runner {
             mut vault,
-            life,
             sessions: _,
             asked: _,
             lines,
@@ -427,11 +423,9 @@ impl<A: Allocator + Copy> Runner<A> {
             drop(vault);
             return Err(ScriptError::NoMemory);
         };
-        let life = life.wrapping_add(1);
-        let vault = reopened(alloc, vault, pick, life)?;
+        let vault = reopened(alloc, vault, pick)?;
         Ok(Runner {
             vault,
-            life,
             sessions: [0; LAST_CONNECTION as usize],
             asked: [0; LAST_CONNECTION as usize],
             lines: VecDeque::new(alloc),

@@ -1,4 +1,4 @@
-use Rattle.std.proofs.Common.{◌∙◌, ap, sym, refl, subst}
+use Rattle.std.proofs.Common.{◌∙◌, ap, sym, refl, subst, rules}
 use Rattle.vault_device.specs.Memory.{content_of, picked}
 use Rattle.vault_device.specs.MemDevice.{MemDisk, disk_of}
 use Rattle.group_commit.specs.View.{opened_view}
@@ -16,4 +16,4 @@ returns-in-Ok g c =
     (subst (λ (d : MemDisk). (disk_of d).IsImage (disk_of c.crash.new.self).shown) c.into_devices-first.ensures.first c.crash.ensures.image)
     (subst (λ (d : MemDisk). (disk_of d).IsImage (disk_of c.crash-2.new.self).shown) c.into_devices-first.ensures.second c.crash-2.ensures.image)
     (c.in-Ok.ensures.read refl refl) in
-    record { view = c.in-Ok.ensures.begins ∙ ap opened_view d.base_is; buffer = c.in-Ok.ensures.buffer; generation = d.generation_is; tail = d.tail_is; cause = tt }
+    record { view = c.in-Ok.ensures.begins ∙ ap opened_view d.base_is; life = search rules; buffer = c.in-Ok.ensures.buffer; generation = d.generation_is; tail = d.tail_is; cause = tt }
