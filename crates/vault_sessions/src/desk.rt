@@ -181,6 +181,29 @@ impl<D: Device, S: Tally, T: Tally, A: Allocator + Copy> Desk<D, S, T, A> {
 }
 
 impl<D: Device, S: Tally, T: Tally, A: Allocator + Copy> Desk<D, S, T, A> {
+    // A desk of this vault, which is open.
+    pub(crate) fn new(
+        vault: Vault<D, A>,
+        staged: LedgerBook<S>,
+        told: LedgerBook<T>,
+        opening: Share<S, T>,
+    ) -> Desk<D, S, T, A>
+        requires books { (staged.total ≡ length_of vault.view) × (told.total ≡ vault.view.told) }
+        requires opening { (opening.staged ≡ S.opening) × (opening.told ≡ T.opening) }
+        ensures { result ≡ record { vault = vault; closed = false } }
+    {
+        Desk {
+            vault,
+            staged,
+            told,
+            opening,
+            closed: false,
+            pace: Pace::new(),
+            last: Commit::none(),
+            waits: Waits::new(),
+        }
+    }
+
     // Begins a snapshot, and keeps that it is no commit.
     pub(crate) fn start_on(&mut self) -> Result<Started, NoMemory>
         ensures started { result ≡ Ok Started.Yes → self.new.vault.view ≡ view_acted snapshot_length self.old.vault.view StartSnapshot }

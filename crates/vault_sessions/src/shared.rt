@@ -1,11 +1,9 @@
 //! One desk under one lock.
-ghost use Rattle.std.specs.Prelude.{◌≡◌, ◌+◌, ◌<◌, ◌≤◌, ◌^◌, ◌↔◌, IfOk, IfErr, IsOk, All, sum_by, vec_len};
+ghost use Rattle.std.specs.Prelude.{◌≡◌, ◌+◌, ◌<◌, ◌≤◌, ◌^◌, ◌↔◌, IfOk, IfErr, IsOk, All, sum_by, vec_len, false};
 ghost use Rattle.group_commit.specs.View.{length_of};
 
 use crate::desk::Desk;
 use crate::tally::{Share, Tally, Totals};
-use crate::waits::Waits;
-use flusher_pace::{Commit, Pace};
 use group_commit::Vault;
 use std::alloc::{AllocError, Allocator, Global};
 use std::marker::Model;
@@ -69,27 +67,27 @@ impl<D: Device, S: Tally, T: Tally, A: Allocator + Copy> Shared<D, S, T, A> {
         };
         staged.add(&mut staged_rest, counts.staged);
         told.add(&mut told_rest, counts.told);
-        let desk = Desk {
-            vault,
-            staged,
-            told,
-            opening: Share {
-                counts,
-                staged: staged_rest,
-                told: told_rest,
-            },
-            closed: false,
-            pace: Pace::new(),
-            last: Commit::none(),
-            waits: Waits::new(),
+        let opening = Share {
+            counts,
+            staged: staged_rest,
+            told: told_rest,
         };
-        let shared = Shared {
+        let desk = Desk::new(vault, staged, told, opening);
+        Ok((Shared::over(desk, workers), shares))
+    }
+
+    // Puts a desk under a lock. It is open, so that its flusher goes on until it is closed.
+    fn over(desk: Desk<D, S, T, A>, workers: usize) -> Shared<D, S, T, A>
+        requires begins_open { desk.closed ≡ false }
+        requires parts { (S.all ≡ workers + 1) × (T.all ≡ workers + 1) }
+        ensures { result ≡ workers }
+    {
+        Shared {
             desk: Mutex::new(desk),
             work: Condvar::new(),
             settled: Condvar::new(),
             workers,
-        };
-        Ok((shared, shares))
+        }
     }
 
     /// Lets the flusher end once all is settled. Is called once no worker stages any more; a second call changes nothing. Waits
