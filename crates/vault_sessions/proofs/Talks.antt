@@ -142,8 +142,11 @@ IsBroken outsides.Busy = ⊥
 IsBroken outsides.NoMemory = ⊥
 
 -- a broken vault is no bad line
-pub broken_fits : outsides.Broken ≢ outsides.BadLine
+broken_fits : outsides.Broken ≢ outsides.BadLine
 broken_fits = λ e. subst IsBroken e tt
+
+pub lost_fits : {outside : Outside} → outside ≡ outsides.Broken → outside ≢ outsides.BadLine
+lost_fits is = subst (λ o. o ≢ outsides.BadLine) (sym is) broken_fits
 
 -- a refusal counts nothing
 pub counts_refused : (A : Type 0) (outside : Outside) (share : Totals) → CountsOne {A = A} share (Refused outside) share
@@ -328,13 +331,17 @@ counts_told A before share new receipt staged told = record {
 }
 
 -- a broken vault leaves it staged
-pub counts_broken : (A : Type 0) (before share new : Totals) → share ≡ record before { staged = before.staged + 1 } → new ≡ share
+counts_broken : (A : Type 0) (before share new : Totals) → share ≡ record before { staged = before.staged + 1 } → new ≡ share
     → CountsOne {A = A} before (Refused outsides.Broken) new
 counts_broken A before share new staged same = record {
   told = omega (arith, ap (λ t. t.told) same, ap (λ t. t.told) staged);
   least = omega (arith, ap (λ t. t.staged) same, ap (λ t. t.staged) staged);
   most = omega (arith, ap (λ t. t.staged) same, ap (λ t. t.staged) staged);
 }
+
+pub counts_unknown : (A : Type 0) (outside : Outside) (before share new : Totals) → outside ≡ outsides.Broken → share ≡ record before { staged = before.staged + 1 }
+    → new ≡ share → CountsOne {A = A} before (Refused outside) new
+counts_unknown A outside before share new is staged same = subst (λ o. CountsOne {A = A} before (Refused o) new) (sym is) (counts_broken A before share new staged same)
 
 -- the reply that was waited for is lost
 pub loses : {A : Type 0} (ticket : TicketSeen) (r0 r w0 w : Option (List ℕ)) (s0 : Totals) (inflow : Inflow) (kept : List ℕ) (is_long : Bool)

@@ -8,3 +8,5 @@ pub mod Answered
 pub mod Logs
 pub mod Dialogues
 pub mod Waiting
+pub mod Lost
+pub mod Looking

@@ -10,11 +10,14 @@ ghost use Rattle.group_commit.specs.Ticket.{ticket_of};
 ghost use Rattle.group_commit.specs.Calls.{IsReason, IsRedeemed, IsForgotten, IsRetired, MayStart};
 ghost use Rattle.group_commit.specs.Pasts.{IsAnswered};
 ghost use Rattle.vault_sessions.specs.Tallies.{IsOfTicket, CountsRedeem};
+ghost use Rattle.vault_sessions.specs.Looking.{IsFor, IsLooked, CountsLooked};
 ghost use Rattle.vault_sessions.specs.Pumping.{IsPumped, IsAtRest};
 ghost use Rattle.vault_sessions.specs.Waiting.{IsQueued, IsStandingQueued};
 ghost use Rattle.vault_sessions.specs.declared.flusher.Flushed.TheVariants as Flushed;
 
+use crate::cause::Cause;
 use crate::flusher::Flushed;
+use crate::looked::Looked;
 use crate::tally::{Share, Tally};
 use crate::waits::{PendingWait, Waits, may_move};
 use flusher_pace::{Commit, Gathering, Pace, Silence, begins_snapshot};
@@ -216,18 +219,18 @@ impl<D: Device, S: Tally, T: Tally, A: Allocator + Copy> Desk<D, S, T, A> {
         started
     }
 
-    // Stages a command. One that is refused is dropped.
+    // Stages a command. One that is refused is dropped, and the cause is the vault's.
     pub(crate) fn stage_on(
         &mut self,
         session: u32,
         command: CommandIn<A>,
         share: &mut Share<S, T>,
-    ) -> Result<Ticket<A>, Outside>
+    ) -> Result<Ticket<A>, Cause>
         ensures ok { IfOk result
             (λ ticket. (ticket.session ≡ session) × (ticket.command ≡ command)
             × (share.new ≡ record share.old { staged = share.old.staged + 1 })) }
-        ensures err { IfErr result (λ outside. (outside ≢ BadLine) × (share.new ≡ share.old)) }
-        ensures reason { IfErr result (λ outside. IsReason self.old.vault outside) }
+        ensures err { IfErr result (λ cause. (cause ≢ BadLine) × (share.new ≡ share.old)) }
+        ensures reason { IfErr result (λ cause. IsReason self.old.vault cause) }
     {
         let moves = may_move(&command);
         match self.stage(session, command, share) {
@@ -239,8 +242,29 @@ impl<D: Device, S: Tally, T: Tally, A: Allocator + Copy> Desk<D, S, T, A> {
             }
             Err((outside, command)) => {
                 drop(command);
-                Err(outside)
+                Err(Cause::of_vault(&self.vault, outside))
             }
+        }
+    }
+
+    // Looks for the reply to the command that a ticket is for. Where it is lost, the cause is the vault's.
+    pub(crate) fn look(&mut self, ticket: Ticket<A>, share: &mut Share<S, T>) -> Looked<A>
+        ensures looked { IsLooked self.old.vault ticket result }
+        ensures of_ticket { IsFor ticket result }
+        ensures counted { CountsLooked share.old result share.new }
+    {
+        match self.redeem(ticket, share) {
+            Redeemed::Told(receipt) => Looked::Told(receipt),
+            Redeemed::NotYet(ticket) => Looked::NotYet(ticket),
+            Redeemed::Unknown(ticket) => {
+                let cause = Cause::of_ticket(&self.vault, &ticket);
+                Looked::Lost(ticket, cause)
+            }
+            Redeemed::Stranger(ticket) => {
+                let cause = Cause::of_ticket(&self.vault, &ticket);
+                Looked::Lost(ticket, cause)
+            }
+            Redeemed::NoMemory(ticket) => Looked::NoMemory(ticket),
         }
     }
 

@@ -3,10 +3,10 @@
 //! Promises: whenever the lock is free the vault keeps its laws, and the tallies count what was staged and told. Each line of
 //! a connection has its answer at its place, a receipt shows the line's command, and what is written is the texts of the
 //! answers (`serve_one`). A conversation is a `Dialogue`, which owns its connection and goes by steps: whoever takes them, each keeps that,
-//! and `finish` gives it, with no premise on the caller. `serve_one` is a loop over these steps. The shares of all
-//! workers sum to what the history grew by (`gather`). A pump, the start of a snapshot and the retiring of an entry are one act of the
-//! vault each, and count nothing (`Desk`). Of `run_flusher`, `Flusher`, `Shared::close` and `Worker::forget` safety alone is
-//! proved.
+//! and `finish` gives it, with no premise on the caller. `serve_one` is a loop over these steps. An answer that speaks of the vault
+//! is what a vault was (`Cause`). The shares of all workers sum to what the history grew by (`gather`). A pump, the start of a snapshot
+//! and the retiring of an entry are one act of the vault each, and count nothing (`Desk`). Of `run_flusher`, `Flusher`, `Shared::close`
+//! and `Worker::forget` safety alone is proved.
 //! Stands on: group_commit, flusher_pace, vault_lines, line_inlet, and what they stand on. Must not know: what a command does, what a
 //! file holds, what a socket is.
 //!
@@ -21,20 +21,22 @@
 //!
 //! Only tested: two sessions share a frame; a second one is answered while the first waits; the flusher waits for a client
 //! that comes back, goes on without one that doesn't, and stays until it is closed; it begins a snapshot where one is wanted,
-//! and, refused its memory, commits and begins it then; one pump a holding; that a `wait` is staged once its claim is held or
-//! gone; each request of `Shared::new` and `serve_one` for memory, refused.
+//! and, refused its memory, commits and begins it then; one pump a holding; that
+//! a `wait` is staged once its claim is held or gone; each request of `Shared::new` and `serve_one` for memory, refused.
 //! Neither: that anybody is served or woken; fairness, time; whom a name belongs to.
 //! Start at: desk.rt (what is done under the lock), worker.rt (what a step does), dialogue.rt (its steps), serve.rt (one connection), flusher.rt
 //! (when, by `flusher_pace`).
 #![tactic(auto)]
 
 mod answers;
+mod cause;
 mod connection;
 mod conversation;
 mod desk;
 mod dialogue;
 mod flusher;
 mod gate;
+mod looked;
 mod report;
 mod serve;
 mod shared;
@@ -44,6 +46,7 @@ mod waits;
 mod worker;
 
 pub use answers::Answers;
+pub use cause::Cause;
 pub use connection::Connection;
 pub use desk::{Desk, Due};
 pub use dialogue::{Awaits, Dialogue, Step};

@@ -1,10 +1,10 @@
 //! What a conversation came to.
 
 use crate::answers::Answers;
+use crate::cause::Cause;
 use crate::tally::{Share, Tally};
 use group_commit::Receipt;
 use std::alloc::{Allocator, Global};
-use vault_model::Outside;
 
 /// The answer to a line.
 #[derive(Drop)]
@@ -12,7 +12,7 @@ pub enum Out<A: Allocator = Global> {
     /// Its command got this reply.
     Told(Receipt<A>),
     /// It got no place in the history, or what became of it isn't known.
-    Refused(Outside),
+    Refused(Cause),
 }
 
 /// Why a conversation ended.

@@ -79,7 +79,7 @@ pub(crate) fn text_of_out<A: Allocator + Copy>(
 {
     match out {
         Out::Told(receipt) => text_of(alloc, receipt.reply()),
-        Out::Refused(outside) => outside_text(alloc, *outside),
+        Out::Refused(cause) => outside_text(alloc, cause.outside()),
     }
 }
 

@@ -2,7 +2,7 @@
 ghost use Rattle.std.specs.Prelude.{◌≡◌, ◌≢◌, ◌+◌, ◌≤◌, ◌<◌, ℕ, List, Option, false, [], ◌∷◌, ◌++◌, IfOk, IfErr, OnOk, OnErr, IfSome, length, true};
 ghost use Rattle.vault_lines.specs.Limits.{longest_line};
 ghost use Rattle.vault_sessions.specs.Serving.{Counts, session_of, session_after as session_after_out};
-ghost use Rattle.vault_sessions.specs.Tallies.{IsOfTicket, CountsRedeem};
+ghost use Rattle.vault_sessions.specs.Looking.{IsFor, CountsLooked};
 ghost use Rattle.vault_sessions.specs.Talking.{HeardPart, IsHeard, StagesBy, FitsLine, IsAnswered, StandsAt};
 ghost use Rattle.vault_sessions.specs.declared.report.Out.{Out};
 ghost use Rattle.vault_sessions.specs.declared.tally.Totals.{Totals};
@@ -11,16 +11,18 @@ ghost use Rattle.vault_model.specs.declared.replies.Outside.TheVariants.{BadLine
 ghost use Rattle.vault_model.specs.declared.commands.Command.TheVariants.{Await, Leave};
 
 use crate::answers::Answers;
+use crate::cause::Cause;
 use crate::connection::Connection;
 use crate::conversation::Conversation;
 use crate::gate::{Gate, Point};
+use crate::looked::Looked;
 use crate::report::{Ended, Out};
 use crate::shared::Shared;
 use crate::tally::{Share, Tally};
 use crate::turn::{Telling, Turn, is_left, session_after, text_of_out};
 use crate::waits::PendingWait;
 use flusher_pace::may_change;
-use group_commit::{Redeemed, Ticket};
+use group_commit::Ticket;
 use line_inlet::{NextByte, NextLine};
 use std::alloc::Allocator;
 use std::sync::Wait;
@@ -52,7 +54,7 @@ enum Heard<A: Allocator> {
     Asked(Ticket<A>),
     // Its `wait` is kept.
     Kept(PendingWait),
-    Refused(Outside),
+    Refused(Cause),
     // It isn't whole, and more may come.
     NotYet,
     // None comes.
@@ -101,7 +103,7 @@ impl<D: Device, S: Tally, T: Tally, A: Allocator + Copy, G: Gate, H: Wait> Worke
                 self.gate.at(Point::Kept(talk.connection));
                 Turn::Keep(kept)
             }
-            Heard::Refused(outside) => self.answer(talk, Out::Refused(outside)),
+            Heard::Refused(cause) => self.answer(talk, Out::Refused(cause)),
             Heard::NotYet => Turn::Hear,
             Heard::Ended(ended) => Turn::Over(ended),
         }
@@ -146,7 +148,7 @@ impl<D: Device, S: Tally, T: Tally, A: Allocator + Copy, G: Gate, H: Wait> Worke
             }
             NextLine::TooLong => {
                 talk.begin_line();
-                Heard::Refused(Outside::BadLine)
+                Heard::Refused(Cause::bad_line())
             }
             NextLine::End => {
                 talk.begin_line();
@@ -171,15 +173,15 @@ impl<D: Device, S: Tally, T: Tally, A: Allocator + Copy, G: Gate, H: Wait> Worke
     {
         let command = match read_line_of(self.alloc, line) {
             Ok(command) => command,
-            Err(LineError::BadLine) => return Heard::Refused(Outside::BadLine),
-            Err(LineError::NoMemory) => return Heard::Refused(Outside::NoMemory),
+            Err(LineError::BadLine) => return Heard::Refused(Cause::bad_line()),
+            Err(LineError::NoMemory) => return Heard::Refused(Cause::no_memory()),
         };
         if let Some(kept) = self.keep(session, &command) {
             return Heard::Kept(kept);
         }
         match self.stage(session, command, share) {
             Ok(ticket) => Heard::Asked(ticket),
-            Err(outside) => Heard::Refused(outside),
+            Err(cause) => Heard::Refused(cause),
         }
     }
 
@@ -245,7 +247,7 @@ impl<D: Device, S: Tally, T: Tally, A: Allocator + Copy, G: Gate, H: Wait> Worke
                 self.gate.at(Point::Staged(talk.connection));
                 Turn::Wait(ticket)
             }
-            Err(outside) => self.answer(talk, Out::Refused(outside)),
+            Err(cause) => self.answer(talk, Out::Refused(cause)),
         }
     }
 
@@ -255,11 +257,11 @@ impl<D: Device, S: Tally, T: Tally, A: Allocator + Copy, G: Gate, H: Wait> Worke
         session: u32,
         command: CommandIn<A>,
         share: &mut Share<S, T>,
-    ) -> Result<Ticket<A>, Outside>
+    ) -> Result<Ticket<A>, Cause>
         ensures ok { IfOk result
             (λ ticket. (ticket.session ≡ session) × (ticket.command ≡ command)
             × (share.new ≡ record share.old { staged = share.old.staged + 1 })) }
-        ensures err { IfErr result (λ outside. (outside ≢ BadLine) × (share.new ≡ share.old)) }
+        ensures err { IfErr result (λ cause. (cause ≢ BadLine) × (share.new ≡ share.old)) }
     {
         let shared = self.shared;
         let may_change = may_change(&command);
@@ -271,13 +273,13 @@ impl<D: Device, S: Tally, T: Tally, A: Allocator + Copy, G: Gate, H: Wait> Worke
                 self.wake(wakes);
                 Ok(ticket)
             }
-            Err(outside) => {
-                if outside == Outside::Busy {
+            Err(cause) => {
+                if cause.outside() == Outside::Busy {
                     desk.asks_for_room();
                     shared.work.notify_one();
                 }
                 drop(desk);
-                Err(outside)
+                Err(cause)
             }
         }
     }
@@ -300,26 +302,26 @@ impl<D: Device, S: Tally, T: Tally, A: Allocator + Copy, G: Gate, H: Wait> Worke
             return Turn::Over(Ended::NoMemory);
         }
         match self.redeem(ticket, &mut talk.share, waits) {
-            Redeemed::Told(receipt) => {
+            Looked::Told(receipt) => {
                 self.gate.at(Point::Told(talk.connection));
                 self.answer(talk, Out::Told(receipt))
             }
-            Redeemed::NotYet(ticket) => Turn::Wait(ticket),
-            Redeemed::Stranger(ticket) | Redeemed::Unknown(ticket) => {
+            Looked::NotYet(ticket) => Turn::Wait(ticket),
+            Looked::Lost(ticket, cause) => {
                 self.forget(ticket);
-                self.answer(talk, Out::Refused(Outside::Broken))
+                self.answer(talk, Out::Refused(cause))
             }
-            Redeemed::NoMemory(ticket) => {
+            Looked::NoMemory(ticket) => {
                 self.forget(ticket);
                 Turn::Over(Ended::NoMemory)
             }
         }
     }
 
-    // Redeems a ticket, once or until its fate is known.
-    fn redeem(&self, ticket: Ticket<A>, share: &mut Share<S, T>, waits: bool) -> Redeemed<A>
-        ensures of_ticket { IsOfTicket ticket result }
-        ensures counted { CountsRedeem share.old result share.new }
+    // Looks for a reply, once or until its fate is known.
+    fn redeem(&self, ticket: Ticket<A>, share: &mut Share<S, T>, waits: bool) -> Looked<A>
+        ensures of_ticket { IsFor ticket result }
+        ensures counted { CountsLooked share.old result share.new }
     {
         if waits {
             self.wait(ticket, share)
@@ -328,33 +330,33 @@ impl<D: Device, S: Tally, T: Tally, A: Allocator + Copy, G: Gate, H: Wait> Worke
         }
     }
 
-    // Redeems a ticket.
-    fn look(&self, ticket: Ticket<A>, share: &mut Share<S, T>) -> Redeemed<A>
-        ensures of_ticket { IsOfTicket ticket result }
-        ensures counted { CountsRedeem share.old result share.new }
+    // Looks for a reply.
+    fn look(&self, ticket: Ticket<A>, share: &mut Share<S, T>) -> Looked<A>
+        ensures of_ticket { IsFor ticket result }
+        ensures counted { CountsLooked share.old result share.new }
     {
         let shared = self.shared;
-        shared.desk.lock(self.rt).redeem(ticket, share)
+        shared.desk.lock(self.rt).look(ticket, share)
     }
 
-    // Redeems a ticket, again after each commit, until its fate is known.
-    fn wait(&self, ticket: Ticket<A>, share: &mut Share<S, T>) -> Redeemed<A>
-        ensures of_ticket { IsOfTicket ticket result }
-        ensures counted { CountsRedeem share.old result share.new }
+    // Looks for a reply, again after each commit, until its fate is known.
+    fn wait(&self, ticket: Ticket<A>, share: &mut Share<S, T>) -> Looked<A>
+        ensures of_ticket { IsFor ticket result }
+        ensures counted { CountsLooked share.old result share.new }
     {
         let shared = self.shared;
         let mut ticket = ticket;
         let mut desk = shared.desk.lock(self.rt);
         for _ in self.rt.forever() {
-            match desk.redeem(ticket, share) {
-                Redeemed::NotYet(again) => {
+            match desk.look(ticket, share) {
+                Looked::NotYet(again) => {
                     ticket = again;
                     desk = shared.settled.wait(self.rt, desk);
                 }
                 other => return other,
             }
         }
-        Redeemed::NotYet(ticket)
+        Looked::NotYet(ticket)
     }
 
     // Wakes the flusher, if it is to be woken.
@@ -389,7 +391,7 @@ impl<D: Device, S: Tally, T: Tally, A: Allocator + Copy, G: Gate, H: Wait> Worke
                 self.forget(ticket);
                 Ok(())
             }
-            Err(outside) => Err(outside),
+            Err(cause) => Err(cause.outside()),
         }
     }
 
@@ -409,23 +411,22 @@ impl<D: Device, S: Tally, T: Tally, A: Allocator + Copy, G: Gate, H: Wait> Worke
         let shared = self.shared;
         let mut desk = shared.desk.lock(self.rt);
         for _ in self.rt.forever() {
-            match desk.stage_on(session, Command::Leave, share) {
+            let outside = match desk.stage_on(session, Command::Leave, share) {
                 Ok(ticket) => {
                     let wakes = desk.wakes_flusher(false);
                     drop(desk);
                     self.wake(wakes);
                     return Ok(ticket);
                 }
-                Err(Outside::Busy) => {
-                    desk.asks_for_room();
-                    shared.work.notify_one();
-                    desk = shared.settled.wait(self.rt, desk);
-                }
-                Err(outside) => {
-                    drop(desk);
-                    return Err(outside);
-                }
+                Err(cause) => cause.outside(),
+            };
+            if outside != Outside::Busy {
+                drop(desk);
+                return Err(outside);
             }
+            desk.asks_for_room();
+            shared.work.notify_one();
+            desk = shared.settled.wait(self.rt, desk);
         }
         unreachable!()
     }

@@ -72,13 +72,13 @@ returns-in-Kept-clause-stands g c = λ r0 w0 w1 s0 h.
 pub returns-in-Refused-clause-stands : goal.returns-in-Refused-clause-stands
 returns-in-Refused-clause-stands g c = λ r0 w0 w1 s0 h.
     let all = c.args.talk.now.answers.outs in
-    let out = Refused c.in-Refused.outside in
+    let out = Refused c.in-Refused.cause in
     let outs : c.next.new.talk.answers.outs ≡ all = ap (λ o. o.outs) c.next.ensures.same.0 ∙ c.reserve.ensures.same.0 in
     let more : c.answer.new.talk.answers.outs ≡ all ++ out ∷ [] = c.answer.ensures.kept.0 ∙ ap (λ l. l ++ out ∷ []) outs in
     let (heard, between) = c.in-Refused.ensures.heard r0 all h.heard in
     let staged = c.in-Refused.ensures.staged in
     let session = c.answer.ensures.kept.1 ∙ (c.next.ensures.same.1 ∙ h.session_is) in
-    let counted = counts_more s0 _ _ all out h.counted (counts_refused g.row.A.Denot c.in-Refused.outside c.args.talk.now.share) in
+    let counted = counts_more s0 _ _ all out h.counted (counts_refused g.row.A.Denot c.in-Refused.cause c.args.talk.now.share) in
     rw (more, c.answer.ensures.same.0, c.answer.ensures.same.1, c.answer.ensures.same.2, c.answer.ensures.same.3, staged) (answers out c.answer.result r0 _ w0 w1 s0 _ _ _ all _ _ c.answer.ensures.told heard between (search rules) h.spoken tt session h.written.0 h.written.1 counted)
 
 pub returns-in-Ended-clause-stands : goal.returns-in-Ended-clause-stands

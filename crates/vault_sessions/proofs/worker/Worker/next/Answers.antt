@@ -28,7 +28,7 @@ returns-in-TooLong-clause-heard g c = λ start outs heard.
     let (part, before, so_far, pending, taken, within, one, keeps) = heard in
     let (more, consumes, gives) = c.in-TooLong.ensures.line part keeps in
     let (piece, cut, big) = gives in
-    (rw c.begin_line-in-TooLong.ensures.same.0 (hears_line start _ _ before _ outs more (part ++ piece) (Refused BadLine) so_far consumes (cuts_part before _ _ part more piece pending taken one cut) (long_is_bad (part ++ piece) big)), c.begin_line-in-TooLong.ensures.begun)
+    (rw (c.bad_line.ensures, c.begin_line-in-TooLong.ensures.same.0) (hears_line start _ _ before _ outs more (part ++ piece) (Refused BadLine) so_far consumes (cuts_part before _ _ part more piece pending taken one cut) (long_is_bad (part ++ piece) big)), c.begin_line-in-TooLong.ensures.begun)
 
 pub returns-in-End-clause-heard : goal.returns-in-End-clause-heard
 returns-in-End-clause-heard g c = λ start outs heard.

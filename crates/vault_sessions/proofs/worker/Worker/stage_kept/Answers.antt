@@ -19,7 +19,7 @@ returns-in-Ok-clause-stands g c = λ r0 r w0 w s0 h.
 pub returns-in-Err-clause-stands : goal.returns-in-Err-clause-stands
 returns-in-Err-clause-stands g c = λ r0 r w0 w s0 h.
     let all = c.args.talk.now.answers.outs in
-    let out = Refused c.in-Err.outside in
+    let out = Refused c.in-Err.cause in
     let more : c.answer.new.talk.answers.outs ≡ all ++ out ∷ [] = ◌∙◌ {A = List (Out g.row.A.Denot)} c.answer.ensures.kept.0 (ap (λ l. l ++ out ∷ []) c.reserve.ensures.same.0) in
     let refused = c.in-Err.ensures.err in
-    rw (more, c.answer.ensures.same.0, c.answer.ensures.same.1, c.answer.ensures.same.2, c.answer.ensures.same.3, refused.1) (refuses_kept c.args.kept c.in-Err.outside c.answer.result r0 r w0 w s0 _ _ _ all _ _ _ refused.0 c.answer.ensures.kept.1 c.answer.ensures.told h)
+    rw (more, c.answer.ensures.same.0, c.answer.ensures.same.1, c.answer.ensures.same.2, c.answer.ensures.same.3, refused.1) (refuses_kept c.args.kept c.in-Err.cause c.answer.result r0 r w0 w s0 _ _ _ all _ _ _ refused.0 c.answer.ensures.kept.1 c.answer.ensures.told h)

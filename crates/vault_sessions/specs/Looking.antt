@@ -1,0 +1,31 @@
+-- What looking for the reply to a command comes to. This project's own.
+use Rattle.std.specs.Prelude.{◌≡◌, ◌+◌, ◌<◌, ◌≤◌, false}
+use Rattle.vault_model.specs.declared.replies.Outside.TheVariants.{Broken}
+use Rattle.group_commit.specs.Seen.{VaultSeen}
+use Rattle.group_commit.specs.Ticket.{TicketSeen}
+use Rattle.vault_sessions.specs.Tallies.{IsReceiptFor}
+use Rattle.vault_sessions.specs.Lost.{IsLost}
+use Rattle.vault_sessions.specs.declared.looked.Looked.{Looked}
+use Rattle.vault_sessions.specs.declared.looked.Looked.TheVariants as looked
+use Rattle.vault_sessions.specs.declared.tally.Totals.{Totals}
+
+-- the receipt is for the ticket, or the ticket came back; what it is answered where its reply is lost, is that the vault is broken
+abbrev pub IsFor : {A : Type 0} → TicketSeen → Looked A → Type 0
+IsFor claim (looked.Told receipt) = IsReceiptFor claim receipt
+IsFor claim (looked.NotYet back) = back ≡ claim
+IsFor claim (looked.Lost back cause) = (back ≡ claim) × (cause ≡ Broken)
+IsFor claim (looked.NoMemory back) = back ≡ claim
+
+-- when each comes, at a vault: while its entry isn't settled, the reply is still waited for where the vault isn't broken
+abbrev pub IsLooked : {D A : Type 0} → VaultSeen D → TicketSeen → Looked A → Type 0
+IsLooked seen claim (looked.Told receipt) = claim.position < seen.view.settled
+IsLooked seen claim (looked.NotYet back) = (seen.view.settled ≤ claim.position) × (seen.view.broken ≡ false)
+IsLooked seen claim (looked.Lost back cause) = IsLost seen claim
+IsLooked seen claim (looked.NoMemory back) = claim.position < seen.view.settled
+
+-- a receipt is counted once, and nothing else
+abbrev pub CountsLooked : {A : Type 0} → Totals → Looked A → Totals → Type 0
+CountsLooked old (looked.Told receipt) new = new ≡ record old { told = old.told + 1 }
+CountsLooked old (looked.NotYet back) new = new ≡ old
+CountsLooked old (looked.Lost back cause) new = new ≡ old
+CountsLooked old (looked.NoMemory back) new = new ≡ old
