@@ -1,5 +1,8 @@
 -- What a conversation has come to between two of its steps, by what it does next. This project's own.
-use Rattle.std.specs.Prelude.{◌≡◌, ℕ, ◌+◌, ◌≤◌, ◌<◌, Bool, true, false, List, [], ◌∷◌, ◌++◌, length, take, drop, Option, MatchBool}
+use Rattle.std.specs.Prelude.{◌≡◌, ◌≢◌, ℕ, ◌+◌, ◌≤◌, ◌<◌, Bool, true, false, List, [], ◌∷◌, ◌++◌, length, take, drop, Option, Some, None, MatchBool}
+use Rattle.std.specs.IoError.{error_kind}
+use Rattle.std.specs.declared.io.Error.{Error}
+use Rattle.std.specs.declared.io.ErrorKind.TheVariants.{WouldBlock}
 use Rattle.std.specs.Io.KnownBytes.{Appends}
 use Rattle.vault_lines.specs.Grammar.{command_of}
 use Rattle.vault_model.specs.Said.{Command}
@@ -143,6 +146,13 @@ TellsOn telling (Over ends.Quit) old new = Appends old new (drop telling.written
 TellsOn telling (Over ends.Write) old new =
     (count : ℕ) × (telling.written + count < length telling.text.items) × Appends old new (take count (drop telling.written telling.text.items))
 TellsOn telling turn old new = ⊥
+
+-- what stopped the telling: it goes on later only where the writer would block, and a writer that fails ends it
+abbrev pub StoppedBy : {A : Type 0} → Turn A → Option Error → Type 0
+StoppedBy (Tell more) (Some error) = error_kind error ≡ WouldBlock
+StoppedBy (Tell more) None = ⊥
+StoppedBy (Over ends.Write) (Some error) = error_kind error ≢ WouldBlock
+StoppedBy turn why = why ≡ None
 
 -- an answer is to be told whole, unless its line was refused memory
 abbrev pub IsAnswered : {A : Type 0} → Out A → Turn A → Type 0

@@ -373,7 +373,8 @@ fn tell_on<A: Allocator, C: Connection>(connection: &mut C, telling: Telling<A>)
     ensures same { C.names connection.new ≡ C.names connection.old }
     ensures over { (result.1 ≡ steps.Over) ↔ (is_done result.0 ≡ true) }
 {
-    match tell(connection, telling) {
+    let (turn, _) = tell(connection, telling);
+    match turn {
         Turn::Tell(telling) => (Next::Takes(Turn::Tell(telling)), Step::Full),
         turn => (Next::Takes(turn), Step::Went),
     }

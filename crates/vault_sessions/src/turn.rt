@@ -1,14 +1,14 @@
 //! What a conversation does next, and the telling of an answer.
 ghost use Rattle.std.specs.Prelude.{◌≡◌, IfOk, MatchBool};
 ghost use Rattle.vault_sessions.specs.Serving.{session_after as session_after_out, text_of as text_of_answer, IsLeft};
-ghost use Rattle.vault_sessions.specs.Talking.{TellsOn};
+ghost use Rattle.vault_sessions.specs.Talking.{TellsOn, StoppedBy};
 
 use crate::connection::Connection;
 use crate::report::{Ended, Out};
 use crate::waits::PendingWait;
 use group_commit::Ticket;
 use std::alloc::Allocator;
-use std::io::ErrorKind;
+use std::io::{self, ErrorKind};
 use vault_lines::{outside_text, text_of};
 use vault_model::{NoMemory, Reply};
 
@@ -49,24 +49,30 @@ pub(crate) enum Next<A: Allocator> {
     Open,
 }
 
-/// Tells more of an answer. It is still to be told where the connection takes no more for now.
-pub(crate) fn tell<A: Allocator, C: Connection>(connection: &mut C, telling: Telling<A>) -> Turn<A>
-    ensures told { TellsOn telling result (C.contents connection.old) (C.contents connection.new) }
+/// Tells more of an answer. It is still to be told where the connection takes no more for now. With the error that stopped it, if one did.
+pub(crate) fn tell<A: Allocator, C: Connection>(
+    connection: &mut C,
+    telling: Telling<A>,
+) -> (Turn<A>, Option<io::Error>)
+    ensures told { TellsOn telling result.0 (C.contents connection.old) (C.contents connection.new) }
+    ensures stopped { StoppedBy result.0 result.1 }
     ensures same { (C.remaining connection.new ≡ C.remaining connection.old) × (C.names connection.new ≡ C.names connection.old) }
 {
     let mut telling = telling;
     while telling.written < telling.text.len() {
         match connection.write(&telling.text.as_slice()[telling.written..]) {
-            Ok(0) => return Turn::Over(Ended::Write),
+            Ok(0) => return (Turn::Over(Ended::Write), None),
             Ok(count) => telling.written += count,
-            Err(error) if error.kind() == ErrorKind::WouldBlock => return Turn::Tell(telling),
-            Err(_) => return Turn::Over(Ended::Write),
+            Err(error) if error.kind() == ErrorKind::WouldBlock => {
+                return (Turn::Tell(telling), Some(error));
+            }
+            Err(error) => return (Turn::Over(Ended::Write), Some(error)),
         }
     }
     if telling.is_left {
-        Turn::Over(Ended::Quit)
+        (Turn::Over(Ended::Quit), None)
     } else {
-        Turn::Hear
+        (Turn::Hear, None)
     }
 }
 

@@ -5,12 +5,13 @@ use Rattle.vault_sessions.proofs.dialogue.tell_on.Goals as goal
 
 pub returns-in-Tell-clause-stands : goal.returns-in-Tell-clause-stands
 returns-in-Tell-clause-stands g c = λ r0 w0 s0 inflow kept is_long outs session share h.
-    rw c.in-Tell.ensures.same.0 (told_on c.args.telling (Tell c.in-Tell.telling) r0 _ w0 _ _ s0 inflow kept is_long outs session share c.in-Tell.ensures.told h)
+    let told = rw c.in-Tell.is at c.tell-turn.ensures.told in
+    rw c.tell-turn.ensures.same.0 (told_on c.args.telling (Tell c.in-Tell.telling) r0 _ w0 _ _ s0 inflow kept is_long outs session share told h)
 
 pub returns-in_default : goal.returns-in_default
 returns-in_default g c = record {
   stands = λ r0 w0 s0 inflow kept is_long outs session share h.
-      rw c.tell.ensures.same.0 (told_on c.args.telling c.tell.result r0 _ w0 _ _ s0 inflow kept is_long outs session share c.tell.ensures.told h);
-  same = c.tell.ensures.same.1;
+      rw c.tell-turn.ensures.same.0 (told_on c.args.telling c.tell-turn.result.0 r0 _ w0 _ _ s0 inflow kept is_long outs session share c.tell-turn.ensures.told h);
+  same = c.tell-turn.ensures.same.1;
   over = search rules;
 }
