@@ -10,7 +10,7 @@ ghost use Rattle.group_commit.specs.Seen.{snapshot_length};
 ghost use Rattle.group_commit.specs.Calls.{AreNumbers};
 ghost use Rattle.group_commit.specs.Promises.{MomentsStand};
 ghost use Rattle.group_commit.specs.Companions.{StaysOfOneVault, MomentsPass};
-ghost use Rattle.group_commit.specs.Pasts.{IsAnswered, IsNext, StopsInside};
+ghost use Rattle.group_commit.specs.Pasts.{IsAnswered, StopsInside};
 
 use crate::{Phase, Pumped, Vault};
 use std::alloc::Allocator;
@@ -49,7 +49,6 @@ impl<D: Device, A: Allocator + Copy> Vault<D, A> {
         ensures numbers { AreNumbers self.old self.new result }
         ensures moments { self.old.view.broken ≡ false → MomentsStand D.disk self.old self.new }
         ensures answered { IsAnswered self.old self.new }
-        ensures next { IsNext D.disk self.old self.new }
         ensures stops { self.old.view.broken ≡ false → StopsInside D.disk self.old self.new }
         ensures one_vault { StaysOfOneVault D.disk self.old self.new }
         ensures passes { self.old.view.broken ≡ false → MomentsPass D.disk self.old self.new }

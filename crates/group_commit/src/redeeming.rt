@@ -3,7 +3,7 @@ ghost use Rattle.std.specs.Prelude.{◌≡◌, ◌<◌, ◌-◌, length, IfSome,
 ghost use Rattle.group_commit.specs.Entries.{mark_at};
 ghost use Rattle.group_commit.specs.Seen.{snapshot_length};
 ghost use Rattle.group_commit.specs.Calls.{NamesOpen, IsRedeemed, IsForgotten};
-ghost use Rattle.group_commit.specs.Pasts.{IsAnswered, IsNext};
+ghost use Rattle.group_commit.specs.Pasts.{IsAnswered};
 
 use crate::{Forgotten, Mark, Redeemed, Ticket, Vault};
 use std::alloc::Allocator;
@@ -32,7 +32,6 @@ impl<D: Device, A: Allocator + Copy> Vault<D, A> {
     pub fn redeem(&mut self, ticket: Ticket<A>) -> Redeemed<A>
         ensures told { IsRedeemed self.old self.new ticket result }
         ensures answered { IsAnswered self.old self.new }
-        ensures next { IsNext D.disk self.old self.new }
     {
         let Some(place) = self.open_place(&ticket) else {
             return Redeemed::Stranger(ticket);
@@ -58,7 +57,6 @@ impl<D: Device, A: Allocator + Copy> Vault<D, A> {
     pub fn forget(&mut self, ticket: Ticket<A>) -> Forgotten
         ensures closed { IsForgotten self.old self.new ticket result }
         ensures answered { IsAnswered self.old self.new }
-        ensures next { IsNext D.disk self.old self.new }
     {
         let Some(place) = self.open_place(&ticket) else {
             ticket.discard();

@@ -2,7 +2,7 @@
 ghost use Rattle.std.specs.Prelude.{◌≡◌};
 ghost use Rattle.group_commit.specs.View.{length_of};
 ghost use Rattle.group_commit.specs.Calls.{IsRetired};
-ghost use Rattle.group_commit.specs.Pasts.{IsAnswered, IsNext};
+ghost use Rattle.group_commit.specs.Pasts.{IsAnswered};
 
 use crate::{Retired, Vault};
 use std::alloc::Allocator;
@@ -15,7 +15,6 @@ impl<D: Device, A: Allocator + Copy> Vault<D, A> {
         ensures retired { IsRetired self.old self.new result }
         ensures same { (length_of self.new.view ≡ length_of self.old.view) × (self.new.view.told ≡ self.old.view.told) }
         ensures answered { IsAnswered self.old self.new }
-        ensures next { IsNext D.disk self.old self.new }
     {
         if self.retired == self.settled {
             return Retired::Nothing;

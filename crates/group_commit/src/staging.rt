@@ -8,7 +8,7 @@ ghost use Rattle.group_commit.specs.Ticket.{ticket_of};
 ghost use Rattle.group_commit.specs.Seen.{snapshot_length};
 ghost use Rattle.group_commit.specs.Calls.{IsBusy, IsReason, noted};
 ghost use Rattle.group_commit.specs.Companions.{StaysOfOneVault};
-ghost use Rattle.group_commit.specs.Pasts.{IsAnswered, IsNext};
+ghost use Rattle.group_commit.specs.Pasts.{IsAnswered};
 
 use crate::entry::Entry;
 use crate::noting::note_any;
@@ -38,7 +38,6 @@ impl<D: Device, A: Allocator + Copy> Vault<D, A> {
         ensures handed_back { IfErr result (λ refusal. refusal.1 ≡ command) }
         ensures reason { IfErr result (λ refusal. IsReason self.old refusal.0) }
         ensures answered { IsAnswered self.old self.new }
-        ensures next { IsNext D.disk self.old self.new }
         ensures one_vault { StaysOfOneVault D.disk self.old self.new }
     {
         if self.broken {

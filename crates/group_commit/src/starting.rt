@@ -8,7 +8,7 @@ ghost use Rattle.group_commit.specs.View.{book_of, view_acted};
 ghost use Rattle.group_commit.specs.Seen.{snapshot_length};
 ghost use Rattle.group_commit.specs.Calls.{MayStart};
 ghost use Rattle.group_commit.specs.Companions.{StaysOfOneVault};
-ghost use Rattle.group_commit.specs.Pasts.{IsAnswered, IsNext};
+ghost use Rattle.group_commit.specs.Pasts.{IsAnswered};
 
 use crate::{Started, Vault};
 use std::alloc::Allocator;
@@ -38,7 +38,6 @@ impl<D: Device, A: Allocator + Copy> Vault<D, A> {
         ensures memory { OnErr result (MayStart self.old) }
         ensures life { self.new.life ≡ self.old.life }
         ensures answered { IsAnswered self.old self.new }
-        ensures next { IsNext D.disk self.old self.new }
         ensures one_vault { StaysOfOneVault D.disk self.old self.new }
     {
         what_is_noted_is_spelled::<D>();

@@ -1,4 +1,4 @@
-use Rattle.std.proofs.Common.{rules, inl, inr}
+use Rattle.std.proofs.Common.{rules, inr}
 use Rattle.group_commit.specs.World.{Forget}
 use Rattle.group_commit.specs.Inside.{seen_of}
 use Rattle.group_commit.proofs.Gone.{gone_forgotten}
@@ -14,6 +14,3 @@ invariant_of-self g c = (
 
 pub returns-clause-answered : goal.returns-clause-answered
 returns-clause-answered g c = inr (Forget c.args.ticket.position, record { allowed = c.in-Some.ensures.some.0.1; made = search rules; life = search rules })
-
-pub returns-clause-next : goal.returns-clause-next
-returns-clause-next g c = inl (returns-clause-answered g c)

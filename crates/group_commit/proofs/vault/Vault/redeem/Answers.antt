@@ -1,4 +1,4 @@
-use Rattle.std.proofs.Common.{◌≡◌, ◌<◌, inl, arith}
+use Rattle.std.proofs.Common.{◌≡◌, ◌<◌, arith}
 use Rattle.group_commit.specs.Inside.{seen_of}
 use Rattle.group_commit.proofs.Gone.{gone_told}
 use Rattle.group_commit.proofs.Tickets.{open_here, tell_kept, one_more_fits, tells}
@@ -22,4 +22,4 @@ pub returns-in-Ok : goal.returns-in-Ok
 returns-in-Ok g c =
     let below : c.args.ticket.position < c.self.inside.settled = (let p : c.position.result ≡ c.args.ticket.position = c.position.ensures in let q : c.position.result < c.self.inside.settled = c.if-position-self.false in omega arith) in
     let t = tells (seen_of c.self.inside) c.args.self.now c.args.ticket c.in-Some.place c.close.new.self c.in-Ok.reply c.into_receipt.result c.self.view_is c.in-Some.ensures.some below c.close.ensures c.in-Ok.ensures c.into_receipt.ensures in
-    record { told = t; answered = telling_is_answered t; next = inl (telling_is_answered t) }
+    record { told = t; answered = telling_is_answered t }

@@ -1,4 +1,4 @@
-use Rattle.std.proofs.Common.{◌≡◌, ◌≢◌, ◌∙◌, inl, List, Some, true, false, sym, ap, subst, rules}
+use Rattle.std.proofs.Common.{◌≡◌, ◌≢◌, ◌∙◌, List, Some, true, false, sym, ap, subst, rules}
 use Rattle.group_commit.specs.declared.mark.Mark.TheVariants.{Open}
 use Rattle.group_commit.specs.declared.answers.Retired.TheVariants as answers
 use Rattle.group_commit.specs.Entries.{Kept, mark_at}
@@ -36,5 +36,4 @@ returns g c =
       retired = subst (λ (old : VaultSeen _). IsRetired old (retired seen base c.pop-entry.new.self) answers.One) c.self.view_is (retires disk seen c.self.inside.book k c.pop-entry.result c.pop-entry.new.self c.pop-entry.ensures base next settled closed);
       same = search rules;
       answered = answered;
-      next = inl answered;
     }

@@ -1,4 +1,4 @@
-use Rattle.std.proofs.Common.{rules, inl, inr, ◌≡◌, ◌<◌, ◌∙◌, length, refl, sym, ap, arith}
+use Rattle.std.proofs.Common.{rules, inr, ◌≡◌, ◌<◌, ◌∙◌, length, refl, sym, ap, arith}
 use Rattle.group_commit.specs.World.{Stage}
 use Rattle.group_commit.specs.View.{length_of}
 use Rattle.group_commit.specs.Seen.{VaultSeen}
@@ -30,9 +30,6 @@ invariant_of-self-2 g c =
 
 pub returns-clause-answered : goal.returns-clause-answered
 returns-clause-answered g c = inr (Stage c.args.session c.args.command, record { allowed = search rules; made = search rules; life = search rules })
-
-pub returns-clause-next : goal.returns-clause-next
-returns-clause-next g c = inl (returns-clause-answered g c)
 
 pub returns-clause-one_vault : goal.returns-clause-one_vault
 returns-clause-one_vault g c = stays g.D.Device.disk (seen_of c.self.inside) _ c.note_any.new.store c.self.view_is c.note_any.ensures.one_vault

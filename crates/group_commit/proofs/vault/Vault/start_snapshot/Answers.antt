@@ -1,4 +1,4 @@
-use Rattle.std.proofs.Common.{◌≡◌, ◌∙◌, inl, ap, sym, subst}
+use Rattle.std.proofs.Common.{◌≡◌, ◌∙◌, ap, sym, subst}
 use Rattle.std.specs.Prelude.{Ok}
 use Rattle.vault_model.specs.Vault.{durable}
 use Rattle.group_commit.specs.View.{length_of}
@@ -35,9 +35,6 @@ returns-in-Ok-Yes-clause-answered g c =
     let all : c.len-all.result ≡ length_of seen.view = c.len-all.ensures ∙ ap (λ (s : VaultSeen _). length_of s.view) (sym c.self.view_is) in
     subst (λ (old : VaultSeen _). IsAnswered old (seen_of (record c.self.inside { store = c.start_snapshot.new.self; sealed = c.len-all.result }))) c.self.view_is
     (started_is_answered g.D.Device.disk seen c.self.inside.book c.self.invariant.0 c.start_snapshot.new.self c.len-all.result (e.yes yes) all (e.may yes))
-
-pub returns-in-Ok-Yes-clause-next : goal.returns-in-Ok-Yes-clause-next
-returns-in-Ok-Yes-clause-next g c = inl (returns-in-Ok-Yes-clause-answered g c)
 
 pub returns-in-Ok-Yes-clause-one_vault : goal.returns-in-Ok-Yes-clause-one_vault
 returns-in-Ok-Yes-clause-one_vault g c = stays g.D.Device.disk (seen_of c.self.inside) _ c.start_snapshot.new.self c.self.view_is (c.in-Ok-Yes.ensures.one_vault (ap Ok c.in-Ok-Yes.field-0-is))

@@ -12,9 +12,9 @@ use Rattle.test_commits.proofs.vault.past.told.Goals as goal
 
 pub returns-clause-past : goal.returns-clause-past
 returns-clause-past g c = λ past p.
-    let staged = c.a_past_goes_on.ensures.goes_on c.args.vault.now past p c.stage.ensures.next in
-    let pumped = c.a_past_goes_on-2.ensures.goes_on c.stage.new.self (c.args.vault.now ∷ past) staged c.pump.ensures.next in
-    (c.stage.new.self, c.pump.new.self, c.a_past_goes_on-3.ensures.goes_on c.pump.new.self (c.stage.new.self ∷ c.args.vault.now ∷ past) pumped c.redeem-answer.ensures.next)
+    let staged = c.a_past_goes_on.ensures.answered c.args.vault.now past p c.stage.ensures.answered in
+    let pumped = c.a_past_goes_on-2.ensures.answered c.stage.new.self (c.args.vault.now ∷ past) staged c.pump.ensures.answered in
+    (c.stage.new.self, c.pump.new.self, c.a_past_goes_on-3.ensures.answered c.pump.new.self (c.stage.new.self ∷ c.args.vault.now ∷ past) pumped c.redeem-answer.ensures.answered)
 
 pub returns-clause-receipt : goal.returns-clause-receipt
 returns-clause-receipt g c =
