@@ -15,6 +15,9 @@ use Rattle.group_commit.specs.History.{entry_of}
 use Rattle.group_commit.specs.Seen.{VaultSeen, snapshot_length, most_kept}
 use Rattle.group_commit.specs.Calls.{IsBusy, noted}
 use Rattle.vault_protocol.specs.Talk.{Line, Awaited, Talk, is_full, noted_length, staged}
+use Rattle.vault_model.specs.declared.replies.Outside.TheVariants.{Busy}
+use Rattle.vault_lines.specs.Texts.{outside_text}
+use Rattle.vault_protocol.specs.Script.{with_refusal, answered}
 
 -- what contracts see of a runner
 abbrev pub talk_of : {D : Type 0} → VaultSeen D → List ℕ → List ℕ → List Line → Talk
@@ -98,3 +101,14 @@ staged_talk old new sessions asked lines more now refused connection session pla
       asked = (ap (λ p. slice_set asked p len) is_place ∙ ap (λ n. slice_set asked (connection - 1) n) (is_len ∙ ap length_of view ∙ one_longer old.view session command)) i;
       lines = is_more i;
     }
+
+-- a command that a busy vault refused leaves all as it was, and its line is answered so
+pub refused_talk : {D : Type 0} (old new : VaultSeen D) (sessions asked : List ℕ) (lines : List Line) (now : Talk) (connection : ℕ) (command : Command)
+    → talk_of new sessions asked lines ≡ now
+    → new ≡ old
+    → IsBusy old
+    → with_refusal (talk_of new sessions asked lines) connection (outside_text Busy) ≡ answered now connection (Some command)
+refused_talk old new sessions asked lines now connection command is same busy =
+    let full : is_full now ≡ true = ap is_full (sym is) ∙ ap (λ v. is_full (talk_of v sessions asked lines)) same ∙ busy_is_full old sessions asked lines busy in
+    ap (λ t. with_refusal t connection (outside_text Busy)) is
+    ∙ sym (ap (λ b. cond b (with_refusal now connection (outside_text Busy)) (staged now connection command)) full)
