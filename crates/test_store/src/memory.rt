@@ -224,7 +224,7 @@ static ROWS: [(&str, Call, u64); 5] = [
     ("Store::create", Call::Create, 1),
     ("Store::open", Call::Open, 7),
     ("Store::start_snapshot", Call::Start, 1),
-    ("read_body", Call::Read, 31),
+    ("read_body", Call::Read, 29),
     ("are_of_two_vaults", Call::Compare, 37),
 ];
 
