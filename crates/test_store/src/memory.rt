@@ -225,7 +225,7 @@ static ROWS: [(&str, Call, u64); 5] = [
     ("Store::open", Call::Open, 7),
     ("Store::start_snapshot", Call::Start, 1),
     ("read_body", Call::Read, 29),
-    ("are_of_two_vaults", Call::Compare, 37),
+    ("are_of_two_vaults", Call::Compare, 35),
 ];
 
 #[test]
