@@ -197,7 +197,7 @@ static TRIALS: [(&str, Trial, u64); 5] = [
             of: Asking::Inspect,
             ..PLAIN
         },
-        31,
+        29,
     ),
     (
         "figures_of",
