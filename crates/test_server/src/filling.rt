@@ -1,4 +1,4 @@
-//! Vaults to begin with: a new one, one of which a snapshot is wanted, and one that version 1 wrote.
+//! Vaults to begin with: a new one, one without room, one of which a snapshot is wanted, and one that version 1 wrote.
 
 use group_commit::{Pumped, Vault};
 use std::alloc::Global;
@@ -15,11 +15,16 @@ pub const CREATION: u64 = 8;
 
 pub const CREATION_BESIDE: u64 = 2;
 
+/// The most entries that a history keeps.
+pub const MOST_KEPT: u64 = 4096;
+
 /// A vault to begin with.
 #[derive(Clone, Copy)]
 pub enum Start {
     /// A new one, whose nth device call behind its creation is to fail.
     New(u64),
+    /// One whose history keeps as many entries as it may, all of them settled.
+    Full,
     /// One with so many bytes of frames that a snapshot is wanted, and one command of which isn't settled.
     Long,
     /// One that version 1 wrote, of which a snapshot is wanted, too.
@@ -35,6 +40,7 @@ pub(crate) fn begun<'a>(
 ) -> Begun<'a> {
     match start {
         Start::New(failing) => created(rt, global, memory, failing),
+        Start::Full => full(rt, global, memory),
         Start::Long => long(rt, global, memory),
         Start::Version1 => opened(rt, global, memory),
     }
@@ -112,6 +118,23 @@ fn is_staged<'a>(
             false
         }
     }
+}
+
+// Whether so many lines are staged and settled that there is no room for another.
+fn is_full<'a>(vault: &mut Begun<'a>, memory: &'a Refusing<Global>) -> bool {
+    for _entry in 0..MOST_KEPT {
+        if !is_staged(vault, memory, 0, b"list /") {
+            return false;
+        }
+    }
+    vault.pump() == Ok(Pumped::Settled) && !is_staged(vault, memory, 0, b"list /")
+}
+
+// A vault without room.
+fn full<'a>(rt: &impl Abort, global: Global, memory: &'a Refusing<Global>) -> Begun<'a> {
+    let mut vault = created(rt, global, memory, 0);
+    assert!(rt; is_full(&mut vault, memory), "a full history");
+    vault
 }
 
 // Whether a line is staged so often and settled: by the fourth pump, and none before it.

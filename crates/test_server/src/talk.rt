@@ -35,6 +35,8 @@ pub enum Flusher {
     Within,
     /// A flusher in a thread of its own, from before the first connection to behind the last one.
     Beside,
+    /// The same, and behind its first line a connection waits until the flusher has pumped.
+    Awaited,
 }
 
 /// Connections that are served one behind the other, what they are told, and what that comes to.
@@ -84,20 +86,51 @@ pub const PLAIN: Talk = Talk {
     came: NOTHING,
 };
 
-// Commits what was staged at once, by a flusher that ends behind it, unless there is one beside.
+// How many turns a connection waits for a flusher that is awaited.
+const LONGEST_AWAITED: u64 = 10_000_000;
+
+// What counts for a flusher beside: one once it runs, and one for each pump. This stands for its end.
+const ENDED: u64 = 1 << 32;
+
+// Counts its pumps.
+#[derive(Drop)]
+struct Pumping<'a> {
+    turn: &'a AtomicU64,
+}
+
+impl Gate for Pumping<'_> {
+    fn at(&self, point: Point) {
+        if point == Point::Pump {
+            self.turn.fetch_add(1, Ordering::SeqCst);
+        }
+    }
+}
+
+// Commits what was staged at once, by a flusher that ends behind it, unless there is one beside. One that is awaited holds the connection
+// before its second line.
 #[derive(Drop)]
 struct Committing<'a, S: Tally, T: Tally, D: Device, A: Allocator, H: Wait + Clock> {
     rt: &'a H,
     shared: &'a Shared<D, S, T, A>,
     flusher: Flusher,
+    turn: &'a AtomicU64,
+    reads: AtomicU64,
 }
 
 impl<S: Tally, T: Tally, D: Device, A: Allocator + Copy, H: Wait + Clock> Gate
     for Committing<'_, S, T, D, A, H> {
     fn at(&self, point: Point) {
-        if self.flusher == Flusher::Within && matches!(point, Point::Staged(_)) {
-            self.shared.close(self.rt);
-            let _ = run_flusher(self.rt, self.shared, &OpenGate);
+        match (self.flusher, point) {
+            (Flusher::Within, Point::Staged(_)) => {
+                self.shared.close(self.rt);
+                let _ = run_flusher(self.rt, self.shared, &OpenGate);
+            }
+            (Flusher::Awaited, Point::Read(_)) => {
+                if self.reads.fetch_add(1, Ordering::SeqCst) == 1 {
+                    let _ = is_reached_within(self.turn, 2, LONGEST_AWAITED);
+                }
+            }
+            _ => {}
         }
     }
 }
@@ -111,6 +144,7 @@ fn serve_all<S: Tally, T: Tally, D: Device, A: Allocator + Copy, H: Wait + Clock
     alloc: A,
     shared: &Shared<D, S, T, A>,
     talk: &Talk,
+    turn: &AtomicU64,
     writer: &mut Hearer,
     share: Share<S, T>,
 ) -> (Share<S, T>, Answered) {
@@ -118,6 +152,8 @@ fn serve_all<S: Tally, T: Tally, D: Device, A: Allocator + Copy, H: Wait + Clock
         rt,
         shared,
         flusher: talk.flusher,
+        turn,
+        reads: AtomicU64::new(0),
     };
     let mut share = share;
     let mut answered = (None, 0);
@@ -156,24 +192,24 @@ fn flushed<
 {
     let state = AtomicU64::new(0);
     let turn = &state;
-    let is_beside = talk.flusher == Flusher::Beside;
+    let is_beside = talk.flusher != Flusher::Within;
     let (flushed, (share, answered, stays)) = thread::join(
         rt,
         move || {
             turn.store(1, Ordering::SeqCst);
             let flushed = if is_beside {
-                run_flusher(rt, shared, &OpenGate)
+                run_flusher(rt, shared, &Pumping { turn })
             } else {
                 Flushed::Closed
             };
-            turn.store(2, Ordering::SeqCst);
+            turn.store(ENDED, Ordering::SeqCst);
             flushed
         },
         move || {
-            let (share, answered) = serve_all(rt, alloc, shared, talk, writer, share);
+            let (share, answered) = serve_all(rt, alloc, shared, talk, turn, writer, share);
             let stays = is_beside
                 && is_reached_within(turn, 1, TURNS)
-                && !is_reached_within(turn, 2, 1_000_000);
+                && !is_reached_within(turn, ENDED, 1_000_000);
             shared.close(rt);
             (share, answered, stays)
         },

@@ -1,7 +1,7 @@
 //! Conversations on a connection, and on some one behind the other; a flusher with nothing to do, and one that makes a snapshot.
 
 use crate::devices::{Devices, Piece};
-use crate::filling::{COMMITS, CREATION, CREATION_BESIDE, Start};
+use crate::filling::{COMMITS, CREATION, CREATION_BESIDE, MOST_KEPT, Start};
 use crate::talk::{COMMIT, Came, Flusher, NOTHING, PLAIN, SNAPSHOT, Talk, come_to_that};
 use test_memory::Refusing;
 use vault_sessions::{Ended, Flushed, Totals};
@@ -57,7 +57,7 @@ const X_64: &[u8] = b"xxxxxxxxxxxxxxxxxxxxxxxxxxxxxxxxxxxxxxxxxxxxxxxxxxxxxxxxxx
 
 const X_63: &[u8] = b"xxxxxxxxxxxxxxxxxxxxxxxxxxxxxxxxxxxxxxxxxxxxxxxxxxxxxxxxxxxxxxx";
 
-static TALKS: [Talk; 12] = [
+static TALKS: [Talk; 13] = [
     Talk {
         name: "lines beside a flusher",
         flusher: Flusher::Beside,
@@ -92,6 +92,22 @@ static TALKS: [Talk; 12] = [
     Talk {
         name: "a flusher that stays where there is nothing to do",
         flusher: Flusher::Beside,
+        ..PLAIN
+    },
+    // Nothing is staged, so the flusher sleeps until it is asked for room.
+    Talk {
+        name: "one that is told that there is no room gets it",
+        start: Start::Full,
+        flusher: Flusher::Awaited,
+        says: &[&[(b"hello anna\nhello anna\nquit\n", 1)]],
+        hears: &[(b"ERR 80\nOK session 1\nOK left\n", 1)],
+        came: Came {
+            ended: Some(Ended::Quit),
+            answers: 3,
+            totals: Totals { staged: 2, told: 2 },
+            entries: MOST_KEPT + 2,
+            ..NOTHING
+        },
         ..PLAIN
     },
     Talk {
