@@ -38,7 +38,7 @@ rising_at (x ∷ xs) rising zero (suc j) d low high = later_at x.place xs rising
 rising_at (x ∷ xs) rising (suc i) (suc j) d low high = rising_at xs rising.1 i j d (omega arith) (omega arith)
 rising_at (x ∷ xs) rising i zero d low high = absurd (omega arith)
 
--- one more behind the last
+-- one more after the last
 above_more : (place : ℕ) (xs : List Draft) (i : ℕ) (d : Draft) → suc i < length xs → (slice_index_or xs i d).place < (slice_index_or xs (suc i) d).place
     → AllByRecursion (λ (y : Draft). nat_lt place y.place ≡ true) (take (suc i) xs) → AllByRecursion (λ (y : Draft). nat_lt place y.place ≡ true) (take (suc (suc i)) xs)
 above_more place [] i d high less all = absurd (omega arith)
@@ -52,7 +52,7 @@ rising_more (x ∷ []) i d high less rising = absurd (omega (arith, high))
 rising_more (x ∷ y ∷ xs) zero d high less rising = ((grind (arith, nat_tests, less), tt), (tt, tt))
 rising_more (x ∷ y ∷ xs) (suc i) d high less rising = (above_more x.place (y ∷ xs) i d (omega (arith, high)) less rising.0, rising_more (y ∷ xs) i d (omega (arith, high)) less rising.1)
 
--- the same of a draft and the one before it
+-- the same for a draft and the one before it
 pub rises_at : (xs : List Draft) (i : ℕ) (x y : Draft) → 1 ≤ i → i < length xs → x ≡ get_or xs i x → y ≡ get_or xs (i - 1) y → IsRising xs → y.place < x.place
 rises_at xs zero x y low high at_x at_y rising = absurd (omega (arith, low))
 rises_at xs (suc i) x y low high at_x at_y rising =

@@ -43,7 +43,7 @@ module _ (xs : List Draft) (i : ℕ) where
       pub weighed_fits : all ≤ most_weight → Fits w64 (sum + (length content + 8))
       weighed_fits light = let next = weighed_next in omega arith
 
-  -- what is left of a room beside them
+  -- the room that is left after them
   module _ (room left : ℕ) (so_far : left + drafts_weight xs ≡ room + drafts_weight (drop i xs)) where
     pub left_all : length xs ≤ i → left + drafts_weight xs ≡ room
     left_all past = let none = at_drop_all drafts_weight xs i past in omega arith
@@ -59,7 +59,7 @@ module _ (xs : List Draft) (i : ℕ) where
         pub left_next : (new : ℕ) → (length content ≤ less) × (new ≡ less - length content) → new + drafts_weight xs ≡ room + drafts_weight (drop (i + 1) xs)
         left_next new second = let taken = weight_taken x inside is in let size = ap length same in omega arith
 
--- the same of the drafts of all check-outs beside a shelf
+-- the same for the drafts of all check-outs after a shelf
 module _ (shelf : List (List (List ℕ))) (xs : List (List Draft)) (i room : ℕ) (so_far : room + weight shelf + sum_by drafts_weight xs ≡ most_weight + sum_by drafts_weight (drop i xs)) where
   pub light_all : length xs ≤ i → AreLight shelf xs
   light_all past = let none = at_drop_all (sum_by drafts_weight) xs i past in omega arith
@@ -84,7 +84,7 @@ module _ (place : ℕ) where
   abbrev other : Draft → Bool
   other x = not (x.place == place)
 
-  -- a draft of another place is at a lower or at a higher one, so what these amount to is what those do together
+  -- a draft of another place is at a lower or at a higher one, so the sum over the others is the sum over both kinds
   split : (total : List Draft → ℕ) (of_one : Draft → ℕ) → total [] ≡ 0 → ((x : Draft) (xs : List Draft) → total (x ∷ xs) ≡ of_one x + total xs) → (xs : List Draft) → total (filter low xs) + total (filter high xs) ≡ total (filter other xs)
   split total of_one none adds [] = omega arith
   split total of_one none adds (x ∷ xs) = by_tests (nat_lt x.place place) refl (nat_lt place x.place) refl (x.place == place) refl (split total of_one none adds xs)

@@ -1,4 +1,4 @@
--- The parts of a durable vault, as they are kept in a file. This project's own.
+-- The parts of a durable vault, as a file keeps them. This project's own.
 use Rattle.std.specs.Prelude.{◌≡◌, ◌≢◌, ℕ, ◌+◌, ◌≤◌, nat_lt, true, if◌then◌else◌, List, [], ◌∷◌, ◌++◌, length, map, sum_by, None, All}
 use Rattle.vault_model.specs.declared.place.Place.{Place}
 use Rattle.vault_model.specs.declared.claims.Claim.{Claim}
@@ -46,33 +46,33 @@ pub record IsVaultOf (parts : Parts) (v : Vault) : Type 0 where
   pub durable : IsDurable v
   pub parts_are : parts_of v ≡ parts
 
--- the items of all these claims name places that are there
+-- the items of all these claims name places of the tree
 abbrev pub AreAllThere : List Place → List Claim → Type 0
 AreAllThere tree claims = All (λ (c : Claim). AreThere tree c.items) claims
 
--- items overlap those of none of these claims
+-- the items overlap none of these claims
 abbrev pub OverlapsNone : List Place → List Claim → List Item → Type 0
 OverlapsNone tree claims items = blocker tree claims items ≡ None
 
--- versions and drafts are together not too heavy
+-- versions and drafts together aren't too heavy
 abbrev pub AreLight : List (List (List ℕ)) → List (List Draft) → Type 0
 AreLight shelf drafts = weight shelf + sum_by drafts_weight drafts ≤ most_weight
 
--- a draft that a claim of these items may have, where it is held
+-- a draft that a claim of these items may have, if it is granted
 pub record MayBe (tree : List Place) (items : List Item) (draft : Draft) : Type 0 where
   pub there : draft.place ≤ length tree
   pub part : is_part tree draft.place ≡ true
   pub changed : change_set tree items draft.place ≡ true
   pub short : length draft.content ≤ longest_content
 
--- drafts that a claim of these items may have behind these other claims; it is held, if it has any
+-- drafts that a claim of these items may have behind these other claims; if it has any, it is granted
 pub record MayHave (tree : List Place) (before : List Claim) (items : List Item) (drafts : List Draft) : Type 0 where
   pub few : length drafts ≤ most_drafts
   pub rising : IsRising drafts
   pub each : All (MayBe tree items) drafts
   pub held : drafts ≢ [] → OverlapsNone tree before items
 
--- each of these claims, which stand behind others, may have its drafts
+-- each of these claims, which come after the others, may have its drafts
 abbrev pub EachMayHave : List Place → List Claim → List Claim → List (List Draft) → Type 0
 EachMayHave tree before [] [] = Unit {0}
 EachMayHave tree before [] (own ∷ drafts) = ⊥
@@ -80,7 +80,7 @@ EachMayHave tree before (claim ∷ claims) [] = ⊥
 EachMayHave tree before (claim ∷ claims) (own ∷ drafts) =
     MayHave tree before claim.items own × EachMayHave tree (before ++ claim ∷ []) claims drafts
 
--- what a vault of these claims and drafts keeps, beside that the claims are a line
+-- the invariant of a vault of these claims and drafts, apart from the claims being a line
 pub record AreFit (tree : List Place) (shelf : List (List (List ℕ))) (claims : List Claim) (drafts : List (List Draft)) : Type 0 where
   pub there : AreAllThere tree claims
   pub versions : AreVersions tree shelf
@@ -92,7 +92,7 @@ abbrev pub number_in : ClaimId → ℕ
 number_in (Long n) = n
 number_in (Short n) = n
 
--- a check-out with these drafts, held if there are any
+-- a check-out with these drafts: granted if there are any, else waiting
 abbrev pub opened : {A : Type 0} → ℕ → List Draft → AnyCheckOut A
 opened number [] = Waiting (record { number = number; state = tt })
 opened number (draft ∷ drafts) = Held (record { number = number; state = draft ∷ drafts })

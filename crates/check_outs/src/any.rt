@@ -1,4 +1,4 @@
-//! The check-outs of a book, each typed as it stands, by rising number.
+//! The check-outs of a book, each typed by its standing, by rising number.
 ghost use Rattle.std.specs.Prelude.{◌≡◌, ◌<◌, ◌==◌, true, ◌∷◌, [], ◌++◌, vec_len, vec_capacity, length, position, slice_get, Some, IfSome, OnOk, OnErr};
 ghost use Rattle.std.specs.Option.{option_copied};
 ghost use Rattle.check_outs.specs.Typed.{number_of, own_drafts, check_out_of, is_held_standing, granted_if, recalled_unless, is_open, drafts_at, with_saved, without_check_out, IsAscending};
@@ -9,7 +9,7 @@ use std::alloc::Allocator;
 use std::mem::replace;
 use vault_model::{DraftIn, NoMemory, Standing};
 
-/// A check-out, typed as it stands.
+/// A check-out, typed by its standing.
 #[derive(Drop)]
 pub enum AnyCheckOut<A: Allocator> {
     Waiting(CheckOut<Waiting<A>>),
@@ -37,7 +37,7 @@ impl<A: Allocator> AnyCheckOut<A> {
         }
     }
 
-    /// Gives it up, with its drafts.
+    /// Gives it up, with its drafts. Returns the number of its claim.
     pub fn withdraw(self) -> u32
         ensures { result ≡ number_of self }
     {
@@ -49,7 +49,7 @@ impl<A: Allocator> AnyCheckOut<A> {
 }
 
 impl<A: Allocator> AnyCheckOut<A> {
-    /// A new check-out, as its claim stands.
+    /// A new check-out, typed by its claim's standing.
     pub fn asked(alloc: A, number: u32, standing: Standing) -> AnyCheckOut<A>
         ensures { result ≡ granted_if (is_held_standing (Some standing)) (typed.Waiting (record { number = number; state = tt })) }
     {
@@ -60,7 +60,7 @@ impl<A: Allocator> AnyCheckOut<A> {
         }
     }
 
-    /// The check-out, granted where its claim is held and it waits.
+    /// The check-out. A waiting one becomes granted (`Held`), if its claim is.
     pub fn granted_if(self, holds: bool) -> AnyCheckOut<A>
         ensures { result ≡ granted_if holds self }
     {
@@ -72,7 +72,7 @@ impl<A: Allocator> AnyCheckOut<A> {
 }
 
 impl<A: Allocator + Copy> AnyCheckOut<A> {
-    /// The check-out, recalled where its claim is not held and it has no drafts.
+    /// The check-out. One without drafts is recalled (`Waiting` again), if its claim isn't granted.
     pub fn recalled_unless(self, holds: bool) -> AnyCheckOut<A>
         ensures { result ≡ recalled_unless holds self }
     {
@@ -93,7 +93,7 @@ fn position_of<A: Allocator>(check_outs: &[AnyCheckOut<A>], number: u32) -> Opti
         .position(|check_out| check_out.number() == number)
 }
 
-/// Where the check-out of this number is.
+/// The index of the check-out of this number.
 pub fn index_of<A: Allocator>(check_outs: &[AnyCheckOut<A>], number: u32) -> Option<usize>
     ensures bound { IfSome result (λ i. i < length check_outs.now) }
     ensures there { IfSome result (λ i. slice_get check_outs.now i ≡ check_out_of check_outs.now number) }
@@ -114,7 +114,7 @@ pub fn check_out_at<A: Allocator>(
         .find(|check_out| check_out.number() == number)
 }
 
-/// The drafts of the check-out of this number, by rising place; none where there is no such.
+/// The drafts of the check-out of this number, by rising place; none if there is no such one.
 pub fn drafts_at<A: Allocator>(check_outs: &[AnyCheckOut<A>], number: u32) -> &[DraftIn<A>]
     ensures { result.now ≡ drafts_at check_outs.now number }
 {
@@ -124,7 +124,7 @@ pub fn drafts_at<A: Allocator>(check_outs: &[AnyCheckOut<A>], number: u32) -> &[
     }
 }
 
-/// Saves a draft in the check-out of this number, which is held.
+/// Saves a draft in the check-out of this number, which must be granted.
 pub fn save_at<A: Allocator>(
     check_outs: &mut Vec<AnyCheckOut<A>, A>,
     number: u32,
@@ -143,28 +143,28 @@ pub fn save_at<A: Allocator>(
     }
 }
 
-// Takes a check-out out of its place, for what becomes of it to be put there.
+// Moves a check-out out of its slot. The caller puts there what becomes of it.
 fn taken<A: Allocator>(check_out: &mut AnyCheckOut<A>, alloc: A) -> AnyCheckOut<A>
     ensures { result ≡ check_out.old }
 {
     replace(check_out, AnyCheckOut::Waiting(CheckOut::asked(alloc, 0)))
 }
 
-/// Grants a waiting check-out, where its claim is held.
+/// Grants a waiting check-out, if its claim is granted.
 pub fn grant_one<A: Allocator>(check_out: &mut AnyCheckOut<A>, alloc: A, holds: bool)
     ensures { check_out.new ≡ granted_if holds check_out.old }
 {
     *check_out = taken(check_out, alloc).granted_if(holds);
 }
 
-/// Recalls a held check-out without drafts, unless its claim is held.
+/// Recalls a granted check-out without drafts (it waits again), unless its claim is granted.
 pub fn recall_one<A: Allocator + Copy>(check_out: &mut AnyCheckOut<A>, alloc: A, holds: bool)
     ensures { check_out.new ≡ recalled_unless holds check_out.old }
 {
     *check_out = taken(check_out, alloc).recalled_unless(holds);
 }
 
-/// Puts a new check-out last, as its claim stands. There is room.
+/// Puts a new check-out last, typed by its claim's standing. There must be room.
 pub fn put_last<A: Allocator + Copy>(
     check_outs: &mut Vec<AnyCheckOut<A>, A>,
     number: u32,
@@ -178,7 +178,7 @@ pub fn put_last<A: Allocator + Copy>(
     check_outs.push(check_out).unwrap();
 }
 
-/// Takes the check-out of this number away, with its drafts.
+/// Removes the check-out of this number, with its drafts.
 pub fn withdraw_at<A: Allocator>(check_outs: &mut Vec<AnyCheckOut<A>, A>, number: u32)
     requires { IsAscending check_outs.old.items }
     ensures { check_outs.new.items ≡ without_check_out check_outs.old.items number }

@@ -1,4 +1,4 @@
-//! Check-outs, typed by how they stand.
+//! Check-outs, typed by their standing.
 ghost use Rattle.std.specs.Prelude.{◌≡◌, [], OnOk, OnErr};
 ghost use Rattle.check_outs.specs.CheckOuts.{IsRising, with_own};
 
@@ -6,8 +6,8 @@ use std::alloc::{AllocFailed, Allocator, Global};
 use std::marker::Model;
 use vault_model::{DraftIn, Drafts, Listing, NoMemory};
 
-/// A long claim in its designer's hands, by its number: `CheckOut<Waiting>` while it is queued, and
-/// `CheckOut<Held>` once it is held. Drafts are saved in a held one alone.
+/// A designer's long claim, by its number: `CheckOut<Waiting>` while it waits, and `CheckOut<Held>`
+/// once it is granted. Drafts are saved only in a granted one.
 #[derive(Drop)]
 pub struct CheckOut<State> {
     number: u32,
@@ -22,7 +22,7 @@ impl<State> Model for CheckOut<State> {
     ghost view = { λ c. record { number = c.number; state = c.state } };
 }
 
-/// What a queued check-out has: no drafts, and the memory that they will be kept in.
+/// The state of a waiting check-out: no drafts, and the allocator for later ones.
 #[derive(Drop)]
 pub struct Waiting<A: Allocator = Global> {
     alloc: A,
@@ -34,7 +34,7 @@ impl<A: Allocator> Model for Waiting<A> {
     ghost view = { λ w. tt };
 }
 
-/// What a held check-out has: its drafts, one of a part, by rising place.
+/// The state of a granted check-out: its drafts, at most one for each part, by rising place.
 #[derive(Drop)]
 pub struct Held<A: Allocator = Global> {
     drafts: Vec<DraftIn<A>, A>,
@@ -63,7 +63,7 @@ impl<State> CheckOut<State> {
 }
 
 impl<State: Drop> CheckOut<State> {
-    /// Gives the check-out up, with its drafts. What is left is the number of its claim.
+    /// Gives the check-out up, with its drafts. Returns the number of its claim.
     pub fn withdraw(self) -> u32
         ensures { result ≡ self.number }
     {
@@ -72,7 +72,7 @@ impl<State: Drop> CheckOut<State> {
 }
 
 impl<A: Allocator> CheckOut<Waiting<A>> {
-    /// A check-out that is queued.
+    /// A check-out that waits.
     pub fn asked(alloc: A, number: u32) -> Self
         ensures { result ≡ record { number = number; state = tt } }
     {
@@ -82,7 +82,7 @@ impl<A: Allocator> CheckOut<Waiting<A>> {
         }
     }
 
-    /// The check-out, now that it is held. It has no drafts yet, and no memory is asked for.
+    /// The check-out, now granted. It has no drafts yet, and the call takes no memory.
     pub fn grant(self) -> CheckOut<Held<A>>
         ensures { result ≡ record { number = self.number; state = [] } }
     {
@@ -114,7 +114,7 @@ fn save_in<A: Allocator>(
 }
 
 impl<A: Allocator + Copy> CheckOut<Held<A>> {
-    /// The check-out as one that is queued again. It has no drafts.
+    /// The check-out, waiting again. It must have no drafts.
     pub fn recall(self) -> CheckOut<Waiting<A>>
         requires { self.state ≡ [] }
         ensures { result ≡ record { number = self.number; state = tt } }
@@ -129,7 +129,7 @@ impl<A: Allocator + Copy> CheckOut<Held<A>> {
 }
 
 impl<A: Allocator> CheckOut<Held<A>> {
-    /// A held check-out with the drafts that another one had.
+    /// A granted check-out that begins with these drafts.
     pub fn reopened(number: u32, drafts: Drafts<A>) -> Self
         requires { IsRising drafts }
         ensures { result ≡ record { number = number; state = drafts } }
@@ -150,7 +150,7 @@ impl<A: Allocator> CheckOut<Held<A>> {
         self.state.drafts.as_slice()
     }
 
-    /// Saves a draft, in place of one of the same part. Memory may be asked for where there is none.
+    /// Saves a draft. It replaces one of the same part; if there is none, the call may take memory.
     pub fn save(&mut self, draft: DraftIn<A>) -> Result<(), NoMemory>
         ensures ok { OnOk result (self.new ≡ record self.old { state = with_own self.old.state draft }) }
         ensures err { OnErr result (self.new ≡ self.old) }
@@ -161,7 +161,7 @@ impl<A: Allocator> CheckOut<Held<A>> {
         }
     }
 
-    /// Gives the check-out up, and its drafts out, by rising place.
+    /// Ends the check-out, and returns its drafts, by rising place.
     pub fn close(self) -> Drafts<A>
         ensures drafts { result ≡ self.state }
         ensures rising { IsRising result }

@@ -1,4 +1,4 @@
-//! A check-out closed, with its drafts as new versions.
+//! Closing a check-out: its drafts become new versions.
 ghost use Rattle.std.specs.Prelude.{◌≡◌, ◌<◌, ◌≤◌, true, length, insert, vec_len, vec_capacity, IfOk, IfErr, OnOk, OnErr};
 ghost use Rattle.vault_model.specs.Limits.{most_drafts};
 ghost use Rattle.vault_model.specs.Shelf.{is_shelvable, shelved_all};
@@ -13,7 +13,7 @@ use part_versions::{NotAppended, Shelf};
 use std::alloc::Allocator;
 use vault_model::Refusal;
 
-// Takes the check-out of this number out, and says where it was.
+// Removes the check-out of this number. Returns the index where it was, too.
 fn take_held<A: Allocator>(
     check_outs: &mut Vec<AnyCheckOut<A>, A>,
     number: u32,
@@ -36,7 +36,7 @@ fn take_held<A: Allocator>(
     }
 }
 
-// Puts a check-out back to where it was taken from: there is room.
+// Puts a check-out back at the index that it was taken from. There must be room.
 fn put_back<A: Allocator>(
     check_outs: &mut Vec<AnyCheckOut<A>, A>,
     index: usize,
@@ -49,8 +49,8 @@ fn put_back<A: Allocator>(
     check_outs.insert(index, AnyCheckOut::Held(held)).unwrap();
 }
 
-/// Closes the check-out of this number, which is held: its drafts become versions, all or none. What
-/// was refused leaves it as it was.
+/// Closes the check-out of this number, which must be granted: its drafts become versions, all or
+/// none. A refusal leaves it as it was.
 pub fn close_at<A: Allocator + Copy>(
     check_outs: &mut Vec<AnyCheckOut<A>, A>,
     shelf: &mut Shelf<A>,

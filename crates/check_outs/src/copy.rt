@@ -1,4 +1,4 @@
-//! Check-outs copied.
+//! Copies of check-outs.
 ghost use Rattle.std.specs.Prelude.{◌≡◌, IfOk};
 
 use crate::any::AnyCheckOut;
@@ -22,7 +22,7 @@ fn copy_drafts<A: Allocator + Copy>(
 }
 
 impl<A: Allocator + Copy> AnyCheckOut<A> {
-    /// The same check-out, in this memory.
+    /// A copy of the check-out, in memory from this allocator.
     pub fn copy(&self, alloc: A) -> Result<AnyCheckOut<A>, NoMemory>
         ensures { IfOk result (λ copy. copy ≡ self.now) }
     {
@@ -39,7 +39,7 @@ impl<A: Allocator + Copy> AnyCheckOut<A> {
     }
 }
 
-/// The same check-outs, in this memory.
+/// Copies of the check-outs, in memory from this allocator.
 pub fn copy_check_outs<A: Allocator + Copy>(
     alloc: A,
     check_outs: &[AnyCheckOut<A>],

@@ -1,14 +1,14 @@
-//! Check-outs: long claims in their designers' hands, typed as they stand, with the drafts saved under them.
+//! Check-outs: the designers' long claims, typed as granted (`Held`) or waiting (`Waiting`), with the drafts saved under them.
 //!
-//! Promises: a draft is saved under a held check-out alone, in place of one of the same part (`CheckOut<Held>::save`). A list of
-//! check-outs changes as its definition says: one is put last, withdrawn, saved in or closed, whose drafts become versions all or none
-//! (`close_at`). One more draft may be saved exactly where its limits hold (`may_save`). What is told of items and of drafts is as
-//! defined (`at_paths`, `paths_of`, `content_at`). Want of memory changes nothing.
-//! Stands on: vault_model, design_tree, part_versions. Must not know: how a claim stands, the line, sessions, commands.
+//! Promises: a draft is saved only under a granted check-out, and replaces one of the same part (`CheckOut<Held>::save`). A list of
+//! check-outs changes as its definition says when one is put last, withdrawn, saved in or closed. Closing one makes all its drafts
+//! versions, or none (`close_at`). One more draft may be saved exactly if the limits hold with it (`may_save`). What replies say of
+//! items and of drafts is as defined (`at_paths`, `paths_of`, `content_at`). Out of memory, a call changes nothing.
+//! Stands on: vault_model, design_tree, part_versions. Must not know: which claims are granted, the line, sessions, commands.
 //!
-//! Invariant, of `Held`: drafts stand by rising place, one of a part.
+//! Invariant, of `Held`: drafts are in order of rising place, at most one for each part.
 //!
-//! Only tested: that memory is asked for only where a draft needs it.
+//! Only tested: that memory is requested only where a draft needs it.
 //! Start at: check_out.rt says why a draft can't be saved under a check-out that waits; any.rt has the list.
 #![tactic(auto)]
 

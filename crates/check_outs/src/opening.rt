@@ -1,4 +1,4 @@
-//! Check-outs made of claims and drafts that were kept.
+//! Check-outs made of stored claims and drafts.
 ghost use Rattle.std.specs.Prelude.{◌≡◌, ◌+◌, ◌<◌, ◌≤◌, nat_lt, position, vec_len, vec_capacity};
 ghost use Rattle.check_outs.specs.CheckOuts.{IsRising};
 ghost use Rattle.check_outs.specs.Parts.{number_in, opened, put_in};
@@ -18,7 +18,7 @@ pub fn number_in(id: ClaimId) -> u32
     }
 }
 
-/// A check-out with these drafts, held if there are any.
+/// A check-out with these drafts: granted if there are any, else waiting.
 pub fn opened<A: Allocator>(alloc: A, number: u32, drafts: Drafts<A>) -> AnyCheckOut<A>
     requires { IsRising drafts }
     ensures { result ≡ opened number drafts }
@@ -38,7 +38,7 @@ fn first_above<A: Allocator>(check_outs: &[AnyCheckOut<A>], number: u32) -> Opti
         .position(|check_out| number < check_out.number())
 }
 
-/// Puts a check-out before the first of a higher number. There is room.
+/// Puts a check-out before the first of a higher number. There must be room.
 pub fn put_in<A: Allocator>(check_outs: &mut Vec<AnyCheckOut<A>, A>, check_out: AnyCheckOut<A>)
     requires { vec_len check_outs.old < vec_capacity check_outs.old }
     ensures items { check_outs.new.items ≡ put_in check_out check_outs.old.items }

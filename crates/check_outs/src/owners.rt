@@ -1,10 +1,10 @@
-//! Whose a claim is.
+//! Who owns a claim.
 ghost use Rattle.std.specs.Prelude.{◌≡◌};
 ghost use Rattle.vault_model.specs.Step.{is_designer, is_owned_by};
 
 use vault_model::{Name, Owner, Session};
 
-/// Whether it is this designer's.
+/// Whether the owner is this designer.
 pub fn is_designer(owner: &Owner, name: &Name) -> bool
     ensures { result ≡ is_designer name.now owner.now }
 {
@@ -14,7 +14,7 @@ pub fn is_designer(owner: &Owner, name: &Name) -> bool
     }
 }
 
-/// Whether it is this session's, or its designer's.
+/// Whether the owner is this session, or its designer.
 pub fn is_owned_by(owner: &Owner, session: &Session) -> bool
     ensures { result ≡ is_owned_by session.now owner.now }
 {

@@ -1,4 +1,4 @@
-//! Whether versions and drafts are those of a vault.
+//! Whether a vault may have these versions and drafts.
 ghost use Rattle.std.specs.Prelude.{◌≡◌, ◌+◌, ◌<◌, ◌↔◌, IsTrue, IfSome, IsNone};
 ghost use Rattle.vault_model.specs.Shelf.{drafts_weight};
 ghost use Rattle.vault_model.specs.Vault.{AreVersions};
@@ -28,7 +28,7 @@ pub fn are_of_parts<A: Allocator>(tree: &Tree<A>, shelf: &Shelf<A>) -> bool
     true
 }
 
-/// Whether drafts stand by rising place.
+/// Whether drafts are in order of rising place.
 pub fn are_rising<A: Allocator>(drafts: &[DraftIn<A>]) -> bool
     ensures { IsTrue result ↔ IsRising drafts.now }
 {
@@ -40,14 +40,14 @@ pub fn are_rising<A: Allocator>(drafts: &[DraftIn<A>]) -> bool
     true
 }
 
-/// Whether a held claim of these items may have this draft.
+/// Whether a granted claim of these items may have this draft.
 pub fn may_be<A: Allocator>(tree: &Tree<A>, items: &Items, draft: &DraftIn<A>) -> bool
     ensures { IsTrue result ↔ MayBe tree.now items.now draft.now }
 {
     draft.content.as_slice().len() <= LONGEST_CONTENT && may_change(tree, items, draft.place)
 }
 
-// How much weight is left beside drafts, if there is enough.
+// The weight left of this room after these drafts, if they fit.
 fn left_beside<A: Allocator>(room: usize, drafts: &[DraftIn<A>]) -> Option<usize>
     ensures left { IfSome result (λ left. left + drafts_weight drafts.now ≡ room) }
     ensures none { IsNone result → room < drafts_weight drafts.now }
@@ -60,7 +60,7 @@ fn left_beside<A: Allocator>(room: usize, drafts: &[DraftIn<A>]) -> Option<usize
     Some(left)
 }
 
-/// Whether versions and drafts are together not too heavy.
+/// Whether versions and drafts together aren't too heavy.
 pub fn are_light<A: Allocator>(shelf: &Shelf<A>, drafts: &[Drafts<A>]) -> bool
     ensures { IsTrue result ↔ AreLight shelf.now drafts.now }
 {

@@ -1,4 +1,4 @@
-//! Items at paths, and the places that these lead to.
+//! Items given by paths, and their places.
 ghost use Rattle.std.specs.Prelude.{◌≡◌, ◌+◌, ◌≤◌, ◌&&◌, ◌++◌, nat_le, length, IfSome};
 ghost use Rattle.vault_model.specs.Vault.{AreThere};
 ghost use Rattle.vault_model.specs.Claims.{is_change, change_set};
@@ -11,7 +11,7 @@ use design_tree::Tree;
 use std::alloc::Allocator;
 use vault_model::{Intent, Item, Items, PathItem, PlaceId};
 
-/// The items at their places, if each place is there.
+/// The items by their places, if each path leads to a place.
 pub fn places_of<A: Allocator>(tree: &Tree<A>, wanted: &[PathItem]) -> Option<Items>
     requires { length wanted.now ≤ most_items }
     ensures placed { result ≡ placed tree.now wanted.now }
@@ -28,7 +28,7 @@ pub fn places_of<A: Allocator>(tree: &Tree<A>, wanted: &[PathItem]) -> Option<It
     Some(items)
 }
 
-/// Some items, and others behind them.
+/// Some items, followed by others.
 pub fn joined(items: Items, more: &Items) -> Items
     requires { length items + length more.now ≤ most_items }
     ensures { result ≡ items ++ more.now }
@@ -65,7 +65,7 @@ fn is_there<A: Allocator>(tree: &Tree<A>, item: &Item) -> bool
     (item.place.number() as usize) < tree.len()
 }
 
-/// Whether all these items name places that are there.
+/// Whether all these items name places of the tree.
 pub fn are_there<A: Allocator>(tree: &Tree<A>, items: &[Item]) -> bool
     ensures { result ≡ are_there tree.now items.now }
 {

@@ -1,4 +1,4 @@
-//! What is told of a claim's items and of its drafts.
+//! What replies say of a claim's items and of its drafts.
 ghost use Rattle.std.specs.Prelude.{◌≡◌, ◌≤◌, All, IfOk, map, length};
 ghost use Rattle.std.specs.Option.{option_copied};
 ghost use Rattle.vault_model.specs.Vault.{AreThere};
@@ -11,7 +11,7 @@ use design_tree::Tree;
 use std::alloc::Allocator;
 use vault_model::{DraftIn, Item, Listing, NoMemory, Path, PathItem, PlaceId};
 
-/// The items, each with the path that its place has. Memory is asked for once.
+/// The items, each with the path of its place. It makes one memory request.
 pub fn at_paths<A: Allocator>(
     alloc: A,
     tree: &Tree<A>,
@@ -32,7 +32,7 @@ pub fn at_paths<A: Allocator>(
     Ok(Listing::from_vec(told))
 }
 
-/// The paths of the drafts' places. Memory is asked for once.
+/// The paths of the drafts' places. It makes one memory request.
 pub fn paths_of<A: Allocator>(
     alloc: A,
     tree: &Tree<A>,
@@ -49,7 +49,7 @@ pub fn paths_of<A: Allocator>(
     Ok(Listing::from_vec(told))
 }
 
-/// The content of the draft of a place.
+/// The content of a place's draft.
 pub fn content_at<A: Allocator>(drafts: &[DraftIn<A>], place: PlaceId) -> Option<&[u8]>
     ensures { option_copied result ≡ content_at drafts.now place }
 {

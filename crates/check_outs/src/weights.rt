@@ -56,9 +56,9 @@ fn saved_weight<A: Allocator>(check_outs: &[AnyCheckOut<A>]) -> usize
 }
 
 /// Whether the check-out of this number may save this content of a place: the content is short
-/// enough, and with it the check-out has not too many drafts, and all is not too heavy.
+/// enough, and with it neither the check-out's number of drafts nor the total weight is too great.
 ///
-/// It looks at every draft once.
+/// It reads every draft of all check-outs once, and those of this check-out up to four times.
 pub fn may_save<A: Allocator>(
     shelf: &Shelf<A>,
     check_outs: &[AnyCheckOut<A>],

@@ -1,4 +1,4 @@
--- The children of a place, in a tree and in one with a place more.
+-- The children of a place, in a tree and in one with one more place.
 use Rattle.std.specs.Prelude.{◌≡◌, ℕ, zero, suc, ◌+◌, ◌<◌, ◌≤◌, Bool, true, false, ◌&&◌, ◌==◌, List, [], ◌∷◌, ◌++◌, length, Option, None, Some, slice_get, filter, All, refl}
 use Rattle.std.proofs.Common.{sym, ap, ◌∙◌, arith, cond}
 use Rattle.std.specs.List.{range_with_len, find, position_from}
@@ -19,7 +19,7 @@ abbrev pub children_from : ℕ → ℕ → List Place → List ℕ
 children_from parent first [] = []
 children_from parent first (x ∷ xs) = cond (x.parent == parent) (first ∷ children_from parent (first + 1) xs) (children_from parent (first + 1) xs)
 
--- under which place it stands
+-- the place that it is under
 abbrev place_parent : Place → ℕ
 place_parent place = place.parent
 
@@ -47,7 +47,7 @@ children_from-push parent first (y ∷ xs) x =
     by_test true tail more e = ap (λ t. first ∷ t) e
     by_test false tail more e = e
 
--- a place more is the last child of its parent
+-- a new place is the last child of its parent
 pub children_of-push : (tree : List Place) (x : Place) (parent : ℕ) → children_of (tree ++ x ∷ []) parent ≡ children_of tree parent ++ cond (x.parent == parent) ((length tree + 1) ∷ []) []
 children_of-push tree x parent =
     let plain : 1 + length tree ≡ length tree + 1 = omega arith in

@@ -34,7 +34,7 @@ module _ (tree : List Place) (x : Place) (lists : List (List ℕ)) where
   abbrev siblings : List ℕ
   siblings = slice_index_or lists x.parent [] ++ (length tree + 1) ∷ []
 
-  -- the index of the tree with a place more
+  -- the index of the tree with one more place
   pub IsIndexed-push : Rises tree → x.parent ≤ length tree → IsIndexed tree lists → IsIndexed (tree ++ x ∷ []) (with_child lists x.parent (length tree + 1))
   IsIndexed-push rises there indexed = record {
     whole = omega (arith, length-append tree (x ∷ []), length-append (slice_set lists x.parent siblings) ([] ∷ []), length-set lists x.parent siblings, indexed.whole);
@@ -69,14 +69,14 @@ module _ (tree : List Place) (x : Place) (lists : List (List ℕ)) where
           let same : suc (length tree) ≡ p = omega arith in
           ap (slice_get (with_child lists x.parent (length tree + 1))) (sym same) ∙ at_new ∙ ap (λ n. Some (children_of (tree ++ x ∷ []) n)) same
 
-  -- what a tree keeps, it keeps with a place more
+  -- the invariant of a tree holds with one more place
   pub IsSoundTree-push : IsSoundTree tree lists → x.parent ≤ length tree → may_have tree x.parent x.kind ≡ true → child tree x.parent x.name ≡ None → is_full tree x.parent ≡ false → IsSoundTree (tree ++ x ∷ []) (with_child lists x.parent (length tree + 1))
   IsSoundTree-push kept there kind fresh room = record {
     tree_is = let both = had tree x.parent x.kind kind in IsTree-push tree x kept.tree_is there both.1 both.0 fresh room;
     indexed = IsIndexed-push kept.tree_is.parents there kept.indexed;
   }
 
--- the lists behind their holders, where one holder got a place more and a holder without places came last
+-- the lists in their holders, after one holder got one more place and an empty holder came last
 pub with_child-map : {X : Type 0} (f : X → List ℕ) (xs : List X) (i place : ℕ) (old grown fresh : X) → i < length xs → old ≡ slice_index_or xs i old → f grown ≡ f old ++ place ∷ [] → f fresh ≡ []
     → map f (slice_set xs i grown ++ fresh ∷ []) ≡ with_child (map f xs) i place
 with_child-map f xs i place old grown fresh inside is grows none =

@@ -8,7 +8,7 @@ use Rattle.vault_model.specs.Tree.{parent_of, path_of}
 use Rattle.vault_model.proofs.Walks.{Rises}
 use Rattle.vault_model.proofs.Ways.{path_of-step}
 
--- a place's way is its parent's, and then its name, where the place is read out of the list
+-- a place's way is its parent's, and then its name; the place is read from the list
 pub path_of-next : (tree : List Place) (p r : ℕ) (x : Place) → Rises tree → p ≤ length tree → Some r ≡ parent_of tree p → x ≡ slice_index_or tree (p - 1) x → path_of tree p ≡ path_of tree r ++ x.name ∷ []
 path_of-next tree zero r x rises there e is = cc
 path_of-next tree (suc p) r x rises there e is =

@@ -6,7 +6,7 @@ use Rattle.vault_model.specs.Tree.{may_have, child, is_full}
 use Rattle.design_tree.specs.declared.tree.AddError.{AddError}
 use Rattle.design_tree.specs.declared.tree.AddError.TheVariants.{WrongKind, Exists, Limit, NoMemory}
 
--- what forbids a place by this name and of this kind under the parent: the parent may not have one of the kind, has a child of the name, or
+-- what forbids a place of this name and kind under the parent: the parent may not have one of the kind, it has a child of the name, or
 -- there is no room
 abbrev pub refusal : List Place → ℕ → List ℕ → Kind → Option AddError
 refusal tree parent name kind =
@@ -15,7 +15,7 @@ refusal tree parent name kind =
     else if is_full tree parent then Some Limit
     else None
 
--- what an error says of the tree: want of memory says that nothing there forbids the place
+-- what an error says of the tree: out of memory says that nothing there forbids the place
 abbrev pub refusal_told : AddError → Option AddError
 refusal_told WrongKind = Some WrongKind
 refusal_told Exists = Some Exists

@@ -5,8 +5,8 @@ ghost use Rattle.design_tree.specs.Index.{with_child};
 use std::alloc::{AllocError, Allocator};
 use vault_model::PlaceId;
 
-/// Puts a new place behind its siblings, and a list of its own children behind all lists. Where
-/// memory is refused each list stays as it was.
+/// Appends a new place to the list of its siblings, and an empty list for its own children to the
+/// lists. If memory is refused, all lists stay as they were.
 pub fn enter<A: Allocator + Copy>(
     lists: &mut Vec<Vec<PlaceId, A>, A>,
     parent: PlaceId,

@@ -14,7 +14,7 @@ use std::marker::Model;
 use thiserror::Error;
 use vault_model::{Kind, Listing, MAX_CHILDREN, MAX_PLACES, Name, NoMemory, Path, Place, PlaceId};
 
-/// The places of a vault, which contracts see as the list of them but for the library.
+/// The places of a vault. Contracts see them as a list, without the library.
 #[derive(Drop)]
 pub struct Tree<A: Allocator = Global> {
     places: Vec<Place, A>,
@@ -58,22 +58,22 @@ impl From<NoMemory> for AddError {
 }
 
 impl<A: Allocator> Tree<A> {
-    /// Does nothing: its contract says what every tree keeps, for a proof that needs it.
+    /// Does nothing. Its contract states the invariant of every tree, for a proof that needs it.
     pub fn see_whole(&self)
         ensures { IsTree self.now }
     {
         let _ = &self.places;
     }
 
-    /// How many places there are, with the library.
+    /// The number of places, with the library.
     pub fn len(&self) -> usize
         ensures { result ≡ length self.now + 1 }
     {
         self.places.len() + 1
     }
 
-    /// The place at the end of a path. The work grows with the path's names and their parents'
-    /// children alone.
+    /// The place at the end of a path. The work grows only with the number of the path's names and of
+    /// their parents' children.
     pub fn find(&self, path: &Path) -> Option<PlaceId>
         ensures found { result ≡ find_place self.now path.now }
         ensures there { IfSome result (λ place. place ≤ length self.now) }
@@ -93,7 +93,7 @@ impl<A: Allocator> Tree<A> {
         Some(at)
     }
 
-    /// The place by this name under a parent, of which the parent's children alone are looked at.
+    /// The place by this name under a parent. It searches only the parent's children.
     pub fn child(&self, parent: PlaceId, name: &Name) -> Option<PlaceId>
         requires { parent ≤ length self.now }
         ensures { result ≡ child self.now parent name.now }
@@ -128,7 +128,7 @@ impl<A: Allocator> Tree<A> {
         name_in(&self.places, place)
     }
 
-    /// The path of a place. The work grows with its depth alone, and takes no memory.
+    /// The path of a place. The work grows only with its depth. It takes no memory.
     pub fn path_of(&self, place: PlaceId) -> Path
         requires { place ≤ length self.now }
         ensures { result ≡ path_of self.now place }
@@ -136,7 +136,7 @@ impl<A: Allocator> Tree<A> {
         path_in(&self.places, place)
     }
 
-    /// What a place is.
+    /// The kind of a place.
     pub fn kind(&self, place: PlaceId) -> Kind
         requires { place ≤ length self.now }
         ensures { result ≡ kind_of self.now place }
@@ -144,7 +144,7 @@ impl<A: Allocator> Tree<A> {
         kind_in(&self.places, place)
     }
 
-    /// Whether a place is a part, under which there are no places.
+    /// Whether a place is a part. Under a part there are no places.
     pub fn is_part(&self, place: PlaceId) -> bool
         requires { place ≤ length self.now }
         ensures { result ≡ is_part self.now place }
@@ -152,7 +152,7 @@ impl<A: Allocator> Tree<A> {
         is_part_kind(self.kind(place))
     }
 
-    /// How deep a child of a place would stand. The work grows with the place's depth alone.
+    /// The depth that a child of a place would have. The work grows only with the place's depth.
     fn depth_under(&self, parent: PlaceId) -> usize
         requires { parent ≤ length self.now }
         ensures depth { result ≡ suc (depth self.now parent) }
@@ -161,7 +161,7 @@ impl<A: Allocator> Tree<A> {
         depth_in(&self.places, parent) + 1
     }
 
-    /// Whether a place may have a child of a kind. The work grows with the place's depth alone.
+    /// Whether a place may have a child of a kind. The work grows only with the place's depth.
     pub fn may_have(&self, parent: PlaceId, kind: Kind) -> bool
         requires { parent ≤ length self.now }
         ensures may { result ≡ may_have self.now parent kind }
@@ -171,7 +171,7 @@ impl<A: Allocator> Tree<A> {
         !self.is_part(parent) && may_stand(kind, depth)
     }
 
-    /// What is made under a place where nothing else is asked for. The work grows with the place's depth alone.
+    /// The kind that is made under a place by default. The work grows only with the place's depth.
     pub fn kind_under(&self, parent: PlaceId) -> Kind
         requires { parent ≤ length self.now }
         ensures kind { result ≡ kind_under self.now parent }
@@ -180,7 +180,8 @@ impl<A: Allocator> Tree<A> {
         kind_at(self.depth_under(parent))
     }
 
-    /// Whether an assembly may be asked for under a place. The work grows with the place's depth alone.
+    /// Whether an assembly may be asked for under a place, where the default is a part. The work grows only
+    /// with the place's depth.
     pub fn may_nest_under(&self, parent: PlaceId) -> bool
         requires { parent ≤ length self.now }
         ensures nests { result ≡ may_nest_under self.now parent }
@@ -189,7 +190,7 @@ impl<A: Allocator> Tree<A> {
         is_between(self.depth_under(parent))
     }
 
-    /// Whether a place is another, or lies under it. The work grows with the place's depth alone.
+    /// Whether a place is another, or lies under it. The work grows only with the place's depth.
     pub fn is_under(&self, place: PlaceId, top: PlaceId) -> bool
         requires { place ≤ length self.now }
         ensures { result ≡ is_under self.now place top }
@@ -207,7 +208,7 @@ impl<A: Allocator> Tree<A> {
 }
 
 impl<A: Allocator + Copy> Tree<A> {
-    /// A tree of the library alone, in this allocator's memory. It asks for memory once, for the
+    /// A tree of the library alone, in memory from this allocator. It makes one memory request, for the
     /// library's list of children.
     pub fn new(alloc: A) -> Result<Tree<A>, NoMemory>
         ensures { IfOk result (λ tree. tree ≡ []) }
@@ -220,8 +221,8 @@ impl<A: Allocator + Copy> Tree<A> {
         })
     }
 
-    /// The same tree once more, in its own allocator's memory, of which it takes what the places and
-    /// the lists of children fill.
+    /// A copy of the tree, in memory from its own allocator: as much as the places and the lists of
+    /// children fill.
     pub fn copy(&self) -> Result<Tree<A>, NoMemory>
         ensures { IfOk result (λ copy. copy ≡ self.now) }
     {
@@ -232,7 +233,7 @@ impl<A: Allocator + Copy> Tree<A> {
         })
     }
 
-    /// The children of a place by number, in the tree's own allocator.
+    /// The children of a place, by rising number, in memory from the tree's own allocator.
     pub fn children(&self, parent: PlaceId) -> Result<Vec<PlaceId, A>, NoMemory>
         requires { parent ≤ length self.now }
         ensures { IfOk result (λ c. c.items ≡ children_of self.now parent) }
@@ -241,7 +242,7 @@ impl<A: Allocator + Copy> Tree<A> {
         Vec::from_slice(alloc, self.child_list(parent)).map_err(|_| NoMemory)
     }
 
-    /// The names of a place's children, by their numbers, in the tree's own allocator.
+    /// The names of a place's children, by rising number, in memory from the tree's own allocator.
     pub fn names_under(&self, parent: PlaceId) -> Result<Listing<Name, A>, NoMemory>
         requires { parent ≤ length self.now }
         ensures { IfOk result (λ names. names ≡ names_under self.now parent) }
@@ -251,8 +252,8 @@ impl<A: Allocator + Copy> Tree<A> {
         Ok(Listing::from_vec(names))
     }
 
-    /// Makes a place where nothing forbids it, which the caller has tested. Room is asked for
-    /// before anything changes.
+    /// Makes a place. The caller has checked that nothing forbids it. Memory is requested before
+    /// anything changes.
     pub fn push(&mut self, parent: PlaceId, name: Name, kind: Kind) -> Result<PlaceId, NoMemory>
         requires there { parent ≤ length self.old }
         requires kind { may_have self.old parent kind ≡ true }
@@ -270,8 +271,8 @@ impl<A: Allocator + Copy> Tree<A> {
         Ok(place)
     }
 
-    /// Makes a place, or says why there is none. The refusals are tried in the order of
-    /// `AddError`, and want of memory comes last.
+    /// Makes a place, or says why it can't. The refusals are checked in the order of `AddError`; out of
+    /// memory comes last.
     pub fn add(&mut self, parent: PlaceId, name: Name, kind: Kind) -> Result<PlaceId, AddError>
         requires { parent ≤ length self.old }
         ensures tree { IsTree self.new }
@@ -279,7 +280,7 @@ impl<A: Allocator + Copy> Tree<A> {
         ensures ok { OnOk result (self.new ≡ self.old ++ new_place parent name kind ∷ []) }
         ensures err { OnErr result (self.new ≡ self.old) }
 
-        // What refuses comes first, and memory is wanted only where nothing does.
+        // The refusals come first. It runs out of memory only if nothing refuses.
         ensures allowed { OnOk result (refusal self.old parent name kind ≡ None) }
         ensures refused { IfErr result (λ e. refusal self.old parent name kind ≡ refusal_told e) }
     {

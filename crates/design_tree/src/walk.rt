@@ -1,4 +1,4 @@
-//! Walks over the places, each under its parent.
+//! Walks over a list of places, each of which names its parent.
 ghost use Rattle.std.specs.Prelude.{◌≡◌, ℕ, ◌+◌, ◌-◌, ◌<◌, ◌≤◌, ◌==◌, List, length, slice_get, IfSome, IfOk, All};
 ghost use Rattle.std.specs.List.{find, filter_map};
 ghost use Rattle.vault_model.specs.Tree.{parent_of, name_of, is_under, depth, kind_of, is_part_kind, is_between, may_stand, kind_at, path_of, IsTree};
@@ -89,7 +89,7 @@ pub fn is_under_in(places: &[Place], place: PlaceId, top: PlaceId) -> bool
     at == top
 }
 
-/// How many ancestors a place has.
+/// The number of ancestors that a place has.
 pub fn depth_in(places: &[Place], place: PlaceId) -> usize
     requires tree { IsTree places.now }
     requires there { place ≤ length places.now }
@@ -105,7 +105,7 @@ pub fn depth_in(places: &[Place], place: PlaceId) -> usize
     steps
 }
 
-/// What a place is.
+/// The kind of a place.
 pub fn kind_in(places: &[Place], place: PlaceId) -> Kind
     requires { place ≤ length places.now }
     ensures { result ≡ kind_of places.now place }
@@ -123,7 +123,7 @@ pub fn is_part_kind(kind: Kind) -> bool
     matches!(kind, Kind::Part)
 }
 
-/// Whether an assembly may stand at a depth where parts may stand, too.
+/// Whether both an assembly and a part may stand at a depth.
 pub fn is_between(depth: usize) -> bool
     ensures { result ≡ is_between depth }
 {
@@ -142,7 +142,7 @@ pub fn may_stand(kind: Kind, depth: usize) -> bool
     }
 }
 
-/// What is made at a depth where nothing else is asked for.
+/// The kind that is made at a depth by default.
 pub fn kind_at(depth: usize) -> Kind
     ensures { result ≡ kind_at depth }
 {

@@ -13,7 +13,7 @@ Begins [] bytes = ⊤
 Begins (x ∷ xs) [] = ⊥
 Begins (x ∷ xs) (b ∷ bytes) = (b ≡ x) × Begins xs bytes
 
--- the mark stands in the first line of the bytes: here, or further on, and no line feed before it
+-- the mark stands in the first line of the bytes: here, or further on with no line feed before it
 abbrev pub HasMark : List ℕ → Type 0
 HasMark [] = ⊥
 HasMark (b ∷ bytes) = Begins mark (b ∷ bytes) ⊎ ((b ≢ 10) × HasMark bytes)
@@ -22,7 +22,7 @@ HasMark (b ∷ bytes) = Begins mark (b ∷ bytes) ⊎ ((b ≢ 10) × HasMark byt
 abbrev pub IsForeign : List ℕ → Type 0
 IsForeign bytes = Begins (22 ∷ []) bytes ⊎ HasMark bytes
 
--- what has to come, so that bytes are another protocol's of whose first line so much came
+-- what has to come after this much of a first line, so that the bytes are another protocol's
 abbrev pub IsForeignBehind : FirstLine → List ℕ → Type 0
 IsForeignBehind first.Nothing more = IsForeign more
 IsForeignBehind first.Open more = HasMark more

@@ -1,7 +1,7 @@
 //! Whether the first line of a connection is of another protocol, as its bytes come.
 //!
-//! Promises: bytes are another protocol's where the first is TLS's, or where ` HTTP/` stands in their first line, and no others; so it is
-//! however they come in pieces (`FirstLine::hear`, `FirstLine::is_foreign`).
+//! Promises: bytes are another protocol's exactly if the first is TLS's, or ` HTTP/` stands in their first line, however they are cut
+//! into pieces (`FirstLine::hear`, `FirstLine::is_foreign`).
 //! Stands on: nothing. Must not know: what a line of the protocol says, conversations, sockets.
 //! Start at: `FirstLine::hear`; specs/Foreign.antt.
 #![tactic(auto)]

@@ -5,7 +5,7 @@ ghost use Rattle.first_line.specs.Foreign.{IsForeignBehind, HasMark, IsForeign};
 // The first byte of a TLS connection: a handshake.
 const HANDSHAKE: u8 = 0x16;
 
-/// What came of the first line so far.
+/// What is known of the first line so far.
 #[derive(Debug, Clone, Copy, PartialEq, Eq)]
 pub enum FirstLine {
     /// Nothing.
@@ -36,7 +36,8 @@ impl FirstLine {
         FirstLine::Nothing
     }
 
-    /// What it is once these bytes came: it is another protocol's with further ones where it was with these and those.
+    /// What it is once these bytes came. With any further bytes, it is another protocol's exactly if the line before was, with these
+    /// bytes and then the further ones.
     pub fn hear(self, bytes: &[u8]) -> FirstLine
         ensures { (more : List ℕ) → IsForeignBehind self (bytes.now ++ more) ↔ IsForeignBehind result more }
     {
@@ -85,7 +86,7 @@ impl FirstLine {
     }
 }
 
-// What an open line is once this byte came, which ends no part of ` HTTP/` but its space.
+// What an open line is once this byte came, if it isn't the next one of a ` HTTP/` that has begun. It may begin one, by its space.
 fn go_on(byte: u8) -> FirstLine
     ensures { (more : List ℕ) → HasMark (byte ∷ more) ↔ IsForeignBehind result more }
 {

@@ -1,29 +1,29 @@
-//! For how long others are waited for before a commit.
+//! How long a commit waits for other clients.
 
 use std::time::{Clock, Duration, Instant};
 
-// How often at least a thread looks for those whom the last commit told, each time behind an eighth of what that took.
+// The least number of looks for the clients that the last commit answered. They are an eighth of that commit's time apart.
 const LOOKS: u32 = 8;
 
 // The least time between two looks, in microseconds: a client on the same machine needs as long to come back.
 const LEAST: u64 = 100;
 
-// For how many microseconds a thread may look, where a commit takes less.
+// The longest time that a thread looks, in microseconds, unless the commit took longer than this.
 const MOST: u64 = 3200;
 
-/// When a commit ended, how long is waited from one look to the next, and how often is looked.
+/// When a commit ended, the time between two looks, and the number of looks.
 #[derive(Debug, Clone, Copy, PartialEq, Eq)]
 pub struct Commit {
     // None: the clock couldn't be read, or there was no commit yet. Then nobody is waited for.
     ended: Option<Instant>,
-    // How long is waited from one look to the next.
+    // The time between two looks.
     part: Duration,
-    // How often is looked.
+    // The number of looks.
     looks: u32,
 }
 
 impl Commit {
-    /// There was none.
+    /// There was no commit.
     pub fn none() -> Commit {
         Commit {
             ended: None,
@@ -32,7 +32,7 @@ impl Commit {
         }
     }
 
-    /// One that ended now.
+    /// A commit that began then and ended now.
     pub fn since(clock: &impl Clock, began: Option<Instant>) -> Commit {
         match (began, Instant::now(clock)) {
             (Some(began), Ok(ended)) => {
@@ -55,12 +55,12 @@ impl Commit {
     }
 }
 
-/// How far a thread is in its waiting for others, from one look to the next.
+/// How far a thread is in its wait for other clients, look by look.
 #[derive(Debug, Clone, Copy, PartialEq, Eq)]
 pub struct Gathering {
-    // How many entries had come and been told when it last found more than before.
+    // The number of staged plus acknowledged entries, when it last found more than before.
     seen: u64,
-    // The look at which a whole part has passed since then.
+    // The look by which a whole part has passed since then.
     until: u32,
 }
 
@@ -70,8 +70,8 @@ impl Gathering {
         Gathering { seen: 0, until: 0 }
     }
 
-    /// How long it is until its next look, where so many entries have come and been told. None: all looks are over, or from one to the
-    /// next no entry came, none was told, and none has still to be told.
+    /// The time until its next look. `moved` is the number of staged plus acknowledged entries. None: all looks are over, or from one to
+    /// the next no entry came and none was acknowledged, and none has still to be (`is_owed`).
     pub fn left(
         &mut self,
         clock: &impl Clock,
@@ -97,7 +97,7 @@ impl Gathering {
     }
 }
 
-// How often is looked, with such a part from one look to the next: behind a short commit for eight times as long as it took, and some
+// The number of looks, with this part between two: after a short commit they go on for eight times as long as it took, but for a few
 // milliseconds at most.
 fn looks_of(took: Duration, part: Duration) -> u32 {
     let most = Duration::from_micros(MOST);
@@ -109,7 +109,7 @@ fn looks_of(took: Duration, part: Duration) -> u32 {
     }
 }
 
-// How long is waited from one look to the next behind a commit that took so long.
+// The time between two looks after a commit that took this long.
 fn part_of(took: Duration) -> Duration {
     let least = Duration::from_micros(LEAST);
     match took.checked_div(LOOKS) {

@@ -1,4 +1,4 @@
-//! When the flusher sleeps, and for how many a commit waits.
+//! When the flusher sleeps, and for how many entries a commit waits.
 ghost use Rattle.std.specs.Prelude.{◌≡◌, ◌+◌, ◌-◌, ◌^◌, ◌<◌, ◌&&◌, ◌||◌, nat_lt, not, ℕ, true, false, if◌then◌else◌, None, Some, Ok};
 ghost use Rattle.vault_store.specs.declared.phase.Advanced.TheVariants as Advanced;
 ghost use Rattle.vault_store.specs.declared.starting.Started.TheVariants as Started;
@@ -8,8 +8,8 @@ use vault_device::Fault;
 use vault_model::{Command, CommandIn, NoMemory};
 use vault_store::{Advanced, Started};
 
-/// Whether a command may change the vault. What only asks needs no device, so it isn't kept waiting for others. A wrong answer
-/// would cost time alone.
+/// Whether a command may change the vault. A question needs no device, so it doesn't wait for other commands. A wrong answer
+/// would only cost time.
 pub fn may_change<W, C>(command: &Command<W, C>) -> bool {
     !matches!(
         command,
@@ -33,26 +33,26 @@ pub fn may_change<W, C>(command: &Command<W, C>) -> bool {
 /// What the flusher and the workers know of each other, under the lock. It says when something is done, and never what.
 #[derive(Debug, Clone, Copy, PartialEq, Eq)]
 pub struct Pace {
-    /// From how many waiting entries on the flusher is woken, where it sleeps.
+    /// The number of waiting entries that wakes the flusher. None: it is awake.
     pub wake_from: Option<u64>,
     /// For how many entries the next commit waits.
     pub group: u64,
-    /// Whether an entry that waits, and isn't sealed, may have changed the vault.
+    /// Whether a waiting entry that isn't sealed may have changed the vault.
     pub has_change: bool,
     /// What the next pump goes on with.
     pub under_way: UnderWay,
     /// Whether a worker waits for room in the history.
     pub is_asked_for_room: bool,
-    /// How many tickets were forgotten, whose entries nobody is told.
+    /// The number of forgotten tickets. Their entries are never acknowledged.
     pub forgotten: u64,
     /// Whether a snapshot couldn't be begun, and no commit was made since.
     pub is_put_off: bool,
 }
 
-/// What was begun at the devices, and isn't settled.
+/// What was begun at the devices, and isn't durable yet.
 #[derive(Debug, Clone, Copy, PartialEq, Eq)]
 pub enum UnderWay {
-    /// All is settled, or only staged.
+    /// All is durable, or only staged.
     Nothing,
     /// A commit, which somebody waits for.
     Commit,
@@ -91,15 +91,15 @@ impl Pace {
         self.is_asked_for_room = true;
     }
 
-    /// Room is made there, as far as there is any.
+    /// Room is made there, as far as possible.
     pub fn makes_room(&mut self)
         ensures { self.new ≡ record self.old { is_asked_for_room = false } }
     {
         self.is_asked_for_room = false;
     }
 
-    /// A command was staged, and so many entries wait now. Whether the flusher sleeps and has to be woken: it is, by as many as it sleeps
-    /// for, and by a question where nothing that waits is a change.
+    /// A command was staged, and `waiting` entries wait now. Whether the flusher sleeps and has to be woken: by as many entries as it
+    /// sleeps for, or by a question where no waiting entry is a change.
     pub fn staged(&mut self, waiting: u64, may_change: bool) -> bool
         ensures awake { self.old.wake_from ≡ None → result ≡ false }
         ensures asleep { (least : ℕ) → self.old.wake_from ≡ Some least
@@ -120,7 +120,7 @@ impl Pace {
         true
     }
 
-    /// Whether the flusher sleeps on, where it sleeps until so many entries wait.
+    /// Whether the flusher sleeps on, until `least` entries wait.
     pub fn sleeps(&mut self, is_early: bool, least: u64) -> bool
         ensures early { result ≡ is_early }
         ensures left { self.new ≡ record self.old { wake_from = if is_early then Some least else None } }
@@ -129,7 +129,7 @@ impl Pace {
         is_early
     }
 
-    /// A ticket was forgotten. The last number stays.
+    /// A ticket was forgotten. The count stops at the greatest number.
     pub fn forgets(&mut self)
         ensures counted { self.old.forgotten < 2 ^ 64 - 1
             → self.new ≡ record self.old { forgotten = self.old.forgotten + 1 } }
@@ -140,30 +140,30 @@ impl Pace {
         }
     }
 
-    /// Whether somebody isn't told yet whose entry is settled, where so many are settled and so many were told, and a change waits.
+    /// Whether some durable entry is still to be acknowledged, and a change waits: `settled` are durable, and `told` were acknowledged.
     pub fn owes(&self, settled: u64, told: u64) -> bool
         ensures { result ≡ (self.now.has_change && nat_lt (told + self.now.forgotten) settled) }
     {
         self.has_change && told < settled && self.forgotten < settled - told
     }
 
-    /// Whether more entries are waited for: those whom the last commit told, or who came meanwhile, aren't all back, and nobody asks who
-    /// needs no device.
+    /// Whether the commit waits for more entries: the clients that the last one answered, or that came meanwhile, aren't all back, and
+    /// not only questions wait.
     pub fn lacks(&self, waiting: u64) -> bool
         ensures { result ≡ (nat_lt 1 self.now.group && nat_lt waiting self.now.group && self.now.has_change) }
     {
         self.group > 1 && waiting < self.group && self.has_change
     }
 
-    /// So many were told by the last commit, or came since it was begun: for so many the next one waits.
+    /// The next commit waits for this many entries: those that the last one answered, and those that came since it began.
     pub fn expects(&mut self, group: u64)
         ensures { self.new ≡ record self.old { group = group } }
     {
         self.group = group;
     }
 
-    /// A snapshot was begun, which seals what waits, or it wasn't, and is put off. It is no commit: it takes longer, and nobody is waited
-    /// for behind it.
+    /// A snapshot was begun, which seals what waits; or it wasn't, and is put off. It doesn't count as a commit: it takes longer, and
+    /// nobody is waited for after it.
     pub fn started(&mut self, started: Result<Started, NoMemory>)
         ensures begun { started ≡ Ok Started.Yes → self.new ≡ record self.old { has_change = false; under_way = UnderWay.Snapshot } }
         ensures not_begun { (started ≡ Ok Started.Yes → ⊥) → self.new ≡ record self.old { is_put_off = true } }

@@ -1,16 +1,16 @@
-//! When a snapshot that is wanted is begun.
+//! When a wanted snapshot begins.
 ghost use Rattle.std.specs.Prelude.{◌≡◌, ◌/◌, ◌||◌, nat_le};
 ghost use Rattle.vault_store.specs.Seen.{is_old};
 
 use std::time::{Clock, Duration, Instant};
 use vault_store::FileVersion;
 
-// For how many milliseconds nobody may have asked for anything where a snapshot is begun early.
+// A snapshot begins early once nobody has asked for anything for this many milliseconds.
 const QUIET: u64 = 100;
 
-/// Whether a snapshot that is wanted is begun now: nobody asks just then, or the file is of an old version, or its journal has half
-/// the length that it had with its last snapshot alone. So a full vault is written anew once in eight MiB, and the journal never gets
-/// longer than that for want of a pause.
+/// Whether a wanted snapshot begins now: nobody is asking just then, or the file has an old version, or its journal is at least half
+/// as long as its header and snapshot. So a full vault is written anew once in eight MiB of journal, and the lack of a pause never
+/// makes the journal longer than that.
 pub fn begins_snapshot(version: FileVersion, journal: u64, snapshot: u64, is_quiet: bool) -> bool
     ensures { result ≡ (is_quiet || is_old version || nat_le (snapshot / 2) journal) }
 {
@@ -20,7 +20,7 @@ pub fn begins_snapshot(version: FileVersion, journal: u64, snapshot: u64, is_qui
 /// Since when nobody has asked for anything, as far as one thread sees it.
 #[derive(Debug, Clone, Copy, PartialEq, Eq)]
 pub struct Silence {
-    // How many commands had been staged when that was looked at last.
+    // The number of staged commands at the last look.
     staged: u64,
     // When that number was seen first.
     since: Option<Instant>,
@@ -35,8 +35,8 @@ impl Silence {
         }
     }
 
-    /// How long it is until nobody has asked for a tenth of a second, where so many commands were staged by now. None: nobody has, or
-    /// the clock can't be read.
+    /// The time until nobody has asked for anything for a tenth of a second; `staged` commands were staged by now. None: that time is
+    /// over, or the clock can't be read.
     pub fn left(&mut self, clock: &impl Clock, staged: u64) -> Option<Duration> {
         if staged != self.staged || self.since.is_none() {
             self.staged = staged;

@@ -1,4 +1,4 @@
--- The vault after any history is well formed, and no two of its held claims overlap.
+-- The vault after any history is well formed, and no two of its granted claims overlap.
 use Rattle.std.proofs.Common.{List, [], ◌∷◌}
 use Rattle.vault_model.specs.Vault.{Vault, IsVault, durable}
 use Rattle.group_commit.specs.History.{Member, Given, Restart, moved, replay}

@@ -23,7 +23,7 @@ use Rattle.vault_model.proofs.Transitions.{CanExtend, Transition, made, nested, 
 use Rattle.vault_journal.specs.Spelling.{IsClaimNumber, ItemFits, HasRecord}
 use Rattle.group_commit.specs.Written.{IsOfItsType}
 
--- what an effect has its type adds to
+-- an effect has a record, given what it has by its type
 abbrev pub HasOne : Option Effect → Type 0
 HasOne effect = IfSome effect (λ e. IsOfItsType e → HasRecord e)
 

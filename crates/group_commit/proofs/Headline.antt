@@ -32,7 +32,7 @@ use Rattle.group_commit.proofs.Recovery.{prefix_is}
 use Rattle.group_commit.proofs.Prefixes.{get_take, get_drop, get_behind, no_short}
 use Rattle.group_commit.proofs.Pasts.{IsFound, IsFoundIn, found_between, found_by_stop, opened_as, of_a_vault, reaches, begins_sound, past_sound, one_run, until_first}
 
--- a vault is the durable one after so many entries of a life, which are all that are settled and maybe more
+-- a vault is the durable one after this many entries of a life: all that are settled, and maybe more
 record IsCut (open_gate : Bool) (w : World) (left : Vault) : Type 0 where
   n : ℕ
   choice : (n ≡ w.settled) ⊎ (IsTrue open_gate × (n ≡ w.sealed))
@@ -48,7 +48,7 @@ cut_of open_gate w left s busy found = elim found [
       record { n = w.sealed; choice = inr (e.0, refl); settled = more; all = s.order.sealed_all; left_is = e.1 ∙ ap durable (view_at_is w w.sealed (omega (arith, more, s.order.retired_settled))) }
 ]
 
--- what was told at some point of a run stands settled at its end
+-- what was acknowledged at some point of a run stands, and is durable, at its end
 told_then : (first : Vault) (before rest events : List Event) (view : View) (place : ℕ) (kept : Kept) → IsSound (world_of first) → before ++ rest ≡ events → view_of (world_after first before) ≡ view → IsRun snapshot_length (world_of first) events
     → slice_get view.kept place ≡ Some kept → kept.mark ≡ Told → StandsSettled (world_after first events) (length (world_after first before).earlier + (view.retired + place)) kept.entry
 told_then first before rest events view place kept begins whole shows r at told =
@@ -79,7 +79,7 @@ length-history w = length-append w.earlier (members w.life) ∙ ap (λ n. length
 
 module _ {D : Type 0} (disk : D → Disk) (law : CrashLeavesWhatIsKept disk) (one_gate : OneGateIsOpened disk) (one_vault : OneVault) (right : NothingIsWrong) where
   module _ (now : VaultSeen D) (past : List (VaultSeen D)) (p : IsPast disk now past) (one : IsOneRun disk now past p) where
-    -- what was told at some point of the past stands settled in its history
+    -- what was acknowledged at some point of the past stands, and is durable, in its history
     stands_told : (n place : ℕ) (seen : VaultSeen D) (kept : Kept) → slice_get (now ∷ past) n ≡ Some seen → slice_get seen.view.kept place ≡ Some kept → kept.mark ≡ Told
         → StandsSettled (world_after (beginning now past) one.events) (life_begins one n + (seen.view.retired + place)) kept.entry
     stands_told n place seen kept at there told =

@@ -17,7 +17,7 @@ use Rattle.group_commit.specs.Promises.{ImagesStand, RecoveryGivesOnePrefix}
 use Rattle.group_commit.proofs.Sound.{after_run, first_stays}
 use Rattle.group_commit.proofs.Recovery.{is_prefix, left_is_recovered}
 
--- one of the two, or the other, is left
+-- these files stand for a vault that the view allows a crash to leave
 abbrev pub Stands : View → List ℕ → List ℕ → Type 0
 Stands v x y = (left : Vault) × MayLeave v left × StandFor x y left
 

@@ -1,4 +1,4 @@
--- A stop inside an opening.
+-- A crash inside an opening.
 use Rattle.std.proofs.Common.{◌≡◌, inl, inr, ℕ, List, sym, subst}
 use Rattle.std.specs.Prelude.{IsTrue}
 use Rattle.vault_device.specs.Disk.{Disk, IsLawful}
@@ -9,7 +9,7 @@ use Rattle.vault_store.specs.Seen.{first_of, second_of}
 use Rattle.group_commit.specs.Seen.{VaultSeen}
 use Rattle.group_commit.specs.Pasts.{StopsInside, AreLeft, StopsInOpening}
 
--- what a crash leaves behind an opening is what one before it may have left
+-- what a crash leaves after an opening, a crash before it may have left, too
 image_before : (old new : Disk) → IsHandedOn old new → IsTrue old.honest → (IsTrue new.honest → IsLawful new) → (x : List ℕ) → new.IsImage x → old.IsImage x
 image_before old new handed honest lawful = stands_now old new old.IsImage (lawful (subst IsTrue (sym handed.called.same_honesty) honest)) (handed.moments honest)
 
@@ -32,7 +32,7 @@ own_devices disk seen first second honest one other = record {
   each = λ x y p q. inl (honest, subst (λ (d : _). (disk d).IsImage x) one p, subst (λ (d : _). (disk d).IsImage y) other q);
 }
 
--- its devices behind a pump that was under way
+-- its devices after a pump that was under way
 pub pumped_devices : {D : Type 0} (disk : D → Disk) (old new : VaultSeen D) (first second : D) → AreHonest disk old.store → AreHonest disk new.store → first ≡ first_of new.store → second ≡ second_of new.store → StopsInside disk old new
     → ((x : List ℕ) → (disk (first_of new.store)).IsImage x → (disk (first_of new.store)).WasImage (disk (first_of old.store)).moment x)
     → ((y : List ℕ) → (disk (second_of new.store)).IsImage y → (disk (second_of new.store)).WasImage (disk (second_of old.store)).moment y) → AreLeft disk old first second

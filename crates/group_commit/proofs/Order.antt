@@ -72,7 +72,7 @@ order_fault all retired settled sealed phase waiting length o = by_call (row pha
 pub order_start : (all retired settled sealed : ℕ) (phase : Phase) → InOrder all retired settled sealed phase → InOrder all retired settled all Start
 order_start all retired settled sealed phase o = begins phase Start o
 
--- a row settles no less than before
+-- after a row no fewer entries are settled than before
 pub more_settled : (all retired settled sealed : ℕ) (phase : Phase) (waiting : Waiting) (length : ℕ) → InOrder all retired settled sealed phase
     → settled ≤ settled_by (row phase waiting length).settles settled sealed all
 more_settled all retired settled sealed Idle Nothing length o = omega arith

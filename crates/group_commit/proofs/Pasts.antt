@@ -24,7 +24,7 @@ use Rattle.group_commit.proofs.ViewLaw.{acts_as}
 use Rattle.group_commit.proofs.Recovery.{crashed_view, left_is_recovered}
 use Rattle.group_commit.proofs.Images.{images_stand}
 
--- such events lead from a world to one that is seen so
+-- such events lead from a world to one with this view
 pub record Leads (w : World) (view : View) (Are : List Event → Type 0) : Type 0 where
   pub more : List Event
   pub is_run : IsRun snapshot_length w more

@@ -58,7 +58,7 @@ under_way Filled w n h = moves_on Sync Ready (λ e. cc)
 under_way Ready w n h = moves_on Write SnapOpening (λ e. cc)
 under_way SnapOpening w n h = is_last
 
--- such a row asks not what waits
+-- such a row doesn't depend on what waits
 same_row : (p : Phase) (w x : Waiting) (n m : ℕ) → is_idle p ≡ false → n ≡ m → row p w n ≡ row p x m
 same_row Idle w x n m h e = absurd (cc)
 same_row Written w x n m h e = refl

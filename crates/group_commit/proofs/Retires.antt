@@ -73,11 +73,11 @@ module _ (v : View) (x : Kept) (rest : List Kept) (s : IsSoundView (beginning v 
 pub gone_one : (base : Vault) (gone : List Kept) (x : Kept) → replay base (members (gone ++ x ∷ [])) ≡ (outcome_of (replay base (members gone)) x.entry).vault
 gone_one base gone x = ap (replay base) (members-append gone (x ∷ [])) ∙ replay-append base (members gone) (members (x ∷ []))
 
--- a vault whose oldest entry is let go
+-- a vault whose oldest entry is dropped
 abbrev pub retired : {D : Type 0} → VaultSeen D → Vault → List Kept → VaultSeen D
 retired seen base kept = record seen { view = record seen.view { base = base; kept = kept; retired = seen.view.retired + 1 } }
 
--- not all is settled that is retired
+-- where the counts of retired and of settled entries differ, fewer are retired
 pub settled_more : {D : Type 0} (disk : D → Disk) (seen : VaultSeen D) (book : Vault) → IsSoundVault disk seen book → seen.view.retired ≢ seen.view.settled → seen.view.retired < seen.view.settled
 settled_more disk seen book k h = let o : seen.view.retired ≤ seen.view.settled = k.sound.order.retired_settled in omega (arith, h, o)
 

@@ -19,7 +19,7 @@ use Rattle.vault_store.specs.Phases.{is_idle}
 use Rattle.group_commit.specs.Phases.{InOrder}
 use Rattle.group_commit.proofs.Order.{fault_is_busy, order_row, order_fault, order_start, more_settled}
 
--- told entries are settled, and retired ones closed
+-- acknowledged entries are durable, and retired ones closed
 pub record MarksFit (life : List Kept) (retired settled : ℕ) : Type 0 where
   pub told : (p : ℕ) → mark_at life p ≡ Some Told → p < settled
   pub closed : (p : ℕ) → p < retired → mark_at life p ≢ Some Open

@@ -1,4 +1,4 @@
--- What was told stands for good.
+-- What was acknowledged stands for good.
 use Rattle.std.proofs.Common.{◌≡◌, ◌-◌, ◌<◌, length, Some, sym, subst, arith}
 use Rattle.std.specs.Prelude.{slice_get}
 use Rattle.group_commit.specs.History.{Given}

@@ -31,7 +31,7 @@ book_is w = sym (replay-append w.first (history_to w w.retired) (members (drop w
 pub unsettled_is : (w : World) → IsSound w → drop (w.settled - w.retired) (drop w.retired w.life) ≡ drop w.settled w.life
 unsettled_is w s = drop_part w.settled w.retired w.life s.order.retired_settled
 
--- a row that starts in Idle asks for no snapshot's length
+-- a row that starts in Idle doesn't depend on a snapshot's length
 idle_row : (phase : Phase) (p : Waiting) (a b : ℕ) → (is_idle phase ≡ false → a ≡ b) → row phase p a ≡ row phase p b
 idle_row Idle Nothing a b h = refl
 idle_row Idle NoEffects a b h = refl

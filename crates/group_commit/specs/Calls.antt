@@ -25,7 +25,7 @@ use Rattle.group_commit.specs.View.{View, length_of, view_at, ViewAllows, view_a
 use Rattle.group_commit.specs.Ticket.{TicketSeen, Told, told_for}
 use Rattle.group_commit.specs.Seen.{VaultSeen, snapshot_length, most_kept, effects_between}
 
--- no more entries are taken: the most are kept, the open buffer or the active file has no room, or no position is left
+-- no more entries are taken: as many are kept as may be, the open buffer or the active file has no room, or no position is left
 abbrev pub IsBusy : {D : Type 0} → VaultSeen D → Type 0
 IsBusy seen = (most_kept ≤ length seen.view.kept) ⊎ (has_room seen.store ≡ false) ⊎ (length_of seen.view ≡ 2 ^ 64 - 1)
 
@@ -46,7 +46,7 @@ abbrev pub renews : View → Result Pumped DeviceFault → Bool
 renews v (Ok answers.Settled) = is_snapshot v.phase
 renews v _ = false
 
--- how many bytes of frames a pump adds: the whole frame under way, where the pump settles it
+-- how many bytes of frames a pump adds: the whole frame under way, where the pump makes it durable
 abbrev pub gained : View → Result Pumped DeviceFault → ℕ
 gained v (Ok answers.Settled) = if is_idle v.phase then 0 else frame_extra + length (records_of (effects_between v v.settled v.sealed))
 gained v _ = 0
@@ -63,9 +63,9 @@ tail_after v result tail = if renews v result then behind_snapshot v else tail +
 abbrev pub generation_after : View → Result Pumped DeviceFault → ℕ → ℕ
 generation_after v result generation = if renews v result then generation + 1 else generation
 
--- The active file, its version and its numbers after a pump: the last one of a commit moves the tail gate behind the frame; the last one
--- of a snapshot exchanges the files, of which the new active one is of today's version, and the tail gate then stands behind the snapshot;
--- the first one of a commit empties the buffer, also where its device call fails; no other changes them.
+-- The active file, its version and its numbers after a pump. The last pump of a commit moves the tail gate behind the frame. The last one
+-- of a snapshot exchanges the files: the new active one has the current version, and its tail gate stands behind the snapshot. The first
+-- one of a commit empties the buffer, also where its device call fails. No other pump changes them.
 pub record AreNumbers {D : Type 0} (old new : VaultSeen D) (result : Result Pumped DeviceFault) : Type 0 where
   pub which : new.store.which ≡ (if renews old.view result then other old.store.which else old.store.which)
   pub version : new.store.version ≡ (if renews old.view result then current_version else old.store.version)
@@ -89,7 +89,7 @@ pub record IsReceiptOf (claim : TicketSeen) (v : View) (told : Told) : Type 0 wh
   pub stands : slice_get v.kept (claim.position - v.retired) ≡ Some kept
   pub receipt : told ≡ told_for claim kept.entry.reply
 
--- What redeeming a ticket did: the reply of a settled entry was told; or the ticket came back, and nothing changed.
+-- What redeeming a ticket did: the reply of a durable entry was handed out; or the ticket came back, and nothing changed.
 abbrev pub IsRedeemed : {D A : Type 0} → VaultSeen D → VaultSeen D → TicketSeen → Redeemed A → Type 0
 IsRedeemed old new claim (redeemed.Told receipt) =
     (claim.life ≡ old.life)
@@ -109,8 +109,8 @@ IsForgotten old new claim forgotten.Here =
     NamesOpen old claim × (new ≡ record old { view = view_acted snapshot_length old.view (Forget claim.position) })
 IsForgotten old new claim forgotten.Stranger = (new ≡ old) × (NamesOpen old claim → ⊥)
 
--- What retiring did: the oldest kept entry, which is settled and whose ticket isn't out, went into the base; or it is no such entry, and
--- nothing changed.
+-- What retiring did: the oldest kept entry, which is durable and whose ticket isn't outstanding, went into the base; or it is no such
+-- entry, and nothing changed.
 abbrev pub IsRetired : {D : Type 0} → VaultSeen D → VaultSeen D → Retired → Type 0
 IsRetired old new retired.One =
     ViewAllows snapshot_length old.view Retire × (new ≡ record old { view = view_acted snapshot_length old.view Retire })

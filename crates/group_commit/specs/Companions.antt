@@ -12,14 +12,14 @@ use Rattle.group_commit.specs.Seen.{VaultSeen}
 abbrev pub StaysOfOneVault : {D : Type 0} → (D → Disk) → VaultSeen D → VaultSeen D → Type 0
 StaysOfOneVault disk old new = IsOfOneVault disk old.store → IsOfOneVault disk new.store
 
--- what a crash at any moment of a call leaves of them isn't told as the files of two vaults
+-- after a crash at any moment of a call they aren't reported as the files of two vaults
 abbrev pub MomentsPass : {D : Type 0} → (D → Disk) → VaultSeen D → VaultSeen D → Type 0
 MomentsPass disk old new =
     (x y : List ℕ) → IsOfOneVault disk old.store → AreHonest disk old.store
     → MayBeLeft (disk (first_of old.store)) (disk (second_of old.store)) (disk (first_of new.store)) (disk (second_of new.store)) x y
     → AreOfTwoVaults x y → ⊥
 
--- Law: what a crash leaves of a vault's files isn't told so.
+-- Law: after a crash, a vault's files aren't reported as those of two.
 abbrev pub FilesPass : {D : Type 0} → (D → Disk) → VaultSeen D → Type 0
 FilesPass disk seen =
     (x y : List ℕ) → IsOfOneVault disk seen.store → AreHonest disk seen.store → (disk (first_of seen.store)).IsImage x

@@ -16,7 +16,7 @@ pub record Kept : Type 0 where
   pub entry : Entry
   pub mark : Mark
 
--- an entry whose ticket is out
+-- an entry whose ticket is outstanding
 abbrev pub opened : Entry → Kept
 opened entry = record { entry = entry; mark = Open }
 
@@ -30,13 +30,13 @@ with_mark mark [] position = []
 with_mark mark (kept ∷ rest) zero = record kept { mark = mark } ∷ rest
 with_mark mark (kept ∷ rest) (suc position) = kept ∷ with_mark mark rest position
 
--- whether the reply was told
+-- whether the entry was acknowledged
 abbrev pub is_told : Mark → Bool
 is_told Open = false
 is_told Told = true
 is_told Forgotten = false
 
--- how many entries were told
+-- how many entries were acknowledged
 abbrev pub told_in : List Kept → ℕ
 told_in [] = 0
 told_in (kept ∷ rest) = cond (is_told kept.mark) 1 0 + told_in rest

@@ -12,8 +12,8 @@ pub data Member : Type 0 where
   Given : (entry : Entry) → Member
   Restart : Member
 
--- the number of a command that a session gives now: how many it gave with this one, by the door's count for session 0; 0 where no such
--- session stands
+-- the number of a command that a session gives now: how many it gave, with this one; for session 0 the door counts them; 0 where there is
+-- no such session
 abbrev pub number_of : Vault → ℕ → ℕ
 number_of v session =
     if session == 0 then v.door_count + 1 else option_map_or (λ (s : Session). s.count + 1) (session_of v.sessions session) 0
@@ -37,7 +37,7 @@ abbrev pub MayFollow : Vault → Member → Type 0
 MayFollow v (Given entry) = (entry.number ≡ number_of v entry.session) × (entry.reply ≡ (outcome_of v entry).reply)
 MayFollow v Restart = Unit {0}
 
--- a history is legal from a vault on where each member may follow those before it
+-- a history is legal from a vault on if each member may follow those before it
 abbrev pub IsLegal : Vault → List Member → Type 0
 IsLegal v [] = Unit {0}
 IsLegal v (member ∷ members) = MayFollow v member × IsLegal (moved v member) members

@@ -26,7 +26,7 @@ seen_of v = record {
   store = v.store;
 }
 
--- the entries that are gone: as many as are counted as retired; and with those that are kept as many of them were told as are counted
+-- the entries that are gone: `retired` is their number, and `told` the number of acknowledged ones among them and the kept entries
 pub record AreGone (gone kept : List Kept) (retired told : ℕ) : Type 0 where
   pub retired_is : retired ≡ length gone
   pub told_is : told ≡ told_in gone + told_in kept
@@ -37,7 +37,7 @@ pub record IsSoundVault {D : Type 0} (disk : D → Disk) (seen : VaultSeen D) (b
   pub book_is : book ≡ book_of seen.view
   -- invariants 2 to 5, and 7
   pub sound : IsSoundView seen.view
-  -- no position passes the greatest
+  -- the number of entries fits in 64 bits
   pub fits : length_of seen.view < 2 ^ 64
   -- invariant 6
   pub stands : Keeps disk seen.store (state_of seen.view)

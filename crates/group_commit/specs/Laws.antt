@@ -22,8 +22,8 @@ abbrev pub AfterEveryRun : ((Vault → ℕ) → World → Type 0) → Type 0
 AfterEveryRun P =
     (snapshot : Vault → ℕ) (events : List Event) → IsRun snapshot new_world events → P snapshot (run snapshot new_world events)
 
--- an act on a world is that act on its view: allowed exactly where it is on the view, a pump makes the same row of the table, and
--- the view of the world after the act is the view after the act
+-- an act on a world is that act on its view: it is allowed exactly where the view allows it, a pump makes the same row of the table,
+-- and the view of the world after the act is the view after the act
 pub record ActsAsItsView (snapshot : Vault → ℕ) (w : World) (act : Act) : Type 0 where
   pub allowed : Allows snapshot w act ↔ ViewAllows snapshot (view_of w) act
   pub pumps : row_of snapshot w ≡ view_row snapshot (view_of w)
@@ -43,23 +43,23 @@ CrashesOpen =
 abbrev pub HistoryIsLegal : Type 0
 HistoryIsLegal = AfterEveryRun (λ snapshot w. IsLegal new_vault (history w))
 
--- this entry stands at a place of the history in its present life, and was told
+-- this entry stands at a place of the history in its present life, and was acknowledged
 pub record IsToldAt (w : World) (place : ℕ) (entry : Entry) : Type 0 where
   pub stands : slice_get (history w) place ≡ Some (Given entry)
   pub lives : length w.earlier ≤ place
   pub told : mark_at w.life (place - length w.earlier) ≡ Some Told
 
--- what was told at any point of a run stands at its place, with its reply, after any more events, crashes too
+-- what was acknowledged at any point of a run stands at its place, with its reply, after any more events, crashes too
 abbrev pub ToldStays : Type 0
 ToldStays = (snapshot : Vault → ℕ) (events more : List Event) (place : ℕ) (entry : Entry) → IsRun snapshot new_world (events ++ more)
     → IsToldAt (run snapshot new_world events) place entry
     → slice_get (history (run snapshot new_world (events ++ more))) place ≡ Some (Given entry)
 
--- what is told is settled
+-- acknowledged entries are durable
 abbrev pub ToldIsSettled : Type 0
 ToldIsSettled = AfterEveryRun (λ snapshot w. (position : ℕ) → mark_at w.life position ≡ Some Told → position < w.settled)
 
--- the numbers of a life are in order, and where a device call failed, a commit or a snapshot is under way for good
+-- the numbers of a life are in order, and after a failed device call a commit or a snapshot stays under way for good
 pub record IsOrderly (w : World) : Type 0 where
   pub numbers : InOrder (length w.life) w.retired w.settled w.sealed w.phase
   pub busy : w.broken ≡ true → is_idle w.phase ≡ false
@@ -68,13 +68,13 @@ pub record IsOrderly (w : World) : Type 0 where
 abbrev pub WorldsAreOrderly : Type 0
 WorldsAreOrderly = AfterEveryRun (λ snapshot w. IsOrderly w)
 
--- no two held claims overlap
+-- no two granted claims overlap
 abbrev pub AreApart : Vault → Type 0
 AreApart v = (a b : ClaimId) (c d : Claim) → same_id a b ≡ false → claim_of v.line a ≡ Some c → claim_of v.line b ≡ Some d
     → standing_of v.tree v.line a ≡ Some Held → standing_of v.tree v.line b ≡ Some Held → overlap v.tree c.items d.items ≡ false
 
--- a vault is well formed, in it and in its durable vault no two held claims overlap, and its held long claims are held in its
--- durable vault
+-- a vault and its durable vault are well formed, no two granted claims of either overlap, and the vault's granted long claims are
+-- granted in its durable vault
 pub record IsGuarded (v : Vault) : Type 0 where
   pub well_formed : IsVault v
   pub durably : IsVault (durable v)
@@ -86,9 +86,9 @@ pub record IsGuarded (v : Vault) : Type 0 where
 abbrev pub PrefixesAreGuarded : Type 0
 PrefixesAreGuarded = AfterEveryRun (λ snapshot w. (n : ℕ) → IsGuarded (replay new_vault (take n (history w))))
 
--- What recovery gives is the durable vault after one prefix of the history: up to the settled entries or, where a gate was being
--- opened and is found open, up to the sealed ones. That prefix has every told entry; the long claims stand in their order, and
--- the short ones are gone.
+-- What recovery gives is the durable vault after one prefix of the history: up to the settled (durable) entries or, where a gate
+-- (commit mark) was being opened and is found open, up to the sealed ones. That prefix has every acknowledged entry; the long claims
+-- stand in their order, and the short ones are gone.
 pub record IsPrefix (w : World) (gate : GateLeft) : Type 0 where
   pub cut : (kept_by w gate ≡ w.settled) ⊎ (IsTrue (is_opening w.phase) × (kept_by w gate ≡ w.sealed))
   pub prefix : recovered w gate ≡ durable (replay new_vault (take (length w.earlier + kept_by w gate) (history w)))
@@ -103,8 +103,8 @@ RecoveryGivesAPrefix = AfterEveryRun (λ snapshot w. (gate : GateLeft) → IsPre
 abbrev pub LeftIsRecovered : Type 0
 LeftIsRecovered = AfterEveryRun (λ snapshot w. (left : Vault) → MayLeave (view_of w) left → (gate : GateLeft) × (left ≡ recovered w gate))
 
--- the effects of the entries from one point of the present life to a later one, made on the durable vault there, give the durable
--- vault at the later one: what the frames of a journal hold
+-- the effects of the entries from one point of the present life to a later one lead from the durable vault at the first point to the
+-- one at the later point: a journal's frames hold these effects
 abbrev pub EffectsAreTheChange : Type 0
 EffectsAreTheChange =
     AfterEveryRun
@@ -121,8 +121,8 @@ pub record IsReachable (snapshot : Vault → ℕ) (view : View) : Type 0 where
   pub is_run : IsRun snapshot new_world events
   pub reaches : view_of (run snapshot new_world events) ≡ view
 
--- the new vault's view is one; so is the view after each act that is allowed on one, and the view of a vault that was opened on
--- what a crash may leave of one
+-- the new vault's view is reachable; so is the view after each act that a reachable view allows, and the view of a vault that was
+-- opened on what a crash may leave of a reachable one
 pub record ReachableGoesOn (snapshot : Vault → ℕ) : Type 0 where
   pub begins : IsReachable snapshot (opened_view new_vault)
   pub acts : (view : View) (act : Act) → IsReachable snapshot view → ViewAllows snapshot view act

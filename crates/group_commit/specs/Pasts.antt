@@ -1,4 +1,4 @@
--- The past of a vault: what was seen of it, call by call, over any number of stops of its machine. This project's own.
+-- The past of a vault: what was seen of it, call by call, over any number of crashes. This project's own.
 use Rattle.std.specs.Prelude.{◌≡◌, ◌⊎◌, ℕ, IsTrue, false, List, [], ◌∷◌}
 use Rattle.vault_model.specs.Vault.{Vault}
 use Rattle.vault_device.specs.Disk.{Disk}
@@ -26,8 +26,8 @@ pub record Makes {D : Type 0} (act : Act) (old new : VaultSeen D) : Type 0 where
 abbrev pub IsAnswered : {D : Type 0} → VaultSeen D → VaultSeen D → Type 0
 IsAnswered old new = (new ≡ old) ⊎ ((act : Act) × Makes act old new)
 
--- The machine stopped inside a pump, and a crash at some moment of it left these files. Had it not stopped, the pump would have made
--- the other vault; of the moments until then it promises what `Vault::pump` promises.
+-- A stop (crash) at some moment inside a pump left these files. Without it, the pump would have made the other vault; at each moment
+-- until then, what `Vault::pump` promises holds.
 pub record IsStopInside {D : Type 0} (disk : D → Disk) (seen : VaultSeen D) (x y : List ℕ) : Type 0 where
   pub other : VaultSeen D
   pub whole : seen.view.broken ≡ false
@@ -43,24 +43,24 @@ StopsInside disk old new =
     → MayBeLeft (disk (first_of old.store)) (disk (second_of old.store)) (disk (first_of new.store)) (disk (second_of new.store)) x y
     → IsStopInside disk old x y
 
--- the machine stopped, between two calls or inside one, and these files were left
+-- the machine crashed, between two calls or inside one, and these files were left
 abbrev pub IsStop : {D : Type 0} → (D → Disk) → VaultSeen D → List ℕ → List ℕ → Type 0
 IsStop disk seen x y = IsCrash disk seen x y ⊎ IsStopInside disk seen x y
 
--- Two honest devices of which a crash now leaves nothing but what a stop of this vault may leave. A vault's own devices are such; so are
--- those that a stop left, and those that an opening of such devices left.
+-- Two honest devices: whatever a crash now leaves of them, a crash of this vault may leave, too. A vault's own devices are such; so are
+-- those that a crash left, and those that an opening of such devices left.
 pub record AreLeft {D : Type 0} (disk : D → Disk) (seen : VaultSeen D) (first second : D) : Type 0 where
   pub first_honest : IsTrue (disk first).honest
   pub second_honest : IsTrue (disk second).honest
   pub each : (x y : List ℕ) → (disk first).IsImage x → (disk second).IsImage y → IsStop disk seen x y
 
--- An opening, whether it gave a vault or was refused, leaves such devices of this vault, and what a crash at any moment of it leaves is
--- what a stop of this vault may leave.
+-- An opening, whether it gave a vault or was refused, leaves such devices of this vault. Whatever a crash at any moment of it leaves, a
+-- crash of this vault may leave, too.
 pub record IsOpening {D : Type 0} (disk : D → Disk) (seen : VaultSeen D) (first second first_new second_new : D) : Type 0 where
   pub left : AreLeft disk seen first_new second_new
   pub inside : (x y : List ℕ) → MayBeLeft (disk first) (disk second) (disk first_new) (disk second_new) x y → IsStop disk seen x y
 
--- it is so for each earlier vault whose devices these were
+-- it is so for each earlier vault that may have left these devices
 abbrev pub StopsInOpening : {D : Type 0} → (D → Disk) → D → D → D → D → Type 0
 StopsInOpening disk first second first_new second_new =
     (seen : VaultSeen _) → AreLeft disk seen first second → IsOpening disk seen first second first_new second_new
@@ -76,7 +76,7 @@ pub record IsOpenedOn {D : Type 0} (x y : List ℕ) (new : VaultSeen D) : Type 0
     journal_length = new.store.journal_length;
   })
 
--- the machine stopped, and another life began on the files that were left
+-- the machine crashed, and another life began on the files that were left
 pub record IsReopened {D : Type 0} (disk : D → Disk) (old new : VaultSeen D) : Type 0 where
   pub first : List ℕ
   pub second : List ℕ
@@ -87,8 +87,8 @@ pub record IsReopened {D : Type 0} (disk : D → Disk) (old new : VaultSeen D) :
 abbrev pub IsNext : {D : Type 0} → (D → Disk) → VaultSeen D → VaultSeen D → Type 0
 IsNext disk old new = IsAnswered old new ⊎ IsReopened disk old new
 
--- All that was seen of a vault before now, the latest first: it began as a vault that was made or opened, and each was next of the one
--- before it.
+-- All that was seen of a vault before now, the latest first: it began as a vault that was made or opened, and each was next after the
+-- one before it.
 abbrev pub IsPast : {D : Type 0} → (D → Disk) → VaultSeen D → List (VaultSeen D) → Type 0
 IsPast disk now [] = IsOfAVault disk now × (now.view ≡ opened_view now.view.base)
 IsPast disk now (old ∷ past) = IsOfAVault disk now × IsNext disk old now × IsPast disk old past

@@ -5,13 +5,13 @@ use Rattle.vault_store.specs.declared.phase.Phase.{Phase}
 use Rattle.vault_store.specs.Phases.{Waiting, Nothing, NoEffects, Effects, is_idle}
 use Rattle.group_commit.specs.Entries.{Kept}
 
--- what waits, of the unsettled entries and their effects
+-- what waits, by the entries that aren't durable yet, and by their effects
 abbrev pub waiting : List Kept → List Effect → Waiting
 waiting [] effects = Nothing
 waiting (kept ∷ rest) [] = NoEffects
 waiting (kept ∷ rest) (effect ∷ more) = Effects
 
--- at most the settled entries are retired, at most all are settled and sealed, and in a commit or a snapshot the settled are sealed
+-- only settled (durable) entries are retired, at most all are settled and sealed, and in a commit or a snapshot the settled are sealed
 pub record InOrder (all retired settled sealed : ℕ) (phase : Phase) : Type 0 where
   pub retired_settled : retired ≤ settled
   pub settled_all : settled ≤ all

@@ -32,7 +32,7 @@ abbrev pub ReceiptsAreOfTheirEntries : Type 0
 ReceiptsAreOfTheirEntries = (v : View) (life position : ℕ) (entry : Entry) (told : Told) → HasEntry v position entry
     → IsReceiptOf (ticket_of life position entry) v told → told ≡ told_for (ticket_of life position entry) entry.reply
 
--- the entry of this receipt is kept, at its position of the life, and was told
+-- the entry of this receipt is kept, at its position of the life, and was acknowledged
 pub record HasTold (v : View) (told : Told) : Type 0 where
   pub kept : Kept
   pub not_retired : v.retired ≤ told.position
@@ -40,7 +40,7 @@ pub record HasTold (v : View) (told : Told) : Type 0 where
   pub is : kept.entry ≡ entry_in told
   pub mark : kept.mark ≡ marks.Told
 
--- and once it was given, that entry is told
+-- and once it was given, that entry is acknowledged
 abbrev pub ReceiptsAreTold : Type 0
 ReceiptsAreTold =
     (v : View) (life position : ℕ) (entry : Entry) (told : Told) → HasEntry v position entry

@@ -17,16 +17,16 @@ use Rattle.group_commit.specs.Seen.{VaultSeen, state_of}
 abbrev pub IsCrash : {D : Type 0} → (D → Disk) → VaultSeen D → List ℕ → List ℕ → Type 0
 IsCrash disk seen x y = AreHonest disk seen.store × (disk (first_of seen.store)).IsImage x × (disk (second_of seen.store)).IsImage y
 
--- What a crash leaves is read as the vault after the settled entries or, while a gate is being opened, as the one after the sealed
--- ones exactly where that gate is 1; so it stands for one that the view allows.
+-- What a crash leaves is read as the vault after the settled (durable) entries. While a gate (commit mark) is being opened, it is read as
+-- the one after the sealed entries exactly where that gate is 1. So it stands for one that the view allows.
 pub record ImagesStand {D : Type 0} (disk : D → Disk) (seen : VaultSeen D) : Type 0 where
   pub left : (x y : List ℕ) → IsCrash disk seen x y → IsLeft seen.store (state_of seen.view) x y
   pub stands : (x y : List ℕ) → IsCrash disk seen x y → (left : Vault) × MayLeave seen.view left × StandFor x y left
-  -- while a gate is being opened, and before a device call failed, a crash changes that byte of its file alone
+  -- while a gate is being opened, and before a device call failed, a crash changes only that byte of its file
   pub gate : AreHonest disk seen.store → is_opening seen.view.phase ≡ true → seen.view.broken ≡ false
       → IsOneGate (disk (gated seen.view.phase seen.store.active seen.store.spare)) (gate_at seen.store seen.view.phase)
 
--- what a stop inside a call leaves is read as the vault after the entries settled before or, where a gate may be opened, after the
+-- what a crash inside a call leaves is read as the vault after the entries settled before or, where a gate may be opened, after the
 -- sealed ones
 abbrev pub MomentsStand : {D : Type 0} → (D → Disk) → VaultSeen D → VaultSeen D → Type 0
 MomentsStand disk old new =
@@ -34,8 +34,8 @@ MomentsStand disk old new =
     → MayBeLeft (disk (first_of old.store)) (disk (second_of old.store)) (disk (first_of new.store)) (disk (second_of new.store)) x y
     → IsLeftInside old.store (state_of old.view) x y
 
--- Whatever run reached this view: what a crash leaves stands for the durable vault after one prefix of the history, with all that
--- was told.
+-- For any run that reached this view: what a crash leaves stands for the durable vault after one prefix of the history, with all
+-- acknowledged entries.
 abbrev pub RecoveryGivesOnePrefix : {D : Type 0} → (D → Disk) → VaultSeen D → Type 0
 RecoveryGivesOnePrefix disk seen =
     (snapshot : Vault → ℕ) (events : List Event) (x y : List ℕ) → IsRun snapshot new_world events

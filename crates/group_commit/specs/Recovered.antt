@@ -26,7 +26,7 @@ use Rattle.group_commit.specs.Pasts.{IsStopInside, IsStop, IsOpenedOn, IsNext, I
 abbrev pub world_after : Vault → List Event → World
 world_after first events = run snapshot_length (world_of first) events
 
--- the events of a stop: a crash, and before it at most the pump under way where the machine stopped inside one
+-- the events of a stop: a crash, and before it at most the pump under way, where the crash came inside one
 abbrev pub AreOfStop : {D : Type 0} → {disk : D → Disk} → {seen : VaultSeen D} → {x y : List ℕ} → IsStop disk seen x y → List Event → Type 0
 AreOfStop (inl between) events = (gate : GateLeft) × (events ≡ Crash gate ∷ [])
 AreOfStop (inr inside) events = (gate : GateLeft) × ((events ≡ Crash gate ∷ []) ⊎ (events ≡ Within Pump ∷ Crash gate ∷ []))
@@ -37,7 +37,7 @@ AreOfNext (inl (inl same)) events = events ≡ []
 AreOfNext (inl (inr made)) events = events ≡ Within made.0 ∷ []
 AreOfNext (inr reopened) events = AreOfStop reopened.left events
 
--- events that happened before, and behind them those of what came next
+-- events that happened before, and after them those of what came next
 pub record GoOn {D : Type 0} {disk : D → Disk} {old new : VaultSeen D} (next : IsNext disk old new) (HappenedBefore : List Event → Type 0)
     (events : List Event) : Type 0 where
   pub before : List Event
@@ -52,7 +52,7 @@ abbrev pub AreOfPast : {D : Type 0} → (disk : D → Disk) → (now : VaultSeen
 AreOfPast disk now [] is events = events ≡ []
 AreOfPast disk now (old ∷ past) is events = GoOn is.1 (AreOfPast disk old past is.2) events
 
--- those of them that had happened when the nth was seen, the latest first
+-- those of them that had happened when the nth vault of the past was seen, the latest one first
 abbrev pub events_until : {D : Type 0} → (disk : D → Disk) → (now : VaultSeen D) → (past : List (VaultSeen D)) → (is : IsPast disk now past)
     → (events : List Event) → AreOfPast disk now past is events → ℕ → List Event
 events_until disk now past is events are zero = events
@@ -64,9 +64,9 @@ pub record IsOneRun {D : Type 0} (disk : D → Disk) (now : VaultSeen D) (past :
     (is : IsPast disk now past) : Type 0 where
   pub events : List Event
   pub is_run : IsRun snapshot_length (world_of (beginning now past)) events
-  -- between two that were seen, one behind the other, nothing else happened than what led from the one to the other
+  -- between two vaults that were seen one after the other, nothing happened but what led from the one to the other
   pub calls : AreOfPast disk now past is events
-  -- each that was seen, the latest first, is the view of the world as it was then
+  -- each view that was seen, the latest first, is that of the world as it was then
   pub shown : (n : ℕ) (seen : VaultSeen D) → slice_get (now ∷ past) n ≡ Some seen
       → view_of (world_after (beginning now past) (events_until disk now past is events calls n)) ≡ seen.view
 
@@ -75,7 +75,7 @@ abbrev pub history_of : {D : Type 0} → {disk : D → Disk} → {now : VaultSee
     → IsOneRun disk now past is → List Member
 history_of {D} {disk} {now} {past} {is} one = history (world_after (beginning now past) one.events)
 
--- where in it the life begins in which the nth was seen
+-- where in it the life of the nth vault that was seen begins
 abbrev pub life_begins : {D : Type 0} → {disk : D → Disk} → {now : VaultSeen D} → {past : List (VaultSeen D)} → {is : IsPast disk now past}
     → IsOneRun disk now past is → ℕ → ℕ
 life_begins {D} {disk} {now} {past} {is} one n =
@@ -95,19 +95,19 @@ pub record IsRecovered {D : Type 0} {disk : D → Disk} {now : VaultSeen D} {pas
       (cut ≡ length w.earlier + now.view.settled) ⊎ (IsTrue open_gate × (cut ≡ length w.earlier + now.view.sealed))
   pub within : cut ≤ length (history_of one)
   pub prefix : vault ≡ durable (replay (beginning now past) (take cut (history_of one)))
-  -- whatever was told at any point of the past stands in that prefix, at its place, with its reply
+  -- each entry acknowledged at any point of the past stands in that prefix, at its place, with its reply
   pub told : (n place : ℕ) (seen : VaultSeen D) (kept : Kept) (at : slice_get (now ∷ past) n ≡ Some seen)
       → slice_get seen.view.kept place ≡ Some kept → kept.mark ≡ Told
       → slice_get (take cut (history_of one)) (life_begins one n + (seen.view.retired + place)) ≡ Some (Given kept.entry)
   -- its long claims stand in their order, and short ones are gone
   pub claims : vault.line ≡ without_short (replay (beginning now past) (take cut (history_of one))).line
   pub no_short : (number : ℕ) → claim_of vault.line (Short number) ≡ None
-  -- no two held claims overlap, after the prefix and as it is recovered
+  -- no two granted claims overlap, after the prefix and in the recovered vault
   pub guarded : IsGuarded (replay (beginning now past) (take cut (history_of one)))
   pub apart : AreApart vault
 
--- The headline, for one past of a vault: one run of events is this past, with a history that is legal from the vault with which it began,
--- and wherever the machine stops now, between two calls or inside a pump, recovery gives one prefix of it.
+-- The headline, for one past of a vault: one run of events is this past, its history is legal from the vault with which it began, and
+-- after a crash now, between two calls or inside a pump, recovery gives one prefix of that history.
 pub record IsKeptThrough {D : Type 0} (disk : D → Disk) (now : VaultSeen D) (past : List (VaultSeen D))
     (is : IsPast disk now past) : Type 0 where
   pub one : IsOneRun disk now past is
@@ -119,13 +119,13 @@ pub record IsKeptThrough {D : Type 0} (disk : D → Disk) (now : VaultSeen D) (p
 abbrev pub EachPastIsKept : {D : Type 0} → (D → Disk) → VaultSeen D → Type 0
 EachPastIsKept {D} disk now = (past : List (VaultSeen D)) (is : IsPast disk now past) → IsKeptThrough disk now past is
 
--- where in the history of a past the entry of a receipt stands: in the life in which the nth was seen, at the receipt's position
+-- where in the history of a past the entry of a receipt stands: in the life of the nth vault that was seen, at the receipt's position
 abbrev pub place_of : {D : Type 0} → {disk : D → Disk} → {now : VaultSeen D} → {past : List (VaultSeen D)} → {is : IsPast disk now past}
     → IsOneRun disk now past is → ℕ → Receipt → ℕ
 place_of {D} {disk} {now} {past} {is} one n told = life_begins one n + told.position
 
--- A receipt that the nth showed as told is found again, over this past: wherever the machine stops now, its entry stands in the prefix that
--- recovery gives, at its place, with its session, its number, its command and its reply.
+-- A receipt whose entry the nth vault showed as acknowledged is found again, over this past: after any crash now, that entry stands in
+-- the prefix that recovery gives, at its place, with its session, its number, its command and its reply.
 pub record IsFoundAgain {D : Type 0} (disk : D → Disk) (now : VaultSeen D) (past : List (VaultSeen D)) (is : IsPast disk now past)
     (n : ℕ) (told : Receipt) : Type 0 where
   pub kept : IsKeptThrough disk now past is
@@ -134,7 +134,7 @@ pub record IsFoundAgain {D : Type 0} (disk : D → Disk) (now : VaultSeen D) (pa
   pub inside : (x y : List ℕ) (stop : IsStopInside disk now x y)
       → slice_get (take (kept.inside x y stop).cut (history_of kept.one)) (place_of kept.one n told) ≡ Some (Given (entry_in told))
 
--- so is each receipt whose entry was seen told at any point of a past
+-- so is each receipt whose entry was seen as acknowledged at any point of a past
 abbrev pub ReceiptsAreFoundAgain : {D : Type 0} → (D → Disk) → VaultSeen D → Type 0
 ReceiptsAreFoundAgain {D} disk now =
     (past : List (VaultSeen D)) (is : IsPast disk now past) (n : ℕ) (seen : VaultSeen D) (told : Receipt)

@@ -67,7 +67,7 @@ make path = Make path None
 abbrev pub path_f : List (List ℕ)
 path_f = codes "f" ∷ []
 
--- two designers join, which changes nothing for good; each makes a project, in one frame; all is told and retired
+-- two designers join, which changes nothing durable; each makes a project, in one frame; all is acknowledged and retired
 abbrev pub two_sessions : List Event
 two_sessions =
     stage 0 (Join anna) ∷ stage 0 (Join ben) ∷ pumps 1
@@ -83,12 +83,12 @@ TwoSessionsOneFrame =
     (Settled ∷ Moved ∷ Moved ∷ Moved ∷ Settled ∷ [])
     (Session 1 ∷ Session 2 ∷ Place 1 ∷ Place 2 ∷ [])
 
--- one who has nothing to say for good needs no device call, and then there is nothing to do
+-- a command with no durable effect needs no device call, and then there is nothing to do
 abbrev pub NothingForGood : Type 0
 NothingForGood = Shows (stage 1 (State (Long 1)) ∷ pumps 1 ++ Within (Tell 0) ∷ pumps 1) (NoCall ∷ NoCall ∷ []) (Settled ∷ Rests ∷ [])
     (Refused NoSession ∷ [])
 
--- one project is committed and told, a second is staged and pumped three times: its gate is being opened
+-- one project is committed and acknowledged, a second is staged and pumped three times: its gate is being opened
 abbrev pub half_committed : List Event
 half_committed = stage 0 (Join anna) ∷ stage 1 (make path_e) ∷ pumps 4 ++ Within (Tell 1) ∷ stage 1 (make path_f) ∷ pumps 3
 
@@ -114,13 +114,13 @@ abbrev pub TornGateOpen : Type 0
 TornGateOpen = Shows (half_committed ++ Crash IsOpen ∷ look_again) half_calls half_answers
     (Session 1 ∷ Place 1 ∷ Place 2 ∷ Session 1 ∷ Children (codes "e" ∷ codes "f" ∷ []) ∷ [])
 
--- what was told before the crash stands at its place behind it
+-- what was acknowledged before the crash stands at its place after it
 abbrev pub ToldStands : Type 0
 ToldStands =
     slice_get (history (after_events (half_committed ++ Crash StaysClosed ∷ look_again))) 1
     ≡ Some (Given (record { session = 1; number = 1; command = make path_e; reply = Place 1 }))
 
--- a check-out that waits behind a hold is held after a restart, and the hold is gone
+-- a check-out that waits behind a hold is granted after a restart, and the hold is gone
 abbrev pub HoldGoes : Type 0
 HoldGoes =
     Shows
@@ -153,17 +153,17 @@ SnapshotTornOpen =
     Shows (half_a_snapshot ++ Crash IsOpen ∷ look_again) snapshot_calls snapshot_answers
     (Session 1 ∷ Place 1 ∷ Place 2 ∷ Session 1 ∷ Children (codes "e" ∷ codes "f" ∷ []) ∷ [])
 
--- with a sixth pump the snapshot is settled, whatever the crash leaves
+-- with a sixth pump the snapshot is durable, whatever the crash leaves
 abbrev pub SnapshotSettled : Type 0
 SnapshotSettled =
     Shows (half_a_snapshot ++ pumps 1 ++ Crash StaysClosed ∷ look_again) (snapshot_calls ++ Sync ∷ []) (snapshot_answers ++ Settled ∷ [])
     (Session 1 ∷ Place 1 ∷ Place 2 ∷ Session 1 ∷ Children (codes "e" ∷ codes "f" ∷ []) ∷ [])
 
--- one project is settled and its ticket out, a second staged, and the write of its body fails
+-- one project is durable and its ticket outstanding, a second staged, and the write of its body fails
 abbrev pub a_failed_write : List Event
 a_failed_write = stage 0 (Join anna) ∷ stage 1 (make path_e) ∷ pumps 4 ++ stage 1 (make path_f) ∷ Within Fault ∷ []
 
--- no command is staged any more, nor does a pump do anything, but the first reply is told; the second is forgotten, and lost with the crash
+-- no more commands are staged, and a pump does nothing, but the first reply is handed out; the second is forgotten, and lost in the crash
 pub record FailedWrite : Type 0 where
   pub no_stage : Allows ten_bytes (after_events a_failed_write) (Stage 1 (make path_f)) → ⊥
   pub no_pump : Allows ten_bytes (after_events a_failed_write) Pump → ⊥

@@ -3,7 +3,7 @@ use Rattle.std.specs.Prelude.{ℕ, List, [], ◌∷◌}
 use Rattle.vault_model.specs.Vault.{Vault}
 use Rattle.group_commit.specs.World.{World, Act, GateLeft, Allows, acted, crashed}
 
--- an act of the present life, or a crash with the restart behind it
+-- an act of the present life, or a crash with the restart after it
 pub data Event : Type 0 where
   Within : (act : Act) → Event
   Crash : (gate : GateLeft) → Event

@@ -23,11 +23,11 @@ pub record VaultSeen (D : Type 0) : Type 0 where
 abbrev pub snapshot_length : Vault → ℕ
 snapshot_length w = length (snapshot_of w)
 
--- the most entries that are kept
+-- the greatest number of kept entries
 abbrev pub most_kept : ℕ
 most_kept = MAX_KEPT
 
--- up to where the entries are in frames: the sealed ones where a commit or a snapshot is under way, else the settled ones
+-- up to where the entries are in frames: the sealed ones while a commit or a snapshot is under way, else the settled (durable) ones
 abbrev pub framed : View → ℕ
 framed v = if is_idle v.phase then v.settled else v.sealed
 
@@ -52,9 +52,9 @@ state_of v = record {
   broken = v.broken;
 }
 
--- What every view keeps: the kept history is legal from the base, told entries are settled, and counted, the numbers are in order,
--- few entries are kept, no session of the base gave more
--- commands than were retired, and where a device call failed, a commit or a snapshot is under way for good.
+-- What every view keeps: the kept history is legal from the base, acknowledged entries are durable, and counted, the numbers are in
+-- order, few entries are kept, no session of the base gave more commands than were retired, and after a failed device call a commit
+-- or a snapshot stays under way for good.
 pub record IsSoundView (v : View) : Type 0 where
   -- invariant 2 of src/lib.rt
   pub well_formed : IsVault v.base

@@ -1,4 +1,4 @@
--- What contracts see of tickets and receipts. Of a ticket a program reads its position, of a receipt its reply; the rest is
+-- What contracts see of tickets and receipts. A program reads the position of a ticket and the reply of a receipt; the rest is
 -- there for contracts alone. This project's own.
 use Rattle.std.specs.Prelude.{ℕ}
 use Rattle.vault_model.specs.Said.{Command, Reply}
@@ -12,7 +12,7 @@ pub record TicketSeen : Type 0 where
   pub number : ℕ
   pub command : Command
 
--- an entry as it was told
+-- an entry as it was acknowledged
 pub record Told : Type 0 where
   pub position : ℕ
   pub session : ℕ

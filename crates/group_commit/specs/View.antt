@@ -10,8 +10,8 @@ use Rattle.vault_store.specs.Phases.{Row, row, NoCall, settled_by, after_fault, 
 use Rattle.group_commit.specs.Phases.{waiting}
 use Rattle.group_commit.specs.World.{World, Act, Stage, Pump, Fault, StartSnapshot, Tell, Forget, Retire, vault_at}
 
--- the vault after the retired entries, the entries behind them with their marks, and, counted from the life's start, how many
--- entries are settled, sealed, retired and told; the phase; whether a device call failed
+-- the vault after the retired entries, the entries after them with their marks, and, counted from the life's start, how many
+-- entries are settled (durable), sealed, retired and told (acknowledged); the phase; whether a device call failed
 pub record View : Type 0 where
   pub base : Vault
   pub kept : List Kept
@@ -43,7 +43,7 @@ opened_view vault = record { base = vault; kept = []; settled = 0; sealed = 0; r
 abbrev pub length_of : View → ℕ
 length_of v = v.retired + length v.kept
 
--- the vault after the first n entries of the life, of which none that is retired is left to see
+-- the vault after the first n entries of the life; the retired ones always count, since the base has them
 abbrev pub view_at : View → ℕ → Vault
 view_at v n = replay v.base (members (take (n - v.retired) v.kept))
 

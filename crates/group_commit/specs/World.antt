@@ -1,4 +1,4 @@
--- The world: the history over all lives, and how far its present life is settled, sealed, retired and told.
+-- The world: the history over all lives, and how far its present life is settled (durable), sealed, retired and told (acknowledged).
 -- This project's own.
 use Rattle.std.specs.Prelude.{◌≡◌, ◌≢◌, ℕ, ◌+◌, ◌<◌, Bool, true, false, if◌then◌else◌, List, [], ◌∷◌, ◌++◌, length, take, drop, Some}
 use Rattle.vault_model.specs.Said.{Command}
@@ -48,7 +48,7 @@ vault_at w n = replay w.first (history_to w n)
 abbrev pub vault_of : World → Vault
 vault_of w = replay w.first (history w)
 
--- what one call does: a command is staged, a pump, a pump with a fault, the start of a snapshot, a reply that is told, a
+-- what one call does: a command is staged, a pump, a pump with a fault, the start of a snapshot, a reply that is handed out, a
 -- ticket that is forgotten, and an entry that is retired
 pub data Act : Type 0 where
   Stage : (session : ℕ) (command : Command) → Act
@@ -112,7 +112,7 @@ abbrev pub kept_by : World → GateLeft → ℕ
 kept_by w StaysClosed = w.settled
 kept_by w IsOpen = if is_opening w.phase then w.sealed else w.settled
 
--- the world after a crash and a restart: a new life behind the entries that are kept
+-- the world after a crash and a restart: a new life after the entries that are kept
 abbrev pub crashed : World → GateLeft → World
 crashed w gate = record {
   first = w.first;

@@ -3,7 +3,7 @@ use Rattle.vault_model.specs.Name.{IsName}
 use Rattle.vault_model.specs.Said.{Effect}
 use Rattle.vault_model.specs.declared.effects.Effect.TheVariants.{Made, Nested, Asked, Given}
 
--- a name is a name
+-- a name in it is well formed
 abbrev pub IsOfItsType : Effect → Type 0
 IsOfItsType (Made parent child) = IsName child
 IsOfItsType (Nested parent child) = IsName child

@@ -1,17 +1,17 @@
-//! What redeeming and forgetting a ticket answer, and retiring an entry.
+//! The answers of redeeming and of forgetting a ticket, and of retiring an entry.
 
 use crate::{Receipt, Ticket};
 use std::alloc::{Allocator, Global};
 
-/// What redeeming a ticket gave. But for a receipt the ticket comes back.
+/// What redeeming a ticket gave. Where it isn't a receipt, the ticket comes back.
 pub enum Redeemed<A: Allocator = Global> {
     /// The reply. The entry is closed.
     Told(Receipt<A>),
-    /// The entry isn't settled yet.
+    /// The entry isn't durable yet.
     NotYet(Ticket<A>),
     /// The ticket names no open entry of this life.
     Stranger(Ticket<A>),
-    /// The entry isn't settled, and a device call failed: a later opening shows what became of it.
+    /// The entry isn't durable, and a device call failed: a later opening shows what became of it.
     Unknown(Ticket<A>),
     /// Memory for a copy of the reply was refused.
     NoMemory(Ticket<A>),
@@ -29,8 +29,8 @@ pub enum Forgotten {
 /// What retiring did.
 #[derive(Clone, Copy, Debug, PartialEq, Eq)]
 pub enum Retired {
-    /// The oldest kept entry is kept no more.
+    /// The oldest kept entry was dropped.
     One,
-    /// The oldest kept entry isn't settled or its ticket is out, or none is kept.
+    /// The oldest kept entry isn't durable or its ticket is outstanding, or none is kept.
     Nothing,
 }

@@ -4,7 +4,7 @@ ghost use Rattle.std.specs.Borrow.{ftrue};
 
 use std::marker::{Model, PhantomData};
 
-/// Values that are gone, in order. It takes no bytes, and a clause reads it as `items`.
+/// Values that are gone, in order. It takes no bytes, and contracts read it as `items`.
 #[derive(Drop)]
 pub(crate) struct Bygone<T> {
     marker: PhantomData<T>,
@@ -25,7 +25,7 @@ impl<T> Bygone<T> {
         }
     }
 
-    /// These, and one more behind them.
+    /// These, and one more after them.
     pub(crate) fn and(&self, last: &T) -> Bygone<T>
         ensures { result.items ≡ self.now.items ++ last.now ∷ [] }
     {

@@ -28,7 +28,7 @@ fn new_parts<A: Allocator + Copy>(alloc: A) -> Result<(Book<A>, Window<A>), NoMe
     Ok((Book::new(alloc)?, Window::new(alloc)?))
 }
 
-// A creation that was refused memory, with both devices settled.
+// The refusal of a creation that ran out of memory, with both devices synced.
 fn refused_memory<D: Device>(first: D, second: D) -> Refused<D, CreateError>
     ensures first { IsHandedOn (D.disk first) (D.disk result.first) }
     ensures second { IsHandedOn (D.disk second) (D.disk result.second) }
@@ -73,9 +73,9 @@ impl<D: Device, A: Allocator + Copy> Vault<D, A> {
     }
 
     /// Makes a vault with the library alone, in the first of two empty files. The life is a number that the caller hasn't
-    /// handed in before in this process. A refusal hands the devices back. A creation that failed or was stopped leaves files
-    /// of which none is open, or the new vault's. The room for the whole history is taken here, first of all; where it is
-    /// refused, both devices are synced all the same.
+    /// handed in before in this process. A refusal hands the devices back. A creation that failed or was stopped by a crash
+    /// leaves no open file, or the files of the new vault. The memory for the whole history is taken here, first of all;
+    /// where it is refused, both devices are synced all the same.
     pub fn create(
         alloc: A,
         first: D,

@@ -11,8 +11,8 @@ use std::snapshot::Snapshot;
 use vault_checkout::Book;
 use vault_model::{CommandIn, NoMemory, ReplyIn};
 
-/// The reply to a session's command, and what became of its ticket. For contracts alone, which take no memory, there are the
-/// session, its command, and the book before that, by which the command has its number in the session.
+/// The reply to a session's command, and what became of its ticket. The session, its command and the book before the command are
+/// for contracts alone, and take no memory. That book gives the command its number in the session.
 #[derive(Drop)]
 pub(crate) struct Entry<A: Allocator> {
     session: Snapshot<u32>,
@@ -41,7 +41,7 @@ impl<A: Allocator> Model for Entry<A> {
 }
 
 impl<A: Allocator> Entry<A> {
-    /// An entry whose ticket is out.
+    /// An entry whose ticket is outstanding.
     pub fn open(
         session: u32,
         before: Snapshot<Book<A>>,

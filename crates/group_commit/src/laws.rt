@@ -4,14 +4,15 @@ ghost use Rattle.vault_model.specs.Vault.{Vault};
 ghost use Rattle.group_commit.specs.Rows.{Rows};
 ghost use Rattle.group_commit.specs.Laws.{ActsAreOfTheView, CrashesOpen, HistoryIsLegal, ToldStays, ToldIsSettled, WorldsAreOrderly, PrefixesAreGuarded, RecoveryGivesAPrefix, LeftIsRecovered, EffectsAreTheChange, CountsAreOfTheLife, ReachableGoesOn};
 
-/// What a caller sees of a vault acts as the whole world does: its present life is all that its calls need.
+/// A caller's view of a vault (its present life) acts as the whole world (all its lives) does: the present life is all that its
+/// calls need.
 pub fn each_act_is_of_the_view()
     ensures acts { ActsAreOfTheView }
     ensures crashes { CrashesOpen }
 {}
 
-/// The history of every run is legal, what was told stands for good, no two held claims overlap, and recovery gives one
-/// prefix of the history, with all that was told.
+/// The history of every run is legal, acknowledged entries stand for good, no two granted claims overlap, and recovery gives
+/// one prefix of the history, with all acknowledged entries.
 pub fn the_history_is_kept()
     ensures legal { HistoryIsLegal }
     ensures told { ToldStays }
@@ -22,19 +23,19 @@ pub fn the_history_is_kept()
     ensures left { LeftIsRecovered }
 {}
 
-/// The effects of a part of the history are its durable change: what is written for the unsettled entries leads from the
-/// settled vault to the next.
+/// The effects of a part of the history are its durable change: what is written for its entries leads from the durable vault
+/// before them to the one after them.
 pub fn effects_are_the_change()
     ensures { EffectsAreTheChange }
 {}
 
-/// No session, nor the door, has counted more commands than the present life has entries.
+/// Neither a session nor the door (session 0) has counted more commands than the present life has entries.
 pub fn counts_are_of_the_life()
     ensures { CountsAreOfTheLife }
 {}
 
-/// Whoever keeps a vault whose view some run reaches still does after each call, and after a crash and an opening of what
-/// it left.
+/// If some run reaches a vault's view, some run also reaches the view after each call, and the one after a crash and an opening
+/// of what that left.
 pub fn reachable_goes_on()
     ensures { (snapshot : Vault → ℕ) → ReachableGoesOn snapshot }
 {}

@@ -2,23 +2,24 @@
 //! keeps it.
 //!
 //! Promises: `create` and `open` begin a life. Each later call of `Vault` changes nothing, or makes one act that the view allows
-//! (`stage`, `pump`, `start_snapshot`, `redeem`, `forget`, `retire`). A reply is told only once its entry is settled. Any past of
-//! calls, stops and openings is one run, call by call. What a crash leaves, between two calls or at any moment of a pump or of an
-//! opening, is the durable vault after one prefix of its one history, with all that was told (`promises::recovery_gives_one_prefix`);
-//! a receipt is found again in it. Files of one vault stay so, and what a crash leaves of them isn't told as those of two
-//! (`promises::files_pass`). `laws` say the same of the definitions, over every run: a caller's view acts as the whole world.
-//! Ten runs worked out by hand hold, by proof.
+//! (`stage`, `pump`, `start_snapshot`, `redeem`, `forget`, `retire`). A reply is handed out only once its entry is durable. Any past of
+//! calls, crashes and openings is one run, call by call. After a crash, between two calls or at any moment of a pump or of an opening,
+//! the files stand for the durable vault after one prefix of the one history. That prefix has all acknowledged entries
+//! (`promises::recovery_gives_one_prefix`), and each receipt is found again in it. Files of one vault stay so, and after a crash they
+//! aren't reported as those of two (`promises::files_pass`). `laws` say the same for the definitions, over every run: a caller's view
+//! (the present life) acts as the whole world (all lives). Ten runs worked out by hand are proved.
 //! Stands on: vault_model, vault_device, vault_journal, vault_checkout, vault_store. Must not know: lines, connections,
 //! threads, what a command does (proofs cite five laws of the step, in proofs/Facts.antt).
 //!
 //! Invariants, of `Vault`:
 //! 1. The book is the vault after the kept entries.
-//! 2. The kept history is legal from the base: each entry's number and reply are its step's.
-//! 3. Settled entries are in order: retired, settled, all; and sealed behind settled while a commit or a snapshot is under way.
-//! 4. What is told is settled, and `told` counts it, of the retired entries, too.
+//! 2. The kept history is legal from the base: each entry's number and reply are those that its step gives.
+//! 3. The counts are in order: retired ≤ settled (durable) ≤ all, sealed ≤ all, and settled ≤ sealed while a commit or a snapshot is
+//!    under way.
+//! 4. Acknowledged entries are durable, and `told` counts them, retired ones too.
 //! 5. At most 4,096 entries are kept.
 //! 6. The store keeps the durable vaults after the settled entries, after the sealed ones and after all.
-//! 7. Where a device call failed, a commit or a snapshot is under way for good.
+//! 7. After a failed device call, a commit or a snapshot stays under way for good.
 //!
 //! Only tested: runs over devices in memory (a full buffer, a full history, a snapshot, a failed write), each request for memory
 //! refused, speed.

@@ -3,10 +3,10 @@
 /// What became of the ticket of an entry in the history.
 #[derive(Clone, Copy, Debug)]
 pub enum Mark {
-    /// The ticket is out.
+    /// The ticket is outstanding.
     Open,
-    /// The reply was told for it.
+    /// The reply was handed out for it.
     Told,
-    /// It was given up, or a restart took it.
+    /// It was given up.
     Forgotten,
 }

@@ -14,7 +14,7 @@ use vault_device::Device;
 use vault_model::{Effect, EffectIn};
 use vault_store::Store;
 
-// Does nothing: a call shows what the effect has by its type.
+// Does nothing. Its contract says what the effect has by its type.
 fn see_name<A: Allocator>(effect: &EffectIn<A>)
     ensures { IsOfItsType effect.now }
 {

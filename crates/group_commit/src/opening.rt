@@ -43,8 +43,8 @@ fn begin<D: Device, A: Allocator + Copy>(
 
 impl<D: Device, A: Allocator + Copy> Vault<D, A> {
     /// Opens the vault that two files stand for. The life is a number that the caller hasn't handed
-    /// in before in this process. A refusal hands the devices back. It writes nothing. The room for
-    /// the whole history is taken here.
+    /// in before in this process. A refusal hands the devices back. Opening writes nothing. The
+    /// memory for the whole history is taken here.
     pub fn open(
         alloc: A,
         first: D,

@@ -34,8 +34,8 @@ impl<D: Device, A: Allocator + Copy> Vault<D, A> {
         }
     }
 
-    /// Does the next step of a commit or of a snapshot, with at most one device call and no memory. A fault breaks the vault: until the devices
-    /// are opened again it answers `Broken`, with no device call.
+    /// Does the next step of a commit or of a snapshot, with at most one device call and no allocation. A fault breaks the vault: until
+    /// the devices are opened again it answers `Broken`, with no device call.
     pub fn pump(&mut self) -> Result<Pumped, Fault>
         ensures broken { self.old.view.broken ≡ true → (result ≡ Ok answers.Broken) × (self.new ≡ self.old) }
         ensures answer { self.old.view.broken ≡ false → IfOk result (λ answer. answer ≡ (view_row snapshot_length self.old.view).answer) }

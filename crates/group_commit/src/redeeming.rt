@@ -27,7 +27,7 @@ impl<D: Device, A: Allocator + Copy> Vault<D, A> {
         }
     }
 
-    /// The reply of the entry that a ticket names, once that is settled: the entry is then closed. Else the ticket comes
+    /// The reply of the entry that a ticket names, once that is durable: the entry is then closed. Else the ticket comes
     /// back, and nothing changes. No device call.
     pub fn redeem(&mut self, ticket: Ticket<A>) -> Redeemed<A>
         ensures told { IsRedeemed self.old self.new ticket result }
@@ -53,7 +53,7 @@ impl<D: Device, A: Allocator + Copy> Vault<D, A> {
         }
     }
 
-    /// Spends a ticket without its reply, and closes its entry. No memory and no device call.
+    /// Spends a ticket without its reply, and closes its entry. No allocation and no device call.
     pub fn forget(&mut self, ticket: Ticket<A>) -> Forgotten
         ensures closed { IsForgotten self.old self.new ticket result }
         ensures answered { IsAnswered self.old self.new }

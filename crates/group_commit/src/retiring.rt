@@ -1,4 +1,4 @@
-//! The oldest entries are let go.
+//! The oldest entries are dropped.
 ghost use Rattle.std.specs.Prelude.{◌≡◌};
 ghost use Rattle.group_commit.specs.View.{length_of};
 ghost use Rattle.group_commit.specs.Calls.{IsRetired};
@@ -9,8 +9,8 @@ use std::alloc::Allocator;
 use vault_device::Device;
 
 impl<D: Device, A: Allocator + Copy> Vault<D, A> {
-    /// Lets the oldest kept entry go, where it is settled and its ticket isn't out any more, which makes room for another. No memory and
-    /// no device call; its cost doesn't grow with what is kept.
+    /// Drops the oldest kept entry, where it is durable and its ticket isn't outstanding. This makes room for another. No allocation and
+    /// no device call; its cost doesn't grow with the number of kept entries.
     pub fn retire(&mut self) -> Retired
         ensures retired { IsRetired self.old self.new result }
         ensures same { (length_of self.new.view ≡ length_of self.old.view) × (self.new.view.told ≡ self.old.view.told) }

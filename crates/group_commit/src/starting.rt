@@ -17,8 +17,8 @@ use vault_model::NoMemory;
 use vault_store::laws::what_is_noted_is_spelled;
 
 impl<D: Device, A: Allocator + Copy> Vault<D, A> {
-    /// Whether a snapshot is wanted: nothing is under way, and frames of 1,048,576 bytes or more stand in the active file, which an
-    /// opening would read, or that file isn't of today's version.
+    /// Whether a snapshot is wanted: nothing is under way, and the active file has 1,048,576 bytes or more of frames, which an opening
+    /// would read, or isn't of the current version.
     pub fn wants_snapshot(&self) -> bool
         ensures { result ≡ wants_snapshot self.now.store }
     {

@@ -71,7 +71,7 @@ impl<A: Allocator> Ticket<A> {
     }
 }
 
-/// The reply of a settled entry.
+/// The reply of a durable entry.
 #[derive(Drop)]
 pub struct Receipt<A: Allocator = Global> {
     position: u64,
@@ -94,7 +94,7 @@ impl<A: Allocator> Model for Receipt<A> {
 }
 
 impl<A: Allocator> Receipt<A> {
-    /// What the session is told.
+    /// The reply to the session.
     pub fn reply(&self) -> &ReplyIn<A>
         ensures { result.now ≡ self.now.reply }
     {

@@ -32,13 +32,13 @@ pub struct Vault<D: Device, A: Allocator = Global> {
     pub(crate) retired: u64,
     /// How many entries are durable.
     pub(crate) settled: u64,
-    /// While a commit is under way, how many are in frames, also in that commit's. While a snapshot is, how many are in it.
+    /// During a commit: how many entries are in frames, including that commit's. During a snapshot: how many are in it.
     pub(crate) sealed: u64,
     /// How many receipts were given.
     pub(crate) told: u64,
     /// Whether a device call failed. No command is taken then.
     pub(crate) broken: bool,
-    /// The number of this life, by which a ticket of another one is known.
+    /// The number of this life, by which a ticket of another one is recognized.
     pub(crate) life: u64,
 }
 
@@ -64,7 +64,7 @@ impl<D: Device, A: Allocator + Copy> Vault<D, A> {
         self.retired + self.kept.len() as u64
     }
 
-    /// How many of them are settled.
+    /// How many of them are durable.
     pub fn durable(&self) -> u64
         ensures { result ≡ self.now.view.settled }
     {
@@ -78,7 +78,7 @@ impl<D: Device, A: Allocator + Copy> Vault<D, A> {
         self.kept.len() as u64
     }
 
-    /// How many entries were told in this life.
+    /// How many entries were acknowledged in this life.
     pub fn told(&self) -> u64
         ensures { result ≡ self.now.view.told }
     {
@@ -127,14 +127,14 @@ impl<D: Device, A: Allocator + Copy> Vault<D, A> {
         self.broken
     }
 
-    /// How a claim stands behind all entries. None where there is no such claim.
+    /// How a claim stands after all entries. None where there is no such claim.
     pub fn standing(&self, id: ClaimId) -> Option<Standing>
         ensures { result ≡ standing_of (book_of self.now.view).tree (book_of self.now.view).line id }
     {
         standing(&self.book, id)
     }
 
-    /// The devices. What isn't settled is lost.
+    /// The devices. What isn't durable is lost.
     pub fn into_devices(self) -> (D, D)
         ensures first { result.0 ≡ first_of self.store }
         ensures second { result.1 ≡ second_of self.store }
@@ -160,7 +160,7 @@ impl<D: Device, A: Allocator + Copy> Vault<D, A> {
 fn standing<A: Allocator + Copy>(book: &Book<A>, id: ClaimId) -> Option<Standing>
     ensures { result ≡ standing_of book.now.tree book.now.line id }
 {
-    // Its contract says that the tree is one.
+    // The contract of this call says that the book is well formed, and so its tree.
     let _ = book.check_out_of(0);
     book.line().standing(id)
 }

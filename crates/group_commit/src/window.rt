@@ -11,10 +11,10 @@ use std::collections::VecDeque;
 use std::marker::Model;
 use vault_model::{NoMemory, ReplyIn};
 
-// The most entries that are kept.
+// The greatest number of kept entries.
 pub(crate) const MAX_KEPT: usize = 4096;
 
-/// The kept entries, in order. All of their room is taken when it is made.
+/// The kept entries, in order. The memory for all of them is taken when it is made.
 #[derive(Drop)]
 pub(crate) struct Window<A: Allocator> {
     entries: VecDeque<Entry<A>, A>,
@@ -34,7 +34,7 @@ impl<A: Allocator> Model for Window<A> {
 }
 
 impl<A: Allocator + Copy> Window<A> {
-    /// No entries, and room for the most.
+    /// No entries, and room for the greatest number.
     pub fn new(alloc: A) -> Result<Window<A>, NoMemory>
         ensures { IfOk result (λ window. window ≡ []) }
     {
@@ -43,7 +43,7 @@ impl<A: Allocator + Copy> Window<A> {
         })
     }
 
-    /// Where their room was taken.
+    /// The allocator of their memory.
     pub fn allocator(&self) -> A {
         *self.entries.allocator()
     }
@@ -72,7 +72,7 @@ impl<A: Allocator + Copy> Window<A> {
         self.entries.pop_front().unwrap()
     }
 
-    /// Whether the ticket of the first one is out.
+    /// Whether the ticket of the first one is outstanding.
     pub fn first_is_open(&self) -> bool
         ensures { IsTrue result ↔ (mark_at self.now 0 ≡ Some Open) }
     {

@@ -12,7 +12,7 @@ use Rattle.line_inlet.specs.Incoming.{most_bytes, IsOneLine, KeepsLine, CutsLine
 use Rattle.line_inlet.specs.declared.inlet.Piece.{Piece}
 use Rattle.line_inlet.specs.declared.inlet.Piece.TheVariants as pieces
 
--- what was pending and given is a piece of the line, which is kept behind the part that came before, and what is pending now
+-- what was pending and given is a piece of the line, kept after the part that came before, and then what is pending now
 pub record IsSoFar (old : Inflow) (given part piece kept : List ℕ) (is_long : Bool) (now : Inflow) : Type 0 where
   pub bytes : old.pending ++ given ≡ piece ++ now.pending
   pub one : IsOneLine piece
@@ -28,12 +28,12 @@ begins old part kept is_long keeps = record {
   taken = omega arith;
 }
 
--- what is given next comes behind all
+-- what is given next comes after all
 append_more : (pending given so_far rest more : List ℕ) → pending ++ given ≡ so_far ++ rest → pending ++ (given ++ more) ≡ so_far ++ (rest ++ more)
 append_more pending given so_far rest more e =
     sym (append_assoc pending given more) ∙ (ap (λ l. l ++ more) e ∙ append_assoc so_far rest more)
 
--- more of the line belongs to the piece, and nothing is pending behind it
+-- more of the line belongs to the piece, and nothing is pending after it
 pub goes_on : (old now next : Inflow) (given part piece kept longer : List ℕ) (is_long will_be : Bool) (more : List ℕ)
     → IsSoFar old given part piece kept is_long now → IsOneLine (now.pending ++ more) → next.pending ≡ []
     → KeepsLine ((part ++ piece) ++ (now.pending ++ more)) longer will_be → next.taken ≡ now.taken + length (now.pending ++ more)
@@ -56,7 +56,7 @@ cut_more old now next given part piece kept last is_long more h cut = record {
   within = cut.within;
 }
 
--- a piece with a line feed behind it ends the line
+-- a piece with a line feed after it ends the line
 pub whole : (old now next : Inflow) (given part piece kept last line : List ℕ) (is_long : Bool) (more : List ℕ)
     → IsSoFar old given part piece kept is_long now → CutsLine now more last next → KeepsLine ((part ++ piece) ++ last) line false
     → (all : List ℕ) × CutsLine old (given ++ more) all next × (line ≡ part ++ all) × (length line ≤ longest_line)
@@ -93,7 +93,7 @@ exceeds old now given part piece kept is_long more h many =
     ap length (append_more old.pending given piece now.pending more h.bytes) ∙ length-append piece (now.pending ++ more) in
     omega (arith, size, h.taken, many)
 
--- where none comes for now, nothing is pending behind the piece
+-- if none comes for now, nothing is pending after the piece
 pub waits : (old now : Inflow) (given part piece kept : List ℕ) (is_long : Bool) (more rest : List ℕ)
     → IsSoFar old given part piece kept is_long now → now.pending ++ more ≡ [] → rest ≡ [] → old.pending ++ (given ++ more) ≡ piece ++ rest
 waits old now given part piece kept is_long more rest h none empty =
@@ -112,13 +112,13 @@ before_feed bytes count h =
 pub without_feed : (bytes : List ℕ) → IsFirstByte (is_byte 10) bytes None → IsOneLine bytes
 without_feed bytes h = All-from_get_or (λ b. b ≢ 10) bytes 0 (λ i less. λ feed. h i (omega arith) less (grind (arith, nat_tests, feed)))
 
--- bytes up to the first line feed, that, and the bytes behind it
+-- the bytes up to the first line feed, the line feed, and the bytes after it
 pub at_feed : (bytes : List ℕ) (count : ℕ) → IsFirstByte (is_byte 10) bytes (Some count) → bytes ≡ take count bytes ++ 10 ∷ drop (suc count) bytes
 at_feed bytes count h =
     let feed : get_or bytes count 0 ≡ 10 = grind (arith, nat_tests, h.1) in
     split_at bytes count 0 h.0.high ∙ ap (λ b. take count bytes ++ b ∷ drop (suc count) bytes) feed
 
--- what waits behind a piece and its line feed
+-- what waits after a piece and its line feed
 pub behind_feed : (chunk : List ℕ) (at end count : ℕ) → at + count + 1 ≤ end
     → drop (suc count) (take (end - at) (drop at chunk)) ≡ take (end - (at + (count + 1))) (drop (at + (count + 1)) chunk)
 behind_feed chunk at end count within =
@@ -174,7 +174,7 @@ moved_cut old mid new given piece pending taken cut = record {
   within = cut.within;
 }
 
--- a piece of what waits behind a read is a piece of what was pending and given
+-- a piece of what waits after a read is a piece of what was pending and given
 pub gives_read : (old mid new : Inflow) (given so_far kept : List ℕ) (was_long : Bool) (piece : Piece) (rest : Option (List ℕ))
     → mid.pending ≡ old.pending ++ given → mid.taken ≡ old.taken
     → TakesPiece mid so_far piece kept new → GivesPiece old given so_far was_long piece kept new rest

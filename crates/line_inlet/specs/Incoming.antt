@@ -46,14 +46,14 @@ abbrev pub KeepsLine : List ℕ → List ℕ → Bool → Type 0
 KeepsLine line kept false = (kept ≡ line) × (length line ≤ longest_line)
 KeepsLine line kept true = longest_line < length line
 
--- what was pending and given begins with this line and a line feed, which are taken; what is behind them is pending
+-- what was pending and given begins with this line and a line feed, which are taken; what follows them is pending
 pub record CutsLine (old : Inflow) (given line : List ℕ) (new : Inflow) : Type 0 where
   pub bytes : old.pending ++ given ≡ line ++ 10 ∷ new.pending
   pub one : IsOneLine line
   pub taken : new.taken ≡ old.taken + length line + 1
   pub within : new.taken ≤ most_bytes
 
--- The next line of those bytes, whose first ones, the part, came before. Where it isn't whole, what came of it is kept.
+-- The next line of those bytes. Its first bytes, the part, came before. If it isn't whole, what came of it is kept.
 abbrev pub GivesLine : Inflow → List ℕ → List ℕ → NextLine → List ℕ → Bool → Inflow → Option (List ℕ) → Type 0
 GivesLine old given part lines.Whole line is_long new rest =
     (piece : List ℕ) × CutsLine old given piece new × (line ≡ part ++ piece) × (length line ≤ longest_line)
@@ -88,8 +88,8 @@ TakesByte old bytes.Fault new = ⊥
 TakesByte old bytes.Limit new = most_bytes < old.taken + length old.pending
 TakesByte old bytes.NotYet new = ⊥
 
--- What the bytes that wait gave to the line so far: its end, with the line feed behind these bytes, or all of them, none of which is
--- a line feed; or the most bytes would be passed.
+-- What the bytes that wait gave to the line so far: its end, with the line feed after these bytes; or all of them, none of which is a
+-- line feed. Or too many bytes would be taken.
 abbrev pub TakesPiece : Inflow → List ℕ → Piece → List ℕ → Inflow → Type 0
 TakesPiece old so_far pieces.Whole kept new = (piece : List ℕ) × CutsLine old [] piece new × KeepsLine (so_far ++ piece) kept false
 TakesPiece old so_far pieces.TooLong kept new = (piece : List ℕ) × CutsLine old [] piece new × KeepsLine (so_far ++ piece) kept true
@@ -101,12 +101,12 @@ TakesPiece old so_far pieces.Fault kept new = ⊥
 TakesPiece old so_far pieces.Limit kept new = most_bytes < old.taken + length old.pending
 TakesPiece old so_far pieces.NotYet kept new = ⊥
 
--- where the line goes on, bytes were taken, and not too many
+-- if the line goes on, bytes were taken, and not too many
 abbrev pub TakesMore : Inflow → Piece → Inflow → Type 0
 TakesMore old (pieces.More is_long) new = (old.taken < new.taken) × (new.taken ≤ most_bytes)
 TakesMore old _ new = Unit {0}
 
--- the same of what was pending and what a read gave; where nothing was, the line so far stays, and whether it is too long
+-- the same for what was pending and what a read gave; if that was nothing, the line so far stays, and whether it is too long
 abbrev pub GivesPiece : Inflow → List ℕ → List ℕ → Bool → Piece → List ℕ → Inflow → Option (List ℕ) → Type 0
 GivesPiece old given so_far was_long pieces.Whole kept new rest =
     (piece : List ℕ) × CutsLine old given piece new × KeepsLine (so_far ++ piece) kept false

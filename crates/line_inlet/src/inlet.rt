@@ -12,7 +12,7 @@ use std::io::{ErrorKind, Read};
 use std::marker::Model;
 use vault_lines::{LONGEST_LINE, MAX_READS};
 
-// The most bytes of a connection that are taken. It ends at the first one behind them.
+// The most bytes of a connection that are taken. It ends at the first one after them.
 const MAX_BYTES: u64 = 16_777_216;
 
 // How many bytes a read may give: nearly any line comes by one read.
@@ -26,7 +26,7 @@ pub enum NextByte {
     End,
     /// The reader failed, or was called too often.
     Fault,
-    /// There is a byte, but too many were taken.
+    /// There is a byte, but no more may be taken.
     Limit,
     /// None waits, and more may come.
     NotYet,
@@ -34,7 +34,7 @@ pub enum NextByte {
 
 // What the bytes that wait gave to the line.
 enum Piece {
-    /// Its end: it lies in the buffer.
+    /// Its end: the line lies in the buffer.
     Whole,
     /// Its end, but it has too many bytes.
     TooLong,
@@ -61,7 +61,7 @@ pub enum NextLine {
     End,
     /// The reader failed, or was called too often.
     Fault,
-    /// Too many bytes were taken.
+    /// Too many bytes would be taken.
     Limit,
     /// It isn't whole, and more may come.
     NotYet,
@@ -72,7 +72,7 @@ pub enum NextLine {
 pub struct Inlet {
     /// What the last read gave.
     chunk: [u8; CHUNK],
-    /// Where in the chunk the bytes begin that wait.
+    /// Where in the chunk the bytes that wait begin.
     at: usize,
     /// Where they end.
     end: usize,
@@ -122,7 +122,7 @@ impl Inlet {
         }
     }
 
-    // Reads where nothing waits.
+    // Reads if no bytes wait.
     fn fill<R: Read>(&mut self, reader: &mut R) -> Filled
         ensures { (given : List ℕ) × Consumes (R.remaining reader.old) (R.remaining reader.new) given
             × Fills self.old given result self.new (R.remaining reader.new) }
@@ -192,7 +192,7 @@ impl Inlet {
         }
     }
 
-    // The next piece of a line. Reads where nothing waits.
+    // The next piece of a line. Reads if no bytes wait.
     fn next_piece<R: Read, A: Allocator>(
         &mut self,
         reader: &mut R,
@@ -214,8 +214,8 @@ impl Inlet {
         }
     }
 
-    /// The next line, into a buffer that has room for the longest. Of a longer one all bytes are taken. Where it isn't whole, the
-    /// buffer keeps what came, and the next call goes on with it. The caller clears the buffer and the flag once it has used a line.
+    /// The next line, into a buffer that has room for the longest. All bytes of a longer one are taken. If it isn't whole, the buffer
+    /// keeps what came, and the next call goes on with it. The caller clears the buffer and the flag once it has used a line.
     pub fn next_line<R: Read, A: Allocator>(
         &mut self,
         reader: &mut R,
@@ -242,7 +242,7 @@ impl Inlet {
     }
 }
 
-// Puts more bytes to the line, while it isn't too long. Answers whether it is.
+// Adds more bytes to the line, while it isn't too long. Says whether it is.
 fn keep<A: Allocator>(line: &mut Vec<u8, A>, is_long: bool, piece: &[u8]) -> bool
     requires { longest_line ≤ vec_capacity line.old }
     ensures room { vec_capacity line.old ≤ vec_capacity line.new }
@@ -269,7 +269,7 @@ enum Given {
     Fault,
 }
 
-// Reads once, and again where the read was interrupted. A fault where the reader failed, or was called too often.
+// Reads once, and again if the read was interrupted. Gives a fault if the reader failed, or was called too often.
 fn read_chunk<R: Read>(reader: &mut R, chunk: &mut [u8; CHUNK], reads: &mut u32) -> Given
     requires { reads.old ≤ most_reads }
     ensures reads { reads.new ≤ most_reads }

@@ -1,13 +1,14 @@
 //! Lines from a reader, within bounds.
 //!
-//! Promises: a line comes as the reader's bytes spell it, up to its line feed, however they come. One with too many bytes is told as such
-//! once its line feed came. That the reader ended, or gave too much, is said only where it is so. Where it has nothing for now, nothing
-//! that came is lost (`Inlet::next_line`, `Inlet::next_byte`). No clause says when a fault is told.
-//! Stands on: vault_lines, for how long a line may be. Must not know: what a line says, conversations, the vault.
+//! Promises: a line comes as the reader's bytes spell it, up to its line feed, however reads cut them. One with too many bytes is
+//! reported as such once its line feed came. That the reader ended, or gave too much, is reported only if it is so. If it has nothing
+//! for now, nothing that came is lost (`Inlet::next_line`, `Inlet::next_byte`). No clause says when a fault is reported.
+//! Stands on: vault_lines, for the length of the longest line. Must not know: what a line says, conversations, the vault.
 //!
-//! Invariant, of `Inlet`: what waits lies within the chunk, and no more bytes and reads were taken than may be.
+//! Invariant, of `Inlet`: the bytes that wait lie within the chunk, and no more bytes were taken, and no more reads made, than the
+//! limits allow.
 //!
-//! Only tested, above it: that a read which gives less than was asked for is taken for the last for now.
+//! Only tested, above it: a read that gives less than was asked for counts as the last one for now.
 //! Start at: inlet.rt, `Inlet::next_line`; specs/Incoming.antt.
 #![tactic(auto)]
 

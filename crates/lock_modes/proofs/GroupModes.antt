@@ -1,4 +1,4 @@
--- The members of a group: their join, and what takes one member more in.
+-- The members of a group: their join, and adding one more member.
 use Rattle.std.specs.Prelude.{◌≡◌, ℕ, zero, suc, ◌+◌, Bool, true, false, ◌||◌, ◌&&◌, if◌then◌else◌, nat_lt, List, [], ◌∷◌, ◌++◌, replicate, Option, None, Some, refl}
 use Rattle.std.proofs.Common.{sym, ap, ◌∙◌, arith, add-one, append-nil}
 use Rattle.std.specs.List.{list_all}

@@ -21,7 +21,7 @@ join_of_associative (Some l) None c = refl
 join_of_associative (Some l) (Some m) None = refl
 join_of_associative (Some l) (Some m) (Some n) = ap Some (join_associative l m n)
 
--- the second and the third change places
+-- the second and the third are swapped
 pub join_of_swap : (a b c : Option Mode) → join_of a (join_of b c) ≡ join_of b (join_of a c)
 join_of_swap a b c = sym (join_of_associative a b c) ∙ (ap (λ d. join_of d c) (join_of_symmetric a b) ∙ join_of_associative b a c)
 

@@ -28,7 +28,7 @@ size g = g.is + g.ix + g.s + g.six + g.x
 abbrev pub members : Counts → List Mode
 members g = replicate g.is IS ++ (replicate g.ix IX ++ (replicate g.s S ++ (replicate g.six SIX ++ replicate g.x X)))
 
--- the group with one member more
+-- the group with one more member
 abbrev pub with_one : Counts → Mode → Counts
 with_one g IS = record g { is = g.is + 1 }
 with_one g IX = record g { ix = g.ix + 1 }

@@ -36,7 +36,7 @@ join S n = entry S SIX S SIX X n
 join SIX n = entry SIX SIX SIX SIX X n
 join X n = entry X X X X X n
 
--- the mode that one needs at least at every place above its own
+-- the least mode that an owner of this mode needs at every place above its own
 abbrev pub intention : Mode → Mode
 intention m = entry IS IX IS IX IX m
 
@@ -46,12 +46,12 @@ join_of None n = n
 join_of (Some m) None = Some m
 join_of (Some m) (Some n) = Some (join m n)
 
--- the join of some modes; of no modes there is none
+-- the join of some modes; no modes have none
 abbrev pub join_all : List Mode → Option Mode
 join_all [] = None
 join_all (m ∷ ms) = join_of (Some m) (join_all ms)
 
--- both modes are there, and two owners may not have them at one place
+-- both modes are present, and two owners may not have them at one place
 abbrev pub incompatible : Option Mode → Option Mode → Bool
 incompatible None n = false
 incompatible (Some m) None = false

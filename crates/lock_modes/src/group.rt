@@ -7,7 +7,7 @@ ghost use Rattle.lock_modes.specs.Groups.{no_members, count_of, size, members, w
 use crate::Mode;
 use std::marker::Model;
 
-/// How many members a group has at most.
+/// The most members that a group may have.
 pub const MAX_MEMBERS: u16 = 256;
 
 /// The modes of some owners at one place: how many members have each mode.
@@ -31,7 +31,7 @@ impl Model for Group {
 }
 
 impl Group {
-    /// The group of no members.
+    /// The empty group.
     pub fn empty() -> Group
         ensures { result ≡ no_members }
     {
@@ -44,7 +44,7 @@ impl Group {
         }
     }
 
-    /// Takes one more member in.
+    /// Adds a member of this mode.
     pub fn add(&mut self, mode: Mode)
         requires { size self.old < MAX_MEMBERS }
         ensures { self.new ≡ with_one self.old mode }
@@ -58,7 +58,7 @@ impl Group {
         }
     }
 
-    /// Takes one member of this mode away.
+    /// Removes one member of this mode.
     pub fn remove(&mut self, mode: Mode)
         requires { 0 < count_of self.old mode }
         ensures { self.old ≡ with_one self.new mode }
@@ -72,7 +72,7 @@ impl Group {
         }
     }
 
-    /// The join of the members' modes. A group of no members has none.
+    /// The join of the members' modes. An empty group has none.
     pub fn mode(&self) -> Option<Mode>
         ensures { result ≡ join_all (members self.now) }
     {
@@ -91,7 +91,7 @@ impl Group {
         (self.is > 0).then_some(Mode::IS)
     }
 
-    /// Whether an owner may have this mode beside every member.
+    /// Whether this mode is compatible with every member's.
     pub fn admits(&self, mode: Mode) -> bool
         ensures { result ≡ list_all (λ member. compatible member mode) (members self.now) }
     {

@@ -5,7 +5,7 @@ ghost use Rattle.lock_modes.specs.declared.mode.Mode.{Mode};
 ghost use Rattle.lock_modes.specs.Modes.{compatible, at_least, join, join_of, join_all, incompatible};
 ghost use Rattle.lock_modes.specs.Groups.{group_of, members};
 
-/// The modes are in a partial order.
+/// `at_least` is a partial order of the modes.
 pub fn modes_are_ordered()
     ensures itself { (m : Mode) → IsTrue (at_least m m) }
     ensures through { (l m n : Mode) →
@@ -21,8 +21,8 @@ pub fn join_is_least_upper_bound()
         IsTrue (at_least l m) → IsTrue (at_least l n) → IsTrue (at_least l (join m n)) }
 {}
 
-/// Two modes are compatible in either order, and a lower mode is compatible with all that a higher
-/// one is compatible with. A join is compatible with what both of its parts are compatible with.
+/// Compatibility is symmetric. A lower mode is compatible with all that a higher one is compatible
+/// with. A join is compatible with exactly the modes that both its parts are compatible with.
 pub fn compatibility_falls()
     ensures symmetric { (m n : Mode) → compatible m n ≡ compatible n m }
     ensures falls { (l m n : Mode) →
@@ -30,8 +30,8 @@ pub fn compatibility_falls()
     ensures joined { (l m n : Mode) → compatible (join l m) n ≡ (compatible l n && compatible m n) }
 {}
 
-/// A group says of its members what a list of them says, in whatever order they came, and its mode
-/// tells which modes it admits.
+/// A group answers as the list of its members' modes does, in whatever order they came: it has the
+/// same join, and admits the same modes. Its mode alone says which modes it admits.
 pub fn groups_stand_for_their_members()
     ensures mode { (ms : List Mode) → join_all (members (group_of ms)) ≡ join_all ms }
     ensures admits { (ms : List Mode) (n : Mode) →

@@ -1,4 +1,4 @@
--- Groups of seats: one seat more, and what a group that admits a mode says of the seats.
+-- Groups of seats: adding one seat, and what a group that admits a mode says of the seats.
 use Rattle.std.specs.Prelude.{◌≡◌, suc, ◌≤◌, Bool, true, false, ◌&&◌, List, [], ◌∷◌, ◌++◌, length, find, None, Some, refl}
 use Rattle.std.proofs.Common.{sym, ap, ◌∙◌, cond, arith}
 use Rattle.std.specs.List.{list_all}
@@ -80,7 +80,7 @@ held_modes-push seats s = ap (λ ys. group_of (seat_modes ys)) (held_seats-push 
 pub counted_none : (seats : List Seat) (all held : Counts) → seats ≡ [] → all ≡ no_members → held ≡ no_members → AreCounted seats all held
 counted_none seats all held e a h = rw (e, a, h) (refl, refl)
 
--- a seat more
+-- one more seat
 pub counted_push : (seats more : List Seat) (all held : Counts) (s : Seat) (all' held' : Counts) → AreCounted seats all held → more ≡ seats ++ s ∷ []
     → all' ≡ with_one all s.mode → held' ≡ cond s.is_held (with_one held s.mode) held → AreCounted more all' held'
 counted_push seats more all held s all' held' counted pushed a h = (
@@ -92,7 +92,7 @@ pub length_modes : (seats : List Seat) → length (seat_modes seats) ≡ length 
 length_modes [] = refl
 length_modes (s ∷ seats) = ap suc (length_modes seats)
 
--- no more seats are held than there are
+-- at most all seats are granted
 pub length_held : (seats : List Seat) → length (held_seats seats) ≤ length seats
 length_held [] = omega arith
 length_held (s ∷ seats) = by_test s.is_held (length_held seats)

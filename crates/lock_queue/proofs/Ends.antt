@@ -1,4 +1,4 @@
--- Where something stands that was looked for from the end.
+-- The position found by a search from the end.
 use Rattle.std.specs.Prelude.{◌≡◌, ℕ, zero, suc, ◌+◌, ◌<◌, Bool, true, false, not, nat_lt, List, [], ◌∷◌, length, take, drop, position, slice_get, None, Some, All, refl}
 use Rattle.std.proofs.Common.{ap, subst, ◌∙◌, cond, arith}
 use Rattle.std.specs.List.{position_or_len}
@@ -62,7 +62,7 @@ all_at P (y ∷ xs) zero x all h = subst P (same_Some y x h) (All-head P y xs al
 all_at P (y ∷ xs) (suc i) x all h = all_at P xs i x (All-tail P y xs all) h
 
 module _ (id : ClaimId) where
-  -- where no seat goes, none is the claim's
+  -- where no seat is removed, none is the claim's
   none_its : (seats : List Seat) → length seats ≡ length (seats_without id seats) → All (Fails (is_its_seat id)) seats
   none_its [] h = All-nil (Fails (is_its_seat id))
   none_its (s ∷ seats) h = by_test (same_id s.id id) refl h (none_its seats)

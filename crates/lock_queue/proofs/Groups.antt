@@ -24,7 +24,7 @@ same_counts g h a b c d e =
     ∙ (ap (λ n. record { is = h.is; ix = h.ix; s = h.s; six = n; x = g.x }) d
     ∙ ap (λ n. record { is = h.is; ix = h.ix; s = h.s; six = h.six; x = n }) e)))
 
--- one member of the same mode more makes groups the same only where they are
+-- groups are the same if they are the same with one more member of the same mode
 pub with_one_same : (g h : Counts) (m : Mode) → with_one g m ≡ with_one h m → g ≡ h
 with_one_same g h IS e = same_counts g h (more g.is h.is (ap (λ (k : Counts). k.is) e)) (ap (λ (k : Counts). k.ix) e) (ap (λ (k : Counts). k.s) e) (ap (λ (k : Counts). k.six) e) (ap (λ (k : Counts). k.x) e)
 with_one_same g h IX e = same_counts g h (ap (λ (k : Counts). k.is) e) (more g.ix h.ix (ap (λ (k : Counts). k.ix) e)) (ap (λ (k : Counts). k.s) e) (ap (λ (k : Counts). k.six) e) (ap (λ (k : Counts). k.x) e)
@@ -77,7 +77,7 @@ pub has_own : (id : ClaimId) (own : Option Mode) (seats : List Seat) (all held :
 has_own id None seats all held counted is = tt
 has_own id (Some m) seats all held counted is = subst (λ (g : Counts). 0 < count_of g m) (sym (counted.1 ∙ is)) (count_own (group_of (seat_modes (other_held id seats))) m)
 
--- the seats without a claim's, and with it standing otherwise
+-- the seats without a claim's, and the seats with its standing changed
 abbrev pub NoSeat : ClaimId → List Seat → Type 0
 NoSeat id seats = AllByRecursion (λ (s : Seat). same_id s.id id ≡ false) seats
 

@@ -46,7 +46,7 @@ pub own_there : (seats : List Seat) (id : ClaimId) (m : Mode) (b : Bool) (all he
 own_there seats id m true all held counted mine = subst (λ (g : Counts). 0 < count_of g m) (sym (counted.1 ∙ mine.held_ones)) (count_own (group_of (seat_modes (held_seats (seats_without id seats)))) m)
 own_there seats id m false all held counted mine = tt
 
--- a claim's seat at a position, and the seats with it standing otherwise
+-- a claim's seat at a position, and the seats with its standing changed
 module _ (id : ClaimId) where
   abbrev pub is_its : Seat → Bool
   is_its s = same_id s.id id
@@ -138,7 +138,7 @@ restood_modes id b (s ∷ seats) = by_test (same_id s.id id) (restood_modes id b
     by_test true ih = refl
     by_test false ih = ap (λ ms. s.mode ∷ ms) ih
 
--- both groups, where a seat stands otherwise now
+-- both groups, after a seat's standing has changed
 pub counted_restood : (seats new : List Seat) (id : ClaimId) (i : ℕ) (s : Seat) (b : Bool) (all held held' : Counts) → AreCounted seats all held → IsAt id seats i s → (s.is_held ≡ b → ⊥)
     → (b ≡ true → held' ≡ with_one held s.mode) → (b ≡ false → held ≡ with_one held' s.mode) → new ≡ restood id b seats → AreCounted new all held'
 counted_restood seats new id i s b all held held' counted at differs up down is = (
@@ -159,7 +159,7 @@ seen seats room = record { seats = seats; room = room }
 pub cell_same : (a b : List Seat) (m n : ℕ) → a ≡ b → m ≡ n → seen a m ≡ seen b n
 cell_same a b m n e f = ap (λ xs. seen xs m) e ∙ ap (λ k. seen b k) f
 
--- what a cell shows of its queue: a claim's seat, and room in both groups for one member more
+-- what a cell shows of its queue: a claim's seat, and room in both groups for one more member
 module _ (seats : List Seat) (room : ℕ) (cell : CellSeen) (shown : seen seats room ≡ cell) where
   pub has_shown : (id : ClaimId) (m : Mode) (b : Bool) → HasSeat id m b cell.seats → HasSeat id m b seats
   has_shown id m b has = subst (λ (v : CellSeen). HasSeat id m b v.seats) (sym shown) has

@@ -33,7 +33,7 @@ module _ (id : ClaimId) where
       by_test true h ih = let few = shorter seats in absurd (omega (arith, few, h))
       by_test false h ih = ap (λ xs. s ∷ xs) (ih (omega (arith, h)))
 
-  -- where one seat goes, what is taken out at its index is it
+  -- where one seat is removed, the seat taken out at its index is that one
   pub one_out : (seats : List Seat) → length seats ≡ suc (length (seats_without id seats)) → remove seats (position_or_len is_its_seat seats) ≡ seats_without id seats
   one_out [] h = absurd (omega (arith, h))
   one_out (s ∷ seats) h = by_test (same_id s.id id) h (one_out seats)
@@ -66,7 +66,7 @@ module _ (id : ClaimId) where
     pub one_taken : remove seats i ≡ seats_without id seats
     one_taken = subst (λ k. remove seats k ≡ seats_without id seats) one_index (one_out seats one)
 
--- a claim with a seat has one alone
+-- a claim with a seat has only one
 pub one_seat : (id : ClaimId) (m : Mode) (b : Bool) (seats : List Seat) → HasSeat id m b seats → length seats ≡ suc (length (seats_without id seats))
 one_seat id m b seats mine =
     let all = size_all seats (group_of (seat_modes seats)) (group_of (seat_modes (held_seats seats))) (refl, refl) in

@@ -1,4 +1,4 @@
-//! The queue of one place, counted.
+//! The queue of one place, with counts of its modes.
 ghost use Rattle.std.specs.Prelude.{◌≡◌, suc, ◌+◌, ◌<◌, ◌≤◌, [], ◌∷◌, ◌++◌, true, false, length, position, vec_capacity, OnOk, OnErr};
 ghost use Rattle.vault_model.specs.Claims.{same_id, is_short};
 ghost use Rattle.vault_model.specs.Limits.{most_claims};
@@ -11,7 +11,7 @@ use std::alloc::{AllocError, Allocator, Global};
 use std::marker::Model;
 use vault_model::ClaimId;
 
-/// A claim's mode at one place, and whether the claim is held.
+/// A claim's mode at one place, and whether the claim is granted (held).
 #[derive(Clone, Copy, Debug, PartialEq, Eq)]
 pub struct Seat {
     pub id: ClaimId,
@@ -19,7 +19,7 @@ pub struct Seat {
     pub is_held: bool,
 }
 
-/// The seats at one place in line order, with the group of all and the group of the held ones.
+/// The seats at one place in line order, with the group of all and the group of the granted ones.
 #[derive(Drop)]
 pub struct PlaceQueue<A: Allocator = Global> {
     queue: Vec<Seat, A>,
@@ -51,7 +51,7 @@ pub fn is_same(id: ClaimId, other: ClaimId) -> bool
     }
 }
 
-/// Whether an id is that of a short claim.
+/// Whether this is the id of a short claim.
 pub fn is_short(id: ClaimId) -> bool
     ensures { result ≡ is_short id }
 {
@@ -61,7 +61,7 @@ pub fn is_short(id: ClaimId) -> bool
     }
 }
 
-// The group of all these seats, and the group of the held ones.
+// The group of all these seats, and the group of the granted ones.
 fn groups_of(seats: &[Seat]) -> (Group, Group)
     requires { length seats.now ≤ most_claims }
     ensures { AreCounted seats.now result.0 result.1 }
@@ -77,7 +77,7 @@ fn groups_of(seats: &[Seat]) -> (Group, Group)
     (all, held)
 }
 
-// The group without one member of this mode, where there is a mode.
+// The group with one member of this mode removed; the group itself if there is no mode.
 fn without(group: Group, own: Option<Mode>) -> Group
     requires { HasOwn own group }
     ensures { group ≡ with_own own result }
@@ -92,7 +92,7 @@ fn without(group: Group, own: Option<Mode>) -> Group
     }
 }
 
-// The group with one member more of this mode, or without one.
+// The group with one more member of this mode, or with one fewer.
 fn changed(group: Group, mode: Mode, is_more: bool) -> Group
     requires more { is_more ≡ true → size group < most_claims }
     requires less { is_more ≡ false → 0 < count_of group mode }
@@ -114,8 +114,8 @@ fn index_of(seats: &[Seat], id: ClaimId) -> Option<usize>
     seats.iter().position(|seat| is_same(seat.id, id))
 }
 
-// Where the one seat of a claim stands, looked for from the end: claims that end together leave from
-// the last to the first.
+// The index of a claim's only seat. The search begins at the end, since claims that end together
+// leave from the last to the first.
 fn index_from_end(seats: &[Seat], id: ClaimId) -> Option<usize>
     requires one { length seats.now ≡ suc (length (seats_without id seats.now)) }
     ensures { result ≡ position (λ (s : Seat). same_id s.id id) seats.now }
@@ -131,7 +131,7 @@ fn index_from_end(seats: &[Seat], id: ClaimId) -> Option<usize>
 }
 
 impl<A: Allocator> PlaceQueue<A> {
-    /// No seats.
+    /// An empty queue.
     pub fn new(alloc: A) -> PlaceQueue<A>
         ensures { result.seats ≡ [] }
     {
@@ -142,7 +142,7 @@ impl<A: Allocator> PlaceQueue<A> {
         }
     }
 
-    /// Makes room for one seat more.
+    /// Makes room for one more seat.
     pub fn reserve(&mut self) -> Result<(), AllocError>
         ensures seats { self.new.seats ≡ self.old.seats }
         ensures room { OnOk result (length self.new.seats < self.new.room) }
@@ -179,7 +179,7 @@ impl<A: Allocator> PlaceQueue<A> {
         self.queue.insert(0, seat).unwrap();
     }
 
-    /// Takes a claim's seat out, whose mode and standing the caller knows.
+    /// Removes a claim's seat. The caller knows its mode and its standing.
     pub fn take_out(&mut self, id: ClaimId, mode: Mode, is_held: bool)
         requires { HasSeat id mode is_held self.old.seats }
         ensures { self.new ≡ record self.old { seats = seats_without id self.old.seats } }
@@ -190,7 +190,7 @@ impl<A: Allocator> PlaceQueue<A> {
         let _ = self.queue.remove(index);
     }
 
-    /// Takes the seats of all short claims out.
+    /// Removes the seats of all short claims.
     pub fn take_short_out(&mut self)
         requires { length self.old.seats ≤ most_claims }
         ensures seats { self.new.seats ≡ long_seats self.old.seats }
@@ -202,7 +202,7 @@ impl<A: Allocator> PlaceQueue<A> {
         self.held = held;
     }
 
-    /// Makes a claim's seat held, or queued, where it has one.
+    /// Makes a claim's seat granted or waiting, where it has one.
     pub fn stand(&mut self, id: ClaimId, is_held: bool)
         requires { length self.old.seats ≤ most_claims }
         ensures { self.new ≡ record self.old { seats = restood id is_held self.old.seats } }
@@ -232,14 +232,14 @@ impl<A: Allocator> PlaceQueue<A> {
         self.all
     }
 
-    /// The group of the held seats.
+    /// The group of the granted seats.
     pub fn held(&self) -> Group
         ensures { result ≡ group_of (seat_modes (held_seats self.now.seats)) }
     {
         self.held
     }
 
-    /// The claim of the first seat that is in the way of a mode. The group is asked first.
+    /// The claim of the first seat that is incompatible with this mode. The group is asked first.
     pub fn in_way(&self, mode: Mode) -> Option<ClaimId>
         ensures { result ≡ first_of (is_in_way mode) self.now.seats }
     {
@@ -250,8 +250,8 @@ impl<A: Allocator> PlaceQueue<A> {
         Some(seat.id)
     }
 
-    /// The first held seat of another claim that is in the way of a mode: its claim. The group of the
-    /// held seats, without this claim's own, is asked first.
+    /// The claim of the first granted seat that is another claim's and incompatible with this mode.
+    /// The group of the granted seats, without this claim's own, is asked first.
     pub fn held_in_way(&self, id: ClaimId, own: Option<Mode>, mode: Mode) -> Option<ClaimId>
         requires { IsOwn id own self.now.seats }
         ensures { result ≡ first_of (is_held_in_way id mode) self.now.seats }
@@ -265,7 +265,7 @@ impl<A: Allocator> PlaceQueue<A> {
         Some(seat.id)
     }
 
-    /// The claim of the first held seat that covers the place. The group is asked first.
+    /// The claim of the first granted seat that covers the place. The group is asked first.
     pub fn cover(&self) -> Option<ClaimId>
         ensures { result ≡ first_of is_cover self.now.seats }
     {

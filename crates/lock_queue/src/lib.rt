@@ -1,10 +1,12 @@
-//! The queue of one place: the claims that have a lock mode there, in line order, and the groups of all of them and of the held ones.
+//! The queue of one place: the claims that have a lock mode there, in order of the queue of claims (the line), with two groups: of all
+//! of them, and of the granted (held) ones.
 //!
-//! Promises: each change of a queue is that of its list of seats. The first claim that is in the way of a mode, the first held one but
-//! one, and the first held one that covers the place are told as the list has them, though the groups are asked first (`PlaceQueue`).
+//! Promises: each change of a queue is the same change of its list of seats. Three searches give what a search of that list would,
+//! though they ask the groups first: for the first claim in the way of a mode, for the first granted one in the way that isn't a given
+//! claim's, and for the first granted one that covers the place (`PlaceQueue`).
 //! Stands on: vault_model, lock_modes. Must not know: the tree, whole claims, the line.
 //!
-//! Invariant, of `PlaceQueue`: both groups count exactly the seats that stand there.
+//! Invariant, of `PlaceQueue`: both groups count exactly the seats of the queue.
 //!
 //! Only tested, above it: that the groups are asked first.
 //! Start at: cell.rt, specs/Queue.antt.

@@ -51,14 +51,14 @@ none_passes t (x ∷ es) h = by_test (t x) refl h (none_passes t es)
     by_test true g k ih = cc
     by_test false g k ih = All-cons (λ (e : Entry). t e ≡ false) x es g (ih k)
 
--- lists taken out of and put into alike
+-- two lists with the same removals and insertions
 pub remove_map : (f : Entry → Option ClaimId) (xs : List Entry) (i : ℕ) → remove (map f xs) i ≡ map f (remove xs i)
 remove_map f [] zero = refl
 remove_map f [] (suc i) = refl
 remove_map f (x ∷ xs) zero = refl
 remove_map f (x ∷ xs) (suc i) = ap (λ ys. f x ∷ ys) (remove_map f xs i)
 
--- the seats that a claim leaves, read of a copy of the line
+-- the seats that a claim leaves, read from a copy of the line
 pub leave_law : (table now : List Entry) (cells : List CellSeen) (id : ClaimId) (i : ℕ) → now ≡ table → position (is_its id) table ≡ Some i
     → ((e : Entry) → slice_get now i ≡ Some e → (p : ℕ) → seats_at cells p ≡ seats_by (is_held_in now) (entries_without now e.id) p) → (p : ℕ) → seats_at cells p ≡ seats_by (is_held_in table) (entries_without table id) p
 leave_law table now cells id i same at left p =
@@ -67,7 +67,7 @@ leave_law table now cells id i same at left p =
     let all = subst (λ (t : List Entry). (e : Entry) → slice_get t i ≡ Some e → (q : ℕ) → seats_at cells q ≡ seats_by (is_held_in t) (entries_without t e.id) q) same left in
     all here.entry here.there p ∙ ap (λ k. seats_by (is_held_in table) (entries_without table k) p) own
 
--- an index that position gives takes out the claim's entry, and what stands beside it
+-- at the index that `position` gives, the claim's entry is removed, and its blocker
 pub taken_out : (table : List Entry) (id : ClaimId) (i : ℕ) → IsDistinct same_id (ids table) → position (is_its id) table ≡ Some i → remove table i ≡ entries_without table id
 taken_out table id i distinct at =
     let here = located table id i at in

@@ -65,7 +65,7 @@ module _ (gone : ClaimId → Bool) where
       by_tests false g true h ih = before_its x (stay xs) k h ∙ sym (ap stay (before_its x xs k h))
       by_tests false g false h ih = before_other x (stay xs) k h ∙ (ap (λ (ys : List Entry). x ∷ ys) ih ∙ sym (ap stay (before_other x xs k h) ∙ rw g refl))
 
-  -- who doesn't wait for one that has left waits for the same as before
+  -- a claim that doesn't wait for one that has left waits for the same as before
   find_kept : (t : Entry → Bool) (ys : List Entry) → waits_for gone (option_map (λ (e : Entry). e.id) (find t ys)) ≡ false → option_map (λ (e : Entry). e.id) (find t ys) ≡ option_map (λ (e : Entry). e.id) (find t (stay ys))
   find_kept t [] h = refl
   find_kept t (y ∷ ys) h = by_tests (gone y.id) refl (t y) refl h (find_kept t ys)

@@ -120,7 +120,7 @@ first_bound t n (x ∷ es) j e = by_test (t x) e (first_bound t (suc n) es j)
     by_test true h ih = let same : n ≡ j = cc in omega (arith, same)
     by_test false h ih = let more = ih h in omega (arith, more)
 
--- the earlier of a number and of the first that passes is looked for before that number alone
+-- the earlier of a number and the first that passes, by a search only before that number
 pub first_within : (t : Entry → Bool) (n m : ℕ) (es : List Entry) → option_or (first_from t n (take m es)) (Some (n + m)) ≡ earlier (Some (n + m)) (first_from t n es)
 first_within t n zero [] = refl
 first_within t n (suc m) [] = refl
@@ -293,7 +293,7 @@ module _ (f : Lock → Option ℕ) (locks : List Lock) (i : ℕ) (first all : Op
   pub earliest_last : length locks ≤ i → first ≡ all
   earliest_last past = sym (earlier_none first) ∙ (ap (λ ls. earlier first (earliest f ls)) (sym (drop_all i locks past)) ∙ so)
 
--- what stands first in the way at a lock's place, and what is held there by another claim
+-- the first seat in the way at a lock's place, and the first granted one of another claim there
 abbrev pub place_in_way : List Entry → List CellSeen → Lock → Option ℕ
 place_in_way table cells l = position_of table (first_of (is_in_way l.mode) (seats_at cells l.place))
 

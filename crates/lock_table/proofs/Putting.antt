@@ -41,7 +41,7 @@ there_at (x ∷ xs) (suc q) h = let rest = there_at xs q h in omega (arith, rest
 pub roomy_there : (cells : List CellSeen) (q p few : ℕ) → q ≡ p → few < room_at cells p → q < length cells
 roomy_there cells q p few same h = subst (λ k. k < length cells) (sym same) (there_at cells p (omega (arith, h)))
 
--- one cell is another now, with no less room
+-- one cell is replaced by another, with no less room
 pub record IsChanged (cells new : List CellSeen) (q : ℕ) (seats : List Seat) : Type 0 where
   pub here : seats_at new q ≡ seats
   pub elsewhere : (p : ℕ) → p ≢ q → seats_at new p ≡ seats_at cells p
@@ -87,7 +87,7 @@ past_there cells q p same past = ap (seats_at cells) (sym same) ∙ seats_past c
 pub no_less : (a b : ℕ) → b ≡ a → a ≤ b
 no_less a b e = omega (arith, e)
 
--- a cell changed in its room alone
+-- a cell of which only the room changes
 pub same_seats : (cells new : List CellSeen) (q : ℕ) (seats : List Seat) → IsChanged cells new q seats → seats ≡ seats_at cells q → (p : ℕ) → seats_at new p ≡ seats_at cells p
 same_seats cells new q seats change same p = by_place (eqb_tells p q)
   where

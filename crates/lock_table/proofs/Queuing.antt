@@ -51,7 +51,7 @@ queues_kept table cells new queues same more = record {
   apart = queues.apart;
 }
 
--- fewer than may stand have a seat at a place
+-- fewer claims than the most have a seat at a place
 pub few_seated : (table : List Entry) (cells : List CellSeen) → IsTable table → AreQueues table cells → length table < most_claims → (p : ℕ) → length (seats_at cells p) < most_claims
 few_seated table cells kept queues room p =
     let same = ap length (from_queues table cells kept queues p) in
@@ -136,7 +136,7 @@ pub way_id : (cells : List CellSeen) (table : List Entry) (locks : List Lock) �
 way_id cells table locks distinct found =
     ap (option_and_then (λ i. option_map (λ (e : Entry). e.id) (slice_get table i))) (way_law cells table locks distinct found) ∙ id_found (λ (e : Entry). conflict locks e.locks) table
 
--- of those before a position
+-- the same for those before a position
 taken_at : (i : ℕ) (xs : List Entry) (j : ℕ) → j < i → slice_get (take i xs) j ≡ slice_get xs j
 taken_at zero xs j h = absurd (omega (arith, h))
 taken_at (suc i) [] j h = refl
@@ -252,7 +252,7 @@ pub none_is : {T : Type 0} (o : Option T) → is_none o ≡ true → None ≡ o
 none_is None e = refl
 none_is (Some x) e = cc
 
--- what stands beside a claim is what it waits for
+-- the blocker kept for a claim is what it waits for
 pub mapped_at : (f : Entry → Option ClaimId) (xs : List Entry) (i : ℕ) (e : Entry) → slice_get xs i ≡ Some e → slice_get (map f xs) i ≡ Some (f e)
 mapped_at f [] i e h = cc
 mapped_at f (x ∷ xs) zero e h = ap (λ y. Some (f y)) (same_Some x e h)
@@ -271,7 +271,7 @@ get_there [] k x d h = cc
 get_there (y ∷ xs) zero x d h = same_Some y x h
 get_there (y ∷ xs) (suc k) x d h = get_there xs k x d h
 
--- what stands beside a claim's entry, if it is there
+-- the blocker kept for a claim, if the claim is there
 abbrev pub Waits : List Entry → ClaimId → Option (Option ClaimId)
 Waits table id = option_map (λ (e : Entry). first_in_way (entries_before table id) e.locks) (entry_of table id)
 
@@ -286,7 +286,7 @@ waits_beside table blockers id i b beside e is =
     ap Some (is ∙ (get_there blockers i (blocker_at table here.entry) b there ∙ ap (λ k. first_in_way (entries_before table k) here.entry.locks) own))
     ∙ sym (ap (option_map (λ (x : Entry). first_in_way (entries_before table id) x.locks)) here.found)
 
--- what stands beside the entry at a claim's position says how the claim stands
+-- the blocker kept at a claim's position says how the claim stands
 pub standing_beside : (table : List Entry) (id : ClaimId) (i : ℕ) → position (is_its id) table ≡ Some i → option_map standing_by (slice_get (blockers_of table) i) ≡ standing_in table id
 standing_beside table id i e =
     let here = located table id i e in
@@ -341,7 +341,7 @@ one_less (e ∷ es) id h = by_test (same_id e.id id) h (one_less es id)
     by_test true g ih = let fewer = filter_fewer (λ (x : Entry). not (same_id x.id id)) es in omega (arith, fewer)
     by_test false g ih = let less = ih g in omega (arith, less)
 
--- room stays where seats go
+-- room stays when seats are removed
 pub room_left : (cells new : List CellSeen) (locks : List Lock) → ((p : ℕ) → length (seats_at new p) ≤ length (seats_at cells p)) → ((p : ℕ) → room_at cells p ≤ room_at new p) → HaveRoom cells locks → HaveRoom new locks
 room_left cells new [] less more room = All-nil (λ (x : Lock). length (seats_at new x.place) < room_at new x.place)
 room_left cells new (l ∷ ls) less more room =
@@ -351,7 +351,7 @@ room_left cells new (l ∷ ls) less more room =
     All-cons (λ (x : Lock). length (seats_at new x.place) < room_at new x.place) l ls (omega (arith, here, seats, rooms))
     (room_left cells new ls less more (All-tail (λ (x : Lock). length (seats_at cells x.place) < room_at cells x.place) l ls room))
 
--- so it does where a claim leaves
+-- so it does when a claim leaves
 pub room_without : (table : List Entry) (cells new : List CellSeen) (id : ClaimId) (locks : List Lock) → ((p : ℕ) → seats_at cells p ≡ seats_by (is_held_in table) table p) → ((p : ℕ) → seats_at new p ≡ seats_by (is_held_in table) (entries_without table id) p)
     → ((p : ℕ) → room_at cells p ≤ room_at new p) → HaveRoom cells locks → HaveRoom new locks
 room_without table cells new id locks before after more room = room_left cells new locks less more room
@@ -380,7 +380,7 @@ first_room cells new locks id there room put more p = by_mode (mode_at locks p) 
         let after = more p in
         omega (arith, same, before, after)
 
--- the same, read of copies of the line
+-- the same, read from copies of the line
 pub held_way_read : (cells : List CellSeen) (table : List Entry) (id : ClaimId) (locks : List Lock) → IsTable table → AreQueues table cells → (one other : List Entry) (seen : List CellSeen) → one ≡ table → other ≡ table → seen ≡ cells
     → option_and_then (λ i. option_map (λ (e : Entry). e.id) (slice_get one i)) (held_seat_in_way other seen id locks) ≡ held_in_way table id locks
 held_way_read cells table id locks kept queues one other seen a b c =

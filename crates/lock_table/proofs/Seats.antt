@@ -40,7 +40,7 @@ restood_by id held b (e ∷ es) p distinct = by_tests (mode_at e.locks p) (same_
     by_tests (Some m) true k ih = rw k (ap (λ xs. record { id = e.id; mode = m; is_held = b } ∷ xs) (sym (apart_same held id b es p (rest_apart e es id k distinct.0))))
     by_tests (Some m) false k ih = rw k (ap (λ xs. record { id = e.id; mode = m; is_held = held e } ∷ xs) ih)
 
--- a claim's seats taken out, and standing otherwise, at the places of its locks
+-- a claim's seats removed, and with their standing changed, at the places of its locks
 pub left_by : (id : ClaimId) (held : Entry → Bool) (es : List Entry) (p : ℕ) (e : Entry) → IsDistinct same_id (ids es) → entry_of es id ≡ Some e
     → by_lock (λ m. seats_without id) (mode_at e.locks p) (seats_by held es p) ≡ seats_by held (entries_without es id) p
 left_by id held es p e distinct found = by_mode (mode_at e.locks p) refl

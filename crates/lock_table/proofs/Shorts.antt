@@ -16,7 +16,7 @@ use Rattle.lock_table.specs.Queues.{AreStale, seats_at, room_at, queue_of, block
 use Rattle.lock_table.proofs.Putting.{seats_past}
 use Rattle.lock_table.proofs.Leaving.{kept_by, still_waits, all_stay}
 
--- the places so far have the seats of long claims alone, and those behind them what they had
+-- the places so far have only the seats of long claims, and the later ones have what they had
 pub record IsEmptying (start cells : List CellSeen) (i : ℕ) : Type 0 where
   pub done : (p : ℕ) → p < i → seats_at cells p ≡ long_seats (seats_at start p)
   pub left : (p : ℕ) → i ≤ p → seats_at cells p ≡ seats_at start p
@@ -53,7 +53,7 @@ stale_long table blockers cells were seats = record {
   right = all_stay is_short (λ (e : Entry). is_taken BehindShort (blocker_at table e) ≡ false → blocker_at table e ≡ blocker_at (long_entries table) e) (still_waits is_short table) table;
 }
 
--- a list read from its end, so far as no short claim stands behind a position; its long claims are those that there were
+-- a list read from its end: no short claim is left behind the position, and its long claims are the old ones
 pub record IsThinning (start now : List Entry) (i : ℕ) : Type 0 where
   pub kept : long_entries now ≡ long_entries start
   pub behind : All (λ (e : Entry). is_short e.id ≡ false) (drop i now)

@@ -1,4 +1,4 @@
--- Those that wait for a claim that moves to the front: the queued ones that its locks are in the way of.
+-- The claims that wait for one that moves to the front: those that are waiting, and in the way of its locks.
 use Rattle.std.specs.Prelude.{◌≡◌, ℕ, suc, ◌+◌, Bool, true, false, not, ◌&&◌, ◌||◌, List, [], ◌∷◌, ◌++◌, map, find, set, position, Option, None, Some, is_some, is_none, All, refl}
 use Rattle.std.proofs.Common.{sym, ap, subst, ◌∙◌, cond, arith}
 use Rattle.std.specs.List.{IsDistinct, position_or_len, remove}
@@ -47,7 +47,7 @@ pub waits_nobody : (test : Entry → Bool) (table : List Entry) (blockers : List
     → (old : Entry → Option ClaimId) → blockers ≡ map old table → blockers ≡ map (waits_where test id old) table
 waits_nobody test table blockers id none old were = were ∙ map_same old (waits_where test id old) table (all_of (λ (e : Entry). old e ≡ waits_where test id old e) (λ e. rw (none e) refl) table)
 
--- a seat that is queued and in the way has its claim wait
+-- a seat that is waiting and in the way makes its claim wait
 
 pub waits_found : (m : Mode) (seat : Seat) (table : List Entry) (blockers new : List (Option ClaimId)) (id : ClaimId) (i : ℕ) → IsDistinct same_id (ids table) → (not seat.is_held && not (compatible m seat.mode)) ≡ true
     → position (is_its seat.id) table ≡ Some i → new ≡ set blockers i (Some id) → (old : Entry → Option ClaimId) → blockers ≡ map old table → new ≡ map (waits_where (is_queued_at m seat) id old) table
@@ -65,7 +65,7 @@ waits_absent m seat table blockers id queued at old were =
     (all_map (λ (e : Entry). same_id e.id seat.id ≡ false) (λ (e : Entry). old e ≡ waits_where (is_queued_at m seat) id old e) (λ e h. rw (queued, h) refl) table
     (none_its seat.id table (ap is_some (not_located table seat.id at))))
 
--- those that passed so far wait for one claim, and with those that are left to pass it is what is to be
+-- those that passed so far wait for one claim; with those still to pass, the blockers are as they must be
 pub record IsWaiting (id : ClaimId) (table : List Entry) (target : Entry → Option ClaimId) (rest : Entry → Bool) (blockers : List (Option ClaimId)) : Type 0 where
   pub now : Entry → Option ClaimId
   pub were : blockers ≡ map now table
@@ -129,7 +129,7 @@ other_queued held m x e (Some n) rest other = rw (same_id_turned x.id e.id other
     by_test true = refl
     by_test false = refl
 
--- at a place those have such a seat that are queued and have a mode in the way there
+-- at a place, the claims with such a seat are those that are waiting and have a mode in the way there
 queued_at : (held : Entry → Bool) (m : Mode) (p : ℕ) (table : List Entry) → IsDistinct same_id (ids table)
     → All (λ (e : Entry). is_queued_in m (seats_by held table p) e ≡ (not (held e) && incompatible (Some m) (mode_at e.locks p))) table
 unfolding IsDistinct
@@ -156,7 +156,7 @@ queued_law cells held table distinct seats (l ∷ ls) =
     by_test true a b = refl
     by_test false a b = refl
 
--- a claim's entry, whose index is read of a copy of the line, taken out and put first with other locks
+-- a claim's entry (its index is read from a copy of the line) removed, and put first with other locks
 pub moved : (table copy : List Entry) (id : ClaimId) (locks : List Lock) (i : ℕ) → IsDistinct same_id (ids table) → copy ≡ table → position (is_its id) copy ≡ Some i
     → (new : List Entry) (e : Entry) → e ≡ record { id = id; locks = locks } → new ≡ e ∷ remove table i → new ≡ put_first table id locks
 moved table copy id locks i distinct same at new e made is =
@@ -208,7 +208,7 @@ module _ (table : List Entry) (id : ClaimId) (locks : List Lock) where
         let is : now e ≡ waits_behind table id locks e = rw other (same_wait (blocker_at table e) (conflict locks e.locks) (is_queued_against cells locks e) so) in
         is ∙ right (ap (is_taken again) (sym is) ∙ taken)
 
-    -- when a claim moves to the front, held, and those wait for it that it is in the way of
+    -- when a claim moves to the front, granted, and the waiting claims in its way wait for it
     pub stale_first : (blockers : List (Option ClaimId)) → blockers ≡ map now (put_first table id locks) → AreStale again (put_first table id locks) blockers cells
     stale_first blockers were = record {
       old = now;
@@ -230,9 +230,9 @@ pub everyone : (table : List Entry) (id : ClaimId) (locks : List Lock)
     → All (λ (e : Entry). is_taken Everyone (waits_behind table id locks e) ≡ false → waits_behind table id locks e ≡ blocker_at (put_first table id locks) e) (entries_without table id)
 everyone table id locks = all_of (λ (e : Entry). is_taken Everyone (waits_behind table id locks e) ≡ false → waits_behind table id locks e ≡ blocker_at (put_first table id locks) e) (λ e h. cc) (entries_without table id)
 
--- an extension leaves those as they are that didn't wait for its claim, nor do now
+-- an extension changes nothing for claims that didn't wait for its claim, and don't now
 module _ (table : List Entry) (id : ClaimId) (locks : List Lock) (free : held_in_way table id locks ≡ None) (apart : All (λ (e : Entry). AreApart e.locks) table) where
-  -- who isn't in the way of the new locks waits for the same as before
+  -- a claim that isn't in the way of the new locks waits for the same as before
   waits_on : (e : Entry) → same_id e.id id ≡ false → AreApart e.locks → conflict locks e.locks ≡ false → is_taken (Behind id) (blocker_at table e) ≡ false → blocker_at table e ≡ blocker_at (put_first table id locks) e
   waits_on e other own mine kept =
       let back : conflict e.locks locks ≡ false = conflict_none locks e.locks own mine in

@@ -44,7 +44,7 @@ seats_from-append before (x ∷ xs) ys p =
     ap (λ r. seat ++ r) (seats_from-append (before ++ x ∷ []) xs ys p ∙ ap (λ b. seats_from (before ++ x ∷ []) xs p ++ seats_from b ys p) (append_assoc before (x ∷ []) xs))
     ∙ sym (append_assoc seat (seats_from (before ++ x ∷ []) xs p) (seats_from (before ++ x ∷ xs) ys p))
 
--- one entry more
+-- one more entry
 pub seats_from-push : (table : List Entry) (e : Entry) (p : ℕ) → seats_from [] (table ++ e ∷ []) p ≡ seats_from [] table p ++ seat_of (is_none (first_in_way table e.locks)) e.id (mode_at e.locks p)
 seats_from-push table e p = seats_from-append [] table (e ∷ []) p ∙ ap (λ r. seats_from [] table p ++ r) (append-nil (seat_of (is_none (first_in_way table e.locks)) e.id (mode_at e.locks p)))
 
@@ -215,7 +215,7 @@ blockers_append before [] e = ap (λ b. first_in_way b e.locks ∷ []) (sym (app
 blockers_append before (x ∷ xs) e = ap (λ r. first_in_way before x.locks ∷ r)
     (blockers_append (before ++ x ∷ []) xs e ∙ ap (λ b. blockers_from (before ++ x ∷ []) xs ++ first_in_way b e.locks ∷ []) (append_assoc before (x ∷ []) xs))
 
--- one claim more
+-- one more claim
 pub blockers_asked : (table : List Entry) (e : Entry) → IsDistinct same_id (ids table) → IsDistinct same_id (ids (table ++ e ∷ [])) → blockers_of (table ++ e ∷ []) ≡ blockers_of table ++ first_in_way table e.locks ∷ []
 blockers_asked table e distinct longer =
     sym (blockers_are [] (table ++ e ∷ []) longer) ∙ (blockers_append [] table e ∙ ap (λ r. r ++ first_in_way table e.locks ∷ []) (blockers_are [] table distinct))

@@ -16,7 +16,7 @@ use Rattle.lock_table.specs.Locks.{mode_at, AreApart, conflict}
 use Rattle.lock_table.specs.Tables.{first_in_way, entries_before, is_held_in}
 use Rattle.lock_queue.specs.Queue.{CellSeen, first_of, is_in_way, is_held_in_way}
 
--- the queue at a place, and the room there; of a place behind the last cell there is none
+-- the queue at a place, and the room there; a place behind the last cell has neither
 abbrev pub seats_of : Option CellSeen → List Seat
 seats_of None = []
 seats_of (Some c) = c.seats
@@ -31,7 +31,7 @@ seats_at cells p = seats_of (slice_get cells p)
 abbrev pub room_at : List CellSeen → ℕ → ℕ
 room_at cells p = room_of (slice_get cells p)
 
--- each of these locks has room for one seat more at its place
+-- each of these locks has room for one more seat at its place
 abbrev pub HaveRoom : List CellSeen → List Lock → Type 0
 HaveRoom cells locks = All (λ (l : Lock). length (seats_at cells l.place) < room_at cells l.place) locks
 
@@ -40,7 +40,7 @@ abbrev pub seat_of : Bool → ClaimId → Option Mode → List Seat
 seat_of held id None = []
 seat_of held id (Some m) = record { id = id; mode = m; is_held = held } ∷ []
 
--- the seats at a place of some entries, each held by a test
+-- the seats of some entries at a place; a test says which are granted
 abbrev pub seats_by : (Entry → Bool) → List Entry → ℕ → List Seat
 seats_by held [] p = []
 seats_by held (e ∷ es) p = seat_of (held e) e.id (mode_at e.locks p) ++ seats_by held es p
@@ -55,28 +55,28 @@ seats_from before [] p = []
 seats_from before (e ∷ es) p =
     seat_of (is_none (first_in_way before e.locks)) e.id (mode_at e.locks p) ++ seats_from (before ++ e ∷ []) es p
 
--- the seats at a place of some entries, held or not
+-- the cells have the seats of these entries, each granted or not
 pub record AreSeated (table : List Entry) (cells : List CellSeen) : Type 0 where
   pub held : Entry → Bool
   pub seats : (p : ℕ) → seats_at cells p ≡ seats_by held table p
 
--- a test with another answer for one claim, and whether it says of an entry what stands beside it
+-- a test with another answer for one claim; and whether a test agrees with the blocker kept for an entry
 abbrev pub held_by : (Entry → Bool) → ClaimId → Bool → Entry → Bool
 held_by held id now e = if same_id e.id id then now else held e
 
 abbrev pub IsHeldAs : (Entry → Bool) → Entry → List (Option ClaimId) → ℕ → Type 0
 IsHeldAs held e blockers i = option_map is_none (slice_get blockers i) ≡ Some (held e)
 
--- what an entry waits for, and what each does
+-- the blocker of an entry (what it waits for), and those of all entries
 abbrev pub blocker_at : List Entry → Entry → Option ClaimId
 blocker_at table e = first_in_way (entries_before table e.id) e.locks
 
 abbrev pub blockers_of : List Entry → List (Option ClaimId)
 blockers_of table = map (blocker_at table) table
 
--- what every table keeps of its cells: at each place stands the queue of the entries, with memory for it, and no entry has two locks at a place
+-- the invariant of a table's cells: each place has the queue of the entries, with memory for it; and no entry has two locks at a place
 pub record AreQueues (table : List Entry) (cells : List CellSeen) : Type 0 where
-  -- invariant 4 of src/lib.rt, but for the groups, which each queue keeps; and, of each entry, invariant 1
+  -- invariant 4 of src/lib.rt without the groups, which each queue keeps; and invariant 1 for each entry
   pub queues : (p : ℕ) → seats_at cells p ≡ queue_of table p
   pub room : (p : ℕ) → length (seats_at cells p) ≤ room_at cells p
   pub apart : All (λ (e : Entry). AreApart e.locks) table
@@ -92,11 +92,11 @@ is_taken (Behind id) o = waits_for (λ other. same_id other id) o
 is_taken BehindShort o = waits_for is_short o
 is_taken Everyone o = true
 
--- what entries wait for, where those that pass a test wait for one claim now
+-- what an entry waits for, when all that pass a test now wait for one claim
 abbrev pub waits_where : (Entry → Bool) → ClaimId → (Entry → Option ClaimId) → Entry → Option ClaimId
 waits_where test id old e = if test e then Some id else old e
 
--- a seat is the entry's, queued, and in the way of a mode; one of these is; one at the place of one of these locks is
+-- a seat is the entry's, waiting, and in the way of a mode; some of these seats is; some seat at the place of one of these locks is
 abbrev pub is_queued_at : Mode → Seat → Entry → Bool
 is_queued_at m s e = (not s.is_held && not (compatible m s.mode)) && same_id e.id s.id
 
@@ -106,18 +106,18 @@ is_queued_in m seats e = list_any (λ (s : Seat). is_queued_at m s e) seats
 abbrev pub is_queued_against : List CellSeen → List Lock → Entry → Bool
 is_queued_against cells locks e = list_any (λ (l : Lock). is_queued_in l.mode (seats_at cells l.place) e) locks
 
--- what an entry waits for, where these locks stand before it now: their claim, if it is queued and they are in its way
+-- what an entry waits for, when these locks now come before it: their claim, if the entry was waiting and they are in its way
 abbrev pub waits_behind : List Entry → ClaimId → List Lock → Entry → Option ClaimId
 waits_behind table id locks e = if is_some (blocker_at table e) && conflict locks e.locks then Some id else blocker_at table e
 
--- each entry's old blocker stands beside it, the seats are held by them, and those that aren't weighed again are right
+-- the kept blockers are the entries' old ones, the seats' standings agree with them, and those that aren't weighed again are right
 pub record AreStale (again : Again) (table : List Entry) (blockers : List (Option ClaimId)) (cells : List CellSeen) : Type 0 where
   pub old : Entry → Option ClaimId
   pub were : blockers ≡ map old table
   pub seats : (p : ℕ) → seats_at cells p ≡ seats_by (λ (e : Entry). is_none (old e)) table p
   pub right : All (λ (e : Entry). is_taken again (old e) ≡ false → old e ≡ blocker_at table e) table
 
--- the claims so far have their blockers, and those behind them that aren't weighed again
+-- the blockers of the claims so far are right, and so are those of the later claims that aren't weighed again
 pub record IsWeighing (again : Again) (table : List Entry) (blockers : List (Option ClaimId)) (cells : List CellSeen) (i : ℕ) : Type 0 where
   pub old : Entry → Option ClaimId
   pub were : blockers ≡ map old table
@@ -134,11 +134,11 @@ abbrev pub modes_in : List Entry → ℕ → List Mode
 modes_in [] p = []
 modes_in (e ∷ es) p = modes_by (mode_at e.locks p) (modes_in es p)
 
--- the group at a place: of the modes that all claims have there
+-- the group of the modes that all claims have at a place
 abbrev pub group_in : List Entry → ℕ → Counts
 group_in table p = group_of (modes_in table p)
 
--- the group of the modes that the held claims have at a place
+-- the group of the modes that the granted claims have at a place
 abbrev pub held_group_in : List Entry → ℕ → Counts
 held_group_in table p = group_of (modes_in (filter (is_held_in table) table) p)
 
@@ -148,20 +148,20 @@ earlier None o = o
 earlier (Some m) None = Some m
 earlier (Some m) (Some n) = Some (if nat_lt n m then n else m)
 
--- where the claim of a seat stands in the line
+-- the position in the line of a claim, if there is an id
 abbrev pub position_of : List Entry → Option ClaimId → Option ℕ
 position_of table o = option_and_then (λ id. position (λ (e : Entry). same_id e.id id) table) o
 
--- the earliest that some locks give
+-- the earliest position that any of some locks gives
 abbrev pub earliest : (Lock → Option ℕ) → List Lock → Option ℕ
 earliest f [] = None
 earliest f (l ∷ ls) = earlier (f l) (earliest f ls)
 
--- where the first claim stands that is in the way of these locks, in any queue
+-- the position of the first claim in the way of these locks, in any queue
 abbrev pub seat_in_way : List Entry → List CellSeen → List Lock → Option ℕ
 seat_in_way table cells locks = earliest (λ (l : Lock). position_of table (first_of (is_in_way l.mode) (seats_at cells l.place))) locks
 
--- and the first held one but one
+-- the same for the first granted claim other than this one
 abbrev pub held_seat_in_way : List Entry → List CellSeen → ClaimId → List Lock → Option ℕ
 held_seat_in_way table cells id locks =
     earliest (λ (l : Lock). position_of table (first_of (is_held_in_way id l.mode) (seats_at cells l.place))) locks

@@ -5,7 +5,7 @@ ghost use Rattle.lock_table.specs.Queues.{is_taken};
 use lock_queue::{is_same, is_short};
 use vault_model::ClaimId;
 
-/// Those that waited for one claim, for any short one, or all.
+/// The claims that waited for one claim, those that waited for any short one, or all.
 #[derive(Clone, Copy)]
 pub(crate) enum Again {
     Behind(ClaimId),
@@ -14,7 +14,7 @@ pub(crate) enum Again {
 }
 
 impl Again {
-    /// Whether a claim is weighed again that waited for this one.
+    /// Whether a claim with this blocker is weighed again.
     pub(crate) fn takes(self, blocker: Option<ClaimId>) -> bool
         ensures { result ≡ is_taken self blocker }
     {

@@ -28,7 +28,7 @@ pub(crate) fn group_at<A: Allocator>(cells: &[PlaceQueue<A>], place: PlaceId) ->
     }
 }
 
-/// The group of the held claims at a place.
+/// The group of the granted claims at a place.
 pub(crate) fn held_at<A: Allocator>(cells: &[PlaceQueue<A>], place: PlaceId) -> Group
     ensures { result ≡ group_of (seat_modes (held_seats (seats_at cells.now place))) }
 {
@@ -38,14 +38,14 @@ pub(crate) fn held_at<A: Allocator>(cells: &[PlaceQueue<A>], place: PlaceId) -> 
     }
 }
 
-/// Where a claim stands in the line.
+/// A claim's position in the line.
 pub(crate) fn index_of<A: Allocator>(entries: &[KeptEntry<A>], id: ClaimId) -> Option<usize>
     ensures { result ≡ position (λ (e : Entry). same_id e.id id) entries.now }
 {
     entries.iter().position(|entry| is_same(entry.id(), id))
 }
 
-/// Where a claim stands, if there is one.
+/// The same, if there is an id.
 pub(crate) fn position_of<A: Allocator>(
     entries: &[KeptEntry<A>],
     id: Option<ClaimId>,
@@ -66,7 +66,7 @@ fn before<A: Allocator>(entries: &[KeptEntry<A>], position: usize) -> &[KeptEntr
     }
 }
 
-/// The earlier of a position and of where a claim stands, which is looked for before that position alone.
+/// The earlier of a position and a claim's position. It searches only the line before the given position.
 pub(crate) fn earlier_of<A: Allocator>(
     entries: &[KeptEntry<A>],
     first: Option<usize>,
@@ -83,7 +83,7 @@ pub(crate) fn earlier_of<A: Allocator>(
     }
 }
 
-/// The claim of the first seat at a lock's place that is in its way.
+/// The claim of the first seat at a lock's place that is in the lock's way.
 pub(crate) fn in_way_at<A: Allocator>(cells: &[PlaceQueue<A>], lock: Lock) -> Option<ClaimId>
     ensures { result ≡ first_of (is_in_way lock.mode) (seats_at cells.now lock.place) }
 {
@@ -118,7 +118,7 @@ fn held_in_way_at<A: Allocator>(
     }
 }
 
-/// The first held claim that covers this very place.
+/// The first granted claim that covers a place by its mode at that very place.
 pub(crate) fn cover_at<A: Allocator>(cells: &[PlaceQueue<A>], place: PlaceId) -> Option<ClaimId>
     ensures { result ≡ first_of is_cover (seats_at cells.now place) }
 {
@@ -128,7 +128,7 @@ pub(crate) fn cover_at<A: Allocator>(cells: &[PlaceQueue<A>], place: PlaceId) ->
     }
 }
 
-/// Whether the group of all admits each mode at its place.
+/// Whether, at each lock's place, the group of all claims admits the lock's mode.
 pub(crate) fn admit<A: Allocator>(cells: &[PlaceQueue<A>], locks: &LockSet) -> bool
     ensures { result ≡ list_all
         (λ lock. list_all (λ member. compatible member lock.mode)
@@ -140,7 +140,7 @@ pub(crate) fn admit<A: Allocator>(cells: &[PlaceQueue<A>], locks: &LockSet) -> b
         .all(|lock| group_at(cells, lock.place).admits(lock.mode))
 }
 
-/// Where the first claim stands that is in the way of these locks.
+/// The position of the first claim in the way of these locks.
 pub(crate) fn in_way<A: Allocator>(
     entries: &[KeptEntry<A>],
     cells: &[PlaceQueue<A>],
@@ -155,8 +155,8 @@ pub(crate) fn in_way<A: Allocator>(
     first
 }
 
-/// Where the first held claim but one stands that is in the way of these locks, which are to take
-/// the place of its own.
+/// The position of the first other granted claim in the way of these locks, which are to replace this
+/// claim's own.
 pub(crate) fn held_in_way<A: Allocator>(
     entries: &[KeptEntry<A>],
     cells: &[PlaceQueue<A>],
@@ -175,7 +175,7 @@ pub(crate) fn held_in_way<A: Allocator>(
     first
 }
 
-// Puts places without claims behind the others, so that this one has a cell.
+// Appends empty cells until this place has one.
 fn grow<A: Allocator + Copy>(
     cells: &mut Vec<PlaceQueue<A>, A>,
     place: PlaceId,
@@ -196,7 +196,7 @@ fn grow<A: Allocator + Copy>(
     Ok(())
 }
 
-/// Makes room for one seat more at the place of each lock.
+/// Makes room for one more seat at the place of each lock.
 pub(crate) fn reserve<A: Allocator + Copy>(
     cells: &mut Vec<PlaceQueue<A>, A>,
     locks: &LockSet,
@@ -265,7 +265,7 @@ fn put_first_at<A: Allocator>(cells: &mut Vec<PlaceQueue<A>, A>, id: ClaimId, lo
     });
 }
 
-/// Puts a claim first, held, at the place of each of its locks.
+/// Puts a claim first, and granted, at the place of each of its locks.
 pub(crate) fn put_first<A: Allocator>(
     cells: &mut Vec<PlaceQueue<A>, A>,
     id: ClaimId,
@@ -299,7 +299,7 @@ fn take_out_at<A: Allocator>(
     cells[index].take_out(id, lock.mode, is_held);
 }
 
-/// Takes a claim's seats out, whose locks and standing the caller knows.
+/// Removes a claim's seats. The caller knows its locks and its standing.
 pub(crate) fn take_out<A: Allocator>(
     cells: &mut Vec<PlaceQueue<A>, A>,
     id: ClaimId,
@@ -329,7 +329,7 @@ fn take_short_out_at<A: Allocator>(cells: &mut Vec<PlaceQueue<A>, A>, index: usi
     cells[index].take_short_out();
 }
 
-/// Takes the seats of all short claims out, place by place.
+/// Removes the seats of all short claims, place by place.
 pub(crate) fn take_short_out<A: Allocator>(cells: &mut Vec<PlaceQueue<A>, A>)
     requires { (p : ℕ) → length (seats_at cells.old.items p) ≤ most_claims }
     ensures seats { (p : ℕ) → seats_at cells.new.items p ≡ long_seats (seats_at cells.old.items p) }
@@ -358,7 +358,7 @@ fn stand_at<A: Allocator>(
     cells[index].stand(id, is_held);
 }
 
-/// Makes a claim held, or queued, at the place of each of its locks.
+/// Makes a claim granted, or waiting, at the place of each of its locks.
 pub(crate) fn stand<A: Allocator>(
     cells: &mut Vec<PlaceQueue<A>, A>,
     id: ClaimId,

@@ -1,4 +1,4 @@
-//! The lock table: the standing of claims by their modes.
+//! The lock table: which claims are granted or waiting, by their modes.
 ghost use Rattle.std.specs.Prelude.{◌≡◌, ℕ, ◌+◌, ◌<◌, ◌≤◌, nat_le, true, false, List, [], ◌∷◌, ◌++◌, length, map, is_some, position, slice_get, take, set, vec_len, if◌then◌else◌, Option, None, Some, All, IfOk, OnOk, OnErr};
 ghost use Rattle.std.specs.List.{remove};
 ghost use Rattle.std.specs.Option.{option_map};
@@ -24,15 +24,15 @@ use std::alloc::{Allocator, Global};
 use std::marker::Model;
 use vault_model::{ClaimId, MAX_CLAIMS, NoMemory, PlaceId, Standing};
 
-/// Claims in line order, each with its modes, beside each what it waits for, and for each place the
-/// queue of those that have a mode there. Contracts see the list of its entries.
+/// Claims in line order, each with its modes and its blocker (the claim that it waits for); and for each
+/// place the queue of the claims that have a mode there. Contracts see the list of its entries.
 #[derive(Drop)]
 pub struct Table<A: Allocator = Global> {
     /// The claims in line order, each as its id and a pointer to its lock set.
     entries: Vec<KeptEntry<A>, A>,
-    /// What each entry waits for, at its own position; none where it is held.
+    /// The blocker of each entry, at the entry's position; none where it is granted.
     blockers: Vec<Option<ClaimId>, A>,
-    /// The queue and the two groups of each place, by its number, up to the highest that was ever locked.
+    /// The queue and the two groups of each place, by its number, up to the highest number ever locked.
     cells: Vec<PlaceQueue<A>, A>,
 }
 
@@ -61,7 +61,7 @@ fn standing_by(blocker: Option<ClaimId>) -> Standing
     }
 }
 
-// Takes the claim at a position out of the queues.
+// Removes the claim at a position from the queues of its places.
 fn leave<A: Allocator>(
     entries: &[KeptEntry<A>],
     blockers: &[Option<ClaimId>],
@@ -80,7 +80,7 @@ fn leave<A: Allocator>(
     take_out(cells, entry.id(), entry.locks(), blockers[index].is_none());
 }
 
-// Puts an item first, in place of the one at a position.
+// Removes the item at a position, and puts another one first.
 fn move_first<T: Drop, A: Allocator>(items: &mut Vec<T, A>, index: usize, item: T)
     requires { index < vec_len items.old }
     ensures { items.new.items ≡ item ∷ remove items.old.items index }
@@ -89,7 +89,7 @@ fn move_first<T: Drop, A: Allocator>(items: &mut Vec<T, A>, index: usize, item: 
     items.insert(0, item).unwrap();
 }
 
-// Takes the claim at a position out of the line.
+// Removes the claim at a position from the line.
 fn take_away<A: Allocator>(
     entries: &mut Vec<KeptEntry<A>, A>,
     blockers: &mut Vec<Option<ClaimId>, A>,
@@ -112,7 +112,7 @@ fn take_away<A: Allocator>(
     weigh_again(entries, blockers, cells, Again::Behind(id), index);
 }
 
-// Takes the entry at a position out, if its claim is short, and what stands beside it.
+// Removes the entry at a position and its blocker, if the claim is short.
 fn remove_short<A: Allocator>(
     entries: &mut Vec<KeptEntry<A>, A>,
     blockers: &mut Vec<Option<ClaimId>, A>,
@@ -132,7 +132,7 @@ fn remove_short<A: Allocator>(
     }
 }
 
-// Takes the entries of all short claims out, and what stands beside them.
+// Removes the entries of all short claims, and their blockers.
 fn keep_long<A: Allocator>(
     entries: &mut Vec<KeptEntry<A>, A>,
     blockers: &mut Vec<Option<ClaimId>, A>,
@@ -149,7 +149,7 @@ fn keep_long<A: Allocator>(
     }
 }
 
-// Takes all short claims out of the line.
+// Removes all short claims from the line.
 fn take_short_away<A: Allocator>(
     entries: &mut Vec<KeptEntry<A>, A>,
     blockers: &mut Vec<Option<ClaimId>, A>,
@@ -202,8 +202,7 @@ fn put_first<A: Allocator + Copy>(
 }
 
 impl<A: Allocator + Copy> Table<A> {
-    /// The same table once more, in its own allocator's memory, of which it takes what the entries
-    /// fill.
+    /// A copy of the table, in memory from its own allocator: as much as the entries fill.
     pub fn copy(&self) -> Result<Table<A>, NoMemory>
         ensures { IfOk result (λ copy. copy ≡ self.now) }
     {
@@ -225,7 +224,7 @@ impl<A: Allocator + Copy> Table<A> {
         })
     }
 
-    /// A table of no claims.
+    /// An empty table.
     pub fn new(alloc: A) -> Result<Table<A>, NoMemory>
         ensures { IfOk result (λ table. table ≡ []) }
     {
@@ -236,16 +235,16 @@ impl<A: Allocator + Copy> Table<A> {
         })
     }
 
-    /// Whether as many claims stand as may.
+    /// Whether the table has as many claims as it may have.
     pub fn is_full(&self) -> bool
         ensures { result ≡ nat_le most_claims (length self.now) }
     {
         self.entries.len() >= MAX_CLAIMS
     }
 
-    /// Puts a new claim last, and says how it stands there.
+    /// Puts a new claim last, and returns its standing.
     ///
-    /// It asks the group of each of its places, and looks through the queues of those that refuse.
+    /// It asks the group of each of its places, and searches the queues of the places that refuse.
     pub fn ask(&mut self, id: ClaimId, locks: LockSet) -> Result<Standing, NoMemory>
         requires new { standing_in self.old id ≡ None }
         requires room { length self.old < most_claims }
@@ -264,18 +263,19 @@ impl<A: Allocator + Copy> Table<A> {
         Ok(standing_by(blocker))
     }
 
-    /// Gives a held claim another lock set, in place of its own, and the first place in the line, if
-    /// no other held claim is in the way.
+    /// Replaces a granted claim's lock set, and moves the claim to the front of the line, if no other
+    /// granted claim is in the way.
     ///
-    /// It asks the held group of each of its places, and looks through the queues of those that refuse.
-    /// Done, those queued at its places wait for it that it is in the way of. It looks once along the
-    /// line for these and for those that waited for it before, and weighs no others again.
+    /// It asks the group of the granted claims at each of the new places, and searches the queues of the
+    /// places that refuse. After the move, each claim that waits at one of these places with a conflicting
+    /// mode waits for the moved one. The call looks each of these up in the line. Then it walks the line
+    /// once, and weighs again these and the claims that waited for the moved one before, and no others.
     pub fn extend(&mut self, id: ClaimId, locks: LockSet) -> Result<Extension, NoMemory>
         requires held { standing_in self.old id ≡ Some Standing.Held }
         ensures answer { IfOk result (λ extension. extension ≡ extension_by (held_in_way self.old id locks)) }
         ensures extended { OnOk result (self.new ≡ extended_by (held_in_way self.old id locks) self.old id locks) }
 
-        // Memory is wanted only where nothing is in the way.
+        // It runs out of memory only where nothing is in the way.
         ensures memory { OnErr result (held_in_way self.old id locks ≡ None) }
         ensures unchanged { OnErr result (self.new ≡ self.old) }
     {
@@ -289,8 +289,8 @@ impl<A: Allocator + Copy> Table<A> {
         Ok(Extension::Done)
     }
 
-    /// Gives a claim another lock set, in place of its own, and the first place in the line, without
-    /// weighing it: a journal tells of an extension that was granted.
+    /// Replaces a claim's lock set, and moves the claim to the front of the line, without a check: it
+    /// replays an extension that a journal records as granted.
     pub fn put_first(&mut self, id: ClaimId, locks: LockSet) -> Result<(), NoMemory>
         requires there { is_some (entry_of self.old id) ≡ true }
         ensures put { OnOk result (self.new ≡ put_first self.old id locks) }
@@ -305,17 +305,17 @@ impl<A: Allocator + Copy> Table<A> {
 }
 
 impl<A: Allocator> Table<A> {
-    /// Does nothing: its contract says what every table keeps, for a proof that needs it.
+    /// Does nothing. Its contract states the invariant of every table, for a proof that needs it.
     pub fn see_whole(&self)
         ensures { IsTable self.now }
     {
         let _ = &self.entries;
     }
 
-    /// Takes a claim out of the table. Where it has none of this id, nothing changes.
+    /// Removes a claim from the table. If there is none of this id, nothing changes.
     ///
-    /// It looks through the queues of the claim's places, each from its end, and along the line behind
-    /// the claim, and weighs those again that waited for it.
+    /// It searches the queues of the claim's places, each from its end. Then it walks the line behind the
+    /// claim, and weighs again the claims that waited for it.
     pub fn release(&mut self, id: ClaimId)
         ensures { self.new ≡ entries_without self.old id }
     {
@@ -326,17 +326,17 @@ impl<A: Allocator> Table<A> {
         take_away(entries, &mut self.blockers, &mut self.cells, id, index);
     }
 
-    /// Takes all short claims out of the table, as a restart does.
+    /// Removes all short claims from the table, as a restart does.
     ///
-    /// It looks once through the queues of all places, and along the line, and weighs those again that
-    /// waited for a short claim.
+    /// It walks the queues of all places once, then the line, and weighs again the claims that waited for
+    /// a short claim.
     pub fn release_short(&mut self)
         ensures { self.new ≡ long_entries self.old }
     {
         take_short_away(&mut self.entries, &mut self.blockers, &mut self.cells);
     }
 
-    // What stands beside a claim's entry, if it is there.
+    // The blocker kept for a claim, if the claim is there.
     fn beside(&self, id: ClaimId) -> Option<Option<ClaimId>>
         ensures { result ≡ option_map (λ (e : Entry). first_in_way (entries_before self.now id) e.locks) (entry_of self.now id) }
     {
@@ -344,7 +344,7 @@ impl<A: Allocator> Table<A> {
         Some(self.blockers[index])
     }
 
-    /// How a claim stands, if it is there. It looks once along the line.
+    /// A claim's standing, if it is there. It searches the line once.
     pub fn standing(&self, id: ClaimId) -> Option<Standing>
         ensures standing { result ≡ standing_in self.now id }
         ensures table { IsTable self.now }
@@ -354,7 +354,7 @@ impl<A: Allocator> Table<A> {
         Some(standing_by(blocker))
     }
 
-    /// How the claim at a position stands.
+    /// The standing of the claim at a position.
     pub fn standing_at(&self, position: usize) -> Option<Standing>
         ensures { result ≡ option_map standing_by (slice_get (blockers_of self.now) position) }
     {
@@ -362,14 +362,14 @@ impl<A: Allocator> Table<A> {
         Some(standing_by(blocker))
     }
 
-    /// The claim behind which a claim is queued.
+    /// The claim that a claim waits for.
     pub fn blocker(&self, id: ClaimId) -> Option<ClaimId>
         ensures { result ≡ blocker_in self.now id }
     {
         self.beside(id)?
     }
 
-    // The first held claim but one that is in the way of these locks, which are to take the place of its own.
+    // The first other granted claim in the way of these locks, which are to replace this claim's own.
     fn other_in_way(&self, id: ClaimId, locks: &LockSet) -> Option<ClaimId>
         requires { standing_in self.now id ≡ Some Standing.Held }
         ensures { result ≡ held_in_way self.now id locks.now }
@@ -380,7 +380,7 @@ impl<A: Allocator> Table<A> {
         id_at(&self.entries, first)
     }
 
-    /// The first held claim that covers a place: it has S, SIX or X there, or at a place above.
+    /// The first granted claim that covers a place: it has S, SIX or X there, or at a place above.
     pub fn held_over<B: Allocator>(&self, tree: &Tree<B>, place: PlaceId) -> Option<ClaimId>
         requires { place ≤ length tree.now }
         ensures { result ≡ held_over_in tree.now self.now place }
@@ -403,7 +403,7 @@ impl<A: Allocator> Table<A> {
         group_at(&self.cells, place)
     }
 
-    /// The group of the held claims at a place.
+    /// The group of the granted claims at a place.
     pub fn held_at(&self, place: PlaceId) -> Group
         ensures { result ≡ held_group_in self.now place }
     {

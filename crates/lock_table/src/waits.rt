@@ -1,4 +1,5 @@
-//! What each claim of a table waits for, weighed again where others came or left.
+//! What each claim of a table waits for (its blocker). It is weighed again (its blocker is found
+//! anew) where others came or left.
 ghost use Rattle.std.specs.Prelude.{◌≡◌, ℕ, ◌+◌, ◌<◌, ◌≤◌, ◌==◌, Bool, length, map, is_none, position, slice_get, take, set, Option, None, Some};
 ghost use Rattle.std.specs.List.{IsDistinct};
 ghost use Rattle.std.specs.Option.{option_map, option_and_then};
@@ -17,7 +18,7 @@ use lock_queue::{PlaceQueue, Seat};
 use std::alloc::Allocator;
 use vault_model::ClaimId;
 
-/// The id of the claim at a position, where there is one.
+/// The id of the claim at a position, if there is one.
 pub(crate) fn id_at<A: Allocator>(entries: &[KeptEntry<A>], index: Option<usize>) -> Option<ClaimId>
     ensures { result ≡ option_and_then (λ i. option_map (λ (e : Entry). e.id) (slice_get entries.now i)) index }
 {
@@ -25,7 +26,7 @@ pub(crate) fn id_at<A: Allocator>(entries: &[KeptEntry<A>], index: Option<usize>
     Some(entry.id())
 }
 
-/// The claim for which a newcomer waits. The groups are asked first.
+/// The claim that a newcomer waits for. The groups are asked first.
 pub(crate) fn first_behind<A: Allocator>(
     entries: &[KeptEntry<A>],
     cells: &[PlaceQueue<A>],
@@ -41,7 +42,7 @@ pub(crate) fn first_behind<A: Allocator>(
     id_at(entries, in_way(entries, cells, locks))
 }
 
-// The claim before which a claim at this position waits.
+// The claim that the one at this position waits for.
 fn blocker_of<A: Allocator>(
     entries: &[KeptEntry<A>],
     cells: &[PlaceQueue<A>],
@@ -88,7 +89,7 @@ fn weigh_at<A: Allocator>(
     stand(cells, entry.id(), entry.locks(), blocker.is_none());
 }
 
-// Weighs the claim at a position again where it has to be.
+// Weighs the claim at a position again, if its blocker is among those of `again`.
 fn weigh_next<A: Allocator>(
     entries: &[KeptEntry<A>],
     blockers: &mut Vec<Option<ClaimId>, A>,
@@ -111,7 +112,7 @@ fn weigh_next<A: Allocator>(
     weigh_at(entries, blockers, cells, index);
 }
 
-/// Weighs those again that have to be, one after another, from a position on.
+/// The same for each claim from a position on, one after another.
 pub(crate) fn weigh_again<A: Allocator>(
     entries: &[KeptEntry<A>],
     blockers: &mut Vec<Option<ClaimId>, A>,
@@ -130,7 +131,7 @@ pub(crate) fn weigh_again<A: Allocator>(
     }
 }
 
-// Has the claim of a seat wait for another, if it is queued there and in the way of a mode.
+// Makes a seat's claim wait for the claim `id`, if the seat is waiting and in the way of `mode`.
 fn wait_at_seat<A: Allocator>(
     entries: &[KeptEntry<A>],
     blockers: &mut Vec<Option<ClaimId>, A>,
@@ -152,7 +153,7 @@ fn wait_at_seat<A: Allocator>(
     }
 }
 
-// The same for the claims of some seats.
+// The same for each of some seats.
 fn wait_in_queue<A: Allocator>(
     entries: &[KeptEntry<A>],
     blockers: &mut Vec<Option<ClaimId>, A>,
@@ -171,7 +172,7 @@ fn wait_in_queue<A: Allocator>(
     }
 }
 
-// The same at the place of a lock. The group is asked first.
+// The same for each seat at a lock's place. The group is asked first.
 fn wait_at<A: Allocator>(
     entries: &[KeptEntry<A>],
     blockers: &mut Vec<Option<ClaimId>, A>,
@@ -192,7 +193,7 @@ fn wait_at<A: Allocator>(
     wait_in_queue(entries, blockers, queue_at(cells, place), id, mode);
 }
 
-/// Has those claims wait for one that are queued and have a mode in the way of its locks.
+/// Makes each waiting claim with a mode in the way of these locks wait for their claim, `id`.
 pub(crate) fn wait_behind<A: Allocator>(
     entries: &[KeptEntry<A>],
     blockers: &mut Vec<Option<ClaimId>, A>,

@@ -55,7 +55,7 @@ module _ (claims : List Claim) (i : ℕ) (x : Claim) (within : i < length claims
   pub not_apart : has_id (take i claims) x.id ≡ true → IsDistinct same_id (ids claims) → false ≡ true
   not_apart some distinct = sym (its_own distinct) ∙ some
 
-  -- with an id that none before it has, it stands apart from them
+  -- with an id that none before it has, it is apart from them
   pub apart_more : IsDistinct same_id (ids (take i claims)) → has_id (take i claims) x.id ≡ false → IsDistinct same_id (ids (take (i + 1) claims))
   apart_more distinct none =
       subst (λ cs. IsDistinct same_id (ids cs)) (sym (take_more claims i x within ∙ ap (λ c. take i claims ++ c ∷ []) (sym at)))

@@ -44,7 +44,7 @@ module _ (t : Claim → Bool) where
       by_test true rest = rest
       by_test false rest = (all.0, rest)
 
-  -- behind the whole line none was taken out
+  -- nothing was removed behind the end of the line
   pub none_behind : (line : List Claim) (n : ℕ) → n ≡ length line → take n line ++ filter (λ (d : Claim). not (t d)) (drop n line) ≡ line
   none_behind [] zero e = refl
   none_behind [] (suc n) e = refl

@@ -23,7 +23,7 @@ use Rattle.long_locks.specs.Lines.{LineSeen, IsGrownFrom, IsNumbered, IsLine, pu
 use Rattle.long_locks.proofs.Zips.{zip_without}
 use Rattle.long_locks.proofs.LinesKept.{there_grown}
 
--- the locks of items, read of a copy of them
+-- the locks of items, read from a copy of them
 pub locks_read : (tree : List Place) (items copy : List Item) (locks : List Lock) → copy ≡ items → AreApart locks → ((p : ℕ) → mode_at locks p ≡ claim_mode tree copy p) → AreLocksOf tree items locks
 locks_read tree items copy locks same apart modes = record { apart = apart; modes = rw same at modes }
 

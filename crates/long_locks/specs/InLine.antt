@@ -4,6 +4,6 @@ use Rattle.vault_model.specs.declared.place.Place.{Place}
 use Rattle.vault_model.specs.declared.claims.Item.{Item}
 use Rattle.vault_model.specs.Tree.{is_under}
 
--- one of an item's place and a place is under the other
+-- an item's place is under a place, or that place is under the item's
 abbrev pub is_in_line : List Place → ℕ → Item → Bool
 is_in_line tree p item = is_under tree p item.place || is_under tree item.place p

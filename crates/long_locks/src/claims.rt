@@ -14,7 +14,7 @@ use std::marker::Model;
 use vault_model::{Claim, ClaimId, Items, Name, NoMemory, Note};
 
 /// Claims in order, each found by its id without a search. Contracts see their list, and the room
-/// that there is for more.
+/// for more.
 #[derive(Drop)]
 pub(crate) struct Claims<A: Allocator = Global> {
     by_id: IndexMap<ClaimId, KeptClaim<A>, BuildHasherDefault<FoldHasher>, A>,
@@ -42,7 +42,7 @@ impl<A: Allocator + Copy> Claims<A> {
         }
     }
 
-    /// The same claims once more, each found by its id.
+    /// A copy of the claims.
     pub(crate) fn copy(&self) -> Result<Claims<A>, NoMemory>
         ensures { IfOk result (λ copy. copy.claims ≡ self.now.claims) }
     {
@@ -51,21 +51,21 @@ impl<A: Allocator + Copy> Claims<A> {
         })
     }
 
-    /// Takes the memory for a claim, before it is put into the line.
+    /// Boxes a claim, before it is put into the line.
     pub(crate) fn keep(&self, claim: Claim) -> Result<KeptClaim<A>, NoMemory>
         ensures { IfOk result (λ kept. kept ≡ claim) }
     {
         KeptClaim::new(*self.by_id.allocator(), claim)
     }
 
-    /// The allocator that they are kept in.
+    /// The allocator of their memory.
     pub(crate) fn allocator(&self) -> A {
         *self.by_id.allocator()
     }
 }
 
 impl<A: Allocator> Claims<A> {
-    /// How many claims there are.
+    /// The number of claims.
     pub(crate) fn len(&self) -> usize
         ensures { result ≡ length self.now.claims }
     {
@@ -80,7 +80,7 @@ impl<A: Allocator> Claims<A> {
         Some(kept.claim())
     }
 
-    /// Where the claim of this id stands, by one look-up.
+    /// The position of the claim of this id, by one look-up.
     pub(crate) fn position_of(&self, id: ClaimId) -> Option<usize>
         ensures { result ≡ position (λ (c : Claim). same_id c.id id) self.now.claims }
     {
@@ -95,7 +95,7 @@ impl<A: Allocator> Claims<A> {
         Some(kept.claim())
     }
 
-    /// Makes room for one claim more.
+    /// Makes room for one more claim.
     pub(crate) fn reserve_one(&mut self) -> Result<(), NoMemory>
         ensures same { self.new.claims ≡ self.old.claims }
         ensures room { OnOk result (0 < self.new.room) }
@@ -117,7 +117,7 @@ impl<A: Allocator> Claims<A> {
         self.by_id.insert(id, claim).unwrap();
     }
 
-    /// Gives a claim these items, and the first place. The others keep their order.
+    /// Replaces a claim's items, and moves it to the front. The others keep their order.
     pub(crate) fn put_first(&mut self, id: ClaimId, items: Items)
         requires { is_some (claim_of self.old.claims id) ≡ true }
         ensures { self.new.claims ≡ put_first self.old.claims id items }
@@ -127,7 +127,7 @@ impl<A: Allocator> Claims<A> {
         self.by_id[0].set_items(items);
     }
 
-    /// Gives a claim to a designer, in its place. Where there is none of this id, nothing changes.
+    /// Gives a claim to a designer. Its position stays. If there is none of this id, nothing changes.
     pub(crate) fn give(&mut self, id: ClaimId, designer: Name)
         ensures { self.new.claims ≡ changed self.old.claims id (given_to designer) }
     {
@@ -136,7 +136,7 @@ impl<A: Allocator> Claims<A> {
         }
     }
 
-    /// Gives a claim a note, in its place. Where there is none of this id, nothing changes.
+    /// Replaces a claim's note. Its position stays. If there is none of this id, nothing changes.
     pub(crate) fn set_note(&mut self, id: ClaimId, note: Note)
         ensures { self.new.claims ≡ changed self.old.claims id (noted_as note) }
     {
@@ -145,7 +145,7 @@ impl<A: Allocator> Claims<A> {
         }
     }
 
-    /// Takes a claim out. The others keep their order.
+    /// Removes a claim. The others keep their order.
     pub(crate) fn remove(&mut self, id: ClaimId)
         ensures { self.new.claims ≡ without self.old.claims id }
     {
@@ -154,7 +154,7 @@ impl<A: Allocator> Claims<A> {
         }
     }
 
-    /// Takes those out that end, in one walk. The others keep their order.
+    /// Removes the ending claims, in one walk. The others keep their order.
     pub(crate) fn remove_ending(&mut self, ending: Ending)
         ensures { self.new.claims ≡ left_by ending self.old.claims }
     {

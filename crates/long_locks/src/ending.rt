@@ -36,7 +36,7 @@ pub(crate) fn ends(ending: Ending, claim: &Claim) -> bool
     }
 }
 
-// Takes the claim at a position out of the table, if it ends. Those that end behind it are out already.
+// Removes the claim at a position from the table, if it ends. The ending claims behind it are gone.
 fn release_at<A: Allocator>(
     claims: &Claims<A>,
     table: &mut Table<A>,
@@ -55,7 +55,8 @@ fn release_at<A: Allocator>(
     }
 }
 
-// Takes all out of the table that end. The last one leaves first, since nobody waits for it.
+// Removes all ending claims from the table. The last one leaves first: none of those still to leave
+// waits for it, so none of them is weighed again.
 fn release_each<A: Allocator>(claims: &Claims<A>, table: &mut Table<A>, ending: Ending)
     requires { IsDistinct same_id (map (λ (c : Claim). c.id) claims.now.claims) }
     ensures { (tree : List Place) → IsTableOf tree claims.now.claims table.old
@@ -68,7 +69,7 @@ fn release_each<A: Allocator>(claims: &Claims<A>, table: &mut Table<A>, ending: 
     }
 }
 
-// Takes all out of the table that end: a session's one after another, all short ones together.
+// Removes all ending claims from the table: a session's one after another, all short ones together.
 fn release_all<A: Allocator>(claims: &Claims<A>, table: &mut Table<A>, ending: Ending)
     requires { IsDistinct same_id (map (λ (c : Claim). c.id) claims.now.claims) }
     ensures { (tree : List Place) → IsTableOf tree claims.now.claims table.old
@@ -80,7 +81,7 @@ fn release_all<A: Allocator>(claims: &Claims<A>, table: &mut Table<A>, ending: E
     }
 }
 
-/// Takes all out that end.
+/// Removes all ending claims from both.
 pub(crate) fn drop_all<A: Allocator>(claims: &mut Claims<A>, table: &mut Table<A>, ending: Ending)
     requires { IsDistinct same_id (map (λ (c : Claim). c.id) claims.old.claims) }
     ensures claims { claims.new.claims ≡ left_by ending claims.old.claims }

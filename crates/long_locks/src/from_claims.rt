@@ -1,4 +1,4 @@
-//! A line made of long claims that were kept.
+//! A line made of stored long claims.
 ghost use Rattle.std.specs.Prelude.{◌≡◌, ◌≤◌, ◌↔◌, IsTrue, [], length, map, All, IfOk, IfErr, OnOk};
 ghost use Rattle.std.specs.List.{IsDistinct, list_any};
 ghost use Rattle.vault_model.specs.declared.claims.Claim.{Claim};
@@ -18,7 +18,7 @@ use std::alloc::Allocator;
 use thiserror::Error;
 use vault_model::{Claim, ClaimId, Item, MAX_CLAIMS, NoMemory, Owner};
 
-/// Why there is no line of some claims.
+/// Why no line could be made of some claims.
 #[derive(Clone, Copy, Debug, PartialEq, Eq, Error)]
 pub enum FromClaimsError {
     #[error("these are no long claims of one line")]
@@ -52,7 +52,7 @@ fn is_long(last_long: u32, claim: &Claim) -> bool
     ensures { IsTrue result
         ↔ (IsGiven last_long 0 claim.now.id × Owns [] claim.now.owner claim.now.id × IsNoteOf claim.now.id claim.now.note) }
 {
-    // Any note is short enough.
+    // Any note is short enough; this call shows that to the proof.
     let _ = claim.note.as_bytes();
     match (claim.id, claim.owner) {
         (ClaimId::Long(number), Owner::Designer(_)) => 1 <= number && number <= last_long,
@@ -96,7 +96,7 @@ fn are_long_claims<A: Allocator>(tree: &Tree<A>, last_long: u32, claims: &[Claim
         && are_apart(claims)
 }
 
-// The claims by their ids, and the table that weighs them.
+// The claims by their ids, and their lock table.
 fn line_up<A: Allocator + Copy>(
     alloc: A,
     tree: &Tree<A>,
@@ -118,11 +118,11 @@ fn line_up<A: Allocator + Copy>(
 }
 
 impl<A: Allocator + Copy> Line<A> {
-    /// The line of just these claims, in their order, over this tree. They are long ones, of which
-    /// the last given number is passed; no short claim was given one.
+    /// The line of just these claims, in their order, over this tree. All must be long. `last_long` is
+    /// the last number given to a long claim. No short claim has a number yet.
     ///
-    /// What no line has is refused before memory is asked for. Each claim's id is compared with those of all before it; it is weighed
-    /// as `ask_long` does, at the queues of its own places.
+    /// Claims that no line can have are refused before memory is requested. Each claim's id is compared with those of all before it.
+    /// Each claim is weighed as in `ask_long`, at the queues of its own places.
     pub fn from_claims(
         alloc: A,
         tree: &Tree<A>,
@@ -132,7 +132,7 @@ impl<A: Allocator + Copy> Line<A> {
         ensures made { IfOk result (λ line. line ≡ line_of tree.now last_long claims.items) }
         ensures well_formed { OnOk result (AreLongClaims tree.now last_long claims.items) }
 
-        // Memory is wanted only for claims that make a line.
+        // It runs out of memory only with claims that make a line.
         ensures refused { IfErr result (IsRefusalOf tree.now last_long claims.items) }
     {
         if !are_long_claims(tree, last_long, &claims) {

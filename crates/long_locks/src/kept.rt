@@ -1,4 +1,4 @@
-//! A claim in memory of its own.
+//! A boxed claim.
 ghost use Rattle.std.specs.Prelude.{◌≡◌, IfOk};
 ghost use Rattle.vault_model.specs.Claims.{given_to, noted_as};
 
@@ -6,7 +6,7 @@ use std::alloc::{AllocError, Allocator, Global};
 use std::marker::Model;
 use vault_model::{Claim, Items, Name, NoMemory, Note, Owner};
 
-/// A claim as a line keeps it: in memory of its own, so that a line is short to move in. Contracts see the claim.
+/// A claim as a line keeps it: boxed, so that moving claims in the line is quick. Contracts see the claim.
 #[derive(Drop)]
 pub(crate) struct KeptClaim<A: Allocator = Global> {
     claim: Box<Claim, A>,
@@ -21,7 +21,7 @@ impl<A: Allocator> Model for KeptClaim<A> {
 }
 
 impl<A: Allocator> KeptClaim<A> {
-    /// A claim, kept.
+    /// Boxes a claim.
     pub(crate) fn new(alloc: A, claim: Claim) -> Result<KeptClaim<A>, NoMemory>
         ensures { IfOk result (λ kept. kept ≡ claim) }
     {
@@ -38,7 +38,7 @@ impl<A: Allocator> KeptClaim<A> {
         &self.claim
     }
 
-    /// Gives it these items.
+    /// Replaces its items.
     pub(crate) fn set_items(&mut self, items: Items)
         ensures { self.new ≡ record self.old { items = items } }
     {
@@ -52,7 +52,7 @@ impl<A: Allocator> KeptClaim<A> {
         self.claim.owner = Owner::Designer(designer);
     }
 
-    /// Gives it a note.
+    /// Replaces its note.
     pub(crate) fn set_note(&mut self, note: Note)
         ensures { self.new ≡ noted_as note self.old }
     {

@@ -1,4 +1,4 @@
-//! The line of claims, weighed by their lock modes.
+//! The line of claims. Their lock modes decide which are granted.
 ghost use Rattle.std.specs.Prelude.{◌≡◌, ◌+◌, ◌<◌, ◌≤◌, List, [], ◌∷◌, ◌++◌, length, map, slice_get, is_some, None, Some, true, All, IfOk, OnOk, OnErr};
 ghost use Rattle.std.specs.Option.{option_copied};
 ghost use Rattle.std.specs.List.{IsDistinct};
@@ -23,12 +23,12 @@ use std::marker::Model;
 use vault_model::{Claim, ClaimId, Items, Listing, Name, NoMemory, Note, Owner, PlaceId, Standing};
 
 /// The claims of a vault in order of arrival. Contracts see them as a list, with the last number
-/// that was given to a claim of each kind, and the tree over which a claim was weighed last.
+/// given to a claim of each kind, and the tree over which a claim was weighed last.
 #[derive(Drop)]
 pub struct Line<A: Allocator = Global> {
     /// The claims, in line order.
     pub(crate) claims: Claims<A>,
-    /// The same claims by their lock modes, which says how each stands.
+    /// The same claims by their lock modes. It gives each claim's standing.
     pub(crate) table: Table<A>,
     /// The tree over which a claim was weighed last. It takes no bytes.
     pub(crate) tree: Remembered<Tree<A>>,
@@ -115,7 +115,7 @@ fn extend<A: Allocator + Copy>(
 }
 
 impl<A: Allocator + Copy> Line<A> {
-    /// A line of no claims.
+    /// An empty line.
     pub fn new(alloc: A) -> Result<Line<A>, NoMemory>
         ensures { IfOk result (λ line. line ≡ new_line) }
     {
@@ -129,7 +129,7 @@ impl<A: Allocator + Copy> Line<A> {
         })
     }
 
-    /// The same line once more, in its own allocator's memory, of which it takes no more than this one.
+    /// A copy of the line, in memory from its own allocator. It takes no more memory than this line.
     pub fn copy(&self) -> Result<Line<A>, NoMemory>
         ensures { IfOk result (λ copy. copy ≡ self.now) }
     {
@@ -144,7 +144,7 @@ impl<A: Allocator + Copy> Line<A> {
 }
 
 impl<A: Allocator> Line<A> {
-    /// How many claims there are.
+    /// The number of claims.
     pub fn len(&self) -> usize
         ensures { result ≡ length self.now.claims }
     {
@@ -179,7 +179,7 @@ impl<A: Allocator> Line<A> {
         self.claims.at(position)
     }
 
-    /// How a claim stands, over the line's tree and each that has grown from it. It takes one look-up.
+    /// A claim's standing, over the line's tree and every tree grown from it. It takes one look-up.
     pub fn standing(&self, id: ClaimId) -> Option<Standing>
         ensures { (tree : List Place) → IsTree tree → IsGrownFrom self.now.tree tree →
             result ≡ standing_of tree self.now.claims id }
@@ -188,7 +188,7 @@ impl<A: Allocator> Line<A> {
         self.table.standing_at(position)
     }
 
-    /// The first held claim that covers a place.
+    /// The first granted claim that covers a place.
     pub fn covers(&self, tree: &Tree<A>, place: PlaceId) -> Option<ClaimId>
         requires grown { IsGrownFrom self.now.tree tree.now }
         requires there { place ≤ length tree.now }
@@ -200,8 +200,8 @@ impl<A: Allocator> Line<A> {
 }
 
 impl<A: Allocator + Copy> Line<A> {
-    /// The claims, held or queued, that look at a place or at one under it, in the order of the line. The work grows with the
-    /// line's items, and the memory with what is listed.
+    /// The claims, granted or waiting, that look at a place or at one under it, in line order. The work grows with the number of
+    /// items in the line, and the memory with the number of claims listed.
     pub fn claims_at(&self, tree: &Tree<A>, place: PlaceId) -> Result<Listing<ClaimId, A>, NoMemory>
         requires grown { IsGrownFrom self.now.tree tree.now }
         requires there { place ≤ length tree.now }
@@ -211,7 +211,7 @@ impl<A: Allocator + Copy> Line<A> {
         Ok(Listing::from_vec(ids))
     }
 
-    /// Puts a new long claim of a designer last, with the next number, and says how it stands there.
+    /// Puts a new long claim of a designer last, with the next number, and returns its standing.
     pub fn ask_long(
         &mut self,
         tree: &Tree<A>,
@@ -239,7 +239,7 @@ impl<A: Allocator + Copy> Line<A> {
         Ok(standing)
     }
 
-    /// Puts a new short claim of a session last, with the next number, and says how it stands there.
+    /// Puts a new short claim of a session last, with the next number, and returns its standing.
     pub fn ask_short(
         &mut self,
         tree: &Tree<A>,
@@ -267,8 +267,8 @@ impl<A: Allocator + Copy> Line<A> {
         Ok(standing)
     }
 
-    /// Gives a held claim these items, in place of its own, and the first place in the line, if it
-    /// overlaps no other held claim with them.
+    /// Replaces a granted claim's items with these, and moves the claim to the front of the line, if
+    /// they overlap no other granted claim.
     pub fn extend(
         &mut self,
         tree: &Tree<A>,
@@ -284,7 +284,7 @@ impl<A: Allocator + Copy> Line<A> {
           tree = tree.now;
         }) }
 
-        // Memory is wanted only where nothing is in the way.
+        // It runs out of memory only where nothing is in the way.
         ensures memory { OnErr result (in_way_of tree.now self.old.claims id items ≡ None) }
         ensures unchanged { OnErr result (self.new ≡ self.old) }
     {
@@ -294,8 +294,8 @@ impl<A: Allocator + Copy> Line<A> {
         Ok(extension)
     }
 
-    /// Gives a claim these items, in place of its own, and the first place in the line, without
-    /// weighing it: a journal tells of an extension that was granted.
+    /// Replaces a claim's items with these, and moves the claim to the front of the line, without a
+    /// check: it replays an extension that a journal records as granted.
     pub fn put_first(&mut self, tree: &Tree<A>, id: ClaimId, items: Items) -> Result<(), NoMemory>
         requires grown { IsGrownFrom self.old.tree tree.now }
         requires items { AreThere tree.now items }
@@ -312,7 +312,7 @@ impl<A: Allocator + Copy> Line<A> {
 }
 
 impl<A: Allocator> Line<A> {
-    /// Takes a claim out of the line. Where it has none of this id, nothing changes.
+    /// Removes a claim from the line. If there is none of this id, nothing changes.
     pub fn drop_claim(&mut self, id: ClaimId)
         ensures { self.new ≡ record self.old { claims = without self.old.claims id } }
     {
@@ -320,7 +320,7 @@ impl<A: Allocator> Line<A> {
         self.table.release(id);
     }
 
-    /// Gives the check-out of this number to a designer. Its place in the line, its items and its note stay. Where there is none of this
+    /// Gives the check-out of this number to a designer. Its position in the line, its items and its note stay. If there is none of this
     /// number, nothing changes. Takes no memory.
     pub fn give(&mut self, number: u32, designer: Name)
         ensures { self.new ≡ record self.old { claims = changed self.old.claims (Long number) (given_to designer) } }
@@ -328,15 +328,15 @@ impl<A: Allocator> Line<A> {
         self.claims.give(ClaimId::Long(number), designer);
     }
 
-    /// Gives the check-out of this number a note, in place of its own. All else of it stays. Where there is none of this number,
-    /// nothing changes. Takes no memory.
+    /// Replaces the note of the check-out of this number. The rest of it stays. If there is none of this number, nothing changes.
+    /// Takes no memory.
     pub fn set_note(&mut self, number: u32, note: Note)
         ensures { self.new ≡ record self.old { claims = changed self.old.claims (Long number) (noted_as note) } }
     {
         self.claims.set_note(ClaimId::Long(number), note);
     }
 
-    /// Takes every claim of a session out of the line, when the session ends.
+    /// Removes every claim of a session from the line, when the session ends.
     pub fn drop_session(&mut self, session: u32)
         ensures { self.new ≡ record self.old { claims = without_session session self.old.claims } }
     {
@@ -344,7 +344,7 @@ impl<A: Allocator> Line<A> {
         drop_all(&mut self.claims, &mut self.table, Ending::Session(session));
     }
 
-    /// Takes every short claim out of the line, and counts their numbers anew.
+    /// Removes every short claim from the line, and starts their numbers again at 1.
     pub fn restart(&mut self)
         ensures { self.new ≡ record self.old { claims = without_short self.old.claims; last_short = 0 } }
     {

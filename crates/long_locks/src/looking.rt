@@ -12,7 +12,7 @@ use design_tree::Tree;
 use std::alloc::Allocator;
 use vault_model::{ClaimId, Item, NoMemory, PlaceId};
 
-/// Whether one of an item's place and another place lies under the other, or both are one.
+/// Whether an item's place and another place are the same, or one lies under the other.
 fn is_in_line<A: Allocator>(tree: &Tree<A>, item: &Item, place: PlaceId) -> bool
     requires item { item.now.place ≤ length tree.now }
     requires place { place ≤ length tree.now }
@@ -21,7 +21,7 @@ fn is_in_line<A: Allocator>(tree: &Tree<A>, item: &Item, place: PlaceId) -> bool
     tree.is_under(place, item.place) || tree.is_under(item.place, place)
 }
 
-/// Whether one of these items is in line with a place.
+/// The same for at least one of these items.
 fn are_in_line<A: Allocator>(tree: &Tree<A>, items: &[Item], place: PlaceId) -> bool
     requires items { AreThere tree.now items.now }
     requires place { place ≤ length tree.now }
@@ -35,7 +35,7 @@ fn are_in_line<A: Allocator>(tree: &Tree<A>, items: &[Item], place: PlaceId) -> 
     false
 }
 
-/// Whether a place that is this one or under it is in the look set of some items.
+/// Whether the look set of some items has this place or one under it.
 fn look_into<A: Allocator>(tree: &Tree<A>, items: &[Item], place: PlaceId) -> bool
     requires items { AreThere tree.now items.now }
     requires place { place ≤ length tree.now }
@@ -45,7 +45,8 @@ fn look_into<A: Allocator>(tree: &Tree<A>, items: &[Item], place: PlaceId) -> bo
     are_in_line(tree, items, place)
 }
 
-/// Puts the claim at a position of the line behind others, if it looks at the place or under it.
+/// Appends the id of the claim at a position of the line, if the claim looks at the place or at one
+/// under it.
 fn put_at<A: Allocator>(
     ids: &mut Vec<ClaimId, A>,
     claims: &Claims<A>,
@@ -69,7 +70,7 @@ fn put_at<A: Allocator>(
     }
 }
 
-/// The claims that look at a place or at one under it, in the order of the line.
+/// The claims that look at a place or at one under it, in line order.
 pub(crate) fn claims_at<A: Allocator>(
     alloc: A,
     claims: &Claims<A>,

@@ -4,8 +4,8 @@ ghost use Rattle.std.specs.Borrow.{ftrue};
 
 use std::marker::{Model, PhantomData};
 
-/// A value as it was at some moment. It takes no bytes, and a clause reads it as `value`. Of std's
-/// `Snapshot` there is no second one to be had.
+/// A value as it was at some moment. It takes no bytes, and a clause reads it as `value`. A
+/// `Snapshot` of std would not do: it can't be copied.
 #[derive(Drop)]
 pub(crate) struct Remembered<T> {
     marker: PhantomData<T>,
@@ -17,7 +17,7 @@ impl<T> Model for Remembered<T> {
 }
 
 impl<T> Remembered<T> {
-    /// The value that is seen now.
+    /// The value as it is now.
     pub(crate) fn of(x: &T) -> Remembered<T>
         ensures { result.value ≡ x.now }
     {
@@ -27,7 +27,7 @@ impl<T> Remembered<T> {
         }
     }
 
-    /// The same value once more.
+    /// A copy.
     pub(crate) fn again(&self) -> Remembered<T>
         ensures { result.value ≡ self.now.value }
     {

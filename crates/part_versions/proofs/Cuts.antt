@@ -1,4 +1,4 @@
--- Contents as a file spells them, one behind another: how many, how long, one more and one less.
+-- Contents as a file spells them, one after another: how many, how long, one more and one fewer.
 use Rattle.std.specs.Prelude.{◌≡◌, ℕ, zero, suc, ◌+◌, ◌-◌, ◌<◌, ◌≤◌, List, [], ◌∷◌, ◌++◌, length, map, take, Some, None, slice_get, slice_range}
 use Rattle.std.specs.Int.{w16, to_be_bytes}
 use Rattle.std.specs.List.{range_with_len, flat_map}
@@ -80,7 +80,7 @@ slice_range-append bytes more a b h k =
 pub behind_length : (content : List ℕ) → drop 2 (spelled content) ≡ content
 behind_length content = refl
 
--- with one more spelling behind them, the others stay
+-- when one more spelling is appended, the others stay
 spelling_at-push : (ends bytes more : List ℕ) (i : ℕ) → IsCut ends bytes → i < length ends → spelling_at (ends ++ length (bytes ++ more) ∷ []) (bytes ++ more) i ≡ spelling_at ends bytes i
 spelling_at-push ends bytes more i cut h =
     let here = end_of-push ends (length (bytes ++ more)) i (omega arith) in
@@ -100,7 +100,7 @@ spelling_at-push_last ends bytes more cut =
     ∙ ap (take (length (bytes ++ more) - length bytes)) (drop_at bytes more (length bytes) refl)
     ∙ take_all (length (bytes ++ more) - length bytes) more long
 
--- of one more spelling, the ends
+-- with one more spelling, the ends rise
 rising-push : (ends bytes more : List ℕ) (i : ℕ) → IsCut ends bytes → i < length (ends ++ length (bytes ++ more) ∷ [])
     → end_of (ends ++ length (bytes ++ more) ∷ []) i ≤ end_of (ends ++ length (bytes ++ more) ∷ []) (suc i)
 rising-push ends bytes more i cut h = elim (cases_lt i (length ends)) [
@@ -188,7 +188,7 @@ end_climbs ends bytes n (suc k) j cut h e =
     let inside : j < length ends = omega (arith, e, h) in
     omega (arith, next, cut.rising j inside)
 
--- of the first so many, each spelling stays
+-- of the first `n` spellings, each stays
 spelling_at-front : (ends bytes : List ℕ) (n i : ℕ) → IsCut ends bytes → n ≤ length ends → i < n
     → spelling_at (take n ends) (take (end_of (take n ends) n) bytes) i ≡ spelling_at ends bytes i
 spelling_at-front ends bytes n i cut h front =
@@ -202,7 +202,7 @@ spelling_at-front ends bytes n i cut h front =
     ∙ ap (λ b. slice_range (take (end_of ends n) bytes) (end_of ends i) b) next
     ∙ slice_range-take bytes (end_of ends i) (end_of ends (suc i)) (end_of ends n) (cut.rising i inside) most
 
--- the first so many contents
+-- the first `n` contents
 pub contents_of-front : (ends bytes : List ℕ) (n : ℕ) → IsCut ends bytes → n ≤ length ends → contents_of (take n ends) (take (end_of (take n ends) n) bytes) ≡ take n (contents_of ends bytes)
 contents_of-front ends bytes n cut h =
     sym (fill_by_all (content_at (take n ends) (take (end_of (take n ends) n) bytes)) (take n (contents_of ends bytes)) (length (take n ends)) [] whole each)

@@ -13,7 +13,7 @@ use Rattle.vault_model.specs.Limits.{longest_content, most_versions, most_weight
 use Rattle.vault_model.proofs.Lists.{and_never}
 use Rattle.part_versions.specs.Rooms.{weight_with, count_of}
 
--- there is room for all drafts where there is for as many as there are
+-- there is room for a place's drafts if there is room for as many as all drafts
 pub room_for_as_many : (versions : ℕ) (drafts : List Draft) (place : ℕ) → versions ≤ most_versions → length drafts ≤ most_versions - versions → nat_le (versions + count_of drafts place) most_versions ≡ true
 room_for_as_many versions drafts place few h =
     let fewer = count_by-le-length (λ (draft : Draft). draft.place == place) drafts in
@@ -31,14 +31,14 @@ from_some : (t : Bool) (m n : ℕ) → Some m ≡ cond t (Some n) None → (t �
 from_some true m n e = (refl, cc)
 from_some false m n e = cc
 
--- no weight: the drafts may not be shelved
+-- if there is no such weight, the drafts may not be shelved
 pub refused_by_weight : (shelf : List (List (List ℕ))) (drafts : List Draft) (known : ℕ) → IsSoundShelf shelf known → None ≡ weight_with known drafts → is_shelvable shelf drafts ≡ false
 refused_by_weight shelf drafts known kept e =
     let P : ℕ → Type 0 = λ n. None ≡ weight_with n drafts in
     let none = from_none (are_short drafts && nat_le (weight shelf + drafts_weight drafts) most_weight) (weight shelf + drafts_weight drafts) (subst P kept.weighed e) in
     shelvable-is shelf drafts kept.shelf_is.few ∙ ap (λ t. t && have_room shelf drafts) none
 
--- nor where there is no room
+-- nor if there is no room
 pub refused_by_room : (shelf : List (List (List ℕ))) (drafts : List Draft) (known : ℕ) → IsSoundShelf shelf known → have_room shelf drafts ≡ false → is_shelvable shelf drafts ≡ false
 refused_by_room shelf drafts known kept e =
     shelvable-is shelf drafts kept.shelf_is.few ∙ ap (λ t. are_short drafts && nat_le (weight shelf + drafts_weight drafts) most_weight && t) e ∙ and_never (are_short drafts && nat_le (weight shelf + drafts_weight drafts) most_weight)
@@ -77,14 +77,14 @@ kept_after shelf after drafts given known sum kept e room same is =
       weighed = fits.1 ∙ sym (weight-shelved_all shelf drafts);
     })
 
--- one draft more weighs what its content does
+-- one more draft adds the weight of its content
 pub weight_more : (drafts : List Draft) (i : ℕ) (d : Draft) (content : List ℕ) → i < length drafts → content ≡ d.content → d ≡ get_or drafts i d
     → drafts_weight (take (i + 1) drafts) ≡ drafts_weight (take i drafts) + content_weight content
 weight_more drafts i d content h e read =
     sum_by_more (λ (draft : Draft). content_weight draft.content) drafts i d h
     ∙ ap (λ (draft : Draft). drafts_weight (take i drafts) + content_weight draft.content) (sym read) ∙ ap (λ c. drafts_weight (take i drafts) + content_weight c) (sym e)
 
--- and is short where that is
+-- and is short if its content is
 pub short_more : (drafts : List Draft) (i : ℕ) (d : Draft) (content : List ℕ) → i < length drafts → content ≡ d.content → d ≡ get_or drafts i d
     → are_short (take i drafts) ≡ true → length content ≤ longest_content → are_short (take (i + 1) drafts) ≡ true
 short_more drafts i d content h e read short fits =
@@ -96,7 +96,7 @@ short_more drafts i d content h e read short fits =
 pub few_counted : (shelf now : List (List (List ℕ))) (place count : ℕ) → All (λ versions. length versions ≤ most_versions) shelf → now ≡ shelf → count ≡ length (versions_of now place) → count ≤ most_versions
 few_counted shelf now place count few same is = let P : ℕ → Type 0 = λ n. n ≤ most_versions in subst P (sym (is ∙ ap (λ s. length (versions_of s place)) same)) (few_at shelf place few)
 
--- no weight where one draft's content is too long
+-- there is no such weight if one draft's content is too long
 pub none_by_length : (known : ℕ) (drafts : List Draft) (i : ℕ) (d : Draft) (content : List ℕ) → i < length drafts → content ≡ d.content → d ≡ get_or drafts i d
     → longest_content < length content → None ≡ weight_with known drafts
 none_by_length known drafts i d content h e read long =
@@ -104,7 +104,7 @@ none_by_length known drafts i d content h e read long =
     ap (λ t. cond (t && nat_le (known + drafts_weight drafts) most_weight) (Some (known + drafts_weight drafts)) None)
     (sym (list_all_at (λ (draft : Draft). nat_le (length draft.content) longest_content) drafts i d h test))
 
--- nor where the first of them are too heavy
+-- nor if the first drafts are too heavy
 pub none_by_weight : (known : ℕ) (drafts : List Draft) (i : ℕ) (d : Draft) (content : List ℕ) (sum : ℕ) → i < length drafts → content ≡ d.content → d ≡ get_or drafts i d
     → sum ≡ known + drafts_weight (take i drafts) → most_weight < sum + content_weight content → None ≡ weight_with known drafts
 none_by_weight known drafts i d content sum h e read is heavy =

@@ -1,4 +1,4 @@
--- Parts in a list: one more version, many more, and all of them taken back.
+-- Parts in a list: one more version, many more, and all of them removed again.
 use Rattle.std.specs.Prelude.{◌≡◌, ◌≢◌, ◌⊎◌, ℕ, zero, suc, ◌+◌, ◌-◌, ◌<◌, ◌≤◌, true, false, List, [], ◌∷◌, ◌++◌, length, take, drop, slice_set, replicate, All}
 use Rattle.std.proofs.Common.{arith, ap, sym, refl, ◌∙◌, subst, inl, inr, eqb, get_or, set, length-set, length-take-le, length-append}
 use Rattle.std.proofs.lemmas.Bool.{cases_lt}
@@ -12,13 +12,13 @@ use Rattle.vault_model.specs.Limits.{most_weight}
 use Rattle.vault_model.proofs.Shelves.{versions_of-shelved, versions_of-shelved_other, length-shelved, weight-shelved_all}
 use Rattle.part_versions.specs.Taken.{but_last, taken, taken_all}
 
--- a place that is there gets its version where it stands
+-- a place in the list gets its version where it stands
 pub shelved-inside : (shelf : List (List (List ℕ))) (place : ℕ) (content : List ℕ) → place < length shelf → shelved shelf place content ≡ slice_set shelf place (versions_of shelf place ++ content ∷ [])
 shelved-inside [] place content h = absurd (omega (arith, h))
 shelved-inside (versions ∷ shelf) zero content h = refl
 shelved-inside (versions ∷ shelf) (suc place) content h = ap (λ s. versions ∷ s) (shelved-inside shelf place content (omega (arith, h)))
 
--- a place further on gets it behind places without versions
+-- a place behind the end of the list gets it behind places without versions
 pub shelved-past : (shelf : List (List (List ℕ))) (place : ℕ) (content : List ℕ) → length shelf ≤ place → shelved shelf place content ≡ (shelf ++ replicate (place - length shelf) []) ++ (content ∷ []) ∷ []
 shelved-past [] zero content h = refl
 shelved-past [] (suc place) content h =
@@ -33,12 +33,12 @@ shelved_all-append : (shelf : List (List (List ℕ))) (drafts more : List Draft)
 shelved_all-append shelf [] more = refl
 shelved_all-append shelf (draft ∷ drafts) more = shelved_all-append (shelved shelf draft.place draft.content) drafts more
 
--- one draft more
+-- one more draft
 pub shelved_all-more : (shelf : List (List (List ℕ))) (drafts : List Draft) (i : ℕ) (d : Draft) → i < length drafts
     → shelved_all shelf (take (i + 1) drafts) ≡ shelved (shelved_all shelf (take i drafts)) (get_or drafts i d).place (get_or drafts i d).content
 shelved_all-more shelf drafts i d h = ap (shelved_all shelf) (take_more drafts i d h) ∙ shelved_all-append shelf (take i drafts) (get_or drafts i d ∷ [])
 
--- and there is room for it where there is for all
+-- and there is room for it if there is room for all
 pub weight-more : (shelf : List (List (List ℕ))) (drafts : List Draft) (i : ℕ) (d : Draft) → i < length drafts
     → weight (shelved_all shelf (take i drafts)) + content_weight (get_or drafts i d).content ≤ weight shelf + drafts_weight drafts
 weight-more shelf drafts i d h =
@@ -50,7 +50,7 @@ length-shelved_all : (shelf : List (List (List ℕ))) (drafts : List Draft) → 
 length-shelved_all shelf [] = omega arith
 length-shelved_all shelf (draft ∷ drafts) = omega (arith, length-shelved shelf draft.place draft.content, length-shelved_all (shelved shelf draft.place draft.content) drafts)
 
--- the drafts' places are there
+-- the drafts' places are in the list
 pub places_there : (shelf : List (List (List ℕ))) (drafts : List Draft) → All (λ (draft : Draft). draft.place < length (shelved_all shelf drafts)) drafts
 places_there shelf [] = All-nil (λ (draft : Draft). draft.place < length shelf)
 places_there shelf (draft ∷ drafts) =
@@ -95,7 +95,7 @@ pub length-taken_all : (shelf : List (List (List ℕ))) (drafts : List Draft) �
 length-taken_all shelf [] = refl
 length-taken_all shelf (draft ∷ drafts) = length-set (taken_all shelf drafts) draft.place (but_last (versions_of (taken_all shelf drafts) draft.place)) ∙ length-taken_all shelf drafts
 
--- what was appended and is taken back leaves the shelf as it was, but for places behind its end
+-- appending drafts and removing them again leaves the shelf as it was, but for places behind its end
 pub taken_back : (shelf : List (List (List ℕ))) (drafts : List Draft) → take (length shelf) (taken_all (shelved_all shelf drafts) drafts) ≡ shelf
 taken_back shelf drafts =
     let long = length-taken_all (shelved_all shelf drafts) drafts in
@@ -105,7 +105,7 @@ taken_back shelf drafts =
     ext_get_or [] (take (length shelf) (taken_all (shelved_all shelf drafts) drafts)) shelf whole
     (λ i h. get_or-take (length shelf) (taken_all (shelved_all shelf drafts) drafts) i [] (omega (arith, h, whole)) ∙ undone shelf drafts i)
 
--- one version more taken back, before those of the later drafts
+-- one more version removed, after those of the later drafts
 pub taken_all-more : (shelf parts : List (List (List ℕ))) (drafts : List Draft) (i left place : ℕ) (d : Draft) (now new : List (List ℕ)) → i < length drafts → suc i ≡ left
     → parts ≡ taken_all shelf (drop left drafts) → place ≡ (get_or drafts i d).place → place < length parts → now ≡ get_or parts place now → new ≡ but_last now
     → slice_set parts place new ≡ taken_all shelf (drop i drafts)
@@ -115,7 +115,7 @@ taken_all-more shelf parts drafts i left place d now new h next rest is inside r
     ∙ ap (taken (taken_all shelf (drop (suc i) drafts))) is
     ∙ sym (ap (taken_all shelf) (drop-cons drafts i d h))
 
--- one place more without versions, behind those that were put there
+-- one more place without versions, behind those added before
 pub padded : (shelf longer longest : List (List (List ℕ))) (versions : List (List ℕ)) → longer ≡ shelf ++ replicate (length longer - length shelf) [] → longest ≡ longer ++ versions ∷ [] → versions ≡ []
     → longest ≡ shelf ++ replicate (length longest - length shelf) []
 padded shelf longer longest versions e l none =
@@ -126,14 +126,14 @@ padded shelf longer longest versions e l none =
     ∙ ap (λ v. shelf ++ (replicate (length longer - length shelf) [] ++ v ∷ [])) none
     ∙ ap (λ s. shelf ++ s) (replicate_more (length longer - length shelf) []) ∙ ap (λ n. shelf ++ replicate n []) one
 
--- a place that is there, with its versions written back
+-- a place in the list, with its versions written back
 pub put_inside : (shelf : List (List (List ℕ))) (at place : ℕ) (now new : List (List ℕ)) (content : List ℕ) → at ≡ place → at < length shelf → now ≡ get_or shelf at now → new ≡ now ++ content ∷ []
     → slice_set shelf at new ≡ shelved shelf place content
 put_inside shelf at place now new content e h read pushed =
     let P : ℕ → Type 0 = λ p. slice_set shelf at new ≡ shelved shelf p content in
     subst P e (ap (set shelf at) (pushed ∙ ap (λ v. v ++ content ∷ []) (get_or_read shelf at now h read [])) ∙ sym (shelved-inside shelf at content h))
 
--- a place further on, behind padding
+-- a place behind the end of the list, after padding
 pub put_past : (shelf longer last : List (List (List ℕ))) (at place : ℕ) (versions : List (List ℕ)) (content : List ℕ) → at ≡ place → length shelf ≤ at → longer ≡ shelf ++ replicate (at - length shelf) []
     → versions ≡ content ∷ [] → last ≡ longer ++ versions ∷ [] → last ≡ shelved shelf place content
 put_past shelf longer last at place versions content e h pad one pushed =

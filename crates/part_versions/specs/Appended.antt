@@ -6,12 +6,12 @@ use Rattle.part_versions.specs.declared.shelf.NotAppended.TheVariants.{Limit, No
 use Rattle.part_versions.specs.declared.shelf.AppendError.{AppendError}
 use Rattle.part_versions.specs.declared.shelf.AppendError.TheVariants as errors
 
--- what an error says: the drafts come back as they were, at a limit may not be shelved, and where memory was refused may be
+-- what an error says: the same drafts come back; they may not be shelved if it is a limit, and may be if memory was refused
 abbrev pub IsRefusalOf : List (List (List ℕ)) → List Draft → NotAppended (List Draft) → Type 0
 IsRefusalOf shelf drafts (Limit back) = (is_shelvable shelf drafts ≡ false) × (back ≡ drafts)
 IsRefusalOf shelf drafts (NoMemory back) = (is_shelvable shelf drafts ≡ true) × (back ≡ drafts)
 
--- the same of one content, by whether it may be shelved
+-- the same for one content, by whether it may be shelved
 abbrev pub IsWhyNot : Bool → AppendError → Type 0
 IsWhyNot may errors.Limit = may ≡ false
 IsWhyNot may errors.NoMemory = may ≡ true

@@ -1,4 +1,4 @@
--- How contents stand in memory: each as a file spells it, one behind another. This project's own.
+-- How contents stand in memory: each as a file spells it, one after another. This project's own.
 use Rattle.std.specs.Prelude.{◌≡◌, ℕ, zero, suc, ◌<◌, ◌≤◌, List, ◌++◌, length, map, drop, slice_index, slice_range}
 use Rattle.std.specs.Int.{w16, to_be_bytes}
 use Rattle.std.specs.List.{range_with_len}
@@ -7,7 +7,7 @@ use Rattle.std.specs.List.{range_with_len}
 abbrev pub spelled : List ℕ → List ℕ
 spelled content = to_be_bytes w16 (length content) ++ content
 
--- where the first so many spellings end
+-- where the first spellings end, of which there are this number
 abbrev pub end_of : List ℕ → ℕ → ℕ
 end_of ends zero = 0
 end_of ends (suc n) = slice_index ends n

@@ -4,11 +4,11 @@ use Rattle.std.specs.List.{list_all}
 use Rattle.vault_model.specs.Shelf.{Draft, versions_of, drafts_weight}
 use Rattle.vault_model.specs.Limits.{longest_content, most_versions, most_weight}
 
--- how many of the drafts are of a place
+-- how many of the drafts are for a place
 abbrev pub count_of : List Draft → ℕ → ℕ
 count_of drafts place = count_by (λ (draft : Draft). draft.place == place) drafts
 
--- what the shelf weighs with the drafts, where their contents are short and the weight isn't too much
+-- the weight of a shelf of this weight with the drafts, if their contents are short and the sum isn't too much
 abbrev pub weight_with : ℕ → List Draft → Option ℕ
 weight_with weight drafts =
     if list_all (λ (draft : Draft). nat_le (length draft.content) longest_content) drafts

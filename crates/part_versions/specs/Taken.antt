@@ -1,8 +1,8 @@
--- Versions taken back. This project's own.
+-- Removing appended versions again. This project's own.
 use Rattle.std.specs.Prelude.{ℕ, ◌-◌, List, [], ◌∷◌, length, take, slice_set}
 use Rattle.vault_model.specs.Shelf.{Draft, versions_of}
 
--- the versions but the last
+-- all versions but the last
 abbrev pub but_last : List (List ℕ) → List (List ℕ)
 but_last versions = take (length versions - 1) versions
 

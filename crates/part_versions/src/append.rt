@@ -8,7 +8,7 @@ use crate::part::Part;
 use std::alloc::{AllocError, Allocator};
 use vault_model::{DraftIn, PlaceId};
 
-// Puts parts without versions behind the others, up to a length for which there is room.
+// Appends parts without versions, up to this length. The list has room for it.
 fn pad<A: Allocator + Copy>(parts: &mut Vec<Part<A>, A>, len: usize)
     requires below { length parts.old.items ≤ len }
     requires room { len ≤ vec_capacity parts.old }
@@ -21,7 +21,7 @@ fn pad<A: Allocator + Copy>(parts: &mut Vec<Part<A>, A>, len: usize)
     }
 }
 
-/// Appends one version to a place. Room is asked for before anything changes, for at least so many bytes of that place's versions.
+/// Appends one version to a place. Memory is allocated before anything changes, for at least `room` bytes of that place's versions.
 pub(crate) fn append<A: Allocator + Copy>(
     parts: &mut Vec<Part<A>, A>,
     place: PlaceId,
@@ -45,7 +45,7 @@ pub(crate) fn append<A: Allocator + Copy>(
     Ok(())
 }
 
-// Takes the last version of each draft's place away, the last draft first.
+// Removes the last version of each draft's place, the last draft first.
 fn take_back<A: Allocator + Copy, B: Allocator>(parts: &mut Vec<Part<A>, A>, drafts: &[DraftIn<B>])
     requires { All (λ (draft : Draft). draft.place < length parts.old.items) drafts.now }
     ensures { parts.new.items ≡ taken_all parts.old.items drafts.now }
@@ -57,7 +57,7 @@ fn take_back<A: Allocator + Copy, B: Allocator>(parts: &mut Vec<Part<A>, A>, dra
     }
 }
 
-/// Appends all drafts in order. Where memory is refused those that were appended are taken back.
+/// Appends all drafts in order. If an allocation is refused, those appended so far are removed again.
 pub(crate) fn append_each<A: Allocator + Copy, B: Allocator>(
     parts: &mut Vec<Part<A>, A>,
     drafts: &[DraftIn<B>],

@@ -3,14 +3,14 @@ ghost use Rattle.std.specs.Prelude.{◌≡◌, ℕ, ◌+◌, ◌≤◌, ◌==◌
 ghost use Rattle.vault_model.specs.Shelf.{Draft, versions_of, shelved_all, weight, drafts_weight, is_shelvable, IsShelf};
 ghost use Rattle.vault_model.specs.Limits.{longest_content, most_versions, most_weight};
 
-/// Behind the versions that a place has come the contents of its drafts, in order, and nothing else.
+/// After shelving, a place has the versions that it had, then the contents of its drafts in order, and nothing else.
 pub fn drafts_follow_versions()
     ensures { (shelf : List (List (List ℕ))) (drafts : List Draft) (place : ℕ) →
         versions_of (shelved_all shelf drafts) place
         ≡ versions_of shelf place ++ map (λ (draft : Draft). draft.content) (filter (λ (draft : Draft). draft.place == place) drafts) }
 {}
 
-/// Drafts add what they weigh.
+/// Drafts add exactly their weight to the shelf's.
 pub fn weights_add_up()
     ensures { (shelf : List (List (List ℕ))) (drafts : List Draft) →
         weight (shelved_all shelf drafts) ≡ weight shelf + drafts_weight drafts }

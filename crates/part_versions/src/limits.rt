@@ -8,8 +8,8 @@ use crate::part::Part;
 use std::alloc::Allocator;
 use vault_model::{DraftIn, EXTRA_WEIGHT, LONGEST_CONTENT, MAX_VERSIONS, MAX_WEIGHT, PlaceId};
 
-/// What a shelf of this weight weighs with the drafts, where no content is too long and the weight
-/// isn't too much.
+/// The weight of a shelf of this weight once the drafts are added, if no content is too long and
+/// the sum isn't too much.
 pub(crate) fn weight_with<B: Allocator>(weight: usize, drafts: &[DraftIn<B>]) -> Option<usize>
     requires { weight ≤ most_weight }
     ensures { result ≡ weight_with weight drafts.now }
@@ -28,7 +28,7 @@ pub(crate) fn weight_with<B: Allocator>(weight: usize, drafts: &[DraftIn<B>]) ->
     Some(sum)
 }
 
-/// What a shelf of this weight weighs with one more content, where that isn't too long and the weight
+/// The weight of a shelf of this weight once one content is added, if that isn't too long and the sum
 /// isn't too much.
 pub(crate) fn weight_with_one(weight: usize, content: &[u8]) -> Option<usize>
     requires { weight ≤ most_weight }
@@ -55,15 +55,15 @@ pub(crate) fn count_in<A: Allocator>(parts: &[Part<A>], place: PlaceId) -> usize
     }
 }
 
-// How many of the drafts are of a place.
+// How many of the drafts are for a place.
 fn count_of<B: Allocator>(drafts: &[DraftIn<B>], place: PlaceId) -> usize
     ensures { result ≡ count_of drafts.now place }
 {
     drafts.iter().filter(|draft| draft.place == place).count()
 }
 
-// Whether a place has room for all drafts of it. They are counted only where there are more drafts
-// than room.
+// Whether a place has room for all its drafts. They are counted only if the list has more drafts
+// than the place has room for.
 fn has_room<A: Allocator, B: Allocator>(
     parts: &[Part<A>],
     drafts: &[DraftIn<B>],

@@ -9,10 +9,10 @@ ghost use Rattle.part_versions.specs.Cuts.{end_of, spelled};
 use std::alloc::{AllocError, Allocator, Global};
 use std::marker::Model;
 
-// How many bytes tell a content's length.
+// How many bytes a content's length has.
 const LENGTH_BYTES: usize = 2;
 
-/// A part's versions as a file spells them, one behind another, and where each of them ends.
+/// A part's versions as a file spells them, one after another, and where each of them ends.
 #[derive(Drop)]
 pub(crate) struct Part<A: Allocator = Global> {
     bytes: Vec<u8, A>,
@@ -42,8 +42,9 @@ fn end_of(ends: &[u32], count: usize) -> usize
     ends[count - 1] as usize
 }
 
-// Makes room for more bytes. Where they don't fit, it is for an eighth of those that are there, or for more
-// bytes than that: so the work of many appends grows with their bytes, and a ninth at most is spare.
+// Makes room for more bytes. If they don't fit, it adds room for an eighth of the bytes there, or for
+// `more` if that is greater. So the work of many appends grows with their bytes, and at most a ninth is
+// spare.
 fn make_room<A: Allocator>(bytes: &mut Vec<u8, A>, more: usize) -> Result<(), AllocError>
     ensures items { bytes.new.items ≡ bytes.old.items }
     ensures room { OnOk result (vec_len bytes.new + more ≤ vec_capacity bytes.new) }
@@ -56,7 +57,7 @@ fn make_room<A: Allocator>(bytes: &mut Vec<u8, A>, more: usize) -> Result<(), Al
 }
 
 impl<A: Allocator + Copy> Part<A> {
-    /// No versions.
+    /// A part without versions.
     pub(crate) fn new(alloc: A) -> Part<A>
         ensures { result ≡ [] }
     {
@@ -99,15 +100,15 @@ impl<A: Allocator> Part<A> {
         Some(&self.bytes[start + LENGTH_BYTES..end])
     }
 
-    /// The versions as a file spells them, one behind another.
+    /// The versions as a file spells them, one after another.
     pub(crate) fn spelled(&self) -> &[u8]
         ensures { result.now ≡ flat_map spelled self.now }
     {
         &self.bytes
     }
 
-    /// Puts one more version behind the others. Room is asked for before anything changes: for at least so many bytes of versions, where
-    /// more of them follow this one.
+    /// Appends one more version. Memory is allocated before anything changes, for at least `room` bytes: those of this version and of
+    /// the versions that follow it.
     pub(crate) fn push(&mut self, content: &[u8], room: usize) -> Result<(), AllocError>
         requires short { length content.now ≤ longest_content }
         requires light { versions_weight self.old + content_weight content.now ≤ most_weight }
@@ -123,7 +124,7 @@ impl<A: Allocator> Part<A> {
         Ok(())
     }
 
-    /// Takes the last version away.
+    /// Removes the last version.
     pub(crate) fn pop(&mut self)
         ensures { self.new ≡ take (length self.old - 1) self.old }
     {

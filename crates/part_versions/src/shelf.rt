@@ -14,7 +14,7 @@ use std::marker::Model;
 use thiserror::Error;
 use vault_model::{Drafts, NoMemory, PlaceId};
 
-/// The versions of all parts, which contracts see as a list with the contents of each place.
+/// The versions of all parts. Contracts see them as a list with the contents of each place.
 #[derive(Drop)]
 pub struct Shelf<A: Allocator = Global> {
     parts: Vec<Part<A>, A>,
@@ -42,7 +42,7 @@ fn spelled_in<A: Allocator>(parts: &[Part<A>], place: PlaceId) -> &[u8]
     }
 }
 
-/// Why drafts were not appended, with the very drafts given back.
+/// Why drafts were not appended, with the same drafts given back.
 #[derive(Debug, PartialEq, Eq, Drop, Error)]
 pub enum NotAppended<Back = Drafts<Global>> {
     #[error("a limit would be passed")]
@@ -61,7 +61,7 @@ pub enum AppendError {
 }
 
 impl<A: Allocator> Shelf<A> {
-    /// A shelf of no versions, in this allocator's memory, of which it asks for none.
+    /// An empty shelf in this allocator's memory. It allocates nothing yet.
     pub fn new(alloc: A) -> Shelf<A>
         ensures { result ≡ [] }
     {
@@ -80,8 +80,8 @@ impl<A: Allocator> Shelf<A> {
         self.parts.get(place.number() as usize)?.get(index as usize)
     }
 
-    /// How many places there are up to the last that has a version, with the library; 0 where there is
-    /// no version.
+    /// How many places there are up to the last that has a version, with the library; 0 if there is no
+    /// version.
     pub fn len(&self) -> usize
         ensures len { result ≡ length self.now }
         ensures shelf { IsShelf self.now }
@@ -97,15 +97,15 @@ impl<A: Allocator> Shelf<A> {
         count_in(&self.parts, place) as u32
     }
 
-    /// The versions of a place as a file spells them, one behind another: each is its length in two
-    /// bytes, the higher first, and its bytes. They are kept so, and nothing is copied.
+    /// The versions of a place as a file spells them, one after another: each is its length in two
+    /// bytes, the higher first, and its bytes. They are stored in this form, so nothing is copied.
     pub fn spelled(&self, place: PlaceId) -> &[u8]
         ensures { result.now ≡ flat_map spelled (versions_of self.now place) }
     {
         spelled_in(&self.parts, place)
     }
 
-    /// What all versions weigh: the bytes of each, and 8 more. It is kept, and not summed anew.
+    /// The weight of all versions: the bytes of each, and 8 more. It is stored, not summed again.
     pub fn weight(&self) -> usize
         ensures weight { result ≡ weight self.now }
         ensures shelf { IsShelf self.now }
@@ -115,7 +115,7 @@ impl<A: Allocator> Shelf<A> {
 }
 
 impl<A: Allocator + Copy> Shelf<A> {
-    /// The same shelf once more, in its own allocator's memory, of which it takes what the versions
+    /// A copy of the shelf, in its own allocator's memory. It takes only the room that the versions
     /// fill.
     pub fn copy(&self) -> Result<Shelf<A>, NoMemory>
         ensures { IfOk result (λ copy. copy ≡ self.now) }
@@ -127,10 +127,11 @@ impl<A: Allocator + Copy> Shelf<A> {
         })
     }
 
-    /// Appends a content as one more version of a place. The limits are tried first, then memory is asked for.
+    /// Appends a content as one more version of a place. The limits are checked first, then memory is allocated.
     ///
-    /// Whoever appends many versions of a place one after another says with each how many bytes this one and the others are spelled in:
-    /// room for all is taken at once, and exactly, so that each is copied once. With 0 the block grows as by `append_all`.
+    /// A caller that appends many versions of a place, one after another, passes with each as `room` the number of bytes of it and of
+    /// those after it, as a file spells them. For a place without versions, room for all is then allocated at once and exactly, so
+    /// each version is copied once. With 0 the block grows as by `append_all`.
     pub fn append(&mut self, place: PlaceId, content: &[u8], room: usize) -> Result<(), AppendError>
         ensures shelf { IsShelf self.new }
         ensures allowed { OnOk result (is_shelvable self.old (draft_at place content.now ∷ []) ≡ true) }
@@ -153,14 +154,14 @@ impl<A: Allocator + Copy> Shelf<A> {
         }
     }
 
-    /// Appends all drafts, each as one more version of its place, or gives the very drafts back. The
-    /// limits are tried first, then memory is asked for.
+    /// Appends all drafts, each as one more version of its place, or gives the same drafts back. The
+    /// limits are checked first, then memory is allocated.
     ///
-    /// The work grows with the drafts and their bytes; for each draft of a place that has room for
+    /// The work grows with the drafts and their bytes. For each draft of a place that has room for
     /// fewer versions than there are drafts, it also looks at all drafts once. The shelf keeps the
-    /// bytes of a place, with 2 for the length of each version, in one block of which a ninth at most
-    /// is spare, 4 to 8 bytes more for each version, and two lists' heads for each place up to the last
-    /// that has a version.
+    /// bytes of a place, with 2 for the length of each version, in one block. At most a ninth of it is
+    /// spare, or more after drafts were taken back. The shelf keeps 4 to 8 bytes more for each version,
+    /// and the heads of two lists for each place up to the last that has a version.
     pub fn append_all<B: Allocator>(
         &mut self,
         drafts: Drafts<B>,

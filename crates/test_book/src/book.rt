@@ -1,4 +1,4 @@
-//! The book, told line by line and looked at between the lines.
+//! The book, given commands line by line and looked at between the lines.
 ghost use Rattle.std.specs.Prelude.{◌+◌};
 ghost use Rattle.vault_model.specs.Vault.{CountsBelow};
 
@@ -27,7 +27,7 @@ const H1: ClaimId = ClaimId::Short(1);
 
 const H2: ClaimId = ClaimId::Short(2);
 
-/// Whether a reply is told as this line.
+/// Whether a reply's text is this line.
 fn is_told<A: Allocator>(memory: Global, reply: &ReplyIn<A>, line: &str) -> bool {
     let Ok(text) = text_of(memory, reply) else {
         return false;
@@ -37,7 +37,7 @@ fn is_told<A: Allocator>(memory: Global, reply: &ReplyIn<A>, line: &str) -> bool
     is_so
 }
 
-/// Whether an effect is of this kind, and is made on the durable book.
+/// Whether an effect is of this kind, and applies to the durable book. It is applied.
 fn is_made<A: Allocator + Copy>(
     durable: &mut Book<A>,
     effect: &Option<EffectIn<A>>,
@@ -49,7 +49,7 @@ fn is_made<A: Allocator + Copy>(
     }
 }
 
-/// A book, the durable book that its effects make, and how many commands the book was given.
+/// A book, the durable book that its effects make, and the number of commands that the book was given.
 #[derive(Drop)]
 struct Talk<A: Allocator> {
     book: Book<A>,
@@ -75,7 +75,7 @@ impl<A: Allocator + Copy> Talk<A> {
         })
     }
 
-    /// Two books of its own that show the same.
+    /// A copy, with two books of its own.
     fn copy(&self) -> Option<Talk<A>> {
         let Ok(book) = self.book.copy() else {
             return None;
@@ -91,7 +91,7 @@ impl<A: Allocator + Copy> Talk<A> {
         })
     }
 
-    /// A restart, in which the durable book takes the book's place, and is given its commands from now on.
+    /// A restart. The book and the durable book change places, so that the durable one is given the commands from now on.
     fn reopen(&mut self) -> Tried {
         mem::swap(&mut self.book, &mut self.durable);
         self.book.restart();
@@ -100,7 +100,7 @@ impl<A: Allocator + Copy> Talk<A> {
         Tried::Done
     }
 
-    /// Tries a command: whether it is told as this line, and has an effect of this kind that is made on the durable book.
+    /// Tries a command: whether its reply is this line, and its effect is of this kind and applies to the durable book.
     fn answers(
         &mut self,
         memory: Global,

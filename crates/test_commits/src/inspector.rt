@@ -17,21 +17,21 @@ const NEW: &[u8; 35] = b"\x01LLVAULT\0\0\0\x02\0\0\0\0\0\0\0\x01\0\0\0\x0a\0\0\0
 pub(crate) const OLD_WITH_E: &[u8; 47] =
     b"\x01LLVAULT\0\0\0\x01\0\0\0\0\0\0\0\x01\0\0\0\x0a\0\0\0\0\0\0\0\x01\0\0\x01\0\0\0\x07\x01\0\0\0\0\x01e\0";
 
-// One of generation 3: a part with a version; anna's c3, which is held with a draft of it; and behind it ben's c2, with a note.
+// A file of generation 3: a part with a version; anna's c3, which is granted and has a draft of it; and behind it ben's c2, with a note.
 const QUEUED: &[u8; 106] =
     b"\x01LLVAULT\0\0\0\x02\0\0\0\0\0\0\0\x03\0\0\0\x51\0\0\0\x03\0\0\0\x04\0\0\0\0\x01e\0\0\0\0\x01\x01b\0\0\0\0\x02\x01p\x01\0\x01\0\x04text\0\x02\0\0\0\x03\x04anna\0\x01\x01\0\0\0\x03\x01\0\0\0\x03\0\x01x\0\0\0\x02\x03ben\x02ab\x01\0\0\0\0\x02\0\0";
 
 const QUEUED_TEXT: &[u8; 179] =
     b"file a: open, generation 3, frames 0, tail 105\nfile b: older, generation 1\nplaces 4, versions 1, claims 2, drafts 1\nc3 anna held w:/e/b/p\nc2 ben queued behind c3 r:/e/b note 6162\n";
 
-// The same, with a note as long as it may be.
+// The same, with a note of the greatest length.
 const NOTED: &[u8; 168] =
     b"\x01LLVAULT\0\0\0\x02\0\0\0\0\0\0\0\x03\0\0\0\x8f\0\0\0\x03\0\0\0\x04\0\0\0\0\x01e\0\0\0\0\x01\x01b\0\0\0\0\x02\x01p\x01\0\x01\0\x04text\0\x02\0\0\0\x03\x04anna\0\x01\x01\0\0\0\x03\x01\0\0\0\x03\0\x01x\0\0\0\x02\x03ben\x40aaaaaaaaaaaaaaaaaaaaaaaaaaaaaaaaaaaaaaaaaaaaaaaaaaaaaaaaaaaaaaaa\x01\0\0\0\0\x02\0\0";
 
 const NOTED_TEXT: &[u8] =
     b"file a: open, generation 3, frames 0, tail 167\nfile b: older, generation 1\nplaces 4, versions 1, claims 2, drafts 1\nc3 anna held w:/e/b/p\nc2 ben queued behind c3 r:/e/b note 61616161616161616161616161616161616161616161616161616161616161616161616161616161616161616161616161616161616161616161616161616161\n";
 
-// What is used of each limit in it. Each of its two contents weighs 8 more than its bytes.
+// How much it uses of each limit. Each of its two contents weighs 8 more than its bytes.
 const QUEUED_FIGURES: Figures = Figures {
     places: 4,
     projects: 1,
@@ -55,7 +55,7 @@ pub(crate) fn holding(rt: &impl Abort, alloc: Global, bytes: &[u8]) -> MemDevice
     device
 }
 
-// Whether it is printed whole where there is room for all, and else a writer fails that then holds the first of it.
+// Whether it is printed whole where there is room for all, and else the writer fails after the bytes that fit.
 fn is_printed<A: Allocator + Copy>(report: &Report<A>) -> bool {
     for room in 0..180 {
         let mut bytes = [0; 179];
@@ -115,7 +115,7 @@ fn reported<'a>(
     }
 }
 
-/// Tries how full a vault is. Refused, the next try says it.
+/// Tries how full a vault is. Where memory is refused, the next try says it.
 pub(crate) fn figures(
     rt: &impl Abort,
     memory: &Refusing<Global>,
@@ -136,7 +136,7 @@ pub(crate) fn figures(
     tried
 }
 
-// What is printed of a vault whose longest text is as long as it may be.
+// What is printed of a vault whose longest text has the greatest length.
 fn printed(rt: &impl Abort, alloc: Global) -> Vec<u8> {
     let mut a = holding(rt, alloc, NOTED);
     let mut b = holding(rt, alloc, NEW);
@@ -202,7 +202,7 @@ fn counted(rt: &impl Abort, alloc: Global, bytes: &[u8]) -> Counting<MemDevice>
     }
 }
 
-// How many writes and syncs the inspection of two files makes of each, and what it tells of them.
+// How many writes and syncs the inspection of two files makes on each, and what it reports of them.
 fn inspected(
     rt: &impl Abort,
     alloc: Global,

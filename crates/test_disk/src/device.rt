@@ -42,12 +42,12 @@ fn writes_all<D: Device>(device: &mut D, rows: &[Write]) -> bool {
     true
 }
 
-/// Whether all this is written and settled, and the device shows these bytes then.
+/// Whether all this is written and synced, and the device then shows these bytes.
 fn keeps<D: Device>(device: &mut D, rows: &[Write], expected: &[u8]) -> bool {
     writes_all(device, rows) && device.sync().is_ok() && shows(device, expected)
 }
 
-/// Whether these writes over `abc` and a crash with this pick leave these bytes, settled.
+/// Whether these writes over `abc` and a crash with this pick leave these bytes, and they are durable.
 fn leaves(memory: Global, rows: &[Write], pick: Pick, left: &[u8]) -> bool {
     let Ok(mut device) = MemDevice::new(memory) else {
         return false;
@@ -95,7 +95,7 @@ static PICKS: [(&[Write], Pick, &[u8]); 23] = [
     (&[(1, b"\x01")], Pick::Bytes(2), b"a\x02c"),
 ];
 
-/// Whether a new device shows what it was to settle, where that failed, and nothing of it behind a crash.
+/// Whether a new device whose sync failed shows what was written, and nothing of it after a crash.
 fn fails_to_sync<A: Allocator + Copy>(device: &mut MemDevice<A>) -> bool {
     device.fail_at(2);
     let is_failed = device.write_at(0, b"written").is_ok()
@@ -119,7 +119,7 @@ fn fails_each_call<A: Allocator + Copy>(device: &mut MemDevice<A>) -> bool {
     has_no_len && is_unread && is_unwritten && is_unsettled && device.calls() == 4
 }
 
-/// Whether a device whose write failed shows it, once no call is to fail, and nothing of it behind a crash.
+/// Whether a device whose write failed shows the bytes once no call is to fail, and nothing of them after a crash.
 fn shows_failed_write<A: Allocator + Copy>(device: &mut MemDevice<A>) -> bool {
     device.fail_at(1);
     device.fail_at(0);
@@ -154,7 +154,8 @@ pub(crate) fn makes_device(memory: &Refusing<Global>) -> Tried {
 static GROWN: &[u8; 104] =
     b"oooonnnnnnnnnnnnnnnnnnnnnnnnnnnnnnnnnnnnnnnnnnnnnnnnnnnnnnnnnnnnnnnnnnnnnnnnnnnnnnnnnnnnnnnnnnnnnnnnnnnn";
 
-/// Tries a write of 100 bytes that grows all. A refusal is a counted fault, and nothing was put; the next try puts all.
+/// Tries a write of 100 bytes that grows each buffer. A refused request is a counted fault and writes nothing; the next try
+/// writes all.
 fn puts<A: Allocator + Copy>(
     memory: &Refusing<Global>,
     device: &mut MemDevice<A>,
@@ -173,7 +174,7 @@ fn puts<A: Allocator + Copy>(
     Tried::refused(has_refused && is_told && writes(device, 4, &grown[4..]))
 }
 
-/// Tries such a write of a device with four bytes, settled one by one.
+/// Tries such a write to a device with four bytes, each written and synced on its own.
 pub(crate) fn grows<A: Allocator + Copy>(
     memory: &Refusing<Global>,
     alloc: A,
@@ -190,7 +191,7 @@ pub(crate) fn grows<A: Allocator + Copy>(
     tried.and(is_ready && is_put)
 }
 
-/// Whether four bytes are written and settled one by one.
+/// Whether four bytes are written and synced one by one.
 fn settles_each<D: Device>(device: &mut D) -> bool {
     for at in 0..4u64 {
         if !writes(device, at, b"o") || device.sync().is_err() {

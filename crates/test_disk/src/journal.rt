@@ -13,12 +13,12 @@ use vault_device::Pick;
 use vault_journal::{Damage, Frame, LONGEST_RECORD, read_effects};
 use vault_model::{Effect, Intent, Item, Items, Listing, Name, Note, PlaceId};
 
-// A frame's length, one record and a closed gate, behind the gate of the offset 0.
+// The commit mark (gate) at offset 0, a frame's length, one record and the closed mark of the next frame.
 const GATE_SHUT: &[u8] = &[0, 0, 0, 0, 7, 1, 0, 0, 0, 0, 1, 0x65, 0];
 
 const GATE_OPEN: &[u8] = &[1, 0, 0, 0, 7, 1, 0, 0, 0, 0, 1, 0x65, 0];
 
-/// How many steps of a commit are done, the pick of a crash behind them, and what it leaves.
+/// The number of commit steps done, the pick of the crash after them (if any), and the bytes left.
 static LEFT: [(u8, Option<Pick>, &[u8]); 7] = [
     (1, None, GATE_SHUT),
     (1, Some(Pick::Old), &[0]),
@@ -43,7 +43,7 @@ fn torn_body_and_gate(rt: HostRuntime) {
     }
 }
 
-/// Whether places, names and a content are recorded so.
+/// Whether places, names and a content are recorded in these bytes.
 fn are_recorded(rt: &impl Abort, memory: Global) -> bool {
     let e = Name::read(b"e").expect(rt, "a name");
     let ben = Name::read(b"ben").expect(rt, "a name");
@@ -61,7 +61,7 @@ fn are_recorded(rt: &impl Abort, memory: Global) -> bool {
         && is_recorded(memory, Effect::Abandoned(1), b"\x06\0\0\0\x01")
 }
 
-/// Whether claims of items, and notes, are recorded so.
+/// Whether claims of items, and notes, are recorded in these bytes.
 fn are_claims_recorded(rt: &impl Abort, memory: Global) -> bool {
     let anna = Name::read(b"anna").expect(rt, "a name");
     let note = Note::read(b"ab").expect(rt, "a note");
@@ -81,7 +81,7 @@ fn are_claims_recorded(rt: &impl Abort, memory: Global) -> bool {
         && is_recorded(memory, Effect::Noted(1, Note::new()), b"\x08\0\0\0\x01\0")
 }
 
-/// Whether nothing is read as no effects, and a cut record not at all.
+/// Whether no bytes are read as no effects, and a cut record is damage.
 fn are_no_records(memory: Global) -> bool {
     count(memory, b"") == Ok(0) && count(memory, b"\x01\0\0\0\0") == Err(Damage::At(0))
 }
@@ -104,7 +104,7 @@ fn count<A: Allocator + Copy>(alloc: A, bytes: &[u8]) -> Result<usize, Damage> {
     }
 }
 
-/// A record of each kind that has several lengths, and of each other.
+/// One record of each kind.
 static WHOLE: [&[u8]; 8] = [
     b"\x01\0\0\0\0\x02ab",
     b"\x02\0\0\0\x01\x04anna\x01\x01\0\0\0\x01",
@@ -116,7 +116,7 @@ static WHOLE: [&[u8]; 8] = [
     b"\x08\0\0\0\x01\x02ab",
 ];
 
-/// Whether a record is read, and cut to any length it isn't.
+/// Whether a record is read, and isn't when it is cut to any shorter length.
 fn is_whole(memory: Global, record: &[u8]) -> bool {
     for len in 1..record.len() {
         if !is_spoiled(memory, &record[..len]) {
@@ -133,7 +133,7 @@ fn cut_records(rt: HostRuntime) {
     }
 }
 
-/// Records with one field that is spoiled.
+/// Records with one spoiled (invalid) field.
 static SPOILED: [&[u8]; 19] = [
     b"\0\0\0\0\x01",
     b"\x09\0\0\0\x01",
@@ -156,7 +156,7 @@ static SPOILED: [&[u8]; 19] = [
     b"\x08\0\0\0\0\0",
 ];
 
-/// Records that are filled up, and whether their field is as great as may be, or spoiled.
+/// Filled-up records, and whether the field has its greatest valid size; else it is one too large.
 static FILLED: [(Filled, bool); 6] = [
     ((b"\x01\0\0\0\0\x21", b'a', 39), false),
     ((b"\x03\0\0\0\x01\x08", 0, 46), true),
@@ -176,7 +176,7 @@ fn spoiled_fields(rt: HostRuntime) {
     }
 }
 
-/// Whether a frame has just so many effects of these records, behind its length and before a closed gate.
+/// Whether a frame is full: 254 effects in 262,139 bytes of records, behind that length and before a closed commit mark.
 fn is_full(memory: Global, frame: &Frame) -> bool {
     let body = frame.body();
     frame.len() == 262_139
@@ -186,7 +186,7 @@ fn is_full(memory: Global, frame: &Frame) -> bool {
         && count(memory, &body[4..262_143]) == Ok(254)
 }
 
-/// Whether a frame is filled to its last byte, is read so, and is empty once it is cleared.
+/// Whether a frame is filled to its last byte, is read back, and is empty once it is cleared.
 fn is_filled_up(memory: Global, frame: &mut Frame) -> bool {
     let is_filled = push_saved(memory, frame, 1024, 253)
         && !push_saved(memory, frame, 274, 1)
@@ -230,14 +230,14 @@ pub(crate) fn pushes(memory: &Refusing<Global>, aside: Global, number: u64) -> T
     Tried::done(!has_refused && is_pushed && is_long)
 }
 
-/// Whether a byte that is no record is told behind a record of the longest content, without a request for memory.
+/// Whether a byte that is no record, behind a record of the longest content, is reported without a request for memory.
 fn is_told_behind_the_longest(memory: &Refusing<Global>) -> bool {
     let mut bytes = [b'x'; LONGEST_RECORD + 1];
     bytes[..11].copy_from_slice(b"\x04\0\0\0\x01\0\0\0\0\x04\0");
     count(memory, &bytes) == Err(Damage::At(LONGEST_RECORD))
 }
 
-/// Tries to read seven records, behind what is no row of records.
+/// Tries to read seven records, after bytes that aren't all records.
 pub(crate) fn reads(memory: &Refusing<Global>) -> Tried {
     let is_told = is_told_behind_the_longest(memory);
     let records =

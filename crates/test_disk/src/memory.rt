@@ -1,4 +1,4 @@
-//! Each request for memory of a device, a frame and a reading refused in turn.
+//! Each request for memory by a device, a frame and a reading is refused in turn.
 
 use crate::device::{grows, makes_device};
 use crate::journal::{makes_frame, pushes, reads};
@@ -36,8 +36,8 @@ fn each_request_of_a_disk_is_refused(rt: HostRuntime) {
     }
 }
 
-/// A call, what is tried, and how many requests it makes: a write its bytes, what is shown, what will be settled, and the history;
-/// a reading one content, and the list, which grows once.
+/// A call's name, what is tried, and how many requests it makes. A write makes four: for its bytes, the bytes shown, the durable
+/// ones, and the history. A reading makes three: for one content, and for the list, which grows once.
 static WANTED: [(&str, Call, u64); 5] = [
     ("MemDevice::new", Call::MakesDevice, 1),
     ("MemDevice::write_at", Call::Writes, 4),

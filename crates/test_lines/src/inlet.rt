@@ -12,7 +12,7 @@ enum Call {
     Fails(ErrorKind),
 }
 
-/// A reader whose calls give this, one by one, and behind them all the last one again and again.
+/// A reader whose calls give this, one by one, and then the last one again and again.
 #[derive(Drop)]
 struct Scripted {
     calls: &'static [Call],
@@ -42,7 +42,7 @@ impl Read for Scripted {
 }
 
 static BYTES: [(&[Call], &[NextByte]); 4] = [
-    // The end is told again and again.
+    // The end is reported again and again.
     (
         &[Call::Gives(b"ab"), Call::Gives(b"")],
         &[
@@ -60,7 +60,7 @@ static BYTES: [(&[Call], &[NextByte]); 4] = [
         ],
         &[NextByte::Byte(b'a')],
     ),
-    // A pause is no end.
+    // A pause isn't the end.
     (
         &[
             Call::Gives(b"a"),
@@ -100,7 +100,7 @@ fn bytes_of_each_reader(rt: HostRuntime) {
 }
 
 static LINES: [(&[Call], &[NextLine]); 3] = [
-    // Behind the last line feed nothing is a line.
+    // What comes after the last line feed isn't a line.
     (
         &[Call::Gives(b"a\nb"), Call::Gives(b"")],
         &[NextLine::Whole, NextLine::End],
@@ -152,7 +152,7 @@ fn lines_of_each_reader(rt: HostRuntime) {
     }
 }
 
-/// Whether a reader that never has a byte is called as often as may be, and no more.
+/// Whether a reader that never has a byte is called as often as is allowed, and no more.
 fn is_counted() -> bool {
     static CALLS: [Call; 1] = [Call::Fails(ErrorKind::WouldBlock)];
     let mut inlet = Inlet::new();
@@ -165,7 +165,7 @@ fn is_counted() -> bool {
     inlet.next_byte(&mut reader) == NextByte::Fault
 }
 
-/// Whether one that is interrupted each time is given up at last.
+/// Whether a reader that is interrupted each time is given up in the end.
 fn is_given_up() -> bool {
     static CALLS: [Call; 1] = [Call::Fails(ErrorKind::Interrupted)];
     let mut inlet = Inlet::new();

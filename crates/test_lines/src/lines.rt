@@ -1,4 +1,5 @@
-//! What numbers are read as, and outside refusals told as. Lines and replies are data of `vault_scripts`.
+//! How numbers are read, and the texts of outside refusals. Lines and replies are data of
+//! `vault_scripts`.
 
 use std::alloc::Global;
 use vault_lines::{outside_text, read_number};
@@ -27,7 +28,7 @@ static TEXTS: [(Outside, &[u8]); 4] = [
     (Outside::Broken, b"ERR 82\n"),
 ];
 
-/// Whether an outside refusal is told as this.
+/// Whether an outside refusal has this text.
 fn is_told(memory: Global, outside: Outside, want: &[u8]) -> bool {
     let Ok(text) = outside_text(memory, outside) else {
         return false;

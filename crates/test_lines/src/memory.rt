@@ -1,4 +1,4 @@
-//! Each request for memory refused in turn.
+//! Each memory request refused in turn.
 
 use std::alloc::{Allocator, Global};
 use test_memory::{Refusing, Tried, requests};
@@ -23,10 +23,10 @@ enum Told {
     DraftsOf(&'static [u8]),
 }
 
-/// What is tried, and what has to come of it.
+/// What is tried, and the result that it must have.
 #[derive(Clone, Copy)]
 enum Call {
-    /// A line is read, which has so many items or bytes.
+    /// A line is read. Its command has this number of items or bytes.
     Reads(&'static [u8], usize),
     /// A reply's text is made.
     Tells(Told, &'static [u8]),
@@ -34,7 +34,7 @@ enum Call {
     Refuses(Outside, &'static [u8]),
 }
 
-/// The calls by their names, and how many requests each makes.
+/// The calls by their names, and the number of requests that each makes.
 static ROWS: [(&str, Call, u64); 12] = [
     (
         "read_line_of, checkout",
@@ -97,7 +97,7 @@ static ROWS: [(&str, Call, u64); 12] = [
     ("outside_text", Call::Refuses(Outside::Busy, b"ERR 80\n"), 1),
 ];
 
-/// How many items a command asks for, or bytes it saves.
+/// The number of items that a command asks for, or of bytes that it saves.
 fn length_of<A: Allocator>(command: &CommandIn<A>) -> usize {
     match command {
         Command::CheckOut(items) | Command::Extend(_, items) | Command::Hold(items) => {
@@ -108,7 +108,8 @@ fn length_of<A: Allocator>(command: &CommandIn<A>) -> usize {
     }
 }
 
-/// Whether a line is read as a command of so many items or bytes. None where memory is wanted for it.
+/// Whether a line is read as a command of this number of items or bytes. `None` if a request for it
+/// was refused.
 fn is_read(memory: &Refusing<Global>, line: &[u8], length: usize) -> Option<bool> {
     match read_line_of(memory, line) {
         Ok(command) => {
@@ -121,7 +122,7 @@ fn is_read(memory: &Refusing<Global>, line: &[u8], length: usize) -> Option<bool
     }
 }
 
-/// Whether a text is this one. None where memory was wanted for it.
+/// Whether a text is this one. `None` if a request for it was refused.
 fn is_text<A: Allocator>(text: Result<Vec<u8, A>, NoMemory>, want: &[u8]) -> Option<bool> {
     let Ok(text) = text else {
         return None;
@@ -172,7 +173,7 @@ fn reply_of(global: Global, told: Told) -> Option<Reply> {
     }
 }
 
-/// Whether a reply is told as this text. None where memory was wanted for it.
+/// Whether a reply has this text. `None` if a request for it was refused.
 fn is_told(memory: &Refusing<Global>, global: Global, told: Told, want: &[u8]) -> Option<bool> {
     let Some(reply) = reply_of(global, told) else {
         return Some(false);

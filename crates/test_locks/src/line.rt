@@ -33,7 +33,7 @@ fn new_line<A: Allocator + Copy>(rt: &impl Abort, alloc: A) -> Line<A>
     Line::new(alloc).expect(rt, "memory")
 }
 
-// Whether a line may get one more claim for items, which are all there.
+// Whether a line may take one more claim, and all these items name places of the tree.
 fn is_ready<A: Allocator>(line: &Line<A>, tree: &Tree<A>, items: &Items) -> bool
     ensures there { IsTrue result → AreThere tree.now items.now }
     ensures room { IsTrue result → length line.now.claims < most_claims }
@@ -44,7 +44,7 @@ fn is_ready<A: Allocator>(line: &Line<A>, tree: &Tree<A>, items: &Items) -> bool
     is_there && line.len() < 256 && line.last_long() < 1000 && line.last_short() < 1000
 }
 
-// Asks for a check-out of anna's where the session is 0, and for a hold otherwise.
+// Asks for a check-out of anna's if the session is 0, else for a hold of the session's.
 fn ask<A: Allocator + Copy>(
     rt: &impl Abort,
     line: &mut Line<A>,
@@ -81,7 +81,7 @@ fn extend<A: Allocator + Copy>(
     line.extend(tree, id, items)
 }
 
-// A claim of a session, or of a designer where the session is 0.
+// A claim of a session, or of a designer if the session is 0.
 fn claim_of(
     rt: &impl Abort,
     id: ClaimId,
@@ -107,7 +107,7 @@ fn has_claim<A: Allocator>(line: &Line<A>, position: usize, claim: &Claim) -> bo
     line.at(position) == Some(claim) && line.get(claim.id) == Some(claim)
 }
 
-// Whether two lines have the same claim at a position, and say how it stands alike.
+// Whether two lines have the same claim at a position, with the same standing.
 fn is_same_at<A: Allocator, B: Allocator>(one: &Line<A>, other: &Line<B>, position: usize) -> bool {
     match one.at(position) {
         Some(claim) => {

@@ -1,7 +1,7 @@
 use Mode::{IS, IX, S, SIX, X};
 use lock_modes::{Group, Mode};
 
-// Two modes, whether they are compatible, whether the first is at least the second, their join.
+// Two modes, whether they are compatible, whether the first is at least the second, and their join.
 static TABLE: [(Mode, Mode, bool, bool, Mode); 25] = [
     (IS, IS, true, true, IS),
     (IS, IX, true, false, IX),
@@ -30,7 +30,7 @@ static TABLE: [(Mode, Mode, bool, bool, Mode); 25] = [
     (X, X, false, true, X),
 ];
 
-// Whether two modes are so.
+// Whether a row is true of its two modes.
 fn is_so(row: &(Mode, Mode, bool, bool, Mode)) -> bool {
     let (m, n, compatible, at_least, join) = *row;
     m.compatible(n) == compatible && m.at_least(n) == at_least && m.join(n) == join
@@ -43,7 +43,7 @@ fn matrix_order_and_join(rt: HostRuntime) {
     }
 }
 
-// Whether a group of intentions to look and one to change has its mode and admits what it should, and then without the one.
+// Whether a group of two IS and one IX has the right mode and admits the right modes, and again without the IX.
 fn groups_intentions() -> bool {
     let mut group = Group::empty();
     let is_empty = group.mode() == None;

@@ -8,10 +8,10 @@ use std::process::Abort;
 use test_memory::Tried;
 use vault_model::{Intent, Item, Items, Kind, Name, NoMemory, PlaceId};
 
-/// The number of a place, a name, and what stands under that place then: one place in the other, all of this name.
+/// The number of a place, a name, and the kinds of new places under it: each in the one before, all of this name.
 pub(crate) type Chain = (u32, &'static str, &'static [Kind]);
 
-/// A project, an assembly in it, and two parts.
+/// A project, an assembly in it, and two parts in that.
 pub(crate) static SMALL: [Chain; 4] = SMALL_CHAINS;
 
 pub(crate) const SMALL_CHAINS: [Chain; 4] = [
@@ -34,7 +34,7 @@ fn make<A: Allocator + Copy>(
     place.expect(rt, "a place").number()
 }
 
-/// The tree of these.
+/// The tree of these chains.
 pub(crate) fn tree_of<A: Allocator + Copy>(rt: &impl Abort, alloc: A, chains: &[Chain]) -> Tree<A> {
     let mut tree = Tree::new(alloc).expect(rt, "memory");
     for (top, name, kinds) in chains {
@@ -72,10 +72,10 @@ pub(crate) fn are_there<A: Allocator>(tree: &Tree<A>, items: &[Item]) -> bool
         .all(|item| (item.place.number() as usize) < count)
 }
 
-/// The places that items look at, and those that they change, a bit each. What is changed is looked at, too.
+/// The places that items look at, and those that they change, one bit each. A changed place is looked at, too.
 pub(crate) type Reach = (u32, u32);
 
-// Whether the way up from a place leads to another, parent by parent.
+// Whether a place is another, or lies under it, by walking up from parent to parent.
 fn leads_to<A: Allocator>(tree: &Tree<A>, place: PlaceId, top: PlaceId) -> bool
     requires { place ≤ length tree.now }
 {
@@ -88,7 +88,7 @@ fn leads_to<A: Allocator>(tree: &Tree<A>, place: PlaceId, top: PlaceId) -> bool
     }
 }
 
-// The places at or under one, a bit each.
+// The places at or under one, one bit each.
 fn places_under<A: Allocator>(tree: &Tree<A>, top: PlaceId) -> u32 {
     let mut places = 0;
     for number in 0..32u32 {
@@ -117,7 +117,7 @@ pub(crate) fn overlap(one: Reach, other: Reach) -> bool {
     one.0 & other.1 != 0 || one.1 & other.0 != 0
 }
 
-/// Whether a call answers so.
+/// Whether a call gives the wanted answer.
 pub(crate) fn answers<T: PartialEq + Copy>(told: Result<T, NoMemory>, wanted: T) -> Tried {
     match told {
         Ok(told) => Tried::done(told == wanted),
@@ -125,5 +125,5 @@ pub(crate) fn answers<T: PartialEq + Copy>(told: Result<T, NoMemory>, wanted: T)
     }
 }
 
-/// A name, and the calls of what has it.
+/// The name of a worked case, and its rows.
 pub(crate) type Worked<R> = (&'static str, &'static [R]);

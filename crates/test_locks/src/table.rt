@@ -23,7 +23,7 @@ fn locks_of(rt: &impl Abort, tree: &Tree, wishes: &[Wish]) -> LockSet {
 /// A place, and its mode in a lock set.
 type Locked = (u32, Option<Mode>);
 
-/// A name, a tree, wishes, how many locks they have in all, and some of these.
+/// A name, a tree, wishes, the number of their locks, and some of these.
 static LOCKS: [(&str, &[Chain], &[Wish], usize, &[Locked]); 2] = [
     (
         "a look at an assembly and a change of a part",
@@ -65,12 +65,12 @@ static LOCKS: [(&str, &[Chain], &[Wish], usize, &[Locked]); 2] = [
     ),
 ];
 
-/// A part as deep as parts are, in assemblies in a project of its own.
+/// A part at the greatest depth, in assemblies in a project of its own.
 const DEEP: [Kind; 7] = [
     Project, Assembly, Assembly, Assembly, Assembly, Assembly, Part,
 ];
 
-// Whether the locks of these wishes are so many, and have these modes.
+// Whether these wishes have this number of locks, with these modes.
 fn are_locks(
     rt: &impl Abort,
     tree: &Tree,
@@ -109,7 +109,7 @@ static WISHES: [Wish; 10] = [
     (Change, 4),
 ];
 
-// Whether the modes of two wishes are in conflict just where one changes what the other looks at, place by place.
+// Whether the lock sets of two wishes conflict exactly if one changes a place that the other looks at.
 fn agree(rt: &impl Abort, tree: &Tree, one: Wish, other: Wish) -> bool {
     let locks = locks_of(rt, tree, &[one]);
     let others = locks_of(rt, tree, &[other]);
@@ -120,7 +120,7 @@ fn agree(rt: &impl Abort, tree: &Tree, one: Wish, other: Wish) -> bool {
     found == overlap(reach, reach_of(tree, items_of(rt, &[other]).as_slice()))
 }
 
-// Whether all wishes agree so with one.
+// The same for one wish and each of all.
 fn all_agree(rt: &impl Abort, alloc: Global, one: Wish) -> bool {
     let tree = tree_of(rt, alloc, &SMALL);
     let mut holds = true;

@@ -1,7 +1,7 @@
 use super::*;
 use std::alloc::Global;
 
-// Tries to make a list of one byte, and to put another behind it.
+// Tries to make a list of one byte, and to append another.
 fn two_bytes(memory: &Refusing<Global>, number: u64) -> Tried {
     memory.refuse(number);
     let mut bytes = Vec::new(memory);
@@ -14,7 +14,7 @@ fn two_bytes(memory: &Refusing<Global>, number: u64) -> Tried {
     }
 }
 
-// Tries what asks for no memory, and answers a refusal that did not come.
+// A call that takes no memory. It gives this outcome, unless the request counts as refused.
 fn nothing(memory: &Refusing<Global>, number: u64, told: Tried) -> Tried {
     memory.refuse(number);
     if memory.has_refused() {
@@ -37,14 +37,14 @@ fn requests_are_counted(rt: HostRuntime) {
     }
 }
 
-// Tries to make a list of one byte, beside which another is made.
+// Tries to make a list of this byte. Only a list of the byte 1 is judged right.
 fn one_byte(memory: &Refusing<Global>, number: u64, byte: u8) -> Tried {
     memory.refuse(number);
     let told = Vec::from_slice(memory, &[byte]);
     memory.judge(told, AllocError, |bytes| bytes.as_slice() == [1].as_slice())
 }
 
-// What a call is judged that looked at itself, where its request was refused or not.
+// The outcome of a call that was judged already, after its request was refused or not.
 fn looked_at(memory: &Refusing<Global>, is_refused: bool, is_right: Option<bool>) -> Tried {
     memory.refuse(if is_refused { 0 } else { 1 });
     memory.outcome(is_right)

@@ -1,4 +1,4 @@
-//! What opening and inspecting have to agree on.
+//! What opening and inspecting must agree on.
 
 use crate::books::are_alike;
 use crate::counts::Met;
@@ -10,10 +10,10 @@ use std::alloc::Global;
 use vault_checkout::Book;
 use vault_inspector::{FileState, Report};
 
-// From where on a file's faults lie behind its head.
+// A fault at this offset or beyond lies behind a file's head.
 const BEHIND_HEAD: u64 = 20;
 
-// Where a file is damaged, and what opening answers then.
+// Where a file is damaged, if it is, and what opening answers then.
 fn fault_at(file: File, state: FileState) -> Option<(u64, OpenError)> {
     match state {
         FileState::Damaged { offset } => Some((offset, OpenError::Damaged { file, offset })),
@@ -21,7 +21,7 @@ fn fault_at(file: File, state: FileState) -> Option<(u64, OpenError)> {
     }
 }
 
-// What opening answers, by what is reported of the files: heads first, and each time the first file before the second.
+// What opening must answer, by what is reported of the files: faults in heads come first, and each time the first file before the second.
 fn fault_in(first: FileState, second: FileState) -> Option<OpenError> {
     match (fault_at(File::First, first), fault_at(File::Second, second)) {
         (Some((offset, why)), _) if offset < BEHIND_HEAD => Some(why),
@@ -34,7 +34,7 @@ fn fault_in(first: FileState, second: FileState) -> Option<OpenError> {
     }
 }
 
-// Whether the opened book is the reported one, and each claim stands as the line says.
+// Whether the opened book is the reported one, and each claim stands by the rules of the queue.
 fn is_reported_book(report: &Report, book: &Book) -> bool {
     match &report.book {
         Some(other) => are_alike(book, other) && stand(book),
@@ -51,7 +51,7 @@ fn is_reported(report: &Report, read: &Result<Book, OpenError>) -> bool {
     }
 }
 
-// Why there is no book.
+// Why there is no book, if there is none.
 fn why_not(read: &Result<Book, OpenError>) -> Option<OpenError> {
     match read {
         Ok(_) => None,
@@ -78,7 +78,7 @@ fn compared(alloc: Global, files: Files, report: &Report) -> (bool, Option<OpenE
     (agreed, why)
 }
 
-/// Opening and inspecting agree on files with these bytes: why they don't open, if they don't.
+/// Opening and inspecting must agree on files with these bytes. Gives why they don't open, if they don't.
 pub fn agree(
     verdict: &mut Verdict,
     alloc: Global,

@@ -58,7 +58,7 @@ fn are_lines_alike(one: &Book, other: &Book) -> bool {
     one.line().len() == other.line().len()
 }
 
-/// Whether both have the same places, versions, claims and drafts, and the same numbers given. Sessions aside.
+/// Whether both have the same places, versions, claims and drafts, and have given the same numbers to claims. Sessions aside.
 pub fn are_alike(one: &Book, other: &Book) -> bool {
     one.line().last_long() == other.line().last_long()
         && one.line().last_short() == other.line().last_short()

@@ -5,7 +5,7 @@ use group_commit::Phase;
 use vault_device::Pick;
 use vault_model::{Refusal, Reply};
 
-/// What is counted one by one.
+/// What is counted by name.
 #[derive(Clone, Copy)]
 pub enum Met {
     Run,
@@ -30,7 +30,7 @@ pub enum Met {
     Stop,
 }
 
-/// What each count is of: first what is counted one by one, then phases, what devices kept, and replies.
+/// What each count is of: first what is counted by name, then phases, what devices kept, and replies.
 pub const COUNTED: [&str; 66] = [
     "runs",
     "commands staged",
@@ -174,7 +174,7 @@ fn place_of_reply(reply: &Reply) -> usize {
 }
 
 impl Counts {
-    /// Nothing yet.
+    /// All counts are 0.
     pub fn new() -> Counts {
         Counts { tallies: [0; 66] }
     }
@@ -185,17 +185,17 @@ impl Counts {
         }
     }
 
-    /// This was met once more.
+    /// Counts this once more.
     pub fn up(&mut self, met: Met) {
         self.up_at(met as usize);
     }
 
-    /// A command was replied to.
+    /// Counts a reply to a command.
     pub(crate) fn reply(&mut self, reply: &Reply) {
         self.up_at(place_of_reply(reply));
     }
 
-    /// The machine stopped in a phase, and the devices kept this.
+    /// Counts a crash in a phase, after which the devices kept this.
     pub(crate) fn stop(&mut self, phase: Phase, first: Left, second: Left) {
         self.up(Met::Stop);
         self.up_at(place_of_phase(phase));
@@ -203,7 +203,7 @@ impl Counts {
         self.up_at(place_of_left(second));
     }
 
-    /// The counts, in the order of what they are of.
+    /// The counts, in the order of `COUNTED`.
     pub fn tallies(&self) -> &[u64] {
         &self.tallies
     }

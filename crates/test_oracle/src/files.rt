@@ -1,4 +1,4 @@
-//! The two devices of a vault, their bytes, and what they open as.
+//! The two devices of a vault, their bytes, and the vault that they open as.
 ghost use Rattle.std.specs.Prelude.{◌≡◌};
 
 use crate::world::Left;
@@ -26,7 +26,7 @@ pub struct Bytes {
     pub second: Vec<u8>,
 }
 
-// The bytes of a device; none where it can't be read.
+// The bytes of a device. If they can't be read: none, or zeroes.
 fn bytes_of(alloc: Global, device: &mut MemDevice) -> Vec<u8> {
     let len = device.len().unwrap_or(0);
     let Ok(mut bytes) = vec![in alloc; 0; len as usize] else {
@@ -36,7 +36,7 @@ fn bytes_of(alloc: Global, device: &mut MemDevice) -> Vec<u8> {
     bytes
 }
 
-// A device with these bytes, settled.
+// A device with these bytes, synced.
 fn device_with(alloc: Global, bytes: &[u8]) -> Option<MemDevice> {
     let mut device = MemDevice::new(alloc).ok()?;
     if bytes.len() < LONGEST && device.write_at(0, bytes).is_ok() && device.sync().is_ok() {
@@ -66,7 +66,7 @@ pub fn new_vault(alloc: Global, life: u64) -> Option<Vault<MemDevice>> {
 }
 
 impl Files {
-    /// Two files with these bytes, settled. None where memory is wanted.
+    /// Two files with these bytes, synced. None if out of memory.
     pub fn with(alloc: Global, first: &[u8], second: &[u8]) -> Option<Files> {
         let first = device_with(alloc, first)?;
         match device_with(alloc, second) {
@@ -84,12 +84,12 @@ impl Files {
         Files { first, second }
     }
 
-    /// What is reported of them. None where a device call failed or memory is wanted.
+    /// The report on them. None if a device call failed, or out of memory.
     pub fn report(&mut self, alloc: Global) -> Option<Report> {
         inspect(alloc, &mut self.first, &mut self.second).ok()
     }
 
-    /// Has the nth device call of a file from now fail; 0 has none fail.
+    /// Makes the nth device call of a file from now fail; 0 makes none fail.
     pub fn fail_at(&mut self, which: File, call: u64) {
         match which {
             File::First => self.first.fail_at(call),
@@ -97,7 +97,7 @@ impl Files {
         }
     }
 
-    /// The machine stops and leaves this of each file, or the devices are handed back. No device call fails any more.
+    /// The machine crashes and leaves this of each file, or the devices are handed back. No device call fails any more.
     pub fn crash(&mut self, first: Left, second: Left) {
         self.first.fail_at(0);
         self.second.fail_at(0);

@@ -1,4 +1,4 @@
-//! The history as a list of commands in each life, which a new book goes through.
+//! The history: a list of commands for each life. A new book can be given them all again.
 
 use crate::plain::{keeps_long_claims, stand};
 use crate::talk::Talk;
@@ -26,7 +26,7 @@ pub struct History {
     talk: Talk,
 }
 
-/// How many bytes a record has beside its text and its items, how many its text has, and how many items there are.
+/// The parts of a record: how many bytes it has beside its text and its items, how many bytes its text has, and how many items it has.
 fn parts_of(effect: &Effect) -> (u64, usize, usize) {
     match effect {
         Effect::Made(_, name) | Effect::Nested(_, name) => (6, name.as_bytes().len(), 0),
@@ -39,7 +39,7 @@ fn parts_of(effect: &Effect) -> (u64, usize, usize) {
     }
 }
 
-/// How many bytes the record of an effect has, by the format of the files: 0 where there is none.
+/// How many bytes the record of an effect has, by the format of the files. 0 for no effect.
 fn record_bytes(effect: &Option<Effect>) -> u64 {
     match effect {
         Some(effect) => {
@@ -51,7 +51,7 @@ fn record_bytes(effect: &Option<Effect>) -> u64 {
     }
 }
 
-/// Whether a command has the same reply again.
+/// Gives a command again. Whether the reply is the same.
 fn has_reply_again(talk: &mut Talk, entry: &Entry) -> bool {
     match talk.tell(entry.session, &entry.command) {
         Some((reply, effect)) => {
@@ -64,7 +64,7 @@ fn has_reply_again(talk: &mut Talk, entry: &Entry) -> bool {
     }
 }
 
-/// Whether the first so many of these commands have the same replies again.
+/// Gives the first `count` of these commands again. Whether their replies are the same.
 fn have_replies_again(talk: &mut Talk, entries: &[Entry], count: usize) -> bool {
     for entry in entries.iter().take(count) {
         if !has_reply_again(talk, entry) {
@@ -74,7 +74,7 @@ fn have_replies_again(talk: &mut Talk, entries: &[Entry], count: usize) -> bool 
     true
 }
 
-/// Whether the commands of all these lives have the same replies again, each life behind a restart.
+/// Gives the commands of all these lives again, with a restart after each life. Whether their replies are the same.
 fn have_lives_again(talk: &mut Talk, lives: &[Vec<Entry>]) -> bool {
     for entries in lives {
         if !have_replies_again(talk, entries.as_slice(), entries.len()) {
@@ -85,7 +85,7 @@ fn have_lives_again(talk: &mut Talk, lives: &[Vec<Entry>]) -> bool {
     true
 }
 
-/// Whether one of the entries behind so many was told.
+/// Whether one of the entries after the first `count` was acknowledged.
 fn is_told_behind(entries: &[Entry], count: usize) -> bool {
     for entry in entries.iter().skip(count) {
         if matches!(entry.mark, Mark::Told) {
@@ -95,7 +95,8 @@ fn is_told_behind(entries: &[Entry], count: usize) -> bool {
     false
 }
 
-/// Whether a restart keeps the long claims in their order and no other, and each claim stands as the line says before it and after it.
+/// Restarts the book. Whether this keeps the long claims in their order and no other claims, and whether each claim stood before it, and
+/// stands after it, by the rules of the queue.
 fn restarts_well(talk: &mut Talk) -> bool {
     let Ok(before) = talk.book().copy() else {
         return false;
@@ -126,8 +127,7 @@ impl History {
         self.talk.book()
     }
 
-    /// A session says a command: the number of bytes that its effect's record has, or 0 where it has no effect. None where memory is
-    /// wanted.
+    /// A session says a command. Gives the number of bytes of its effect's record, or 0 if it has no effect. None if out of memory.
     pub(crate) fn say(&mut self, session: u32, command: Command) -> Option<u64> {
         let Some((reply, effect)) = self.talk.tell(session, &command) else {
             drop(command);
@@ -171,27 +171,27 @@ impl History {
         }
     }
 
-    /// What became of the ticket of the entry at a position of the present life.
+    /// Notes what became of the ticket of the entry at a position of the present life.
     pub(crate) fn mark(&mut self, position: u64, mark: Mark) {
         if let Some(entry) = self.present.get_mut(position as usize) {
             entry.mark = mark;
         }
     }
 
-    /// Whether all that were told are among the first so many entries of the present life.
+    /// Whether all acknowledged entries of the present life are among its first `kept` entries.
     pub fn has_told(&self, kept: u64) -> bool {
         !is_told_behind(self.present.as_slice(), kept as usize)
     }
 
-    // Whether a new book, given the commands of all lives but the last and then so many of that, makes the same replies, and a restart
-    // then keeps what it has to.
+    // Gives a new book the commands of all past lives, and then the first `kept` of the present one. Whether it makes the same replies,
+    // and a restart then keeps what it must.
     fn goes_through(&self, talk: &mut Talk, kept: usize) -> bool {
         have_lives_again(talk, self.past.as_slice())
             && have_replies_again(talk, self.present.as_slice(), kept)
             && restarts_well(talk)
     }
 
-    /// The durable vault after so many entries of the present life, by a new book.
+    /// The durable vault after the first `kept` entries of the present life, computed by a new book. None if a reply differs.
     pub fn prefix(&self, kept: u64) -> Option<Talk> {
         let mut talk = Talk::new(self.alloc)?;
         if self.goes_through(&mut talk, kept as usize) {
@@ -201,7 +201,8 @@ impl History {
         None
     }
 
-    /// A stop that so many entries of the present life outlive. A new book goes through what is left: whether it could.
+    /// A crash that the first `kept` entries of the present life outlive. A new book is given what is left. Whether its replies are the
+    /// same.
     pub(crate) fn stop(&mut self, kept: u64) -> bool {
         let Some(talk) = self.prefix(kept) else {
             return false;

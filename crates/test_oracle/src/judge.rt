@@ -1,4 +1,4 @@
-//! What is known of a vault by its definitions alone: each call of it is judged.
+//! Judges each call of a vault by what its definitions say.
 
 use crate::books::are_alike;
 use crate::counts::Met;
@@ -15,21 +15,21 @@ use vault_inspector::{FileState, Report};
 use vault_lines::read_line_of;
 use vault_model::{Command, Outside};
 
-// More pumps than a commit behind a snapshot takes.
+// More pumps than a snapshot and a commit after it take.
 const MAX_PUMPS: u32 = 1024;
 
-/// What is known of a vault by its definitions. As it has tickets, it ends by `close`.
+/// What is known of a vault by its definitions. It has tickets, so it must be ended by `close`.
 pub struct Judge {
     pub alloc: Global,
     pub verdict: Verdict,
     pub history: History,
     pub world: World,
     tickets: Tickets,
-    /// Of which file a device call was told to fail, and hasn't yet.
+    /// The file on which a device call is set to fail, until it has failed.
     pub armed: Option<File>,
 }
 
-// What a ticket was worth, or that memory for the reply was wanted.
+// What redeeming a ticket answered. None if out of memory for the reply.
 fn fate_of(redeemed: &Redeemed) -> Option<Fate> {
     match redeemed {
         Redeemed::Told(_) => Some(Fate::Told),
@@ -67,7 +67,7 @@ fn is_reported(world: &World, book: &Book, report: &Report) -> (bool, bool) {
 }
 
 impl Judge {
-    /// A new vault in its first life. What was found and covered goes on from here. None where memory is wanted.
+    /// The judge of a new vault in its first life. The verdict goes on from this one. None if out of memory.
     pub fn new(alloc: Global, verdict: Verdict) -> Option<Judge> {
         let history = History::new(alloc)?;
         match Tickets::new(alloc) {
@@ -86,7 +86,7 @@ impl Judge {
         }
     }
 
-    /// Ends: what was found and covered.
+    /// Ends the judge. Gives what was found and covered.
     pub fn close(self) -> Verdict {
         let Judge {
             alloc: _,
@@ -127,7 +127,7 @@ impl Judge {
         }
     }
 
-    // A command was refused outside the history, and came back the same or not.
+    // A command was refused outside the history, and came back, unchanged or not.
     fn turned_away(&mut self, outside: Outside, same: bool) {
         self.verdict.counts.up(match outside {
             Outside::Broken => Met::Broken,
@@ -140,7 +140,7 @@ impl Judge {
             .sure(same, "a refused command came back changed");
     }
 
-    // A session says a command, of which this is a copy.
+    // A session says a command; `copy` is a copy of it.
     fn stage(
         &mut self,
         vault: &mut Vault<MemDevice>,
@@ -189,7 +189,7 @@ impl Judge {
         self.world.fault();
     }
 
-    /// One pump, and what the table of phases says of it.
+    /// Makes a pump, and judges it by the table of phases.
     pub fn pump(&mut self, vault: &mut Vault<MemDevice>) {
         match vault.pump() {
             Ok(answer) => {
@@ -201,7 +201,7 @@ impl Judge {
         }
     }
 
-    /// Pumps until all is settled, or a device call failed.
+    /// Pumps until all is durable, or a device call failed.
     pub fn commit(&mut self, vault: &mut Vault<MemDevice>) {
         for _ in 0..MAX_PUMPS {
             if self.world.broken || self.world.is_at_rest() {
@@ -211,7 +211,7 @@ impl Judge {
         }
     }
 
-    /// A snapshot is begun, or refused.
+    /// Begins a snapshot, if it isn't refused.
     pub fn start(&mut self, vault: &mut Vault<MemDevice>) {
         let expected = self.world.start();
         if expected == Started::Yes {
@@ -226,7 +226,7 @@ impl Judge {
         }
     }
 
-    /// The oldest kept entry is let go, or has to stay.
+    /// Trims the oldest kept entry, if it may be trimmed.
     pub fn retire(&mut self, vault: &mut Vault<MemDevice>) {
         let is_open = self.history.is_open(self.world.retired);
         let expected = self.world.retire(is_open);
@@ -239,14 +239,14 @@ impl Judge {
         );
     }
 
-    /// Lets go all that may go.
+    /// Trims all entries that may be trimmed.
     pub fn retire_all(&mut self, vault: &mut Vault<MemDevice>) {
         for _ in 0..=self.world.kept() {
             self.retire(vault);
         }
     }
 
-    // A ticket came back, which is of no other life.
+    // A ticket of the present life came back.
     fn keep(&mut self, life: u64, position: u64, ticket: Ticket) {
         self.tickets.push(Held {
             life,
@@ -255,7 +255,7 @@ impl Judge {
         });
     }
 
-    // A ticket came back that is of another life.
+    // A ticket of another life came back.
     fn spend(&mut self, life: u64, position: u64, ticket: Ticket) {
         self.verdict.counts.up(Met::Stranger);
         self.tickets.give_up(Held {
@@ -265,7 +265,7 @@ impl Judge {
         });
     }
 
-    // What became of a ticket that was redeemed.
+    // Notes what became of a ticket that was redeemed.
     fn redeemed(&mut self, life: u64, position: u64, answer: Redeemed) {
         match answer {
             Redeemed::Told(receipt) => {
@@ -287,7 +287,7 @@ impl Judge {
         }
     }
 
-    /// The first ticket is redeemed.
+    /// Redeems the first ticket.
     pub fn redeem_first(&mut self, vault: &mut Vault<MemDevice>) {
         let Some(held) = self.tickets.take() else {
             return;
@@ -304,14 +304,14 @@ impl Judge {
         self.verdict.sure(same, "a ticket met another fate");
     }
 
-    /// Each ticket is redeemed once.
+    /// Redeems each ticket once.
     pub fn redeem_all(&mut self, vault: &mut Vault<MemDevice>) {
         for _ in 0..self.tickets.len() {
             self.redeem_first(vault);
         }
     }
 
-    /// The first ticket is forgotten.
+    /// Forgets the first ticket.
     pub fn forget_first(&mut self, vault: &mut Vault<MemDevice>) {
         let Some(held) = self.tickets.take() else {
             return;
@@ -332,14 +332,14 @@ impl Judge {
             .sure(same, "a ticket was forgotten elsewhere than it is of");
     }
 
-    /// The first ticket waits until the others had their turn.
+    /// Puts the first ticket behind the others.
     pub fn pass_first(&mut self) {
         if let Some(held) = self.tickets.take() {
             self.tickets.push(held);
         }
     }
 
-    /// The vault counts what the definitions count.
+    /// Judges what the vault counts by what the definitions count.
     pub fn count(&mut self, vault: &Vault<MemDevice>) {
         let world = self.world;
         if world.wants_snapshot() {
@@ -358,7 +358,7 @@ impl Judge {
         );
     }
 
-    /// The machine stops and leaves this of each file, or the devices are handed back; the next life begins.
+    /// The machine crashes and leaves this of each file, or the devices are handed back. The next life begins.
     pub fn stop(&mut self, files: &mut Files, first: Left, second: Left) {
         files.crash(first, second);
         self.armed = None;
@@ -378,7 +378,7 @@ impl Judge {
         );
     }
 
-    /// The files are reported to hold the vault after what is kept.
+    /// Judges the report on the files: they must hold the vault after the entries that were kept.
     pub fn inspect(&mut self, files: &mut Files) {
         let Some(report) = files.report(self.alloc) else {
             self.verdict.sure(false, "the files can't be inspected");

@@ -1,5 +1,5 @@
-//! The judge of a vault over two devices in memory: what its definitions say of each call, of what a stop leaves and of any two
-//! files, by plain code.
+//! The judge of a vault over two devices in memory. In plain code, it computes what the definitions say of each call, of what a crash
+//! leaves, and of any two files.
 //!
 //! Promises: nothing; it is safe, and it ends. It looks at the vault from outside, as a client that keeps its own list of all
 //! commands. The first difference is kept, and nothing is done about it.

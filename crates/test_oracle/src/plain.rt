@@ -1,11 +1,11 @@
-//! The rules of claims, by plain walks over the lists.
+//! The rules of claims, checked by plain walks over the lists.
 
 use design_tree::Tree;
 use long_locks::Line;
 use vault_checkout::Book;
 use vault_model::{Claim, ClaimId, GREATEST_DEPTH, Intent, Item, PlaceId, Standing};
 
-/// Whether a place is another, or lies under it.
+/// Whether a place is the top, or lies under it.
 fn is_under(tree: &Tree, place: PlaceId, top: PlaceId) -> bool {
     let mut at = place;
     for _ in 0..GREATEST_DEPTH {
@@ -34,7 +34,7 @@ fn meets_any(tree: &Tree, one: &Item, others: &[Item]) -> bool {
     false
 }
 
-/// Whether the places that one claim changes are among those that the other looks at or changes, or the other way round.
+/// Whether one claim changes a place that the other looks at or changes.
 fn overlap(tree: &Tree, one: &Claim, other: &Claim) -> bool {
     for item in one.items.as_slice() {
         if meets_any(tree, item, other.items.as_slice()) {
@@ -44,7 +44,7 @@ fn overlap(tree: &Tree, one: &Claim, other: &Claim) -> bool {
     false
 }
 
-/// How a claim at a position stands: held, or queued behind the first before it that it overlaps.
+/// How the claim at a position stands: granted, or waiting behind the first claim before it that it overlaps.
 fn standing_at(tree: &Tree, line: &Line, claim: &Claim, position: usize) -> Standing {
     for earlier in 0..position {
         if let Some(other) = line.at(earlier) {
@@ -56,7 +56,7 @@ fn standing_at(tree: &Tree, line: &Line, claim: &Claim, position: usize) -> Stan
     Standing::Held
 }
 
-/// Whether each claim stands as the line says. So a held one overlaps none before it, and no two held ones overlap.
+/// Whether each claim stands by the rules of the queue. So a granted one overlaps none before it, and no two granted ones overlap.
 pub(crate) fn stand(book: &Book) -> bool {
     let line = book.line();
     for position in 0..line.len() {
@@ -71,7 +71,7 @@ pub(crate) fn stand(book: &Book) -> bool {
     true
 }
 
-/// Whether one line has just the long claims of the other, in the same order.
+/// Whether the queue after a restart has just the long claims of the queue before it, in the same order.
 pub(crate) fn keeps_long_claims(before: &Line, after: &Line) -> bool {
     let mut kept = 0usize;
     for position in 0..before.len() {

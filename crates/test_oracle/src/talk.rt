@@ -1,4 +1,4 @@
-//! A book that is told commands.
+//! A book that is given commands.
 ghost use Rattle.std.specs.Prelude.{◌+◌};
 ghost use Rattle.vault_model.specs.Vault.{CountsBelow};
 
@@ -6,7 +6,7 @@ use std::alloc::Global;
 use vault_checkout::Book;
 use vault_model::{Command, Effect, Reply};
 
-// How many commands a book is given at most, before it is restarted.
+// How many commands a book is given at most before it is restarted.
 const MAX_SAID: u64 = 1 << 40;
 
 /// A book, and how many commands it was given since it was made or restarted.
@@ -26,7 +26,7 @@ impl Talk {
         }
     }
 
-    /// A book as it is opened.
+    /// This book, restarted as opening does it.
     pub fn over(book: Book) -> Talk {
         let mut book = book;
         book.restart();
@@ -38,7 +38,7 @@ impl Talk {
         &self.book
     }
 
-    /// The reply to a session's command, and its effect. None where memory is wanted.
+    /// Gives the book a session's command: the reply and its effect. None if out of memory.
     pub fn tell(&mut self, session: u32, command: &Command) -> Option<(Reply, Option<Effect>)> {
         if self.said >= MAX_SAID {
             return None;
@@ -48,7 +48,7 @@ impl Talk {
         Some(told)
     }
 
-    /// The book is restarted.
+    /// Restarts the book.
     pub fn restart(&mut self) {
         self.book.restart();
         self.said = 0;

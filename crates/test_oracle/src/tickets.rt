@@ -6,10 +6,10 @@ use std::alloc::Global;
 use std::collections::VecDeque;
 use vault_device::MemDevice;
 
-// A life that no ticket is of.
+// A life that no ticket belongs to.
 const NOBODY: u64 = 0;
 
-/// A ticket, the life that it is of, and the position that its command was staged at.
+/// A ticket, its life, and the position that its command was staged at.
 pub(crate) struct Held {
     pub life: u64,
     pub position: u64,
@@ -19,11 +19,11 @@ pub(crate) struct Held {
 /// Tickets that are out, of this life and of earlier ones. They end by `close`, since a ticket can't be dropped.
 pub(crate) struct Tickets {
     held: VecDeque<Held>,
-    // A vault that no ticket is of: there each can be given up.
+    // A vault that no ticket belongs to. Each ticket can be given up there.
     nobody: Vault<MemDevice>,
 }
 
-// Spends a ticket by a vault that it isn't of.
+// Spends a ticket, at a vault that it doesn't belong to.
 fn give_up(nobody: &mut Vault<MemDevice>, held: Held) {
     let Held {
         life: _,
@@ -50,19 +50,19 @@ impl Tickets {
         })
     }
 
-    /// How many there are.
+    /// How many tickets there are.
     pub(crate) fn len(&self) -> usize {
         self.held.len()
     }
 
-    /// One more, last. Where memory is refused it is spent.
+    /// Adds a ticket at the end. If out of memory, it is spent.
     pub(crate) fn push(&mut self, held: Held) {
         if let Err(refused) = self.held.push_back(held) {
             self.give_up(refused.value);
         }
     }
 
-    /// The first.
+    /// Takes the first ticket.
     pub(crate) fn take(&mut self) -> Option<Held> {
         self.held.pop_front()
     }
@@ -72,7 +72,7 @@ impl Tickets {
         give_up(&mut self.nobody, held);
     }
 
-    /// Spends all.
+    /// Spends all tickets.
     pub(crate) fn close(self) {
         let Tickets { held, mut nobody } = self;
         give_all_up(&mut nobody, held);

@@ -18,7 +18,7 @@ impl Verdict {
         }
     }
 
-    /// Where this doesn't hold, it is the difference, if it is the first.
+    /// If this doesn't hold, and no difference was found before, it is the difference.
     pub fn sure(&mut self, holds: bool, difference: &'static str) {
         if !holds && self.found.is_none() {
             self.found = Some(difference);

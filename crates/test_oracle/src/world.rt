@@ -1,4 +1,4 @@
-//! The numbers of a vault and of its two files, by the table of phases.
+//! The numbers of a vault and of its two files, as the table of phases gives them.
 
 use group_commit::{File, Phase, Pumped, Retired, Started};
 use vault_device::Pick;
@@ -6,31 +6,31 @@ use vault_inspector::FileState;
 use vault_model::Outside;
 use vault_store::FileVersion;
 
-// The most entries that are kept.
+// The most entries that are kept in memory.
 const MAX_KEPT: u64 = 4096;
 
-// The most bytes of records in the open buffer where there is room for any other record.
+// The most bytes of records in the open buffer at which any other record still fits.
 const MAX_NOTED: u64 = 261_104;
 
-// From where on no frame may begin.
+// No frame may begin at this offset or beyond.
 const LAST_TAIL: u64 = 1 << 62;
 
 // How many bytes a frame has beside its records.
 const FRAME_EXTRA: u64 = 5;
 
-// Where the tail gate of a new vault stands.
+// The offset of the tail gate of a new vault.
 const NEW_TAIL: u64 = 34;
 
-// From how many bytes of frames on a snapshot is wanted.
+// With this many bytes of frames, a snapshot is wanted.
 const LONG_JOURNAL: u64 = 1_048_576;
 
 // How many bytes of a snapshot one pump writes at most.
 const MAX_PIECE: u64 = 65_536;
 
-/// What a device has, behind a stop, of the bytes since its last sync.
+/// What a device has, after a life ended, of the bytes written since its last sync.
 #[derive(Clone, Copy, PartialEq)]
 pub enum Left {
-    /// What a read gave: the device was handed back, and nothing stopped.
+    /// What a read gave: the device was handed back, without a crash.
     Shown,
     /// What a crash with this pick leaves.
     Crashed(Pick),
@@ -56,7 +56,7 @@ impl Left {
     }
 }
 
-/// What a ticket is worth.
+/// What redeeming a ticket must answer.
 #[derive(Clone, Copy, PartialEq)]
 pub(crate) enum Fate {
     Told,
@@ -71,7 +71,7 @@ struct Active {
     which: File,
     generation: u64,
     frames: u64,
-    // Where its tail gate stands.
+    // The offset of its tail gate.
     tail: u64,
     // How many bytes its frames have.
     journal: u64,
@@ -83,7 +83,7 @@ struct Active {
 struct Spare {
     // Whether its head gate is there and no 1.
     shut: bool,
-    // The generation of an open one.
+    // Its generation, if it is open.
     older: Option<u64>,
 }
 
@@ -107,7 +107,7 @@ pub struct World {
     spare: Spare,
 }
 
-/// The file beside.
+/// The other file.
 pub(crate) fn other(which: File) -> File {
     match which {
         File::First => File::Second,
@@ -115,7 +115,7 @@ pub(crate) fn other(which: File) -> File {
     }
 }
 
-/// The phase behind the next piece of a snapshot.
+/// The phase after the next piece of a snapshot.
 fn behind_piece(left: u64) -> Phase {
     if left <= MAX_PIECE {
         Phase::Filled
@@ -154,12 +154,12 @@ impl World {
         }
     }
 
-    /// How many entries are kept.
+    /// How many entries are kept in memory.
     pub(crate) fn kept(&self) -> u64 {
         self.len.saturating_sub(self.retired)
     }
 
-    /// How many entries a stop may keep: the sealed ones where a gate is being opened, else the settled ones.
+    /// How many entries a crash may keep: the sealed ones while a gate is being opened, else the durable ones.
     pub fn most_left(&self) -> u64 {
         match self.phase {
             Phase::Opening | Phase::SnapOpening => self.sealed,
@@ -167,7 +167,7 @@ impl World {
         }
     }
 
-    /// Whether nothing is under way, and all is settled.
+    /// Whether nothing is under way, and all entries are durable.
     pub(crate) fn is_at_rest(&self) -> bool {
         self.phase == Phase::Idle && self.settled == self.len
     }
@@ -189,8 +189,8 @@ impl World {
         None
     }
 
-    /// The files were replaced by two that a program of version 1 wrote. Of these the second is the newer one, whose tail gate stands
-    /// here.
+    /// Two files that a program of version 1 wrote replace the files. The second of these is the newer one, and its tail gate stands at
+    /// this offset.
     pub fn take_first_version(&mut self, tail: u64) {
         self.active = Active {
             which: File::Second,
@@ -206,13 +206,13 @@ impl World {
         };
     }
 
-    /// One more command, whose effect has a record of so many bytes, or 0 where it has no effect.
+    /// One more command. Its effect's record has this number of bytes, 0 if it has no effect.
     pub fn stage(&mut self, record: u64) {
         self.len = self.len.saturating_add(1);
         self.noted = self.noted.saturating_add(record);
     }
 
-    /// What a ticket of this life and position is worth, if its entry is open.
+    /// What redeeming a ticket of this life and position must answer, if its entry is open.
     pub(crate) fn fate(&self, life: u64, position: u64) -> Fate {
         if life != self.life {
             return Fate::Stranger;
@@ -227,7 +227,7 @@ impl World {
         }
     }
 
-    /// The oldest kept entry is let go, where it is settled and its ticket isn't out: the answer.
+    /// The oldest kept entry is trimmed, if it is durable and its ticket isn't out. Gives the answer.
     pub fn retire(&mut self, is_open: bool) -> Retired {
         if self.retired >= self.settled || is_open {
             return Retired::Nothing;
@@ -236,7 +236,7 @@ impl World {
         Retired::One
     }
 
-    /// A snapshot is begun: the answer.
+    /// A snapshot is begun, or refused. Gives the answer.
     pub fn start(&mut self) -> Started {
         if self.broken || self.phase != Phase::Idle || self.active.generation == u64::MAX {
             return Started::NotNow;
@@ -255,7 +255,7 @@ impl World {
         self.phase = Phase::Written;
     }
 
-    // The frame under way is settled.
+    // The frame under way is durable.
     fn settle(&mut self) {
         let frame = self.frame.saturating_add(FRAME_EXTRA);
         self.settled = self.sealed;
@@ -266,7 +266,7 @@ impl World {
         self.phase = Phase::Idle;
     }
 
-    // The snapshot under way is settled, and its file is the active one.
+    // The snapshot under way is durable, and its file is the active one.
     fn settle_snapshot(&mut self) {
         self.settled = self.sealed;
         self.spare = Spare {
@@ -293,7 +293,7 @@ impl World {
         };
     }
 
-    // Entries without an effect are settled at once.
+    // Entries without an effect become durable at once.
     fn settle_all(&mut self) -> Pumped {
         if self.settled == self.len {
             return Pumped::Idle;
@@ -302,7 +302,7 @@ impl World {
         Pumped::Settled
     }
 
-    /// A pump without a fault, where the file of a snapshot has so many bytes behind its head gate: its answer.
+    /// A pump without a fault. Gives its answer. A snapshot that it closes the file for has `rest` bytes behind its head gate.
     pub fn pump(&mut self, rest: u64) -> Pumped {
         if self.broken {
             return Pumped::Broken;
@@ -333,7 +333,7 @@ impl World {
         Pumped::Moved
     }
 
-    /// The file of which the next pump makes its device call, if it makes one.
+    /// The file on which the next pump makes its device call, if it makes one.
     pub(crate) fn next_call(&self) -> Option<File> {
         if self.broken {
             return None;
@@ -353,7 +353,7 @@ impl World {
         }
     }
 
-    /// A pump whose device call failed. A failed write has come as far as one that was done, a failed sync hasn't.
+    /// A pump whose device call failed. A failed write gets to the next phase like one that was done; a failed sync doesn't.
     pub fn fault(&mut self) {
         self.broken = true;
         match self.phase {
@@ -367,7 +367,7 @@ impl World {
         }
     }
 
-    /// A stop that leaves this of the two files, and the next life: how many entries of the last one are kept.
+    /// A crash that leaves this of the two files, and the next life. Gives how many entries of the last life are kept.
     pub fn stop(&mut self, first: Left, second: Left) -> u64 {
         let (active, spare) = match self.active.which {
             File::First => (first, second),
@@ -389,7 +389,7 @@ impl World {
         kept
     }
 
-    /// How many device calls opening makes at most of a file, once nothing is under way.
+    /// How many device calls opening makes at most on a file, once nothing is under way.
     pub fn opening_calls(&self, which: File) -> u64 {
         if which == self.active.which {
             self.active.frames.saturating_mul(3).saturating_add(9)
@@ -408,12 +408,12 @@ impl World {
         self.spare.older.is_some()
     }
 
-    /// The spare file, which isn't open, was left so that its head gate is there and no 1, or not.
+    /// Notes of the closed spare file whether its head gate is there and no 1.
     pub fn leave_spare(&mut self, shut: bool) {
         self.spare.shut = shut;
     }
 
-    /// What a file is reported to be, once nothing is under way.
+    /// What a file must be reported to be, once nothing is under way.
     pub(crate) fn state(&self, which: File) -> FileState {
         if which == self.active.which {
             return FileState::Open {

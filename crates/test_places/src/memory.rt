@@ -1,4 +1,4 @@
-//! Each request for memory of a copy, a tree and a shelf refused in turn.
+//! Each memory request of a copy, a tree and a shelf refused in turn.
 
 use crate::model::{Copied, copies};
 use crate::tree::Step::{Adds, Has, HasNames, Projects, Pushes, Small};
@@ -61,9 +61,9 @@ fn each_request_of_a_place_is_refused(rt: HostRuntime) {
     }
 }
 
-/// A call, what is tried, and how many requests it makes. A copied tree asks for the places, the lists, and three that have
-/// children; a copied shelf for the parts, and the bytes and the ends of places 1 and 3. Where drafts are appended the bytes of
-/// place 3 grow twice, those of 5, 0 and 7 begin, so do the ends of 5, 0 and 7, and the list of parts grows.
+/// A name, a call, and the number of its requests. A copied tree requests memory for the places, the list of lists, and three
+/// lists that have children; a copied shelf for the parts, and for the bytes and the ends of places 1 and 3. When drafts are
+/// appended, the bytes of place 3 grow twice, the bytes and the ends of 5, 0 and 7 begin, and the list of parts grows.
 static WANTED: [(&str, Call, u64); 26] = [
     ("Listing::copy", Call::Copies(Copied::List), 1),
     ("Command::copy, CheckOut", Call::Copies(Copied::CheckOut), 1),
@@ -136,7 +136,7 @@ static WANTED: [(&str, Call, u64); 26] = [
 /// The drafts of a shelf that is copied.
 const COPIED: &[Saved] = &[(1, 3, b"ab", 2), (1, 1, b"", 0), (1, 3, b"c", 1)];
 
-/// The drafts behind which others are appended.
+/// The drafts after which others are appended.
 const FIRST: &[Saved] = &[(1, 3, b"ab", 2), (1, 1, b"", 0)];
 
 const SECOND: &[Saved] = &[

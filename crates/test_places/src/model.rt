@@ -1,4 +1,4 @@
-//! Words that are read, what values are made of, and copies.
+//! How words are read, what values are made of, and copies.
 
 use std::alloc::Global;
 use std::process::Abort;
@@ -8,7 +8,8 @@ use vault_model::{
     ClaimId, Command, Effect, Intent, Listing, Name, Note, Path, PathItem, PlaceId, Refusal, Reply,
 };
 
-/// Whether a word is read so: as a name or not, and as a path of so many names or as none.
+/// Whether a word is read as it must be: as a name or not, and as a path of this number of names or
+/// as none.
 fn is_read_so(word: &[u8], is_name: bool, count: Option<usize>) -> bool {
     let is_name_so = match Name::read(word) {
         Some(name) => is_name && name.as_bytes() == word,
@@ -53,7 +54,7 @@ static WORDS: [(&[u8], bool, Option<usize>); 21] = [
     (b"/abcdefghijklmnopqrstuvwxyz0123456", false, None),
 ];
 
-/// Whether a note has 64 bytes at most, and its own.
+/// Whether a note may have 64 bytes and no more, and keeps its bytes.
 fn are_notes_read() -> bool {
     let bytes = [255; 65];
     let longest = &bytes[..64];
@@ -66,7 +67,7 @@ fn are_notes_read() -> bool {
         && Note::read(b"ab") != Some(note)
 }
 
-/// Whether a path has the names that it was made of, and the library's none.
+/// Whether a path has the names that it was made of, and the library's path has none.
 fn are_names_had() -> bool {
     let (Some(e), Some(b)) = (Name::read(b"e"), Name::read(b"b")) else {
         return false;
@@ -78,7 +79,7 @@ fn are_names_had() -> bool {
         && path.len() == 2
 }
 
-/// Whether a text is cut at the first separator alone.
+/// Whether a text is cut only at the first separator.
 fn are_texts_cut() -> bool {
     cut(b"ab cd ", b' ') == (b"ab".as_slice(), Some(b"cd ".as_slice()))
         && cut(b"ab", b' ') == (b"ab".as_slice(), None)
@@ -112,7 +113,7 @@ fn list<T: Copy>(rt: &impl Abort, alloc: Global, items: &[T]) -> Listing<T> {
     Listing::from_vec(Vec::from_slice(alloc, items).expect(rt, "memory"))
 }
 
-/// Tries to copy a list, which gives its items, too.
+/// Tries to copy a list. The list must give its items, too.
 fn copies_list(memory: &Refusing<Global>, list: Listing<u8>) -> Tried {
     let Ok(copy) = list.copy(memory) else {
         drop(list);
@@ -126,7 +127,7 @@ fn copies_list(memory: &Refusing<Global>, list: Listing<u8>) -> Tried {
     Tried::done(is_same && has_all)
 }
 
-/// Tries to copy a command. The copy is copied back, and is the command then.
+/// Tries to copy a command. A copy of the copy must equal the command.
 fn copies_command(memory: &Refusing<Global>, alloc: Global, command: Command) -> Tried {
     let Ok(copy) = command.copy(memory) else {
         drop(command);
@@ -189,7 +190,7 @@ fn items(rt: &impl Abort, alloc: Global) -> Listing<PathItem> {
     list(rt, alloc, &[item; 3])
 }
 
-/// Tries to copy what is in ample memory.
+/// Tries to copy a value of this kind, which is in ample memory.
 pub(crate) fn copies(
     rt: &impl Abort,
     memory: &Refusing<Global>,

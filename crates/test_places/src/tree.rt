@@ -16,7 +16,7 @@ use vault_model::{Kind, Name, NoMemory, Path, PlaceId};
 pub(crate) enum Step {
     /// The project `/e`, its assembly `/e/b`, and two parts `/e/b/p1` and `/e/b/p2` are made: places 1 to 4.
     Small,
-    /// So many projects are made.
+    /// This number of projects is made.
     Projects(u8),
     /// A child is added, or refused.
     Adds(&'static [u8], Kind, Result<u32, AddError>),
@@ -32,11 +32,12 @@ pub(crate) enum Step {
     HasChild(&'static [u8], Option<u32>),
     /// Whether it is another, or lies under it.
     IsUnder(u32, bool),
-    /// Whether an assembly may be asked for under it, whether it may have a part, and what is made under it.
+    /// Whether an assembly may be asked for under it, whether it may have a part, and the kind that is made
+    /// under it by default.
     MayHave(bool, bool, Kind),
-    /// It is full, with so many children.
+    /// It is full, with this number of children.
     IsFull(usize),
-    /// The tree has so many places, with the library.
+    /// The tree has this number of places, with the library.
     Counts(usize),
     /// There is no place by this path.
     Lacks(&'static [u8]),
@@ -45,7 +46,8 @@ pub(crate) enum Step {
 /// The number of a place, and what is done to it.
 pub(crate) type Row = (u32, Step);
 
-/// Tries to add a child, which gets the number of places that there were, or is refused and leaves as many.
+/// Tries to add a child. A new one must get the old count of places as its number; a refused one must leave
+/// that count as it was.
 fn adds<A: Allocator + Copy>(
     tree: &mut Tree<A>,
     parent: u32,
@@ -67,7 +69,7 @@ fn adds<A: Allocator + Copy>(
     }
 }
 
-/// Tries to make the small tree of a new one.
+/// Tries to make the small tree, in a new one.
 fn adds_small<A: Allocator + Copy>(tree: &mut Tree<A>) -> Tried {
     for (place, parent, text, kind) in &SMALL {
         let tried = adds(tree, *parent, text, *kind, Ok(*place));
@@ -86,7 +88,7 @@ static SMALL: [(u32, u32, &[u8], Kind); 4] = [
     (4, 2, b"p2", Part),
 ];
 
-/// Tries to make so many projects, 63 at most, beside five places at most.
+/// Tries to make this number of projects, 63 at most, in a tree of five places at most.
 fn adds_projects<A: Allocator + Copy>(tree: &mut Tree<A>, count: u8) -> Tried {
     let first = tree.len();
     if first > 5 {
@@ -180,7 +182,7 @@ fn has_children<A: Allocator + Copy>(tree: &Tree<A>, place: PlaceId, want: &[u32
     Tried::done(are_so)
 }
 
-/// Tries to list the children of a place that is full, and has so many.
+/// Tries to list the children of a place, which must be full with this number of them.
 fn is_full<A: Allocator + Copy>(tree: &Tree<A>, place: PlaceId, want: usize) -> Tried
     requires { place ≤ length tree.now }
 {
@@ -253,7 +255,7 @@ fn does<A: Allocator + Copy>(tree: &mut Tree<A>, row: &Row) -> Tried {
     }
 }
 
-/// How many steps are done, up to the first that isn't.
+/// The number of steps that are done before the first that isn't.
 fn does_all<A: Allocator + Copy>(tree: &mut Tree<A>, steps: &[Row]) -> usize {
     for (index, row) in steps.iter().enumerate() {
         if does(tree, row) != Tried::Done {
@@ -404,7 +406,7 @@ fn is_same<A: Allocator + Copy, B: Allocator + Copy>(one: &Tree<A>, other: &Tree
     true
 }
 
-/// A new tree, to which this is done.
+/// A new tree, after this step.
 fn tree_from<A: Allocator + Copy>(alloc: A, start: &Row) -> Option<Tree<A>> {
     let Ok(mut tree) = Tree::new(alloc) else {
         return None;
@@ -416,7 +418,7 @@ fn tree_from<A: Allocator + Copy>(alloc: A, start: &Row) -> Option<Tree<A>> {
     Some(tree)
 }
 
-/// Tries a step. Refused, the tree is as its twin, and the next try succeeds.
+/// Tries a step. If it is refused, the tree must be as its twin still, and the next try must succeed.
 fn does_beside<A: Allocator + Copy, B: Allocator + Copy>(
     memory: &Refusing<Global>,
     tree: &mut Tree<A>,
@@ -434,7 +436,7 @@ fn does_beside<A: Allocator + Copy, B: Allocator + Copy>(
     tried.and(has_refused && is_kept && does(tree, step) == Tried::Done)
 }
 
-/// Tries a step after another, beside a twin in ample memory. At the end both are the same.
+/// Tries a step after another. A twin does the same in ample memory. At the end both must be the same.
 pub(crate) fn does_from(
     memory: &Refusing<Global>,
     alloc: Global,

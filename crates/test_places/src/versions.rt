@@ -7,7 +7,7 @@ use std::process::Abort;
 use test_memory::{Refusing, Tried};
 use vault_model::{Draft, Drafts, Listing, PlaceId};
 
-/// So many drafts of a place, and the first bytes of each content, behind which it has `x` up to this length.
+/// A number of drafts, their place, the first bytes of each content, and its length: the rest of it is `x`.
 pub(crate) type Saved = (usize, u32, &'static [u8], usize);
 
 /// What is done to a shelf, or looked at.
@@ -20,11 +20,11 @@ pub(crate) enum Step {
     Copies,
     /// A place's version of this number has this content, if there is one.
     Fetches(u32, u32, Option<&'static [u8]>),
-    /// A place's versions are spelled so, one behind another.
+    /// A place's versions have this spelling, one after another.
     Spells(u32, &'static [u8]),
-    /// A place has so many versions.
+    /// A place has this number of versions.
     Counts(u32, u32),
-    /// What all versions weigh, and how many places there are up to the last that has a version.
+    /// The weight of all versions, and the number of places up to the last that has a version.
     Weighs(usize, usize),
 }
 
@@ -55,7 +55,7 @@ fn are_drafts(rt: &impl Abort, alloc: Global, drafts: Drafts<Global>, rows: &[Sa
     are_same
 }
 
-/// Tries to append drafts, which are refused at a limit or not. Those that are refused come back.
+/// Tries to append drafts; `is_limit` says whether a limit must refuse them. Refused drafts must come back.
 fn appends<A: Allocator + Copy>(
     rt: &impl Abort,
     alloc: Global,
@@ -195,7 +195,7 @@ static HEAVY: [Step; 10] = [
     Counts(4, 1),
 ];
 
-/// As many versions as a place may have. One more is refused, also behind a draft of another place, and that draft with it.
+/// As many versions as a place may have. One more is refused, also after a draft of another place; that draft is refused with it.
 static MANY: [Step; 11] = [
     IsLimit(&[(65536, 3, b"", 0)]),
     Counts(3, 0),
@@ -210,8 +210,8 @@ static MANY: [Step; 11] = [
     Weighs(65535 * 8 + 9, 5),
 ];
 
-/// Tries a step after others, beside a twin in ample memory. Refused, the shelf is as its twin, and the next try succeeds. At the
-/// end both are the same.
+/// Tries a step after others. A twin in ample memory takes the same steps. If the step is refused, the shelf must be as its twin
+/// still, and the next try must succeed. At the end both must be the same.
 pub(crate) fn does_from(
     rt: &impl Abort,
     memory: &Refusing<Global>,

@@ -1,4 +1,4 @@
-//! Each request for memory refused in turn.
+//! Each memory request refused in turn.
 
 use std::alloc::Global;
 use test_memory::{Refusing, Tried, requests};
@@ -27,7 +27,7 @@ static OF_A_SNAPSHOT: Script = (
     b"@1 OK session 1\n@1 OK place 1\n@1 OK session 1\n@1 OK list 1 e\n",
 );
 
-/// Tries to run a script. Refused, it wrote a part of its output.
+/// Tries to run a script. Even if it is refused, what it wrote must be the start of its output.
 fn runs(
     memory: &Refusing<Global>,
     alloc: Global,
@@ -43,7 +43,7 @@ fn runs(
     tried.and(is_part)
 }
 
-/// How many requests a script makes.
+/// The number of requests that a script makes.
 fn count_of(alloc: Global, (script, output): Script) -> Option<u64> {
     let memory = Refusing::new(alloc);
     requests(|number| runs(&memory, alloc, (script, output), number))

@@ -4,7 +4,7 @@ use std::io::{self, Read, Write};
 use std::test::Fail;
 use vault_protocol::{LONGEST_SCRIPT, ScriptError, run_script};
 
-/// A reader that gives one byte at a time, and fails at the end where it is broken.
+/// A reader that gives one byte at a time, and fails at the end if it is broken.
 #[derive(Drop)]
 pub(super) struct OneByte<'a> {
     pub rest: &'a [u8],
@@ -28,7 +28,7 @@ impl Read for OneByte<'_> {
     }
 }
 
-/// A reader of a comment as long as it says, which gives so many bytes a read at most.
+/// A reader of a comment of `left` bytes. It gives at most `most` bytes per read.
 #[derive(Drop)]
 struct Comment {
     left: usize,
@@ -46,7 +46,7 @@ impl Read for Comment {
     }
 }
 
-/// A writer that takes a number of bytes at most, and then none, or fails where it is broken.
+/// A writer that takes `room` bytes in all. Then it takes none, or fails if it is broken.
 #[derive(Drop)]
 struct Bounded {
     held: Vec<u8>,

@@ -8,7 +8,7 @@ use vault_device::MemDevice;
 use vault_inspector::{Report, print};
 use vault_protocol::run_script;
 
-// Takes one byte a call.
+// A writer that takes one byte per call.
 #[derive(Drop)]
 struct Dripping {
     held: Vec<u8>,
@@ -32,7 +32,7 @@ const SCRIPT: &[u8] = b"@1 hello anna\n@1 make /e\n@1 checkout w:/e\nx\n@1 list 
 
 const OUTPUT: &[u8] = b"@1 OK session 1\n@1 OK place 1\n@1 OK held c1\n! ERR 10\n@1 OK list 1 e\n";
 
-// What a script prints to a writer that takes a byte a call, if it ends well.
+// What a script prints to a writer that takes one byte per call, if the script ends well.
 fn dripped(alloc: Global, script: &[u8]) -> Option<Vec<u8>> {
     let mut reader = script;
     let mut writer = Dripping {
@@ -49,7 +49,7 @@ fn script_to_a_writer_of_single_bytes(rt: HostRuntime) {
     drop(held);
 }
 
-// What is printed of a report to such a writer.
+// What a report prints to such a writer.
 fn printed(alloc: Global, report: &Report) -> Option<Vec<u8>> {
     let mut writer = Dripping {
         held: Vec::new(alloc),
@@ -58,7 +58,7 @@ fn printed(alloc: Global, report: &Report) -> Option<Vec<u8>> {
     Some(writer.held)
 }
 
-// What is printed of two empty files to such a writer.
+// What the report on two empty files prints to such a writer.
 fn reported(alloc: Global) -> Option<Vec<u8>> {
     let mut a = MemDevice::new(alloc).ok()?;
     let mut b = MemDevice::new(alloc).ok()?;
@@ -78,7 +78,7 @@ fn report_to_a_writer_of_single_bytes(rt: HostRuntime) {
     drop(held);
 }
 
-// Gives a byte a call, and fails once something was written.
+// A reader that gives one byte per call, and fails once something was written.
 #[derive(Drop)]
 struct Watching<'a> {
     inner: OneByte<'a>,
@@ -94,7 +94,7 @@ impl Read for Watching<'_> {
     }
 }
 
-// Says that something was written.
+// A writer that marks that something was written.
 #[derive(Drop)]
 struct Marking<'a> {
     held: Vec<u8>,
@@ -113,7 +113,7 @@ impl Write for Marking<'_> {
     }
 }
 
-// What a script prints whose reader fails once something was written, if it ends well.
+// What a script prints, if it ends well, when its reader fails once something was written.
 fn watched(alloc: Global, script: &[u8]) -> Option<Vec<u8>> {
     let wrote = AtomicBool::new(false);
     let inner = OneByte {

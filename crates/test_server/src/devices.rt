@@ -3,7 +3,7 @@
 use std::alloc::Global;
 use std::io::{self, Read, Write};
 
-/// Some bytes, and how often they come. They are at least one, and come at least once.
+/// Some bytes, and how often they come. There is at least one byte, and they come at least once.
 pub type Piece = (&'static [u8], usize);
 
 // Goes through the bytes of pieces.
@@ -25,7 +25,7 @@ impl Cursor {
         }
     }
 
-    // The bytes of one piece that come next, at most so many. None at the end.
+    // The bytes of one piece that come next, at most this many. None at the end.
     fn next(&mut self, most: usize) -> &'static [u8] {
         let Some((bytes, times)) = self.pieces.get(self.piece) else {
             return b"";
@@ -45,7 +45,7 @@ impl Cursor {
     }
 }
 
-/// Whether a text is just these pieces.
+/// Whether a text is exactly these pieces.
 pub(crate) fn is_text(text: &[u8], pieces: &'static [Piece]) -> bool {
     let mut wanted = Cursor::new(pieces);
     for byte in text.chunks(1) {
@@ -61,8 +61,8 @@ pub(crate) fn is_text(text: &[u8], pieces: &'static [Piece]) -> bool {
 pub enum Devices {
     /// As they should be.
     Plain,
-    /// The reader gives one byte a read, each behind a read that was interrupted, and then fails. The writer takes so many texts, and
-    /// then fails.
+    /// The reader gives one byte a read, each after a read that was interrupted, and then fails. The writer takes this number of texts,
+    /// and then fails.
     Bumpy(u32),
     /// The writer takes one byte a call.
     Dripping,

@@ -1,4 +1,4 @@
-//! Vaults to begin with: a new one, one without room, one of which a snapshot is wanted, and one that version 1 wrote.
+//! Vaults to begin with: a new one, one without room, one for which a snapshot is wanted, and one that version 1 wrote.
 
 use group_commit::{Pumped, Vault};
 use std::alloc::Global;
@@ -10,7 +10,7 @@ use vault_lines::read_line_of;
 /// A vault whose memory may be refused.
 pub type Begun<'a> = Vault<MemDevice, &'a Refusing<Global>>;
 
-/// How many device calls make a new vault, of the first file and of the second.
+/// How many device calls make a new vault: on the first file, and on the second.
 pub const CREATION: u64 = 8;
 
 pub const CREATION_BESIDE: u64 = 2;
@@ -21,13 +21,13 @@ pub const MOST_KEPT: u64 = 4096;
 /// A vault to begin with.
 #[derive(Clone, Copy)]
 pub enum Start {
-    /// A new one, whose nth device call behind its creation is to fail.
+    /// A new one. The nth device call after its creation is to fail.
     New(u64),
-    /// One whose history keeps as many entries as it may, all of them settled.
+    /// One whose history keeps as many entries as it may, all of them durable.
     Full,
-    /// One with so many bytes of frames that a snapshot is wanted, and one command of which isn't settled.
+    /// One whose frames are so long that a snapshot is wanted, with one command that isn't durable.
     Long,
-    /// One that version 1 wrote, of which a snapshot is wanted, too.
+    /// One that version 1 wrote. For this one, too, a snapshot is wanted.
     Version1,
 }
 
@@ -46,7 +46,7 @@ pub(crate) fn begun<'a>(
     }
 }
 
-// A new vault, whose nth device call behind its creation is to fail.
+// A new vault. The nth device call after its creation is to fail.
 fn created<'a>(
     rt: &impl Abort,
     global: Global,
@@ -79,7 +79,7 @@ fn opened<'a>(rt: &impl Abort, global: Global, memory: &'a Refusing<Global>) -> 
     vault
 }
 
-// The frames of a long journal: a line of session 1, and how often it is said. They have 1,049,578 bytes.
+// The frames of a long journal: a line of session 1, and how often it comes in one frame. They have 1,049,578 bytes.
 static FRAMES: [(&[u8], usize); 9] = [
     (b"make /e", 1),
     (b"make /e/b", 1),
@@ -92,7 +92,7 @@ static FRAMES: [(&[u8], usize); 9] = [
     (DRAFT, 2),
 ];
 
-// What the line of a draft begins with. The digits of 1,024 bytes stand behind it.
+// What the line of a draft begins with. The digits of 1,024 bytes follow it.
 const DRAFT: &[u8] = b"save c1 /e/b/p ";
 
 /// How many commits these are.
@@ -120,7 +120,7 @@ fn is_staged<'a>(
     }
 }
 
-// Whether so many lines are staged and settled that there is no room for another.
+// Whether lines can be staged and made durable until there is no room for another.
 fn is_full<'a>(vault: &mut Begun<'a>, memory: &'a Refusing<Global>) -> bool {
     for _entry in 0..MOST_KEPT {
         if !is_staged(vault, memory, 0, b"list /") {
@@ -137,7 +137,7 @@ fn full<'a>(rt: &impl Abort, global: Global, memory: &'a Refusing<Global>) -> Be
     vault
 }
 
-// Whether a line is staged so often and settled: by the fourth pump, and none before it.
+// Whether a line is staged this often, and is durable after the fourth pump, and not before.
 fn is_frame<'a>(
     vault: &mut Begun<'a>,
     memory: &'a Refusing<Global>,
@@ -155,7 +155,7 @@ fn is_frame<'a>(
         && vault.pump() == Ok(Pumped::Settled)
 }
 
-// Whether all frames are settled, and a command is staged behind them.
+// Whether all frames are durable, and a command is staged after them.
 fn is_filled<'a>(vault: &mut Begun<'a>, memory: &'a Refusing<Global>, draft: &[u8]) -> bool {
     if !is_staged(vault, memory, 0, b"hello anna") {
         return false;
@@ -169,7 +169,7 @@ fn is_filled<'a>(vault: &mut Begun<'a>, memory: &'a Refusing<Global>, draft: &[u
     is_staged(vault, memory, 1, b"make /f")
 }
 
-// A vault with these frames, and one command that isn't settled.
+// A vault with these frames, and one command that isn't durable.
 fn long<'a>(rt: &impl Abort, global: Global, memory: &'a Refusing<Global>) -> Begun<'a> {
     let mut draft = vec![in global; b'7'; DRAFT.len() + 2048].expect(rt, "memory");
     draft[..DRAFT.len()].copy_from_slice(DRAFT);

@@ -5,10 +5,10 @@ use std::time::{Clock, Duration};
 use std::{io, thread};
 use vault_sessions::{Gate, Point};
 
-/// How many turns a test waits for what has to come.
+/// How many turns a test waits for something that has to come.
 pub const TURNS: u64 = 1_000_000_000;
 
-/// Whether a count is reached within so many turns.
+/// Whether a count is reached within this number of turns.
 pub(crate) fn is_reached_within(count: &AtomicU64, least: u64, turns: u64) -> bool {
     for _ in 0..turns {
         if count.load(Ordering::SeqCst) >= least {
@@ -22,8 +22,8 @@ pub(crate) fn is_reached_within(count: &AtomicU64, least: u64, turns: u64) -> bo
 /// Points, and how often each was passed at least.
 pub type Passed = &'static [(Point, u64)];
 
-/// Who comes to this point, once these were passed, waits there until those were. Where it rests, the second that had to wait goes
-/// on two seconds later.
+/// A thread that comes to the point `at`, once the points `once` were passed, waits there until the points `until` were. If the rule
+/// rests, the second one that it applies to goes on two seconds later.
 pub struct Rule {
     pub at: Point,
     pub once: Passed,
@@ -31,7 +31,7 @@ pub struct Rule {
     pub rests: bool,
 }
 
-// What the first two connections kept, staged and were told, and the pumps.
+// How often the first two connections kept a `wait`, staged a command and got a receipt, and the number of pumps.
 #[derive(Drop)]
 struct Counts {
     kept: [AtomicU64; 2],
@@ -41,7 +41,7 @@ struct Counts {
 }
 
 impl Counts {
-    // What counts who passed a point.
+    // The counter of those who passed a point.
     fn of(&self, point: Point) -> Option<&AtomicU64> {
         match point {
             Point::Kept(1) => Some(&self.kept[0]),
@@ -55,7 +55,7 @@ impl Counts {
         }
     }
 
-    // Whether these points were passed within so many turns.
+    // Whether these points were passed within this number of turns.
     fn are_passed_within(&self, passed: Passed, turns: u64) -> bool {
         for (point, least) in passed {
             let Some(count) = self.of(*point) else {
@@ -103,7 +103,7 @@ impl<H: Clock> Holding<'_, H> {
         self.counts.are_passed_within(passed, TURNS)
     }
 
-    /// Whether a server told before so many turns that it accepts no more connections.
+    /// Whether a server reported within this number of turns that it accepts no more connections.
     pub(crate) fn is_deaf_within(&self, turns: u64) -> bool {
         is_reached_within(&self.deaf, 1, turns)
     }
@@ -116,7 +116,7 @@ impl<H: Clock> Holding<'_, H> {
             .saturating_add(second.load(Ordering::SeqCst))
     }
 
-    /// How many pumps there were. None where a thread waited too long.
+    /// How many pumps there were. None if a thread waited too long.
     pub(crate) fn pumps(&self) -> Option<u64> {
         if self.gave_up.load(Ordering::SeqCst) {
             None

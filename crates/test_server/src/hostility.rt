@@ -1,4 +1,4 @@
-//! A client that is served beside others that do their worst.
+//! An honest client that is served beside hostile ones.
 
 use crate::filling::{Start, begun};
 use crate::server::{PATIENT, shut};
@@ -17,23 +17,23 @@ use vault_sessions::OpenGate;
 // How many places there are.
 const WORKERS: usize = 8;
 
-// How often one of them calls its connection before it comes again.
+// How many calls of its connection a hostile client makes before it connects again.
 const CALLS: usize = 20_000;
 
 // For how many seconds the honest one waits for a reply.
 const LONGEST_WAIT: u64 = 30;
 
-// For how many milliseconds it lets the others begin.
+// For how many milliseconds it lets the hostile ones begin.
 const BEGUN: u64 = 50;
 
-// What a hostile client does over and over, until the honest one was told.
+// What a hostile client does over and over, until the honest one got its answers.
 struct Hostility {
     name: &'static str,
-    // It sends these bytes, so often, in writes of so many at most.
+    // It sends these bytes, this often, in writes of at most this many bytes.
     says: &'static [u8],
     times: usize,
     most: usize,
-    // Whether it reads what it is told.
+    // Whether it reads its answers.
     reads: bool,
 }
 
@@ -92,13 +92,13 @@ fn goes_on(called: io::Result<usize>) -> bool {
     }
 }
 
-// Sends what comes next of the bytes behind so many. How many were sent.
+// Sends the next of the bytes, after the first `sent` of them. Says how many it sent.
 fn send(stream: &mut TcpStream, said: &[u8], sent: usize, most: usize) -> io::Result<usize> {
     let left = said.get(sent..).unwrap_or(b"");
     stream.write(&left[..left.len().min(most)])
 }
 
-// One connection of a hostile client, which it gives up once the honest one was told.
+// One connection of a hostile client. It gives this up once the honest one got its answers.
 fn act(stream: &mut TcpStream, row: &Hostility, said: &[u8], is_over: &AtomicBool) {
     let mut chunk = [0; 4096];
     let mut sent = 0usize;
@@ -119,7 +119,7 @@ fn act(stream: &mut TcpStream, row: &Hostility, said: &[u8], is_over: &AtomicBoo
     }
 }
 
-// A hostile client, which comes again and again until the honest one was told.
+// A hostile client. It connects again and again until the honest one got its answers.
 fn be_hostile<R: Net<Listener = TcpListener, Stream = TcpStream> + Wait + Abort>(
     rt: &R,
     global: Global,
@@ -145,7 +145,7 @@ fn be_hostile<R: Net<Listener = TcpListener, Stream = TcpStream> + Wait + Abort>
     drop(said);
 }
 
-// What an honest client is told beside them to its end. Nothing, where it was told nothing for long.
+// What an honest client hears beside them, to its end. Nothing, if it heard nothing for too long.
 fn ask<R: Net<Listener = TcpListener, Stream = TcpStream> + Clock + Abort>(
     rt: &R,
     global: Global,
@@ -165,7 +165,7 @@ fn ask<R: Net<Listener = TcpListener, Stream = TcpStream> + Clock + Abort>(
     told.unwrap_or(String::new(global))
 }
 
-// What the honest client is told beside two of a row. Then these end, and nobody is accepted any more.
+// What the honest client hears beside two hostile ones of a row. Then these end, and nobody is accepted any more.
 fn ask_beside<
     R: Net<Listener = TcpListener, Stream = TcpStream> + Threads + Wait + Clock + Sync + Abort,
 >(rt: &R, global: Global, listener: &TcpListener, row: &Hostility) -> String {
@@ -218,7 +218,7 @@ fn serves<H: Net + Threads + Wait + Clock + Sync + Abort>(
     }
 }
 
-// How a server ends, and what the honest client is told beside two of a row.
+// How a server ends, and what the honest client hears beside two hostile ones of a row.
 fn ends_beside<
     R: Net<Listener = TcpListener, Stream = TcpStream> + Threads + Wait + Clock + Sync + Abort,
 >(

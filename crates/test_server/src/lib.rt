@@ -1,10 +1,11 @@
 //! Tests of the running server, through its public calls: conversations in memory, a flusher beside workers, and a server over
-//! TCP on this machine. Each is a row of a table, and one function tells all rows of a table.
+//! TCP on this machine. Each is a row of a table, and one function checks all rows of a table.
 //!
 //! Promises: nothing; it has no public function.
-//! Only tested: what `vault_sessions` says is only tested.
-//! Stands on: vault_sessions, and what it stands on.
-//! Start at: talks.rt for a conversation, pair.rt for two side by side, serving.rt for a server, hostility.rt for one beside clients that do their worst.
+//! Only tested: what `vault_sessions`, `vault_server` and `flusher_pace` say is only tested.
+//! Stands on: vault_server, test_memory, and what they stand on.
+//! Start at: talks.rt for a conversation, pair.rt for two side by side, serving.rt for a server, hostility.rt for one with hostile
+//! clients.
 #![tactic(auto)]
 
 #[cfg(test)]

@@ -1,4 +1,4 @@
-//! Requests for memory of a conversation refused in turn, and that for a snapshot.
+//! The allocations of a conversation, refused in turn, and that of a snapshot.
 
 use crate::devices::{Devices, Piece};
 use crate::filling::{COMMITS, CREATION, CREATION_BESIDE, Start};
@@ -11,8 +11,8 @@ use std::time::Clock;
 use test_memory::{Refusing, Tried, requests};
 use vault_sessions::{Ended, Flushed, Totals};
 
-// Without the memory for a snapshot what was staged is committed, and the snapshot is begun behind that. The first request is for the
-// share, and the second for the snapshot.
+// If the memory for a snapshot is refused, what was staged is committed, and the snapshot is begun after that. The first request is for
+// the share, and the second for the snapshot.
 static LATER: [Talk; 1] = [Talk {
     name: "a refused snapshot is begun later",
     start: Start::Long,
@@ -55,7 +55,7 @@ fn shows_refusal(came: Option<Came>, heard: &[u8]) -> bool {
     heard.windows(7).any(|text| text == b"ERR 81\n".as_slice())
 }
 
-// Tries a conversation over a new vault, each entry of which is committed in the worker's own thread.
+// Tries a conversation over a new vault. Each entry is committed in the worker's own thread.
 fn talks<H: Threads + Wait + Clock + Sync + Abort>(
     rt: &H,
     global: Global,

@@ -1,4 +1,4 @@
-//! For how many a commit waits, and when a snapshot is begun.
+//! How many entries a commit waits for, and when a snapshot is begun.
 
 use flusher_pace::{Commit, Gathering, Pace, Silence, begins_snapshot, may_change};
 use group_commit::{FileVersion, Pumped, Started};
@@ -7,32 +7,32 @@ use std::time::{Duration, Instant};
 use vault_lines::read_line_of;
 use vault_model::NoMemory;
 
-/// What a pace is told, and what it answers then.
+/// What is done to a pace, and what it answers then.
 #[derive(Clone, Copy)]
 enum Step {
-    /// A commit, which told so many, or they came meanwhile.
+    /// A commit. This many entries became durable by it, or came meanwhile.
     Commit(u64),
-    /// What only asks was settled.
+    /// Questions became durable: nothing changed the vault.
     Settled,
     /// A snapshot was begun.
     Snapshot,
-    /// One wasn't, for want of memory or since it wasn't the time.
+    /// A snapshot wasn't begun: memory was refused, or it wasn't the time.
     NoSnapshot,
     /// Whether a snapshot is put off.
     PutOff(bool),
-    /// So many wait now, and the last one may change the vault or not. Whether the flusher is woken.
+    /// This many entries wait now, and whether the last one may change the vault. Then whether the flusher is woken.
     Staged(u64, bool, bool),
-    /// It sleeps until so many wait.
+    /// It sleeps until this many entries wait.
     Sleeps(u64),
-    /// Whether it waits for more, while so many wait.
+    /// Whether it waits for more, while this many wait.
     Lacks(u64, bool),
     /// A ticket is forgotten.
     Forgets,
-    /// Whether somebody isn't told yet, where so many are settled and so many were told.
+    /// Whether a client isn't answered yet, if this many entries are durable and this many were acknowledged.
     Owes(u64, u64, bool),
 }
 
-// Whether a pace answers so.
+// Whether a pace answers a step as it says.
 fn is_answered(pace: &mut Pace, step: Step) -> bool {
     match step {
         Step::Commit(group) => {
@@ -165,7 +165,7 @@ static ROWS: [(&str, &[Step]); 7] = [
     ),
 ];
 
-// A commit that ended now and took so many milliseconds.
+// A commit that ended now and took this many milliseconds.
 fn commit_of(rt: &HostRuntime, millis: u64) -> Commit {
     let began = match Instant::now(rt) {
         Ok(now) => now.checked_sub(Duration::from_millis(millis)),
@@ -174,7 +174,7 @@ fn commit_of(rt: &HostRuntime, millis: u64) -> Commit {
     Commit::since(rt, began)
 }
 
-// Whether an eighth of a commit that took a second is waited for, from one look to the next.
+// Whether, after a commit that took a second, a thread waits an eighth of that from one look to the next.
 fn is_eighth_waited(rt: &HostRuntime) -> bool {
     match Gathering::new().left(rt, &commit_of(rt, 1000), 1, false) {
         Some(left) => left <= Duration::from_millis(130) && left > Duration::from_millis(1),
@@ -182,8 +182,8 @@ fn is_eighth_waited(rt: &HostRuntime) -> bool {
     }
 }
 
-// Whether a thread that saw nothing come or be told for a whole part of a commit goes on, but waits where more came, or where somebody
-// isn't told yet. The second look is over behind 200 milliseconds, and the last behind 800.
+// Whether a thread goes on if for a whole part of a commit no entry came and none was acknowledged, but waits if more came, or if a
+// client isn't answered yet. The second look is over after 200 milliseconds, and the last one after 800.
 fn is_waited_for_more(rt: &HostRuntime) -> bool {
     let commit = commit_of(rt, 800);
     let mut gathering = Gathering::new();
@@ -197,7 +197,8 @@ fn is_waited_for_more(rt: &HostRuntime) -> bool {
         && owed.left(rt, &commit, 3, true).is_some()
 }
 
-// Whether nobody is waited for once a commit of a millisecond has been over for some time: whoever isn't told holds nobody up for long.
+// Whether nobody is waited for once a commit of a millisecond has been over for some time: a client that isn't answered holds nobody up
+// for long.
 fn is_waited_for_no_longer(rt: &HostRuntime) -> bool {
     let commit = commit_of(rt, 1);
     thread::sleep(rt, Duration::from_millis(10));
@@ -213,7 +214,8 @@ fn a_thread_waits_for_a_part_of_a_commit(rt: HostRuntime) {
     assert!(rt; is_waited_for_no_longer(&rt));
 }
 
-// Whether a snapshot is begun: of a file of this version, with a journal and a snapshot of so many bytes, while nobody asks or somebody does.
+// Whether a snapshot is begun: of a file of this version, with a journal and a snapshot of these numbers of bytes, and whether nobody
+// asks just now. Then the answer.
 static SNAPSHOTS: [(FileVersion, u64, u64, bool, bool); 7] = [
     (FileVersion::Two, 1_048_576, 34, false, true),
     (FileVersion::Two, 1_048_576, 2_097_153, false, true),
@@ -224,7 +226,7 @@ static SNAPSHOTS: [(FileVersion, u64, u64, bool, bool); 7] = [
     (FileVersion::One, 0, 16_777_216, false, true),
 ];
 
-// Whether a silence begins when it is looked at first, and anew by each command, and is over behind a tenth of a second.
+// Whether a silence begins at the first look, and anew with each command, and is over after a tenth of a second.
 fn is_silent(rt: &HostRuntime) -> bool {
     let mut silence = Silence::new();
     if silence.left(rt, 7).is_none() {

@@ -20,7 +20,7 @@ use vault_sessions::{
     Ended, Flushed, OpenGate, Report, Share, Shared, Tally, Totals, gather, run_flusher, serve_one,
 };
 
-/// What one of two connections says, how each line begins that it is told, and why it ends.
+/// What one of two connections says, how each line of its answers begins, and why it ends.
 #[derive(Clone, Copy)]
 struct Side {
     says: &'static [Piece],
@@ -28,7 +28,7 @@ struct Side {
     ended: Ended,
 }
 
-/// Two connections, what all counted behind both, and how many entries the vault has then.
+/// Two connections, what all counted after both, and how many entries the vault has then.
 struct Pair {
     name: &'static str,
     first: Side,
@@ -55,7 +55,7 @@ const LEAVES_TOO: Side = Side {
     ended: Ended::Quit,
 };
 
-// Both want the whole library, one behind the other in whichever order.
+// Both want the whole library, one after the other in either order.
 const WANTS_ALL: Side = Side {
     says: &[(b"hello dan\ncheckout w:/\nhold r:/\nquit\n", 1)],
     hears: &[b"OK session ", b"OK ", b"OK queued ", b"OK left"],
@@ -70,7 +70,7 @@ static PAIRS: [Pair; 3] = [
         totals: Totals { staged: 8, told: 8 },
         entries: 8,
     },
-    // The last leave of the one whose input ends is counted, and told nobody.
+    // The last leave of the one whose input ends is counted, and not answered.
     Pair {
         name: "one ends",
         first: ENDS,
@@ -139,7 +139,7 @@ fn side_by_side<
     )
 }
 
-// The same beside a flusher, which is closed behind both.
+// The same beside a flusher, which is closed after both.
 fn beside_a_flusher<
     S: Tally + Send + Sync,
     T: Tally + Send + Sync,
@@ -169,7 +169,7 @@ fn beside_a_flusher<
     )
 }
 
-// What all counted, and the vault, once both are over. None where an end isn't as it has to be.
+// Once both are over: whether each end is as it has to be, what all counted, and the vault.
 fn over<
     S: Tally + Send + Sync,
     T: Tally + Send + Sync,

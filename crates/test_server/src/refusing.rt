@@ -1,5 +1,5 @@
-//! A server, each request of which for memory is refused in turn. Which request has a number depends on the threads, so none is
-//! named: whichever is refused, the server ends as it may, and nothing that a client was told is lost.
+//! A server whose requests for memory are refused, one in each run. Which request has which number depends on the threads, so none is
+//! named. Whichever is refused, the server ends in a way that is allowed, and nothing that was acknowledged to a client is lost.
 
 use crate::filling::CREATION;
 use crate::server::{Client, ENDED, HEAD, Outcome, PLAIN, Serving, served};
@@ -31,7 +31,7 @@ static REFUSED: Serving = Serving {
 
 const TOLD: &str = "OK session 1\nOK place 1\nOK left\nend\n";
 
-// What the client may hear, line by line: where the first was refused memory, the others speak for no session.
+// What the client may hear, line by line: if memory for the first was refused, the others speak for no session.
 static MAY_BE: [[&str; 3]; 4] = [
     ["OK session 1", "ERR 81", "ERR 81"],
     ["OK place 1", "ERR 81", "ERR 11"],
@@ -39,7 +39,7 @@ static MAY_BE: [[&str; 3]; 4] = [
     ["end", "end", "end"],
 ];
 
-// Whether a client may hear this. Behind a worker that ends early, which leaves lines unread, it may hear nothing, and no end.
+// Whether a client may hear this. If a worker ends early, and leaves lines unread, the client may hear nothing, and no end.
 fn may_be_heard(heard: &str) -> bool {
     for (line, texts) in heard.lines().zip(&MAY_BE) {
         if line != "end" && !texts.contains(&line) {
@@ -49,7 +49,7 @@ fn may_be_heard(heard: &str) -> bool {
     heard.lines().count() <= 4
 }
 
-// Serves one connection, with this request refused. The place is in what a stop would leave, where the client was told of it.
+// Serves one connection, with this request refused. If the client heard of the place, it is in what a crash would leave.
 fn serves<
     R: Net<Listener = TcpListener, Stream = TcpStream> + Threads + Wait + Clock + Sync + Abort,
 >(rt: &R, global: Global, memory: &Refusing<Global>, request: u64) -> Tried {

@@ -33,7 +33,7 @@ pub const PATIENT: Patience = Patience {
 // How many connections may wait at a listener.
 const BACKLOG: i32 = 16;
 
-/// What the first file has of a new vault, with its gate; one place takes 12 bytes more, and two in one frame 19.
+/// The length of a new vault's first file, with its tail gate. One place takes 12 bytes more, and two in one frame 19.
 pub const HEAD: u64 = 35;
 
 /// What a client sends, and whether it might send more.
@@ -45,32 +45,33 @@ pub struct Client {
 /// A server, its clients, and what it comes to.
 pub struct Serving {
     pub name: &'static str,
-    /// Which device call behind the vault's creation fails.
+    /// Which device call after the vault's creation fails.
     pub failing: u64,
     pub has_two_workers: bool,
     /// Whether one thread serves both.
     pub has_one_thread: bool,
     pub connections: Option<u32>,
-    /// Behind how many milliseconds it ends a connection that says nothing, has no session, or doesn't end its line.
+    /// After how many milliseconds it ends a connection that says nothing, has no session, or doesn't end its line.
     pub idle: Option<u64>,
     pub hello: Option<u64>,
     pub line: Option<u64>,
-    /// How many may wait for a claim, and for how many milliseconds.
+    /// How many connections may wait for a claim, and for how many milliseconds.
     pub waits: usize,
     pub wait: Option<u64>,
-    /// Behind how many it turns away who waits for a place, and how long who is ended for him has to be silent.
+    /// After how many milliseconds it turns away a connection that waits for a place, and for how many another one must have been
+    /// silent to be ended for it.
     pub full: Option<(u64, u64)>,
     /// Whether another protocol's first line ends a connection.
     pub refuses_foreign: bool,
-    /// Whether nobody can be accepted any more, once the first connection was told a reply; or before one that comes late.
+    /// Whether nobody can be accepted any more, once the first connection got a reply; or before one that comes late.
     pub is_shut: bool,
     /// Whether one client comes once it runs.
     pub is_late: bool,
-    /// Whether its clients say that no more comes only once it told that no more can be accepted.
+    /// Whether its clients say that no more comes only once it reported that no more can be accepted.
     pub is_patient: bool,
     pub rules: &'static [Rule],
     pub clients: &'static [Client],
-    /// What the clients hear to their ends, one behind the other, may be one of these.
+    /// What the clients hear to their ends, one after the other, may be one of these.
     pub hears: &'static [&'static [Piece]],
     /// What the first commit of two clients writes is one of these.
     pub frames: &'static [[u8; 20]],
@@ -87,7 +88,7 @@ impl Serving {
         if self.has_two_workers { 2 } else { 1 }
     }
 
-    // What it keeps to, where it is no server as any other.
+    // Its options, if it isn't a plain server.
     fn options(&self) -> Option<ServerOptions>
         ensures { IfSome result (λ options. (0 < options.workers) × (options.workers ≤ 64)) }
     {
@@ -130,12 +131,12 @@ pub struct Outcome {
     pub totals: Totals,
     pub is_broken: bool,
     pub has_frame: bool,
-    /// How many calls of the first file there were, and which bytes of it a stop would leave.
+    /// How many calls of the first file there were, and how many bytes of it a crash would leave.
     pub calls: u64,
     pub length: u64,
 }
 
-/// What a server over a new vault comes to that changes nothing.
+/// What a server over a new vault comes to if nothing is changed.
 pub const ENDED: Outcome = Outcome {
     error: None,
     totals: Totals { staged: 0, told: 0 },
@@ -202,7 +203,7 @@ fn all_connected<R: Net<Listener = TcpListener, Stream = TcpStream> + Abort>(
     streams
 }
 
-// Adds what clients hear, one behind the other. Behind what one hears to its end stands a line of its own.
+// Adds what clients hear, one after the other. What one hears to its end is followed by a line `end`.
 fn hear(rt: &impl Abort, global: Global, streams: Vec<TcpStream>, text: &mut String) {
     for stream in streams {
         let mut stream = stream;
@@ -215,7 +216,7 @@ fn hear(rt: &impl Abort, global: Global, streams: Vec<TcpStream>, text: &mut Str
     }
 }
 
-// Whether one of these stands behind the head of a new vault, if there are any.
+// Whether one of these frames follows the head of a new vault, if any are given.
 fn has_one_of(file: &mut MemDevice, frames: &[[u8; 20]]) -> bool {
     if frames.is_empty() {
         return true;
@@ -289,13 +290,13 @@ fn late<R: Net<Listener = TcpListener, Stream = TcpStream> + Clock + Abort>(
     all_connected(rt, global, listener, serving.clients)
 }
 
-/// Has every accept at this listener fail.
+/// Makes every accept at this listener fail.
 pub(crate) fn shut(listener: &TcpListener) {
     let _ = shutdown(listener.as_raw_fd(), SHUT_RD);
 }
 
-// Shuts the listener once the first connection was told a reply, if it is to be shut. Then the clients that wait for it say that no more comes,
-// once the server told that no more can be accepted.
+// Shuts the listener once the first connection got a reply, if it is to be shut. If its clients are patient, they say that no more
+// comes once the server reported that no more can be accepted.
 fn part<H: Clock>(
     serving: &Serving,
     gate: &Holding<'_, H>,
@@ -313,8 +314,8 @@ fn part<H: Clock>(
     }
 }
 
-/// What a server comes to, while this request for memory is refused, what its clients hear, how many pumps there were, none where a
-/// thread waited too long, and how many times a `wait` was kept.
+/// What a server comes to, while this request for memory is refused, what its clients hear, how many pumps there were (none if a thread
+/// waited too long), and how many times a `wait` was kept.
 pub(crate) fn served<
     R: Net<Listener = TcpListener, Stream = TcpStream> + Threads + Wait + Clock + Sync + Abort,
 >(

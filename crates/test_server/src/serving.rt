@@ -56,7 +56,7 @@ const FLUSHER_WAITS: Rule = Rule {
     rests: true,
 };
 
-// Each connection is held until both were told their first reply.
+// Each connection is held until both got their first reply.
 const FIRST_WAITS: Rule = Rule {
     at: Point::Read(1),
     once: &[(Point::Told(1), 1)],
@@ -84,7 +84,7 @@ const ONE_THAT_COMES: &[Rule] = &[
     },
 ];
 
-// Or until the first was told the reply to its third command.
+// Or until the first got the reply to its third command.
 const ONE_THAT_STAYS_AWAY: &[Rule] = &[
     FLUSHER_WAITS,
     FIRST_WAITS,
@@ -97,13 +97,13 @@ const ONE_THAT_STAYS_AWAY: &[Rule] = &[
     },
 ];
 
-// The frame of both places, in either order, with its gate and the tail gate behind it.
+// The frame of both places, in either order, with its gate (the commit mark) and the tail gate after it.
 const FRAMES: &[[u8; 20]] = &[
     *b"\x01\0\0\0\x0e\x01\0\0\0\0\x01e\x01\0\0\0\0\x01f\0",
     *b"\x01\0\0\0\x0e\x01\0\0\0\0\x01f\x01\0\0\0\0\x01e\0",
 ];
 
-// What two clients hear that make a place each: a session and a place each, not the same.
+// What two clients hear if each makes a place: a session and a place each, not the same.
 const SHARED: &[&[Piece]] = &[
     &[(
         b"OK session 1\nOK place 1\nOK left\nend\nOK session 2\nOK place 2\nOK left\nend\n",
@@ -123,7 +123,7 @@ const SHARED: &[&[Piece]] = &[
     )],
 ];
 
-// The same where each makes another behind that, the first before the second.
+// The same if each makes another one after that, the first client before the second.
 const SHARED_TWICE: &[&[Piece]] = &[
     &[(
         b"OK session 1\nOK place 1\nOK place 3\nOK left\nend\nOK session 2\nOK place 2\nOK place 4\nOK left\nend\n",
@@ -218,7 +218,7 @@ static SERVINGS: [Serving; 7] = [
         },
         ..PLAIN
     },
-    // Three commits: it goes on without the connection that doesn't come back before the first was told.
+    // Three commits: it goes on without the connection that doesn't come back before the first one got its reply.
     Serving {
         name: "the flusher goes on without one that stays away",
         has_two_workers: true,
@@ -277,7 +277,7 @@ static SERVINGS: [Serving; 7] = [
 
 // More of them.
 static MORE_SERVINGS: [Serving; 7] = [
-    // Each holding of the lock makes one step: a commit with an effect takes four, of one device call each, and one without takes one.
+    // Each lock acquisition makes one step: a commit with an effect takes four, of one device call each, and one without takes one.
     Serving {
         name: "one pump a holding",
         clients: &[Client {
@@ -294,7 +294,7 @@ static MORE_SERVINGS: [Serving; 7] = [
         },
         ..PLAIN
     },
-    // A client that has sent more lines than are answered, and reads only once the server has ended, is told all replies.
+    // A client that has sent more lines than are answered, and reads only once the server has ended, gets all replies.
     Serving {
         name: "a late reader is told all",
         clients: &[Client {
@@ -406,7 +406,7 @@ static MORE_SERVINGS: [Serving; 7] = [
 
 // And the last ones.
 static LAST_SERVINGS: [Serving; 6] = [
-    // Nothing is staged, and nothing is told.
+    // Nothing is staged, and nothing is answered.
     Serving {
         name: "another protocol's first line ends a connection",
         connections: Some(2),
@@ -441,7 +441,7 @@ static LAST_SERVINGS: [Serving; 6] = [
         },
         ..PLAIN
     },
-    // What one holds the other waits for, so it is served while that one stays.
+    // The second waits for what the first holds, so it is served while the first is still there.
     Serving {
         name: "one thread serves one beside another that is silent",
         has_two_workers: true,
@@ -468,7 +468,7 @@ static LAST_SERVINGS: [Serving; 6] = [
         },
         ..PLAIN
     },
-    // Where no more connections can be accepted for good, those that were are served to their end.
+    // If accepting fails for good, the connections that were accepted are served to their end.
     Serving {
         name: "an accept fault ends the server",
         connections: None,
@@ -488,7 +488,7 @@ static LAST_SERVINGS: [Serving; 6] = [
         },
         ..PLAIN
     },
-    // The server tells that at once. Only then the client says that no more comes.
+    // The server reports that at once. Only then the client says that no more comes.
     Serving {
         name: "an accept fault is told at once",
         connections: None,

@@ -31,15 +31,15 @@ pub const SNAPSHOT: u64 = 6;
 /// Who commits what is staged.
 #[derive(Clone, Copy, PartialEq, Eq)]
 pub enum Flusher {
-    /// The worker, by a flusher that ends behind each command that it staged; so all requests for memory come in one order.
+    /// The worker, by a flusher that runs and ends after each command that it staged. So all requests for memory come in one order.
     Within,
-    /// A flusher in a thread of its own, from before the first connection to behind the last one.
+    /// A flusher in a thread of its own, from before the first connection until after the last one.
     Beside,
-    /// The same, and behind its first line a connection waits until the flusher has pumped.
+    /// The same, and after its first line a connection waits until the flusher has pumped.
     Awaited,
 }
 
-/// Connections that are served one behind the other, what they are told, and what that comes to.
+/// Connections that are served one after the other, the answers to them, and what that comes to.
 pub struct Talk {
     pub name: &'static str,
     pub start: Start,
@@ -59,13 +59,13 @@ pub struct Came {
     /// What all counted, and how many entries the vault has then.
     pub totals: Totals,
     pub entries: u64,
-    /// What the last flusher answered, once it was closed. None where one beside ended before, though the vault isn't broken.
+    /// What the last flusher answered, once it was closed. None if one beside ended before, though the vault isn't broken.
     pub flushed: Option<Flushed>,
     /// How many calls of each file there were.
     pub calls: (u64, u64),
 }
 
-/// What no connection comes to over a new vault.
+/// What a new vault comes to without a connection.
 pub const NOTHING: Came = Came {
     ended: None,
     answers: 0,
@@ -89,7 +89,7 @@ pub const PLAIN: Talk = Talk {
 // How many turns a connection waits for a flusher that is awaited.
 const LONGEST_AWAITED: u64 = 10_000_000;
 
-// What counts for a flusher beside: one once it runs, and one for each pump. This stands for its end.
+// For a flusher beside, a counter gets one once it runs, and one for each pump. This value stands for its end.
 const ENDED: u64 = 1 << 32;
 
 // Counts its pumps.
@@ -106,8 +106,8 @@ impl Gate for Pumping<'_> {
     }
 }
 
-// Commits what was staged at once, by a flusher that ends behind it, unless there is one beside. One that is awaited holds the connection
-// before its second line.
+// Commits what was staged at once, by a flusher that ends after it, unless there is one beside. One that is awaited holds the
+// connection before its second line.
 #[derive(Drop)]
 struct Committing<'a, S: Tally, T: Tally, D: Device, A: Allocator, H: Wait + Clock> {
     rt: &'a H,
@@ -138,7 +138,7 @@ impl<S: Tally, T: Tally, D: Device, A: Allocator + Copy, H: Wait + Clock> Gate
 // Why the last connection ended, and how many of its lines were answered.
 type Answered = (Option<Ended>, usize);
 
-// Serves the connections, one behind the other.
+// Serves the connections, one after the other.
 fn serve_all<S: Tally, T: Tally, D: Device, A: Allocator + Copy, H: Wait + Clock>(
     rt: &H,
     alloc: A,
@@ -172,8 +172,8 @@ fn serve_all<S: Tally, T: Tally, D: Device, A: Allocator + Copy, H: Wait + Clock
     (share, answered)
 }
 
-// Serves the connections with a share of two, and closes the flusher. What that answered then; none where it ended before, though the
-// vault isn't broken.
+// Serves the connections with a share of two, and closes the flusher. Gives what the flusher answered then; none if it ended before,
+// though the vault isn't broken.
 fn flushed<
     S: Tally + Send + Sync,
     T: Tally + Send + Sync,

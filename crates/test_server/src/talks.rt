@@ -1,4 +1,4 @@
-//! Conversations on a connection, and on some one behind the other; a flusher with nothing to do, and one that makes a snapshot.
+//! Conversations on one connection, and on several, one after the other; a flusher with nothing to do, and one that makes a snapshot.
 
 use crate::devices::{Devices, Piece};
 use crate::filling::{COMMITS, CREATION, CREATION_BESIDE, MOST_KEPT, Start};
@@ -43,7 +43,7 @@ const HEARD_ELEVENTH: &[Piece] = &[
     (b"OK session 12\nOK held c1\nOK left\n", 1),
 ];
 
-// Lines that are bad by a byte, then one that has the most bytes, and the same with one more.
+// Lines that a single byte makes bad, then one that has the most bytes, and the same with one more.
 const STRANGE: &[Piece] = &[
     (b"list /\r\nlist /\xff\n\n", 1),
     (b"checkout", 1),
@@ -218,7 +218,7 @@ static TALKS: [Talk; 13] = [
         },
         ..PLAIN
     },
-    // What was staged before is settled by the snapshot, in six calls of the other file, without a commit.
+    // The snapshot makes durable what was staged before, in six calls of the other file, without a commit.
     Talk {
         name: "a flusher that begins a snapshot",
         start: Start::Long,
@@ -259,7 +259,7 @@ static LONG_TALKS: [Talk; 4] = [
         },
         ..PLAIN
     },
-    // The session that stands then gets its last leave, and the next connection is answered.
+    // The session that is still open then gets its last leave, and the next connection is answered.
     Talk {
         name: "more commands than a history keeps, since those that were told are let go",
         says: &[

@@ -1,4 +1,4 @@
-//! Who waits for a claim: until it is held, for how long, beside how many others, and to whose end.
+//! Connections that wait for a claim: until it is granted, for how long, beside how many others, and until who ends.
 
 use crate::filling::CREATION;
 use crate::holding::Rule;
@@ -8,7 +8,7 @@ use test_memory::Refusing;
 use vault_server::ServerError;
 use vault_sessions::{Point, Totals};
 
-// The second connection is held until the first holds all.
+// The second connection is held until the first has a claim on all.
 const SECOND_COMES_LATER: Rule = Rule {
     at: Point::Read(2),
     once: &[],
@@ -35,7 +35,7 @@ const FIRST_WAITS: &[Rule] = &[Rule {
     rests: false,
 }];
 
-// One that waits for itself, and says nothing behind that, and another that waits for the same.
+// One that waits for its own claim, and says nothing after that, and another that waits for the same.
 const TWO_FOR_ONE: &[Client] = &[
     Client {
         says: &[(b"hello anna\nhold w:/\nhold w:/\nwait h2\n", 1)],
@@ -175,7 +175,7 @@ static FURTHER_WAITINGS: [Serving; 3] = [
         },
         ..PLAIN
     },
-    // Also one that is held or gone.
+    // Also one for a claim that is granted or gone.
     Serving {
         name: "a wait without a session is answered at once",
         waits: 1,

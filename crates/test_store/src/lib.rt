@@ -1,5 +1,5 @@
-//! Tests of the store of two files that need a call from inside. What is done to files in memory, and what the store then answers,
-//! stands as rows in vault_scripts/data.
+//! Tests of the store of two files that have to call it themselves. The other tests are rows in vault_scripts/data: what is done to
+//! files in memory, and what the store then answers.
 //!
 //! Promises: nothing; it has no public function.
 //! Only tested: each request for memory refused, a vault in two real files, and snapshots of more than one piece.

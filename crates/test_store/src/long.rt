@@ -15,10 +15,10 @@ const VERSION: u16 = 1000;
 // The project, the assembly and the library beside the parts.
 const ABOVE: u8 = 3;
 
-// More bytes than a row's file has.
+// An upper bound on the bytes of a row's file.
 const MOST: usize = 17_000_000;
 
-// More bytes than a file has whose snapshot is longer than any vault's by one.
+// An upper bound on the bytes of a file whose snapshot is one byte longer than any vault's.
 const LONGEST_FILE: usize = 40_000_000;
 
 // A snapshot.
@@ -27,9 +27,9 @@ struct Long {
     version: u8,
     parts: u8,
     versions: u16,
-    // The byte behind the last part, in the place of the number of check-outs, which is 0.
+    // The low byte of the number of check-outs behind the last part; 0 is right, since there are none.
     behind: u8,
-    // Whether it is a vault's.
+    // Whether it is a vault's snapshot.
     is_whole: bool,
 }
 
@@ -76,7 +76,7 @@ static ROWS: [Long; 5] = [
     },
 ];
 
-// Its versions weigh more than a vault's may: 8 more each than they are long.
+// Its versions weigh more than a vault's may. Each weighs 8 more than its length.
 static HEAVY: Long = Long {
     name: "versions that are too heavy",
     version: 2,
@@ -91,7 +91,7 @@ fn put(rt: &impl Abort, bytes: &mut Vec<u8>, more: &[u8]) {
     bytes.extend_from_slice(more).expect(rt, "memory");
 }
 
-// Adds a place but for its versions; in version 1 it has no kind.
+// Adds a place without its versions. In version 1 of the files it has no kind.
 fn put_place(rt: &impl Abort, bytes: &mut Vec<u8>, long: &Long, parent: u8, letter: u8, kind: u8) {
     put(rt, bytes, &[0, 0, 0, parent, 1, letter]);
     if long.version != 1 {
@@ -99,7 +99,7 @@ fn put_place(rt: &impl Abort, bytes: &mut Vec<u8>, long: &Long, parent: u8, lett
     }
 }
 
-// Adds a part with its versions, each of which has the part's letter throughout.
+// Adds a part with its versions, each filled with the part's letter.
 fn put_part(rt: &impl Abort, bytes: &mut Vec<u8>, long: &Long, letter: u8) {
     put_place(rt, bytes, long, 2, letter, 1);
     put(rt, bytes, &long.versions.to_be_bytes());
@@ -136,7 +136,7 @@ fn device_of(rt: &impl Abort, alloc: Global, long: &Long) -> MemDevice {
     device
 }
 
-// Whether a book has a row's places, and of the last part all versions.
+// Whether a book has a row's places, and all versions of the last part.
 fn holds<A: Allocator + Copy>(book: &Book<A>, long: &Long) -> bool {
     let places = u32::from(long.parts) + u32::from(ABOVE);
     let last = PlaceId(places - 1);
@@ -149,7 +149,7 @@ fn holds<A: Allocator + Copy>(book: &Book<A>, long: &Long) -> bool {
         && content.len() == usize::from(VERSION)
 }
 
-// Whether a body is what a row spells: its vault, or damage where its snapshot begins.
+// Whether a body is what a row says: its vault, or damage where the snapshot begins.
 fn is_right<A: Allocator + Copy>(body: &Body<A>, long: &Long) -> bool {
     match body {
         Body::Damaged(at) => !long.is_whole && *at == 24,
@@ -157,8 +157,8 @@ fn is_right<A: Allocator + Copy>(body: &Body<A>, long: &Long) -> bool {
     }
 }
 
-// Reads a row's file with a request of this number refused, where it makes so many. Whether it came to what the row says, or told want of
-// memory exactly where it was refused some.
+// Reads a row's file with the request of this number refused, if it makes that many. Whether the reading gives what the row says, or
+// reports that it is out of memory exactly if a request was refused.
 fn reads_without(
     rt: &impl Abort,
     memory: &Refusing<Global>,
@@ -203,7 +203,7 @@ fn a_heavy_snapshot_is_damage(rt: HostRuntime) {
     assert!(rt; is_so, "{}", HEAVY.name);
 }
 
-// A file that claims so long a snapshot, and has it, with a byte behind it.
+// A file with a snapshot of `length` bytes, as its head says, and a byte behind it.
 fn file_of(rt: &impl Abort, alloc: Global, length: u32) -> MemDevice {
     let mut bytes = Vec::new(alloc);
     put(rt, &mut bytes, b"\x01LLVAULT\0\0\0\x02\0\0\0\0\0\0\0\x01");
@@ -219,7 +219,7 @@ fn file_of(rt: &impl Abort, alloc: Global, length: u32) -> MemDevice {
     device
 }
 
-// Whether such a file is told as damage behind its head, while no memory is given.
+// Whether such a file is reported as damaged behind its head, without a request for memory.
 fn is_damaged_without_memory(memory: &Refusing<Global>, device: &mut MemDevice) -> bool {
     memory.refuse(1);
     match read_body(memory, device) {

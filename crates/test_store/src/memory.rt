@@ -1,4 +1,4 @@
-//! Each request of a store for memory refused in turn.
+//! Each request of a store for memory is refused in turn.
 ghost use Rattle.std.specs.Prelude.{◌<◌, length};
 
 use std::alloc::{Allocator, Global};
@@ -12,11 +12,12 @@ use vault_store::{
     read_body,
 };
 
-// A new vault and a commit of `make /e`, 47 bytes.
+// A file with a new vault and a commit of `make /e`, 47 bytes.
 const WITH_E: &[u8; 47] =
     b"\x01LLVAULT\0\0\0\x02\0\0\0\0\0\0\0\x01\0\0\0\x0a\0\0\0\0\0\0\0\x01\0\0\x01\0\0\0\x07\x01\0\0\0\0\x01e\0";
 
-// A part with a version; anna's c3, which is held with a draft of it and has a note; and behind it ben's c2. Of generation 2.
+// A file of generation 2. It has a part with a version; anna's check-out c3, granted, with a note and a draft of that part;
+// and, waiting for it, ben's c2.
 const LINE: &[u8; 106] =
     b"\x01LLVAULT\0\0\0\x02\0\0\0\0\0\0\0\x02\0\0\0\x51\0\0\0\x03\0\0\0\x04\0\0\0\0\x01e\0\0\0\0\x01\x01b\0\0\0\0\x02\x01p\x01\0\x01\0\x04text\0\x02\0\0\0\x03\x04anna\x02ab\x01\x01\0\0\0\x03\x01\0\0\0\x03\0\x01x\0\0\0\x02\x03ben\0\x01\0\0\0\0\x02\0\0";
 
@@ -29,7 +30,7 @@ fn holding(rt: &impl Abort, alloc: Global, bytes: &[u8]) -> MemDevice
     device
 }
 
-// Tries to create a vault. Refused, the devices come back, and are still empty.
+// Tries to create a vault. If that is refused, the devices come back, and are still empty.
 fn creates_without(
     rt: &impl Abort,
     memory: &Refusing<Global>,
@@ -52,7 +53,7 @@ fn creates_without(
     }
 }
 
-// Whether two devices are made a vault.
+// Whether a vault is created in two devices.
 fn is_created<A: Allocator + Copy>(memory: A, first: MemDevice, second: MemDevice) -> bool {
     match Store::create(memory, first, second) {
         Ok(store) => {
@@ -66,7 +67,7 @@ fn is_created<A: Allocator + Copy>(memory: A, first: MemDevice, second: MemDevic
     }
 }
 
-// Whether two devices open as two places with a frame of 12 bytes.
+// Whether two devices open as a vault of two places, with a frame of 12 bytes.
 fn is_with_e<A: Allocator + Copy>(memory: A, first: MemDevice, second: MemDevice) -> bool {
     match Store::open(memory, first, second) {
         Ok((store, book)) => {
@@ -82,7 +83,7 @@ fn is_with_e<A: Allocator + Copy>(memory: A, first: MemDevice, second: MemDevice
     }
 }
 
-// Tries to open a vault. Refused, the same devices then open.
+// Tries to open a vault. If that is refused, the same devices open afterwards.
 fn opens_without(rt: &impl Abort, memory: &Refusing<Global>, alloc: Global, number: u64) -> Tried {
     let first = holding(rt, alloc, WITH_E);
     let second = MemDevice::new(alloc).expect(rt, "a device");
@@ -124,7 +125,7 @@ fn starts_without(rt: &impl Abort, memory: &Refusing<Global>, alloc: Global, num
     }
 }
 
-// Whether this claim stands at a position of the line, with this note.
+// Whether this claim is at this position of the queue (line), with this note.
 fn stands<A: Allocator + Copy>(book: &Book<A>, position: usize, id: ClaimId, note: &[u8]) -> bool {
     match book.line().at(position) {
         Some(claim) => claim.id == id && claim.note.as_bytes() == note,

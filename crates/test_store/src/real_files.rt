@@ -8,7 +8,7 @@ use vault_device::FileDevice;
 use vault_model::{Effect, EffectIn, Name, Path, PlaceId};
 use vault_store::{Advanced, Store};
 
-// What the first one holds then, 47 bytes.
+// What the first file holds after the commit, 47 bytes.
 const WITH_E: &[u8; 47] =
     b"\x01LLVAULT\0\0\0\x02\0\0\0\0\0\0\0\x01\0\0\0\x0a\0\0\0\0\0\0\0\x01\0\0\x01\0\0\0\x07\x01\0\0\0\0\x01e\0";
 
@@ -16,7 +16,7 @@ const FIRST: &str = "first_of_a_test";
 
 const SECOND: &str = "second_of_a_test";
 
-// Whether a project is noted in a new vault, and settled by the last of four steps.
+// Whether a project is noted in a new vault, and becomes durable with the last of four steps.
 fn commits_e(store: &mut Store<FileDevice>, name: Name) -> bool {
     if !store.room() {
         return false;

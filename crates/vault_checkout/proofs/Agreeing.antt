@@ -255,7 +255,7 @@ module _ {A : Type 0} where
         (λ n. agrees.numbers n ∙ sym (first_there id claim items found n))
         (λ n there held. held_front v.tree v.line id items kept.apart (rw found refl) free (Long n) held)
 
-    -- an extension that is not judged: those that are no more held are recalled first
+    -- an extension that is not judged: check-outs whose claims are no longer granted are recalled first
     recalled_then_granted : (line : List Claim) → ((n : ℕ) → is_some (claim_of line (Long n)) ≡ is_some (claim_of v.line (Long n))) → AreDrafts v.tree line (saved xs)
         → Agrees v.tree line (map (granted v.tree line) (map (recalled v.tree line) xs))
     recalled_then_granted line there drafts =
@@ -375,7 +375,7 @@ module _ {A : Type 0} where
       by_test true = append-nil (saved xs)
       by_test false = append-nil (saved xs)
 
-  -- a check-out whose claim is held is typed so
+  -- a check-out whose claim is granted is typed so
   found_type : (P : AnyCheckOut A → Type 0) (xs : List (AnyCheckOut A)) (n : ℕ) → All P xs → (c : AnyCheckOut A) → check_out_of xs n ≡ Some c → P c × (number_of c ≡ n)
   found_type P [] n all c e = cc
   found_type P (x ∷ xs) n all c e = by_test (number_of x == n) refl e (found_type P xs n (All-tail P x xs all) c)

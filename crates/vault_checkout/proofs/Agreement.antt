@@ -18,7 +18,7 @@ use Rattle.check_outs.specs.declared.any.AnyCheckOut.TheVariants.{Waiting, Held}
 use Rattle.check_outs.specs.Typed.{number_of, is_granted, check_out_of, is_held_standing, is_holding, granted_if, granted, recalled_unless, IsAscending, Agrees}
 use Rattle.check_outs.proofs.OwnDrafts.{all_kept}
 
--- a claim that is held, as a test and as a standing
+-- a claim that is granted, as a test and as a standing
 pub held_is : (o : Option Standing) → is_held_standing o ≡ true → o ≡ Some standings.Held
 held_is (Some standings.Held) h = refl
 held_is (Some (standings.Queued other)) h = cc
@@ -44,7 +44,7 @@ claim_gone (x ∷ line) id = by_test (same_id x.id id) refl (claim_gone line id)
     by_test true e rest = rest
     by_test false e rest = rw e rest
 
--- a claim that none before it has the id of is found, and stands behind those
+-- a claim is found if none before it has its id, and stands behind those
 pub found_there : (line : List Claim) (c : Claim) (more : List Claim) → claim_of line c.id ≡ None → claim_of (line ++ c ∷ more) c.id ≡ Some c
 found_there [] c more none = rw (same_id_itself c.id) refl
 found_there (x ∷ line) c more none = by_test (same_id x.id c.id) none (found_there line c more)
@@ -137,7 +137,7 @@ module _ {A : Type 0} where
   granted_type false (Waiting c) still = refl
   granted_type held (Held c) still = sym (still refl)
 
-  -- after others were granted: where those typed as held are still held, all types agree
+  -- after others were granted: where the claims of those typed as held are still granted, all types agree
   pub agrees_granted : (tree : List Place) (line : List Claim) (xs : List (AnyCheckOut A)) → IsAscending xs → ((n : ℕ) → is_some (check_out_of xs n) ≡ is_some (claim_of line (Long n)))
       → All (λ c. is_granted c ≡ true → is_holding tree line (number_of c) ≡ true) xs → Agrees tree line (map (granted tree line) xs)
   agrees_granted tree line xs ascending numbers still = record {
@@ -148,7 +148,7 @@ module _ {A : Type 0} where
         (λ c h. granted_type (is_holding tree line (number_of c)) c h ∙ ap (is_holding tree line) (sym (number_granted (is_holding tree line (number_of c)) c))) xs still);
   }
 
-  -- so it is where the line changed, and each claim that was held still is
+  -- so it is where the line changed, and each claim that was granted still is
   pub agrees_moved : (tree : List Place) (line others : List Claim) (xs : List (AnyCheckOut A)) → IsAscending xs → All (λ c. is_granted c ≡ is_holding tree line (number_of c)) xs
       → ((n : ℕ) → is_some (check_out_of xs n) ≡ is_some (claim_of others (Long n)))
       → ((n : ℕ) → is_some (claim_of others (Long n)) ≡ true → standing_of tree line (Long n) ≡ Some standings.Held → standing_of tree others (Long n) ≡ Some standings.Held)
@@ -160,7 +160,7 @@ module _ {A : Type 0} where
       let held = held_is (standing_of tree line (Long (number_of c))) (sym type ∙ typed) in
       ap is_held_standing (stays (number_of c) (sym (numbers (number_of c)) ∙ there) held)) types (each_found xs))
 
-  -- types that agreed, with another line that holds the same
+  -- types that agreed, with another line that grants the same claims
   pub agrees_same : (tree bigger : List Place) (line others : List Claim) (xs : List (AnyCheckOut A)) → Agrees tree line xs → ((n : ℕ) → is_some (claim_of others (Long n)) ≡ is_some (claim_of line (Long n)))
       → ((n : ℕ) → is_some (claim_of line (Long n)) ≡ true → standing_of bigger others (Long n) ≡ standing_of tree line (Long n)) → Agrees bigger others xs
   agrees_same tree bigger line others xs agrees there same = record {

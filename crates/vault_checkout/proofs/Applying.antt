@@ -53,7 +53,7 @@ may_make_is w parent name e =
     let kind = and_both (nat_le parent (length w.tree)) (not (is_part w.tree parent)) fresh.0 in
     record { there = let low = kind.0 in grind (arith, nat_tests, low); kind = not_false (is_part w.tree parent) kind.1; fresh = none_there (child w.tree parent name) fresh.1; room = not_false (is_full w.tree parent) room.1 }
 
--- an effect of a claim, where none of the number is held
+-- an effect of a claim, where none of this number is granted
 module _ (w : Vault) (n : ℕ) (none : held_at w n ≡ None) where
   by_claim : {X : Type 0} (f g : Claim → Option X) → ((c : Claim) → is_held w.tree w.line c ≡ false → f c ≡ None) → (o : Option Claim) → option_and_then (λ (c : Claim). if is_held w.tree w.line c then Some c else None) o ≡ None → option_and_then f o ≡ None
   by_claim f g fails None e = refl
@@ -101,7 +101,7 @@ module _ (w : Vault) (n : ℕ) (claim : Claim) (found : claim_of w.line (Long n)
   unfolding after_checked_in
   checked_in_as shelvable e = rw (found, held, e) refl
 
--- the claim that is held
+-- the claim that is granted
 pub held_is_held : (w : Vault) (n : ℕ) (claim : Claim) → held_at w n ≡ Some claim → (claim_of w.line (Long n) ≡ Some claim) × (is_held w.tree w.line claim ≡ true)
 held_is_held w n claim e = by_claim (claim_of w.line (Long n)) refl e
   where

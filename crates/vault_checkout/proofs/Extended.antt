@@ -46,7 +46,7 @@ module _ (v : Vault) (kept : IsVault v) (id : ClaimId) (items : List Item) (held
       by_way None e None at some = cc
       by_way None e (Some claim) at some = agrees_first v kept xs agrees id claim items at e
 
--- the same, of an extension that is not judged, where the check-outs with drafts stay held
+-- the same, for an extension that is not judged, where the check-outs with drafts stay granted
 module _ (v : Vault) (kept : IsVault v) (id : ClaimId) (items : List Item) (found : is_some (claim_of v.line id) ≡ true) (more : (c : Claim) → claim_of v.line id ≡ Some c → (more : List Item) × (items ≡ c.items ++ more)) where
   drafts_put : drafts_held v.tree (put_first v.line id items) v.drafts ≡ true → AreDrafts v.tree (put_first v.line id items) v.drafts
   drafts_put held = by_claim (claim_of v.line id) refl found

@@ -1,4 +1,4 @@
--- An extension that another held claim is in the way of.
+-- An extension with another granted claim in its way.
 use Rattle.std.proofs.Common.{◌≡◌, ◌∙◌, ◌+◌, ◌++◌, ◌==◌, ◌||◌, nat_lt, List, length, false, Option, Some, None, Ok, Err, refl, sym, ap}
 use Rattle.vault_model.specs.declared.claims.Claim.{Claim}
 use Rattle.vault_model.specs.declared.claims.Item.{Item}
@@ -20,7 +20,7 @@ pub overlaps : (v : Vault) (session : Session) (id : ClaimId) (wanted : List Pat
 unfolding extend chained
 overlaps v session id wanted claim items other used few found way = rw (used, few, found, way) refl
 
--- what an extension is answered tells who is in the way
+-- the answer to an extension names the claim that is in the way
 pub who_is_in_the_way : (way : Option ClaimId) (other : ClaimId) → InTheWay other ≡ extension_by way → way ≡ Some other
 who_is_in_the_way way other same = sym (ap id_in same ∙ back way)
   where

@@ -16,7 +16,7 @@ follows_refused v (Ok x) why decision is e = absurd is
 follows_refused v (Err (Refused r)) why decision is e = let same : r ≡ why = cc in (subst (λ (q : Refusal). decision ≡ Err q) (sym same) e, refl)
 follows_refused v (Err OutOfMemory) why decision is e = absurd (cc)
 
--- want of memory for what is no refusal
+-- out of memory for what isn't refused
 pub follows_memory : {A : Type 0} (v w : Vault) (result : Result (Done A) Stop) (decision : Result Outcome Refusal) (outcome : Outcome) → IsErrAnd result (λ (e : Stop). e ≡ OutOfMemory) → decision ≡ Ok outcome → w ≡ v → Follows v result w decision
 follows_memory v w (Ok x) decision outcome is e same = absurd is
 follows_memory v w (Err (Refused r)) decision outcome is e same = absurd (cc)

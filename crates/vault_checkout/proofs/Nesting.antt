@@ -1,4 +1,4 @@
--- What `nest` decides, from what was looked at.
+-- What `nest` decides, from what it looked at.
 use Rattle.std.specs.Prelude.{◌≡◌, ℕ, ◌+◌, true, false, List, length, Option, Some, Ok, Err, refl}
 use Rattle.vault_model.specs.declared.session.Session.{Session}
 use Rattle.vault_model.specs.declared.effects.Effect.TheVariants as effects

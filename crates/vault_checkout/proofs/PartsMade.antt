@@ -210,7 +210,7 @@ module _ (A : Type 0) where
         (λ c is. ap (drafts_under (saved (opened_all {A = A} claims drafts))) is ∙ drafts_are (number_in c.id) (opened_all claims drafts) (ascending_opened A claims drafts long)) claims long.each)
         ∙ drafts_opened A claims drafts match long
 
-    -- the types of the check-outs, once those that are held are granted
+    -- the types of the check-outs, once those whose claims are granted are, too
     pub agrees_made : Agrees tree claims (map (granted tree claims) (opened_all {A = A} claims drafts))
     agrees_made =
         agrees_granted tree claims (opened_all claims drafts) (ascending_opened A claims drafts long) (λ n. found_opened A n claims drafts match long)

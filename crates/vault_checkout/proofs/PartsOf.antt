@@ -54,7 +54,7 @@ rising_of n (x ∷ ds) ordered = by_test (x.claim == n) refl (rising_of n ds ord
     by_test true e rest = (ahead ds e ordered.0, rest)
     by_test false e rest = rest
 
--- a check-out that has drafts is held
+-- a check-out that has drafts is granted
 some_held : (tree : List Place) (line : List Claim) (n : ℕ) (ds : List SavedDraft) → All (IsDraft tree line) ds → drafts_of ds n ≢ [] → standing_of tree line (Long n) ≡ Some Stands
 some_held tree line n [] all some = absurd (some refl)
 some_held tree line n (x ∷ ds) all some = by_test (x.claim == n) refl some (some_held tree line n ds (All-tail (IsDraft tree line) x ds all))
@@ -80,7 +80,7 @@ same_at f g (x ∷ line) id c found same = by_test (same_id x.id id) found (same
 all_held : (tree : List Place) (line : List Claim) (ds : List SavedDraft) → AreDrafts tree line ds → All (λ (x : SavedDraft). standing_of tree line (Long x.claim) ≡ Some Stands) ds
 all_held tree line ds are = All-weaker (IsDraft tree line) (λ (x : SavedDraft). standing_of tree line (Long x.claim) ≡ Some Stands) (λ x is. is.held) ds are.each
 
--- the drafts of a line are told by those of each claim
+-- the drafts of each claim determine those of the line
 pub one_of : (tree : List Place) (line : List Claim) (ds es : List SavedDraft) → AreDrafts tree line ds → AreDrafts tree line es → map (λ (c : Claim). drafts_under ds c.id) line ≡ map (λ (c : Claim). drafts_under es c.id) line → ds ≡ es
 one_of tree line ds es are_ds are_es same = one_drafts ds es are_ds.ordered are_es.ordered (λ n. by_claim n (claim_of line (Long n)) refl)
   where

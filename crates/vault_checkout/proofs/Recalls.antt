@@ -1,4 +1,4 @@
--- Whether drafts' check-outs stay held when a claim with more items stands first.
+-- Whether drafts' check-outs stay granted when a claim with more items stands first.
 use Rattle.std.specs.Prelude.{◌≡◌, ℕ, zero, suc, ◌+◌, ◌<◌, drop, slice_index_or, ◌&&◌, Bool, true, false, not, List, [], ◌∷◌, ◌++◌, length, find, Option, None, Some, is_some, All, refl}
 use Rattle.std.specs.List.{IsDistinct}
 use Rattle.std.specs.Option.{option_map, option_map_or, is_none}
@@ -29,7 +29,7 @@ held-append tree line (x ∷ xs) ys = by_test (option_map_or (λ c. is_held tree
     by_test true h = h
     by_test false h = refl
 
--- the drafts of one check-out: held where it is, if there are any
+-- the drafts of one check-out: granted where it is, if there are any
 marked_held : (tree : List Place) (line : List Claim) (n : ℕ) (drafts : List Draft) → ((drafts ≡ [] → ⊥) → option_map_or (λ c. is_held tree line c) (claim_of line (Long n)) false ≡ true) → drafts_held tree line (marked n drafts) ≡ true
 marked_held tree line n [] held = refl
 marked_held tree line n (d ∷ ds) held =
@@ -44,7 +44,7 @@ module _ (tree : List Place) (line : List Claim) (id : ClaimId) (items : List It
   first_is : (c : Claim) → claim_of line id ≡ Some c → put_first line id items ≡ record c { items = items } ∷ without line id
   first_is c found = rw found refl
 
-  -- the claim itself is held
+  -- the claim itself is granted
   itself_held : (c : Claim) → claim_of line id ≡ Some c → option_map_or (λ c. is_held tree (put_first line id items) c) (claim_of (put_first line id items) id) false ≡ true
   itself_held c found = rw (first_is c found) (
       let here : same_id c.id id ≡ true = subst (λ k. same_id c.id k ≡ true) (own_id line id c found) (same_id_itself c.id) in
@@ -52,7 +52,7 @@ module _ (tree : List Place) (line : List Claim) (id : ClaimId) (items : List It
       rw here (ap (λ ahead. is_none (blocker tree ahead items)) none)
       )
 
-  -- another that was held is held still where the two don't overlap
+  -- another that was granted still is where the two don't overlap
   other_held : (c : Claim) → claim_of line id ≡ Some c → (other : ClaimId) → same_id other id ≡ false → (d : Claim) → claim_of line other ≡ Some d → standing_of tree line other ≡ Some standings.Held
       → option_map_or (λ c. is_held tree (put_first line id items) c) (claim_of (put_first line id items) other) false ≡ not (overlap tree d.items items)
   other_held c found other apart d at held = rw (first_is c found) (

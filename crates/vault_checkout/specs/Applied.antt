@@ -8,13 +8,13 @@ use Rattle.vault_model.specs.Vault.{Vault}
 use Rattle.vault_checkout.specs.declared.apply.ApplyError.{ApplyError}
 use Rattle.vault_checkout.specs.declared.apply.ApplyError.TheVariants.{NotApplicable, NoMemory}
 
--- Done as defined; or not applicable, with nothing changed; or memory was wanted for what is applicable, and nothing changed.
+-- Done as defined; or not applicable, with nothing changed; or out of memory for what is applicable, with nothing changed.
 abbrev pub Applies : Vault → Result (Unit {0}) ApplyError → Vault → Option Vault → Type 0
 Applies old (Ok done) new next = next ≡ Some new
 Applies old (Err NotApplicable) new next = (next ≡ None) × (new ≡ old)
 Applies old (Err NoMemory) new next = IsSome next × (new ≡ old)
 
--- the long claim of this number, if it is held
+-- the long claim of this number, if it is granted
 abbrev pub held_at : Vault → ℕ → Option Claim
 held_at w number =
     option_and_then (λ (claim : Claim). if is_held w.tree w.line claim then Some claim else None) (claim_of w.line (Long number))

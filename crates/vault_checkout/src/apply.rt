@@ -1,4 +1,4 @@
-//! Effects, made on a book as the journal tells them.
+//! Effects, made on a book as the journal has them.
 ghost use Rattle.std.specs.Prelude.{◌≡◌, ◌+◌, ◌==◌, ◌&&◌, not, nat_le, length, Some};
 ghost use Rattle.vault_model.specs.After.{may_make, may_ask, are_there, after_made, after_nested, after_asked, after_extended, after_saved, after_checked_in, after_abandoned, after_given, after_noted, after};
 ghost use Rattle.vault_model.specs.Tree.{is_part};
@@ -37,8 +37,8 @@ impl From<NoMemory> for ApplyError {
     }
 }
 
-/// Whether a place may be made: its parent is there and no part, has no child of the name, and there
-/// is room.
+/// Whether a place may be made: its parent is there, isn't a part and has no child of the name, and
+/// there is room.
 fn may_make<A: Allocator>(tree: &Tree<A>, parent: PlaceId, name: &Name) -> bool
     ensures { result ≡ may_make (record new_vault { tree = tree.now }) parent name.now }
 {
@@ -48,7 +48,7 @@ fn may_make<A: Allocator>(tree: &Tree<A>, parent: PlaceId, name: &Name) -> bool
         && !tree.is_full(parent)
 }
 
-/// Whether a claim of these items may get more: it has not too many then, and their places are there.
+/// Whether a claim of its own items may get these: all together aren't too many, and their places are there.
 fn may_grow<A: Allocator>(tree: &Tree<A>, own: &Items, items: &Items) -> bool
     ensures { result ≡ (nat_le (length own.now + length items.now) most_items && are_there tree.now items.now) }
 {
@@ -193,10 +193,10 @@ impl<A: Allocator + Copy> Book<A> {
         Ok(())
     }
 
-    /// Makes the change of an effect, as a journal tells it; claims are not judged again. An effect
-    /// that is not applicable is refused before memory is wanted.
+    /// Makes the change of an effect, as a journal has it; claims are not judged again. An effect that
+    /// is not applicable is refused before memory is requested.
     ///
-    /// A check-out and an extension take the steps of their commands; the others take as many as
+    /// A check-out and an extension take as many steps as their commands; the others take as many as
     /// there are claims, or children of a place.
     #[tactic(auto, unfolding(vault_model::specs::After::after))]
     pub fn apply<B: Allocator>(&mut self, effect: &EffectIn<B>) -> Result<(), ApplyError>

@@ -1,5 +1,5 @@
-//! What is asked of a book and changes nothing: how a claim stands and all else of it, which claims look at a place, what stands right
-//! beneath one, and the drafts of a check-out.
+//! Questions to a book, which change nothing: how a claim stands and all else about it, which claims look at a place or under it, the
+//! children of a place, and the drafts of a check-out.
 ghost use Rattle.std.specs.Prelude.{◌≡◌};
 ghost use Rattle.vault_model.specs.Step.{designer_of, state, list, show, claims, drafts, draft};
 ghost use Rattle.vault_checkout.specs.Done.{Follows};
@@ -11,7 +11,7 @@ use check_outs::{Stop, at_paths, content_at, paths_of};
 use std::alloc::Allocator;
 use vault_model::{ClaimId, Name, Owner, Path, Refusal, Reply, Session, ShownClaim};
 
-/// Whose a claim is: a designer's, or that of its session's designer.
+/// The designer who owns a claim, or whose session does.
 fn designer_of(sessions: &[Session], owner: &Owner) -> Option<Name>
     ensures { result ≡ designer_of sessions.now owner.now }
 {

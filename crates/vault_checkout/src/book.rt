@@ -29,18 +29,18 @@ use vault_model::{
     ReplyIn, Session, Standing,
 };
 
-/// A vault: its tree, the shelf of versions, the line of claims, the check-outs with their drafts, and the sessions.
+/// A vault: its tree, the shelf of versions, the queue of claims, the check-outs with their drafts, and the sessions.
 #[derive(Drop)]
 pub struct Book<A: Allocator = Global> {
     /// The places.
     pub(crate) tree: Tree<A>,
     /// The versions of all parts.
     pub(crate) shelf: Shelf<A>,
-    /// The claims, long and short, in the order of the line.
+    /// The queue of claims, long and short.
     pub(crate) line: Line<A>,
-    /// A check-out for each long claim, by rising number, with its drafts where it is held.
+    /// A check-out for each long claim, by rising number, with its drafts where it is granted.
     pub(crate) check_outs: Vec<AnyCheckOut<A>, A>,
-    /// The sessions that stand, in the order in which they joined.
+    /// The open sessions, in the order in which they joined.
     pub(crate) sessions: Vec<Session, A>,
     /// The last number given to a session.
     pub(crate) last_session: u32,
@@ -69,7 +69,7 @@ pub(crate) fn reply_of<A: Allocator>(id: ClaimId, standing: Standing) -> ReplyIn
     }
 }
 
-/// What is kept of an extension for good.
+/// The durable effect of an extension.
 fn effect_of<A: Allocator>(id: ClaimId, items: Items) -> Option<EffectIn<A>>
     ensures { result ≡ extension id items }
 {
@@ -141,14 +141,14 @@ impl<A: Allocator + Copy> Book<A> {
         &self.shelf
     }
 
-    /// The drafts of the check-out of this number, by rising place; none where it has none, or is not there.
+    /// The drafts of the check-out of this number, by rising place; none where it has none, or doesn't exist.
     pub fn drafts(&self, number: u32) -> &[DraftIn<A>]
         ensures { result.now ≡ drafts_of self.now.drafts number }
     {
         drafts_at(&self.check_outs, number)
     }
 
-    /// The check-out of this number, typed as it stands; none where there is no such claim. Its contract says, too, what every
+    /// The check-out of this number, typed by its standing; none where there is no such claim. The contract also says what every
     /// book keeps.
     pub fn check_out_of(&self, number: u32) -> Option<&AnyCheckOut<A>>
         ensures well_formed { IsVault self.now }
@@ -160,7 +160,7 @@ impl<A: Allocator + Copy> Book<A> {
         check_out_at(&self.check_outs, number)
     }
 
-    /// The line of claims.
+    /// The queue of claims.
     pub fn line(&self) -> &Line<A>
         ensures claims { result.now.claims ≡ self.now.line }
         ensures last_long { result.now.last_long ≡ self.now.last_long }
@@ -205,7 +205,7 @@ impl<A: Allocator + Copy> Book<A> {
         })
     }
 
-    /// Whether a claim of the line is held.
+    /// Whether a claim of the queue is granted.
     pub(crate) fn is_held(&self, claim: &Claim) -> bool
         requires { claim_of self.now.line claim.now.id ≡ Some claim.now }
         ensures { result ≡ is_held self.now.tree self.now.line claim.now }
@@ -213,7 +213,7 @@ impl<A: Allocator + Copy> Book<A> {
         self.line.standing(claim.id) == Some(Standing::Held)
     }
 
-    /// The held claim of this id, for one who owns it.
+    /// The granted claim of this id, for a session that owns it.
     #[tactic(auto, unfolding(vault_model::specs::Step::usable, vault_model::specs::Step::chained))]
     pub(crate) fn usable(&self, session: &Session, id: ClaimId) -> Result<Claim, Refusal>
         ensures decided { result ≡ usable self.now session.now id }
@@ -369,9 +369,9 @@ impl<A: Allocator + Copy> Book<A> {
 
     /// Does a session's command, or refuses it, and counts it. Session 0 is the door.
     ///
-    /// The work never grows with the number of places. A check-out and a hold look at the queues of the places in their own lock
-    /// set alone; an extension, and what takes a claim out of the line, at those of all queued claims. A map finds a claim by its
-    /// number.
+    /// The work never grows with the number of places. A check-out and a hold look only at the queues of the places in their own
+    /// lock set. An extension, and what removes a claim, look at those of the lock sets of all waiting claims. A map finds a claim
+    /// by its number.
     #[tactic(auto, unfolding(vault_model::specs::Step::step))]
     pub fn act<B: Allocator>(
         &mut self,
@@ -382,9 +382,9 @@ impl<A: Allocator + Copy> Book<A> {
         ensures told { IfOk result (λ told. told.0 ≡ (step self.old session command.now).reply) }
         ensures effect { IfOk result (λ told. told.1 ≡ (step self.old session command.now).effect) }
         ensures vault { OnOk result (self.new ≡ (step self.old session command.now).vault) }
-
-        // Memory is wanted only by what is no refusal, and the book is then as it was.
         ensures counts { (bound : ℕ) → CountsBelow bound self.old → CountsBelow (bound + 1) self.new }
+
+        // Only a command that isn't refused can run out of memory, and the book is then as it was.
         ensures memory { OnErr result (IsOk (decide self.old session command.now) × (self.new ≡ self.old)) }
     {
         match self.decide(session, command) {

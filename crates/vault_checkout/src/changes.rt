@@ -1,4 +1,4 @@
-//! The changes of claims and drafts that commands and effects make alike.
+//! The changes of claims and drafts that commands and effects share.
 ghost use Rattle.std.specs.Prelude.{◌≡◌, ℕ, ◌+◌, ◌<◌, ◌≤◌, true, false, List, length, ◌++◌, None, Some, IsSome, IfSome, is_some, All, IfOk, IfErr, OnOk, OnErr};
 ghost use Rattle.vault_model.specs.declared.claims.Claim.{Claim};
 ghost use Rattle.vault_model.specs.declared.claims.Item.{Item};
@@ -31,7 +31,7 @@ use vault_model::{
     Claim, ClaimId, Draft, Items, Kind, Listing, Name, NoMemory, Note, PlaceId, Standing,
 };
 
-/// Whether others overlap the items that have these locks: to look at one claim beside many, its locks are made once.
+/// Whether others overlap the items that have these locks. To compare one claim with many, its locks are made once.
 pub(crate) fn overlaps_locks<A: Allocator>(tree: &Tree<A>, locks: &LockSet, others: &Items) -> bool
     requires others { AreThere tree.now others.now }
     requires apart { AreApart locks.now }
@@ -94,8 +94,8 @@ impl<A: Allocator + Copy> Book<A> {
         Ok(standing)
     }
 
-    /// Takes a long claim out of the line, and its check-out with its drafts; check-outs that are now
-    /// held are granted.
+    /// Takes a long claim out of the queue, and its check-out with its drafts. Grants the check-outs
+    /// whose claims are now granted.
     pub(crate) fn withdraw(&mut self, number: u32)
         ensures { self.new ≡ without_check_out self.old number }
     {
@@ -104,14 +104,14 @@ impl<A: Allocator + Copy> Book<A> {
         grant_held(&mut self.check_outs, &self.line);
     }
 
-    /// Gives a long claim to a designer, in its place. Its check-out stays as it is, with its drafts.
+    /// Gives a long claim to a designer. It keeps its place in the queue, and its check-out with its drafts.
     pub(crate) fn set_owner(&mut self, number: u32, designer: Name)
         ensures { self.new ≡ with_owner self.old number designer }
     {
         self.line.give(number, designer);
     }
 
-    /// Gives a long claim a note, in its place. Its check-out stays as it is, with its drafts.
+    /// Gives a long claim a note. It keeps its place in the queue, and its check-out with its drafts.
     pub(crate) fn set_note(&mut self, number: u32, note: Note)
         ensures { self.new ≡ with_note self.old number note }
     {
@@ -120,7 +120,7 @@ impl<A: Allocator + Copy> Book<A> {
         self.line.set_note(number, note);
     }
 
-    /// Takes a short claim out of the line; check-outs that are now held are granted.
+    /// Takes a short claim out of the queue. Grants the check-outs whose claims are now granted.
     pub(crate) fn drop_hold(&mut self, number: u32)
         ensures { self.new ≡ without_hold self.old number }
     {
@@ -128,8 +128,8 @@ impl<A: Allocator + Copy> Book<A> {
         grant_held(&mut self.check_outs, &self.line);
     }
 
-    /// Gives a held claim these items, in place of its own, and the first place in the line, if it
-    /// overlaps no other held claim with them.
+    /// Gives a granted claim these items instead of its own, and the first place in the queue, if with
+    /// them it overlaps no other granted claim.
     pub(crate) fn move_first(&mut self, id: ClaimId, items: Items) -> Result<Extension, NoMemory>
         requires held { standing_of self.old.tree self.old.line id ≡ Some standings.Held }
         requires more { (c : Claim) → claim_of self.old.line id ≡ Some c → (more : List Item) × (items ≡ c.items ++ more) }
@@ -146,7 +146,7 @@ impl<A: Allocator + Copy> Book<A> {
         Ok(extension)
     }
 
-    /// The long claim of this number, if it is held.
+    /// The long claim of this number, if it is granted.
     pub(crate) fn held(&self, number: u32) -> Option<Claim>
         ensures is { result ≡ held_at self.now number }
         ensures found { IfSome result (λ claim. claim_of self.now.line (Long number) ≡ Some claim) }
@@ -166,7 +166,7 @@ impl<A: Allocator + Copy> Book<A> {
         let _ = &self.line;
     }
 
-    // Whether a check-out with drafts stays held once a claim has these items and stands first.
+    // Whether a check-out stays granted, or has no drafts, once a claim has these items and stands first.
     fn stays_held(&self, check_out: &AnyCheckOut<A>, number: u32, items: &Items) -> bool
         requires drafts { All (IsDraft self.now.tree self.now.line) (marked (number_of check_out.now) (own_drafts check_out.now)) }
         requires found { is_some (claim_of self.now.line (Long number)) ≡ true }
@@ -201,7 +201,7 @@ impl<A: Allocator + Copy> Book<A> {
         true
     }
 
-    /// Whether every check-out with drafts stays held once a claim has these items and stands first.
+    /// Whether every check-out with drafts stays granted once a claim has these items and stands first.
     pub(crate) fn stay_held(&self, number: u32, items: &Items) -> bool
         requires found { is_some (claim_of self.now.line (Long number)) ≡ true }
         requires there { AreThere self.now.tree items.now }
@@ -210,8 +210,8 @@ impl<A: Allocator + Copy> Book<A> {
         self.each_stays_held(&self.check_outs, number, items)
     }
 
-    /// Gives a long claim these items, in place of its own, and the first place in the line, without
-    /// judging it: check-outs are recalled or granted as they then stand.
+    /// Gives a long claim these items instead of its own, and the first place in the queue, without
+    /// judging it. Check-outs are recalled (wait again) or granted as their claims then stand.
     pub(crate) fn put_first(&mut self, number: u32, items: &Items) -> Result<(), NoMemory>
         requires found { is_some (claim_of self.old.line (Long number)) ≡ true }
         requires more { (c : Claim) → claim_of self.old.line (Long number) ≡ Some c → (more : List Item) × (items.now ≡ c.items ++ more) }
@@ -228,8 +228,8 @@ impl<A: Allocator + Copy> Book<A> {
         Ok(())
     }
 
-    /// Makes versions of the drafts of a held check-out, all or none, and takes its claim out of the
-    /// line. It answers how many there were.
+    /// Makes versions of the drafts of a granted check-out, all or none, and takes its claim out of the
+    /// queue. It returns the number of drafts.
     pub(crate) fn close(&mut self, number: u32) -> Result<u32, Stop>
         requires { standing_of self.old.tree self.old.line (Long number) ≡ Some standings.Held }
         ensures allowed { OnOk result (is_shelvable self.old.shelf (drafts_of self.old.drafts number) ≡ true) }
@@ -247,7 +247,7 @@ impl<A: Allocator + Copy> Book<A> {
         Ok(count)
     }
 
-    /// Whether a held check-out may save this content of a place.
+    /// Whether a granted check-out may save this content of a place.
     pub(crate) fn may_save(&self, number: u32, place: PlaceId, content: &[u8]) -> bool
         requires { standing_of self.now.tree self.now.line (Long number) ≡ Some standings.Held }
         ensures { result ≡ may_save self.now (new_draft number place content.now) }
@@ -255,7 +255,7 @@ impl<A: Allocator + Copy> Book<A> {
         may_save(&self.shelf, &self.check_outs, number, place, content)
     }
 
-    /// Saves a content of a place that a held check-out changes, in place of one saved before.
+    /// Saves a content of a place that a granted check-out changes. It replaces one saved before.
     pub(crate) fn save_draft(
         &mut self,
         number: u32,

@@ -7,7 +7,7 @@ use std::alloc::Allocator;
 use vault_model::NoMemory;
 
 impl<A: Allocator + Copy> Book<A> {
-    /// The same book, in the memory that this one is kept in.
+    /// A copy of the book, in memory from the same allocator.
     pub fn copy(&self) -> Result<Book<A>, NoMemory>
         ensures { IfOk result (λ copy. copy ≡ self.now) }
     {

@@ -1,4 +1,4 @@
-//! A book made of parts that were kept.
+//! A book made of stored parts.
 ghost use Rattle.std.specs.Prelude.{◌≡◌, length, All, IfOk, IfErr};
 ghost use Rattle.check_outs.specs.CheckOuts.{IsRising};
 ghost use Rattle.check_outs.specs.Parts.{Parts, IsVaultOf, opened_all};
@@ -46,10 +46,11 @@ fn opened_all<A: Allocator + Copy>(
 }
 
 impl<A: Allocator + Copy> Book<A> {
-    /// The book of the durable vault that has just these parts, of which there is at most one: the last
-    /// number given to a check-out, the claims in the order of the line and, in the same order, the
-    /// drafts of each claim by rising place. It is kept in the claims' memory. Parts of no vault are
-    /// refused before memory is asked for. Each claim with drafts is compared with all before it.
+    /// The book of the durable vault that has exactly these parts; there is at most one. `last_long` is
+    /// the last number given to a check-out. The claims are in the order of the queue and, in the same
+    /// order, there are the drafts of each claim by rising place. The book uses the claims' allocator.
+    /// Parts of no vault are refused before memory is asked for. Each claim with drafts is compared with
+    /// all before it.
     pub fn from_parts(
         tree: Tree<A>,
         shelf: Shelf<A>,

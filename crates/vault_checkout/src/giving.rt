@@ -11,7 +11,7 @@ use std::alloc::Allocator;
 use vault_model::{Claim, ClaimId, Effect, Name, Note, Refusal, Reply, Session};
 
 impl<A: Allocator + Copy> Book<A> {
-    /// The claim of this id, held or queued, for one who owns it.
+    /// The claim of this id, granted or waiting, for a session that owns it.
     #[tactic(auto, unfolding(vault_model::specs::Step::owned, vault_model::specs::Step::chained))]
     pub(crate) fn owned(&self, session: &Session, id: ClaimId) -> Result<Claim, Refusal>
         ensures { result ≡ owned self.now session.now id }

@@ -1,4 +1,4 @@
-//! Check-outs granted and recalled as their claims stand.
+//! Check-outs are granted and recalled (wait again) as their claims stand.
 ghost use Rattle.std.specs.Prelude.{◌≡◌, List, map};
 ghost use Rattle.vault_model.specs.declared.place.Place.{Place};
 ghost use Rattle.vault_model.specs.Tree.{IsTree};
@@ -35,9 +35,9 @@ fn recall_queued_one<A: Allocator + Copy>(check_out: &mut AnyCheckOut<A>, alloc:
     recall_one(check_out, alloc, holds);
 }
 
-/// Grants each waiting check-out whose claim is held.
+/// Grants each waiting check-out whose claim is granted.
 ///
-/// It asks the line for the standing of each waiting check-out, and of no other.
+/// It asks the queue for the standing of each waiting check-out, and of no other.
 pub(crate) fn grant_held<A: Allocator + Copy>(
     check_outs: &mut Vec<AnyCheckOut<A>, A>,
     line: &Line<A>,
@@ -51,7 +51,7 @@ pub(crate) fn grant_held<A: Allocator + Copy>(
     }
 }
 
-/// Recalls each held check-out without drafts whose claim is no more held.
+/// Recalls each granted check-out without drafts whose claim isn't granted any more: it waits again.
 pub(crate) fn recall_queued<A: Allocator + Copy>(
     check_outs: &mut Vec<AnyCheckOut<A>, A>,
     line: &Line<A>,

@@ -1,4 +1,4 @@
-//! Places made: by `make` what stands under the parent where nothing else is asked for, by `nest` an assembly.
+//! Places made: by `make` of the default kind under the parent, by `nest` an assembly.
 ghost use Rattle.std.specs.Prelude.{◌≡◌, ℕ, ◌≤◌, false, None, length, OnOk};
 ghost use Rattle.vault_model.specs.Tree.{child, is_full};
 ghost use Rattle.vault_model.specs.Vault.{CountsBelow};

@@ -78,7 +78,7 @@ fn each_may_have<A: Allocator>(tree: &Tree<A>, claims: &[Claim], drafts: &[Draft
     true
 }
 
-/// Whether these are parts of a vault, if the claims are a line of long ones.
+/// Whether these are parts of a vault, provided that the claims are a queue of long ones.
 pub(crate) fn are_fit<A: Allocator>(
     tree: &Tree<A>,
     shelf: &Shelf<A>,

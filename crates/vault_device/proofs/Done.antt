@@ -10,7 +10,7 @@ use Rattle.vault_device.proofs.Torn.{torn_none}
 use Rattle.vault_device.specs.MemDevice.{MemDisk, disk_of}
 use Rattle.vault_device.specs.MemoryLaws.{memory_disk, image_shown, torn_whole}
 
--- nothing is unsettled, so nothing is to be settled
+-- all is durable, so a sync has nothing to do
 sync_at_rest : {E : Type 0} (history : List Event) (a b c d : ℕ) → (content_of history).settled ≡ (content_of history).shown → ((x : List ℕ) → IsImageOf history x → x ≡ (content_of history).shown)
     → IsSync {E = E} (Ok tt) (memory_disk history a b) (memory_disk history c d)
 sync_at_rest history a b c d settled only = record {
@@ -53,13 +53,13 @@ image_filled b (Wrote at bytes ∷ earlier) =
 image_filled b (Synced ∷ earlier) = refl
 image_filled b (Crashed pick ∷ earlier) = refl
 
--- whatever is picked, a crash may leave it
+-- what any pick gives, a crash may leave
 pub image_picked : (pick : Pick) (history : List Event) → IsImageOf history (picked pick (content_of history))
 image_picked Old history = image_settled history
 image_picked New history = image_shown history
 image_picked (Bytes b) history = image_filled b history
 
--- after a crash that is shown, settled and left which it picked
+-- after a crash, what its pick gives is shown and durable, and a further crash leaves it
 pub shown_picked : (pick : Pick) (history : List Event) → (content_of (after_crash pick history)).shown ≡ picked pick (content_of history)
 shown_picked Old [] = refl
 shown_picked New [] = refl

@@ -72,7 +72,7 @@ to_behind gate bytes result old new closed lawful wrote =
 pub to_settled : {E : Type 0} (P : List ℕ → Type 0) (result : Result (Unit {0}) E) (old mid new : Disk) → IsLawful mid → LeavesSince old mid P → IsSync result mid new → LeavesSince old new P
 to_settled P result old mid new lawful since synced = and_then old mid new P since (no_more mid new P lawful synced.time (stands_now old mid P lawful since))
 
--- what is settled before the byte is opened
+-- what is durable before the byte is opened
 pub settled_behind : {E : Type 0} (gate : ℕ) (bytes : List ℕ) (old mid new : Disk) → IsShut gate old → IsWrite {E = E} (gate + 1) bytes (Ok tt) old mid → IsSync {E = E} (Ok tt) mid new → (new.shown ≡ old.shown ++ bytes) × LeavesOnly new (old.shown ++ bytes)
 settled_behind gate bytes old mid new closed wrote synced =
     let is : mid.shown ≡ old.shown ++ bytes = wrote.shown ∙ behind gate old.shown bytes closed.last closed.shut in
@@ -86,7 +86,7 @@ to_opened gate bytes result old mid new closed only lawful since wrote =
     (one_call mid new (IsTornImage mid gate 1) (IsOldOrNew gate old.shown bytes) lawful wrote.time (stands_now old mid (IsOldOrNew gate old.shown bytes) lawful since)
     (λ x torn. torn_gate gate old.shown bytes closed.last closed.shut x (subst (λ (y : List ℕ). IsTorn gate 1 y x) (only torn.0 torn.1) torn.2)))
 
--- once the open byte is settled, all stands
+-- once the open byte is durable, all stands
 pub all_whole : {E : Type 0} (gate : ℕ) (bytes : List ℕ) (result : Result (Unit {0}) E) (old settled opened new : Disk) → IsShut gate old → settled.shown ≡ old.shown ++ bytes → IsWrite {E = E} gate (1 ∷ []) (Ok tt) settled opened → IsSync result opened new
     → OnOk result ((x : List ℕ) → new.IsImage x → stands_for gate x ≡ stands_for gate old.shown ++ bytes)
 all_whole gate bytes (Err e) old settled opened new closed is wrote synced = tt

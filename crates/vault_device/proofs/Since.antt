@@ -1,4 +1,4 @@
--- The events of a memory since its last settling.
+-- The events of a memory since its last sync or crash.
 use Rattle.std.proofs.Common.{◌≡◌, ℕ, zero, suc, ◌+◌, ◌-◌, ◌<◌, ◌≤◌, min, max, true, List, [], ◌∷◌, ◌++◌, length, get_or, replicate, reverse, take, drop, refl, sym, ◌∙◌, ap, subst, arith, vec_capacity, length-append, ◌==◌}
 use Rattle.std.proofs.lemmas.Bool.Decides.{nat_tests}
 use Rattle.std.proofs.lemmas.List.{reverse-append, drop-append-le, drop_all, length-drop, length-replicate, drop_more, take_all}
@@ -123,7 +123,7 @@ cover_crashed b total pick events i e x y first below is-item is-crash same lead
       ap (λ (l : List ℕ). covered b (drop (i + 1) events) l) same ∙ ap (λ (l : List Event). covered b l x) (sym split) ∙ is-first,
     )
 
--- all of these bytes are settled now
+-- all of these bytes are durable now
 pub rest_kept : {A : Type 0} (old new : Inside A) (e : Event) (bytes : List ℕ) → content_of (e ∷ history_of old) ≡ at_rest bytes → is_at_rest (e ∷ history_of old) ≡ true
     → new.shown.items ≡ bytes → new.settled.items ≡ bytes → new.events.items ≡ old.events.items ++ e ∷ [] → new.start ≡ length new.events.items → new.clean ≡ length new.shown.items → length bytes ≤ vec_capacity new.settled → IsMemory new
 rest_kept old new e bytes content rest shown settled events start clean room = record {
@@ -153,7 +153,7 @@ left_picked Old old kept = kept.settled
 left_picked New old kept = kept.shown
 left_picked (Bytes b) old kept = sym (kept.filled b)
 
--- a slice of the events from the last settling on is what was done since
+-- a slice of the events from the last sync or crash on is what was done since
 left_since : (pick : Pick) (shown other settled : List ℕ) (start : ℕ) (all events : List Event) → other ≡ settled → all ≡ events
     → left pick shown other (take (length all - start) (drop start all)) ≡ left pick shown settled (drop start events)
 left_since pick shown other settled start all events same same_events =

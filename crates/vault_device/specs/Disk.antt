@@ -1,18 +1,18 @@
 -- The disk model: what a device shows, and what its calls and a crash may do to it.
 use Rattle.std.specs.Prelude.{◌≡◌, ◌⊎◌, ℕ, ◌+◌, ◌-◌, ◌<◌, ◌≤◌, ◌^◌, min, max, Bool, List, ◌++◌, length, take, drop, slice_index, Result, IsErr, OnOk}
 
--- What a device shows. What is said of its bytes holds of an honest one.
+-- What a device shows. What contracts say of its bytes holds only of an honest device.
 pub record Disk : Type 1 where
   pub honest : Bool
   -- what a read gives
   pub shown : List ℕ
-  -- what a read gave at its making, its last crash or its last sync that succeeded
+  -- what a read gave when it was made, at its last crash or at its last successful sync
   pub settled : List ℕ
   -- a crash now may leave this
   pub IsImage : List ℕ → Type 0
-  -- a number that doesn't fall
+  -- a number that never decreases
   pub moment : ℕ
-  -- a crash at some moment from that one on might have left this
+  -- a crash at that moment or later might have left this
   pub WasImage : ℕ → List ℕ → Type 0
   pub calls : ℕ
   pub faults : ℕ
@@ -21,8 +21,8 @@ pub record Disk : Type 1 where
 abbrev pub overwritten : List ℕ → ℕ → List ℕ → List ℕ
 overwritten old at bytes = take at old ++ bytes ++ drop (at + length bytes) old
 
--- What a crash makes of a write of n bytes that isn't settled: any bytes in its range and past the old end, any length
--- from the old one to the new one, and the same bytes elsewhere.
+-- What a crash makes of a write of n bytes that isn't durable: any bytes in its range and past the old end, any length from the
+-- old one to the new one, and the same bytes elsewhere.
 pub record IsTorn (at n : ℕ) (old new : List ℕ) : Type 0 where
   pub no_shorter : length old ≤ length new
   pub no_longer : length new ≤ max (length old) (at + n)
@@ -37,18 +37,18 @@ IsTornImage disk at n x = (y : List ℕ) × disk.IsImage y × IsTorn at n y x
 abbrev pub LeavesOnly : Disk → List ℕ → Type 0
 LeavesOnly disk bytes = (x : List ℕ) → disk.IsImage x → x ≡ bytes
 
--- where the counts of calls and of faults stop; they stay there then
+-- the counts of calls and of faults stop here
 abbrev pub last_count : ℕ
 last_count = 2 ^ 64 - 1
 
--- Time goes on: what a crash since a moment might have left is what it might have left before, or what a stop inside
--- leaves, of which this is said.
+-- Time goes on. What a crash since a moment might have left is what it might have left before this call, or what a crash inside
+-- the call leaves (`Inside`).
 pub record Elapses (old new : Disk) (Inside : List ℕ → Type 0) : Type 0 where
   pub later : old.moment ≤ new.moment
   pub nothing_else : (t : ℕ) (x : List ℕ) → t ≤ old.moment → new.WasImage t x → old.WasImage t x ⊎ Inside x
   pub keeps : (t : ℕ) (x : List ℕ) → t ≤ old.moment → old.WasImage t x → new.WasImage t x
 
--- One call was counted. A fault is answered only where one was counted or no more can be, and counted only where it is answered.
+-- One call was counted. A fault is returned only if it was counted or the count is full, and counted only if it is returned.
 pub record IsOneCall {A E : Type 0} (old new : Disk) (result : Result A E) : Type 0 where
   pub same_honesty : new.honest ≡ old.honest
   pub counted : new.calls ≡ min (old.calls + 1) last_count
@@ -57,21 +57,21 @@ pub record IsOneCall {A E : Type 0} (old new : Disk) (result : Result A E) : Typ
   pub cause : IsErr result → (old.faults < new.faults) ⊎ (new.faults ≡ last_count)
   pub no_fault : OnOk result (new.faults ≡ old.faults)
 
--- what is shown, settled and may be left is as it was
+-- what is shown and what is durable is as it was, and a crash may leave nothing new
 pub record IsRead (old new : Disk) : Type 0 where
   pub shown : new.shown ≡ old.shown
   pub settled : new.settled ≡ old.settled
   pub images : (x : List ℕ) → new.IsImage x → old.IsImage x
   pub time : Elapses old new old.IsImage
 
--- the bytes were written there, and are unsettled, at a fault too
+-- the bytes were written there and aren't durable yet; after a fault, too, a crash may leave the write torn
 pub record IsWrite {E : Type 0} (at : ℕ) (bytes : List ℕ) (result : Result (Unit {0}) E) (old new : Disk) : Type 0 where
   pub shown : OnOk result (new.shown ≡ overwritten old.shown at bytes)
   pub settled : new.settled ≡ old.settled
   pub images : (x : List ℕ) → new.IsImage x → IsTornImage old at (length bytes) x
   pub time : Elapses old new (IsTornImage old at (length bytes))
 
--- what a read gives is settled, or at a fault no more may be left than before
+-- what a read gives is durable; after a fault, a crash may leave no more than before
 pub record IsSync {E : Type 0} (result : Result (Unit {0}) E) (old new : Disk) : Type 0 where
   pub shown : new.shown ≡ old.shown
   pub settled : OnOk result (new.settled ≡ old.shown)

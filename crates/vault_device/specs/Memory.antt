@@ -1,4 +1,4 @@
--- A disk in memory, by all that was done to it.
+-- A disk in memory, as its history determines it.
 use Rattle.std.specs.Prelude.{◌≡◌, ◌⊎◌, ℕ, ◌+◌, ◌≤◌, max, Bool, true, false, List, [], ◌∷◌, length, replicate}
 use Rattle.vault_device.specs.Disk.{overwritten, IsTorn}
 use Rattle.vault_device.specs.declared.history.Event.{Event as EventOver}
@@ -14,7 +14,7 @@ Event = EventOver (List ℕ)
 pub record Content : Type 0 where
   pub shown : List ℕ
   pub settled : List ℕ
-  -- as though each write since the last settling had written nothing but this byte
+  -- what would be shown if each write since the last sync or crash had written only this byte
   pub filled : ℕ → List ℕ
 
 -- what a crash with this pick leaves
@@ -23,11 +23,11 @@ picked Old content = content.settled
 picked New content = content.shown
 picked (Bytes b) content = content.filled b
 
--- all of these bytes are settled
+-- all of these bytes are durable
 abbrev pub at_rest : List ℕ → Content
 at_rest bytes = record { shown = bytes; settled = bytes; filled = λ b. bytes }
 
--- one more write, unsettled
+-- one more write, not durable yet
 abbrev pub written : ℕ → List ℕ → Content → Content
 written at bytes content = record {
   shown = overwritten content.shown at bytes;
@@ -54,41 +54,41 @@ abbrev pub WasImageOf : List Event → ℕ → List ℕ → Type 0
 WasImageOf [] t x = IsImageOf [] x
 WasImageOf (event ∷ earlier) t x = IsImageOf (event ∷ earlier) x ⊎ ((t ≤ length earlier) × WasImageOf earlier t x)
 
--- nothing was written since the last settling
+-- nothing was written since the last sync or crash
 abbrev pub is_at_rest : List Event → Bool
 is_at_rest [] = true
 is_at_rest (Wrote at bytes ∷ earlier) = false
 is_at_rest (Synced ∷ earlier) = true
 is_at_rest (Crashed pick ∷ earlier) = true
 
--- the history with a sync, which does nothing where nothing is unsettled
+-- the history with a sync, which does nothing where all is durable
 abbrev pub after_sync : List Event → List Event
 after_sync [] = []
 after_sync (Wrote at bytes ∷ earlier) = Synced ∷ Wrote at bytes ∷ earlier
 after_sync (Synced ∷ earlier) = Synced ∷ earlier
 after_sync (Crashed pick ∷ earlier) = Crashed pick ∷ earlier
 
--- the history with a crash, which does nothing where nothing is unsettled
+-- the history with a crash, which does nothing where all is durable
 abbrev pub after_crash : Pick → List Event → List Event
 after_crash pick [] = []
 after_crash pick (Wrote at bytes ∷ earlier) = Crashed pick ∷ Wrote at bytes ∷ earlier
 after_crash pick (Synced ∷ earlier) = Synced ∷ earlier
 after_crash pick (Crashed other ∷ earlier) = Crashed other ∷ earlier
 
--- the bytes after these events, the first of them first, had each write written this byte alone
+-- the bytes after these events, oldest first, if each write had written only this byte
 abbrev pub covered : ℕ → List Event → List ℕ → List ℕ
 covered b [] x = x
 covered b (Wrote at bytes ∷ later) x = covered b later (overwritten x at (replicate (length bytes) b))
 covered b (Synced ∷ later) x = covered b later x
 covered b (Crashed pick ∷ later) x = covered b later x
 
--- what a crash with this pick makes of what is shown, what is settled and the events since then
+-- what a crash with this pick leaves, by what is shown, what is durable and the events since then
 abbrev pub left : Pick → List ℕ → List ℕ → List Event → List ℕ
 left Old shown settled later = settled
 left New shown settled later = shown
 left (Bytes b) shown settled later = covered b later settled
 
--- the writes among these events lie one upon the other, and lead from this length to that
+-- the writes among these events leave no gap, and lead from this length to that
 abbrev pub LeadsTo : ℕ → ℕ → List Event → Type 0
 LeadsTo len total [] = len ≡ total
 LeadsTo len total (Wrote at bytes ∷ later) = (at ≤ len) × LeadsTo (max len (at + length bytes)) total later

@@ -7,7 +7,7 @@ use Rattle.vault_device.specs.Memory.{Event, content_of, covered, LeadsTo, is_at
 abbrev pub history_of : {A : Type 0} → Inside A → List Event
 history_of memory = reverse memory.events.items
 
--- what was done since the last settling, the first of it first
+-- what was done since the last sync or crash, oldest first
 abbrev pub since : {A : Type 0} → Inside A → List Event
 since memory = drop memory.start memory.events.items
 

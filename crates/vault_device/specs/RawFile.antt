@@ -1,9 +1,9 @@
--- A file by the calls of the system, which may move fewer bytes than they are asked to.
+-- A file through system calls, which may move fewer bytes than asked.
 use Rattle.std.specs.Prelude.{◌≡◌, ℕ, [], false, List, length, take, Option, Result, IfOk, unwrap_or, IsTrue}
 use Rattle.std.proofs.lemmas.Bool.{false≢true}
 use Rattle.vault_device.specs.Disk.{Disk, IsLawful, IsTornImage, Elapses, overwritten}
 
--- Some of the bytes were written there: as many as is told, none where a signal came first. At a fault, some or none.
+-- Some of the bytes were written there: the number returned, or none if a signal came first. At a fault, some or none.
 pub record IsPartWrite {E : Type 0} (at : ℕ) (bytes : List ℕ) (result : Result (Option ℕ) E) (old new : Disk) : Type 0 where
   pub shown : IfOk result (λ moved. new.shown ≡ overwritten old.shown at (take (unwrap_or moved 0) bytes))
   pub settled : new.settled ≡ old.settled
@@ -26,7 +26,7 @@ counted disk calls faults = record {
 pub counted_lawful : (disk : Disk) (calls faults : ℕ) → IsLawful disk → IsLawful (counted disk calls faults)
 counted_lawful disk calls faults lawful = record { read = lawful.read; now = lawful.now; only_now = lawful.only_now }
 
--- what is known of a file of the system: nothing
+-- what is known of a real file: nothing
 abbrev pub unknown : Disk
 unknown = record {
   honest = false;

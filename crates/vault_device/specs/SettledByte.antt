@@ -1,4 +1,4 @@
--- A byte that tells whether what stands behind it counts, for a test of the disk model.
+-- A byte that says whether the bytes behind it count, for a test of the disk model.
 use Rattle.std.specs.Prelude.{◌≡◌, ◌≢◌, ◌⊎◌, ◌==◌, ◌+◌, ℕ, List, [], ◌++◌, length, take, drop, slice_index, if◌then◌else◌}
 use Rattle.vault_device.specs.Disk.{Disk, LeavesOnly}
 
@@ -6,7 +6,7 @@ use Rattle.vault_device.specs.Disk.{Disk, LeavesOnly}
 abbrev pub stands_for : ℕ → List ℕ → List ℕ
 stands_for gate file = take gate file ++ (if slice_index file gate == 1 then drop (gate + 1) file else [])
 
--- the byte is the last, is not 1, and all is settled
+-- the byte is the last, is not 1, and all is durable
 pub record IsShut (gate : ℕ) (disk : Disk) : Type 0 where
   pub last : length disk.shown ≡ gate + 1
   pub shut : slice_index disk.shown gate ≢ 1

@@ -27,14 +27,14 @@ pub trait Device {
         ensures bytes { IsTrue (disk self.old).honest
             → OnOk result (buffer.new ≡ slice_range (disk self.old).shown at (at + length buffer.old)) };
 
-    /// Writes over what stands there, and past the end. Until a sync a crash may leave any bytes in that range.
+    /// Overwrites the bytes there, also past the end. Until a sync, a crash may leave any bytes in that range.
     fn write_at(&mut self, at: u64, bytes: &[u8]) -> Result<(), Fault>
         requires begin { IsTrue (disk self.old).honest → at ≤ length (disk self.old).shown }
         requires end { IsTrue (disk self.old).honest → at + length bytes.now < 2 ^ 63 }
         ensures one_call { IsOneCall (disk self.old) (disk self.new) result }
         ensures write { IsTrue (disk self.old).honest → IsWrite at bytes.now result (disk self.old) (disk self.new) };
 
-    /// Settles what was written: after it, a crash leaves what a read gives.
+    /// Makes what was written durable: after it, a crash leaves what a read gives.
     fn sync(&mut self) -> Result<(), Fault>
         ensures one_call { IsOneCall (disk self.old) (disk self.new) result }
         ensures sync { IsTrue (disk self.old).honest → IsSync result (disk self.old) (disk self.new) };

@@ -8,7 +8,7 @@ use crate::{Device, Fault};
 use std::fs::File;
 use std::marker::Model;
 
-/// A device over a file. Of an honest file it is an honest device.
+/// A device over a file. It is honest if the file is.
 #[derive(Drop)]
 pub struct FileDevice<F = File> {
     file: F,
@@ -24,7 +24,7 @@ impl<F> Model for FileDevice<F> {
     ghost view = { λ d. record { file = d.file; calls = d.calls; faults = d.faults } };
 }
 
-// Reads until the buffer is full. A file that ends before is refused.
+// Reads until the buffer is full. A file that ends before that is a fault.
 fn read_all<F: RawFile>(file: &mut F, at: u64, buffer: &mut [u8]) -> Result<(), Fault>
     requires { IsTrue (F.bytes file.old).honest → at + length buffer.old ≤ length (F.bytes file.old).shown }
     ensures honesty { (F.bytes file.new).honest ≡ (F.bytes file.old).honest }
@@ -47,7 +47,7 @@ fn read_all<F: RawFile>(file: &mut F, at: u64, buffer: &mut [u8]) -> Result<(), 
     Err(Fault)
 }
 
-// Writes until all bytes are written. A file that takes no more is refused.
+// Writes until all bytes are written. A file that takes no more is a fault.
 fn write_all<F: RawFile>(file: &mut F, at: u64, text: &[u8]) -> Result<(), Fault>
     requires begin { IsTrue (F.bytes file.old).honest → at ≤ length (F.bytes file.old).shown }
     requires end { IsTrue (F.bytes file.old).honest → at + length text.now < 2 ^ 63 }
@@ -69,7 +69,7 @@ fn write_all<F: RawFile>(file: &mut F, at: u64, text: &[u8]) -> Result<(), Fault
     Err(Fault)
 }
 
-// Counts one call, and a fault where it failed.
+// Counts one call, and a fault if it failed.
 fn count<T>(calls: &mut u64, faults: &mut u64, answer: &Result<T, Fault>)
     ensures calls { calls.new ≡ min (calls.old + 1) last_count }
     ensures no_fault { OnOk answer.now (faults.new ≡ faults.old) }

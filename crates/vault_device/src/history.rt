@@ -7,11 +7,11 @@ use std::marker::Model;
 /// What a crash leaves of the bytes that were written since the last sync.
 #[derive(Clone, Copy, Debug, PartialEq, Eq)]
 pub enum Pick {
-    /// The bytes and the length from before.
+    /// The bytes and the length before those writes.
     Old,
-    /// What was written.
+    /// All that was written.
     New,
-    /// This byte wherever something was written, at the length that was written.
+    /// This byte at each offset that was written, with the length that was written.
     Bytes(u8),
 }
 
@@ -30,7 +30,7 @@ impl<A: Allocator> Model for Text<A> {
 }
 
 impl<A: Allocator> Text<A> {
-    /// The same bytes, in this memory.
+    /// A copy of the bytes, in this memory.
     pub fn copy_of(alloc: A, bytes: &[u8]) -> Result<Text<A>, AllocError>
         ensures { IfOk result (λ text. text ≡ bytes.now) }
     {
@@ -47,7 +47,7 @@ impl<A: Allocator> Text<A> {
     }
 }
 
-// What was done once.
+// One event: a write, a sync or a crash.
 #[derive(Drop)]
 pub enum Event<Text> {
     Wrote(usize, Text),

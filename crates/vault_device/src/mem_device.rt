@@ -1,4 +1,4 @@
-//! The device over a memory.
+//! A device in memory.
 ghost use Rattle.std.specs.Prelude.{◌≡◌, ◌≢◌, ◌≤◌, ◌<◌, ◌+◌, ◌-◌, ◌^◌, ◌∷◌, ◌↔◌, ◌⊎◌, if◌then◌else◌, [], ℕ, min, true, false, IsTrue, IsErr, IfOk, OnOk, OnErr, length, slice_range};
 ghost use Rattle.vault_device.specs.Disk.{IsOneCall, IsRead, IsWrite, IsSync, LeavesOnly, last_count};
 ghost use Rattle.vault_device.specs.Memory.{picked, content_of, after_sync, after_crash};
@@ -12,7 +12,7 @@ use crate::{Device, Fault};
 use std::alloc::{AllocError, Allocator, Global};
 use std::marker::Model;
 
-// Counts of calls, of faults and of growths that were refused, and which call is to fail.
+// Counts of calls, of faults and of refused allocations, and which call is to fail.
 #[derive(Drop)]
 struct Counts {
     calls: u64,
@@ -41,7 +41,7 @@ impl Counts {
         fails
     }
 
-    // Counts a growth that was refused, and a fault of it, where the call isn't one that fails already.
+    // Counts a refused allocation, and a fault for it unless the call fails anyway.
     fn refuse(&mut self, fails: bool)
         ensures { self.new ≡ record self.old {
           refused = min (self.old.refused + 1) last_count;
@@ -94,7 +94,7 @@ impl<A: Allocator + Copy> MemDevice<A> {
         })
     }
 
-    /// Stops and starts again: what is left is what the pick says of the bytes since the last sync. Takes no memory.
+    /// Crashes and starts again. The pick says what is left of the bytes written since the last sync. Takes no memory.
     pub fn crash(&mut self, pick: Pick)
         ensures history { self.new ≡ record self.old { history = after_crash pick self.old.history } }
         ensures shown { (disk_of self.new).shown ≡ picked pick (content_of self.old.history) }
@@ -112,14 +112,14 @@ impl<A: Allocator + Copy> MemDevice<A> {
         self.counts.calls
     }
 
-    /// How many growths found no memory. Each was a write that failed and left what was there.
+    /// How many allocations were refused. Each made a write fail, which changed no bytes.
     pub fn refused(&self) -> u64
         ensures { result ≡ self.now.refused }
     {
         self.counts.refused
     }
 
-    /// Has the nth device call from now fail; 0 has none fail.
+    /// Makes the nth device call from now fail; 0 makes none fail.
     pub fn fail_at(&mut self, n: u64)
         ensures { self.new ≡ record self.old { failing = n } }
     {
@@ -165,7 +165,7 @@ impl<A: Allocator + Copy> Device for MemDevice<A> {
         Ok(())
     }
 
-    /// A write that `fail_at` has fail puts its bytes in place; one that finds no memory leaves what was there.
+    /// A write that `fail_at` makes fail still puts its bytes in place. One that is out of memory changes no bytes.
     fn write_at(&mut self, at: u64, bytes: &[u8]) -> Result<(), Fault>
         requires begin { at ≤ length (disk_of self.old).shown }
         requires end { at + length bytes.now < 2 ^ 63 }

@@ -7,14 +7,14 @@ use crate::history::{Event, Pick, Text};
 use std::alloc::{AllocError, Allocator};
 use std::marker::Model;
 
-// Bytes, what of them is settled, and all that was done to them.
+// Bytes as a read gives them, the durable (settled) ones, and all that was done to them.
 #[derive(Drop)]
 pub struct Memory<A: Allocator> {
     alloc: A,
     shown: Vec<u8, A>,
     settled: Vec<u8, A>,
     events: Vec<Event<Text<A>>, A>,
-    // How many events there were when all was settled last.
+    // The number of events when everything was last durable: at the last sync or crash.
     start: usize,
     // How many bytes at the front no write has touched since then.
     clean: usize,
@@ -33,7 +33,7 @@ impl<A: Allocator> Model for Memory<A> {
     ghost invariant = { IsMemory };
 }
 
-// Writes over what is there and past the end, within the room that there is.
+// Overwrites bytes, also past the end, within the capacity.
 fn overwrite<A: Allocator>(all: &mut Vec<u8, A>, at: usize, bytes: &[u8])
     requires begin { at ≤ vec_len all.old }
     requires room { vec_len all.old + length bytes.now ≤ vec_capacity all.old }
@@ -46,7 +46,7 @@ fn overwrite<A: Allocator>(all: &mut Vec<u8, A>, at: usize, bytes: &[u8])
     let _ = all.extend_from_slice(&bytes[within..]);
 }
 
-// Pushes where there is room.
+// Pushes within the capacity.
 fn push_within<A: Allocator>(events: &mut Vec<Event<Text<A>>, A>, event: Event<Text<A>>)
     requires { vec_len events.old < vec_capacity events.old }
     ensures items { events.new.items ≡ events.old.items ++ event ∷ [] }
@@ -56,7 +56,7 @@ fn push_within<A: Allocator>(events: &mut Vec<Event<Text<A>>, A>, event: Event<T
     let _ = events.push(event);
 }
 
-// Puts other bytes in the place of all, within the room that there is.
+// Replaces all the bytes by others, within the capacity.
 fn refill<A: Allocator>(all: &mut Vec<u8, A>, from: &[u8])
     requires { length from.now ≤ vec_capacity all.old }
     ensures bytes { all.new.items ≡ from.now }
@@ -66,7 +66,7 @@ fn refill<A: Allocator>(all: &mut Vec<u8, A>, from: &[u8])
     let _ = all.extend_from_slice(from);
 }
 
-// Makes all the same as the other, where so many bytes at the front are the same already, within the room that there is.
+// Makes `all` equal to `from`, within the capacity. Their first `clean` bytes are equal already.
 fn follow<A: Allocator>(all: &mut Vec<u8, A>, from: &[u8], clean: usize)
     requires within { clean ≤ length from.now }
     requires same { take clean all.old.items ≡ take clean from.now }
@@ -80,7 +80,7 @@ fn follow<A: Allocator>(all: &mut Vec<u8, A>, from: &[u8], clean: usize)
     let _ = all.extend_from_slice(rest);
 }
 
-// Writes one byte n times, within the room that there is.
+// Writes one byte n times, within the capacity.
 fn cover<A: Allocator>(all: &mut Vec<u8, A>, at: usize, n: usize, b: u8)
     requires begin { at ≤ vec_len all.old }
     requires room { at + n ≤ vec_capacity all.old }
@@ -111,7 +111,7 @@ fn cover_all<A: Allocator>(all: &mut Vec<u8, A>, events: &[Event<Text<A>>], b: u
     }
 }
 
-// Leaves what the pick says, where these events led from the settled bytes to all.
+// Makes `all` what a crash with this pick leaves. These events led from `settled` to `all`.
 fn leave<A: Allocator>(all: &mut Vec<u8, A>, settled: &[u8], events: &[Event<Text<A>>], pick: Pick)
     requires leads { LeadsTo (length settled.now) (length all.old.items) events.now }
     ensures bytes { all.new.items ≡ left pick all.old.items settled.now events.now }
@@ -164,7 +164,7 @@ impl<A: Allocator + Copy> Memory<A> {
         &self.shown
     }
 
-    /// Writes the bytes, unsettled. All room is taken first, so that a later settling takes none.
+    /// Writes the bytes, which aren't durable yet. Takes all room first, so that a later sync or crash takes none.
     pub fn put(&mut self, at: usize, bytes: &[u8]) -> Result<(), AllocError>
         requires begin { at ≤ length (content_of self.old).shown }
         ensures ok { OnOk result (self.new ≡ Event.Wrote at bytes.now ∷ self.old) }
@@ -180,7 +180,7 @@ impl<A: Allocator + Copy> Memory<A> {
         Ok(())
     }
 
-    /// Leaves what a crash with this pick does.
+    /// Crashes with this pick.
     pub fn crash(&mut self, pick: Pick)
         ensures { self.new ≡ after_crash pick self.old }
     {
@@ -199,7 +199,7 @@ impl<A: Allocator + Copy> Memory<A> {
         self.clean = self.shown.len();
     }
 
-    /// Settles what is shown. Takes time proportional to the bytes from the first that was written since the last settling.
+    /// Makes what is shown durable, in time proportional to the bytes from the first one written since the last sync or crash.
     pub fn settle(&mut self)
         ensures { self.new ≡ after_sync self.old }
     {

@@ -1,4 +1,4 @@
-//! A file by the calls of the system.
+//! A file through system calls.
 ghost use Rattle.std.specs.Prelude.{◌≡◌, ◌≢◌, ◌≤◌, ◌<◌, ◌+◌, ◌^◌, IsTrue, IsErr, IfOk, IfErr, length, take, slice_range, unwrap_or};
 ghost use Rattle.std.specs.IoError.{error_kind};
 ghost use Rattle.vault_device.specs.Disk.{Disk, IsRead, IsSync, IsLawful};
@@ -10,8 +10,7 @@ use std::io;
 use std::io::ErrorKind;
 use std::os::unix::fs::FileExt;
 
-/// A file by the calls of the system, each of which may move fewer bytes than it is asked to.
-/// `FileDevice` makes a device of it.
+/// A file through system calls, each of which may move fewer bytes than asked. `FileDevice` makes a device of it.
 pub trait RawFile {
     ghost bytes: { Self → Disk };
 
@@ -30,7 +29,7 @@ pub trait RawFile {
         ensures bytes { IsTrue (bytes self.old).honest
             → IfOk result (λ moved. take (unwrap_or moved 0) buffer.new ≡ slice_range (bytes self.old).shown at (at + unwrap_or moved 0)) };
 
-    /// Writes some bytes of the front, and says how many; `None` where a signal came first.
+    /// Writes some bytes from the front, and says how many; `None` where a signal came first.
     fn write_some(&mut self, at: u64, text: &[u8]) -> Result<Option<usize>, Fault>
         requires begin { IsTrue (bytes self.old).honest → at ≤ length (bytes self.old).shown }
         requires end { IsTrue (bytes self.old).honest → at + length text.now < 2 ^ 63 }
@@ -64,7 +63,7 @@ fn moved(answer: io::Result<usize>) -> Result<Option<usize>, Fault>
     }
 }
 
-// No contract of the library says what a file holds, so nothing is claimed of its bytes: its honesty is a premise.
+// No contract of the standard library says what a file holds, so nothing is claimed of its bytes. Its honesty is a premise.
 impl RawFile for File {
     ghost bytes = { λ file. unknown };
 
@@ -85,7 +84,7 @@ impl RawFile for File {
         moved(self.write_at(text, at))
     }
 
-    // Of std's two calls the one that settles the length too, whatever the file system.
+    // Of std's two sync calls, this one makes the length durable too, on any file system.
     fn settle(&mut self) -> Result<(), Fault> {
         match self.sync_all() {
             Ok(()) => Ok(()),

@@ -29,7 +29,7 @@ pub adds_nothing : {E : Type 0} (a c text : List ℕ) (result : Result (Unit {0}
 adds_nothing a c text (Ok x) h = let no : false ≡ true = h in cc
 adds_nothing a c text (Err e) h = tt
 
--- those of the first things, and the next
+-- the bytes of the first things, and of the next
 pub adds_more : {X : Type 0} (f : X → List ℕ) (xs : List X) (i : ℕ) (x : X) (a b c : List ℕ)
     → i < length xs → get_or xs i x ≡ x → b ≡ a ++ flat_map f (take i xs) → c ≡ b ++ f x → c ≡ a ++ flat_map f (take (i + 1) xs)
 adds_more f xs i x a b c within is first next =
@@ -38,7 +38,7 @@ adds_more f xs i x a b c within is first next =
     let split = ap (flat_map f) cut ∙ flat_map-append f (take i xs) (x ∷ []) ∙ ap (λ (l : List ℕ). flat_map f (take i xs) ++ l) one in
     next ∙ ap (λ (l : List ℕ). l ++ f x) first ∙ append_assoc a (flat_map f (take i xs)) (f x) ∙ ap (λ (l : List ℕ). a ++ l) (sym split)
 
--- those of all things, where none is left
+-- the bytes of all things, when none is left
 pub adds_all : {X : Type 0} (f : X → List ℕ) (xs : List X) (i : ℕ) (a b : List ℕ) → length xs ≤ i → b ≡ a ++ flat_map f (take i xs) → b ≡ a ++ flat_map f xs
 adds_all f xs i a b none_left first = first ∙ ap (λ (ys : List _). a ++ flat_map f ys) (take_all i xs none_left)
 
@@ -74,7 +74,7 @@ drafts_short tree line drafts number are =
     let short = All-weaker (IsDraft tree line) (λ (x : SavedDraft). length x.draft.content ≤ longest_content) (λ x is. is.short) drafts are.each in
     All-map (λ (d : Draft). length d.content ≤ longest_content) (λ (x : SavedDraft). x.draft) (filter (λ (x : SavedDraft). x.claim == number) drafts) (All-filter (λ (x : SavedDraft). x.claim == number) (λ (x : SavedDraft). length x.draft.content ≤ longest_content) drafts short)
 
--- of the long claims of a line, those of its first claims, and the next
+-- the bytes of the long claims among the first claims of a queue, and of the next claim
 pub long_more : (v : Vault) (i : ℕ) (claim : Claim) (a b c : List ℕ) → slice_get v.line i ≡ Some claim → b ≡ a ++ flat_map (claim_bytes current_version v) (without_short (take i v.line))
     → c ≡ b ++ flat_map (claim_bytes current_version v) (without_short (claim ∷ [])) → c ≡ a ++ flat_map (claim_bytes current_version v) (without_short (take (i + 1) v.line))
 long_more v i claim a b c at first next =

@@ -198,7 +198,7 @@ module _ (tree : List Place) (place : Place) (more : List Place) (whole : List (
       alone = tree_front (tree ++ place ∷ []) more (subst IsTree (sym (append_assoc tree (place ∷ []) more)) is.tree_is)
 
 module _ (tree : List Place) (shelf : List (List (List ℕ))) (bytes : List ℕ) where
-  -- where no fields stand no place does
+  -- bytes that begin with no fields begin with no place
   pub fieldless : BeginsWithNoFields bytes → BeginsWithNoPlace current_version tree shelf bytes
   fieldless none place more whole rest is kept same =
       none rest (record {
@@ -207,7 +207,7 @@ module _ (tree : List Place) (shelf : List (List (List ℕ))) (bytes : List ℕ)
         spelled = same ∙ ap (λ (l : List ℕ). l ++ rest) (place_is_fields (tree ++ place ∷ more) whole (suc (length tree)) place);
       })
 
-  -- where they stand, and are no place's, none stands there, whatever follows
+  -- if fields stand there that are no place's, no place stands there, whatever follows
   pub none_whatever_follows : (rest : List ℕ) → AreFieldsAt bytes rest → BeginsWithNoPlace current_version tree shelf bytes → (after : List ℕ) → BeginsWithNoPlace current_version tree shelf (bytes ++ after)
   none_whatever_follows rest at none after place more whole behind is kept same =
       let next = of_next tree place more whole is in

@@ -89,7 +89,7 @@ module _ (version : FileVersion) (bytes : List ℕ) where
 pub own_tells : (version : FileVersion) → Tells (drafted_bytes version) (HasOwn version)
 own_tells version x y a b has_x has_y same = claim_tells version x y a b has_x.claim has_y.claim same
 
--- so many were read
+-- `n` claims were read
 pub record AreClaimsSoFar (version : FileVersion) (n : ℕ) (claims : List Claim) (drafts : List (List Draft)) (bytes rest : List ℕ) : Type 0 where
   pub told : List Drafted
   pub read : AreItemsRead (drafted_bytes version) (HasOwn version) told n bytes rest

@@ -14,7 +14,7 @@ use Rattle.vault_format.proofs.OneReading.{some_pair}
 use Rattle.vault_format.proofs.SpelledLists.{draft_tells}
 use Rattle.vault_format.proofs.ListsRead.{AreItemsRead, no_item_read, one_item_more, next_item}
 
--- what is read is what is spelled there
+-- what is read is the value whose spelling stands there
 pub one_read : {X : Type 0} (spell : X → List ℕ) (Has : X → Type 0) (read : List ℕ → Option (X × List ℕ)) → IsInverse spell Has read → (bytes : List ℕ) (x y : X) (a b : List ℕ) → read bytes ≡ Some (x, a) → Has y → bytes ≡ spell y ++ b → (x ≡ y) × (a ≡ b)
 one_read spell Has read inverse bytes x y a b got has same = some_pair x y a b (sym got ∙ ap read same ∙ inverse.reads y b has)
 
@@ -46,7 +46,7 @@ module _ (bytes : List ℕ) where
 
 -- ---- all drafts
 
--- so many were read
+-- `n` drafts were read
 abbrev pub AreDraftsSoFar : ℕ → List Draft → List ℕ → List ℕ → Type 0
 AreDraftsSoFar n drafts bytes rest = AreItemsRead draft_bytes HasDraft drafts n bytes rest
 

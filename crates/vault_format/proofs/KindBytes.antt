@@ -32,7 +32,7 @@ part_is Project e = cc
 part_is Assembly e = cc
 part_is Part e = refl
 
--- what stands under a place of a kind, and is no part
+-- the kind of a place under one of this kind, if it is no part
 no_part_is : (above kind : Kind) (d : ℕ) → may_stand above d ≡ true → may_stand kind (suc d) ≡ true → is_part_kind kind ≡ false → kind ≡ no_part_under above
 no_part_is above Library d stands_above stands other = absurd (grind (arith, nat_tests, stands))
 no_part_is Library Project d stands_above stands other = refl
@@ -76,7 +76,7 @@ kind_again Two tree parent kind rest above stands told = by_part (is_part_kind k
     by_part true e = ap (λ (k : Kind). Some (k, rest)) (sym (part_is kind e))
     by_part false e = ap (λ (k : Kind). Some (k, rest)) (sym (no_part_is (kind_of tree parent) kind (depth tree parent) above stands e))
 
--- kinds at one depth are told by their spelling
+-- kinds at one depth with the same spelling are the same
 pub kinds_told : (version : FileVersion) (k l : Kind) (d : ℕ) (s t : List ℕ) → may_stand k d ≡ true → may_stand l d ≡ true → IsKindIn version k d → IsKindIn version l d → kind_field version (is_part_kind k) ++ s ≡ kind_field version (is_part_kind l) ++ t → k ≡ l
 kinds_told One k l d s t stands_k stands_l in_k in_l same = in_k ∙ sym in_l
 kinds_told Two k l d s t stands_k stands_l in_k in_l same = one_kind k l d stands_k stands_l (by_bytes (is_part_kind k) (is_part_kind l) same)

@@ -7,7 +7,7 @@ use Rattle.std.proofs.lemmas.List.Elements.{All-nil, All-head, All-push}
 use Rattle.vault_format.proofs.SpelledLists.{Tells, lists_tell}
 use Rattle.vault_model.proofs.Lists.{All-back, All-front}
 
--- what is so of all is so of one between
+-- what holds for all items holds for one between others
 pub all_next : {X : Type 0} (P : X → Type 0) (xs ys : List X) (x : X) → All P (xs ++ x ∷ ys) → P x
 all_next P xs ys x all = All-head P x ys (All-back P xs (x ∷ ys) all)
 
@@ -26,7 +26,7 @@ cut_at {X} (x ∷ xs) (suc n) h =
     let rest = cut_at xs n (omega (arith, h)) in
     record { before = x ∷ rest.before; here = rest.here; behind = rest.behind; parts = ap (λ (l : List X). x ∷ l) rest.parts; size = ap suc rest.size }
 
--- these items were read, which are so many
+-- these `n` items were read
 pub record AreItemsRead {X : Type 0} (spell : X → List ℕ) (Has : X → Type 0) (items : List X) (n : ℕ) (bytes rest : List ℕ) : Type 0 where
   pub size : length items ≡ n
   pub each : All Has items

@@ -1,4 +1,4 @@
--- Effects with records keep a vault that has a spelling one that has.
+-- A vault that has a spelling still has one after effects with records.
 use Rattle.std.proofs.Common.{◌≡◌, ℕ, not, Bool, true, false, cond, List, [], ◌∷◌, ◌++◌, Option, Some, None, refl, subst, All}
 use Rattle.std.specs.List.{AllByRecursion}
 use Rattle.std.specs.Option.{option_and_then}
@@ -22,7 +22,7 @@ use Rattle.vault_journal.specs.Spelling.{HasRecord}
 use Rattle.vault_format.specs.Snapshot.{HasSnapshot, designer_of}
 use Rattle.vault_format.specs.Files.{applied, after_frames, IsFrame}
 
--- names are names
+-- all names are well formed
 record IsNamed (v : Vault) : Type 0 where
   places : All (λ (place : Place). IsName place.name) v.tree
   owners : All (λ (claim : Claim). IsName (designer_of claim.owner)) v.line
@@ -31,7 +31,7 @@ only_if_is : (b : Bool) (w next : Vault) → only_if b w ≡ Some next → w ≡
 only_if_is true w next e = cc
 only_if_is false w next e = absurd (cc)
 
--- of what follows from a claim that stands
+-- what holds if an effect needs a claim: it is enough to look at the claim that is found
 by_claim : (P : Type 0) (next : Vault) (o : Option Claim) (f : Claim → Option Vault) → ((claim : Claim) → o ≡ Some claim → f claim ≡ Some next → P) → option_and_then f o ≡ Some next → P
 by_claim P next None f each e = absurd (cc)
 by_claim P next (Some claim) f each e = each claim refl e
@@ -117,18 +117,18 @@ spelled_after w next effect has record_is e =
     let named = named_after w next effect (record { places = has.places; owners = has.owners }) record_is e in
     record { well_formed = stays.0; durable = stays.1 has.durable; places = named.places; owners = named.owners }
 
--- a step to a vault that has a spelling, and what follows from there
+-- a step to a vault that has a spelling, and the steps after it
 spelled_step : (v : Vault) (o : Option Vault) (more : Vault → Option Vault) → ((next : Vault) → o ≡ Some next → HasSnapshot next) → ((next : Vault) → HasSnapshot next → more next ≡ Some v → HasSnapshot v) → option_and_then more o ≡ Some v → HasSnapshot v
 spelled_step v None more step rest e = absurd (cc)
 spelled_step v (Some next) more step rest e = rest next (step next refl) e
 
--- effects keep a vault one that has a spelling
+-- a vault that has a spelling still has one after effects
 pub spelled_stays : (w v : Vault) (effects : List Effect) → HasSnapshot w → AllByRecursion HasRecord effects → applied w effects ≡ Some v → HasSnapshot v
 spelled_stays w v [] has each e = let same : w ≡ v = cc in subst HasSnapshot same has
 spelled_stays w v (effect ∷ effects) has each e =
     spelled_step v (after w effect) (λ (next : Vault). applied next effects) (λ next is. spelled_after w next effect has each.0 is) (λ next there rest. spelled_stays next v effects there each.1 rest) e
 
--- so do frames
+-- and after frames
 pub frames_spelled : (w v : Vault) (frames : List (List Effect)) → HasSnapshot w → AllByRecursion IsFrame frames → after_frames w frames ≡ Some v → HasSnapshot v
 frames_spelled w v [] has each e = let same : w ≡ v = cc in subst HasSnapshot same has
 frames_spelled w v (frame ∷ frames) has each e =

@@ -98,7 +98,7 @@ module _ (version : FileVersion) (tree : List Place) (bytes : List ℕ) where
       no_kind none place rest is named kind same = let there = kind_there place rest is named kind same in cc
 
       module _ (kind : Kind) (rest : List ℕ) (got : kind_before version tree parent behind ≡ Some (kind, rest)) where
-        -- the tree refused it, and not for want of memory
+        -- the tree refused it, and not because memory ran out
         pub no_addition : (why : AddError) → refusal tree parent name kind ≡ refusal_told why → told_of why ≡ NotWellFormed → BeginsWithNoName version tree bytes
         no_addition why refused told place left is named kind_is same = by_why why (sym refused ∙ free) told
           where
@@ -162,7 +162,7 @@ module _ (version : FileVersion) (tree : List Place) (shelf : List (List (List �
           same ∙ regroup_place (in_four place.parent) (name_bytes place.name) (kind_field version (is_part (tree ++ place ∷ more) (suc (length tree)))) (versions_field (is_part (tree ++ place ∷ more) (suc (length tree))) (versions_of whole (suc (length tree)))) rest
           ∙ ap (λ (b : Bool). (in_four place.parent ++ name_bytes place.name ++ kind_field version b) ++ behind_head) part_of_it
 
-  -- where no name stands no place does
+  -- bytes that begin with no name begin with no place
   pub nameless : BeginsWithNoName version tree bytes → BeginsWithNoPlace version tree shelf bytes
   nameless none place more whole rest is kept same =
       none place (behind_head place more whole rest is same) (alone place more whole rest is same) (name_of_it place more whole rest is same) (kind_of_it place more whole rest is same) (headed place more whole rest is same)

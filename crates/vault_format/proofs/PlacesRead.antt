@@ -30,7 +30,7 @@ use Rattle.vault_format.proofs.PlaceRead.{no_versions_past}
 
 -- ---- spellings of places
 
--- a place's spelling looks at its kind and at its versions alone
+-- beside the place itself, its spelling depends only on its kind and its versions
 place_same : (version : FileVersion) (v w : Vault) (n : ℕ) (place : Place) → is_part v.tree n ≡ is_part w.tree n → versions_of v.shelf n ≡ versions_of w.shelf n → place_bytes version v n place ≡ place_bytes version w n place
 place_same version v w n place parts versions =
     ap (λ (b : Bool). place_of b (versions_of v.shelf n)) parts ∙ ap (λ (l : List (List ℕ)). place_of (is_part w.tree n) l) versions
@@ -38,7 +38,7 @@ place_same version v w n place parts versions =
     place_of : Bool → List (List ℕ) → List ℕ
     place_of b l = in_four place.parent ++ (length place.name ∷ place.name) ++ kind_bytes version b l
 
--- so do those of many
+-- the same for many places
 abbrev SamePlaces : Vault → Vault → ℕ → ℕ → Type 0
 SamePlaces v w from to = (p : ℕ) → from ≤ p → p < to → (is_part v.tree p ≡ is_part w.tree p) × (versions_of v.shelf p ≡ versions_of w.shelf p)
 
@@ -99,7 +99,7 @@ one_place_more version tree shelf now shelf_now new shelf_new bytes rest after s
         places_append version w (suc (length tree)) (suc (length now)) so.more (one.place ∷ []) (omega (arith, longer))
         ∙ ap (λ (l : List ℕ). places_bytes version w (suc (length tree)) so.more ++ l) (append-nil (place_bytes version w (suc (length now)) one.place))
 
--- so they were read from the front of all
+-- so all places were read from the front of the whole bytes
 pub read_to : (version : FileVersion) (tree : List Place) (shelf : List (List (List ℕ))) (new : List Place) (shelf_new : List (List (List ℕ))) (bytes rest : List ℕ) → AreReadOn version tree shelf new shelf_new bytes rest
     → AreReadTo version new shelf_new (places_bytes version (vault_with tree shelf) 1 tree ++ bytes) rest
 read_to version tree shelf new shelf_new bytes rest so = record {
@@ -152,7 +152,7 @@ module _ (version : FileVersion) (tree : List Place) (shelf : List (List (List �
           no_versions whole (suc n) (λ some. let is = (are.versions.parts (suc n) some).1 in cc) ∙ sym (no_versions shelf (suc n) (λ some. let is = (so.are.versions.parts (suc n) some).1 in cc)))
     ]
 
--- where there are more, the next one's spelling stands behind them
+-- if there are more, the next one's spelling stands behind them
 pub record IsNextPlace (version : FileVersion) (tree : List Place) (shelf : List (List (List ℕ))) (rest : List ℕ) (all : List Place) (whole : List (List (List ℕ))) (behind : List ℕ) : Type 0 where
   pub here : Place
   pub others : List Place
@@ -179,14 +179,14 @@ next_place version tree shelf bytes rest so all whole behind are within same =
           ∙ append_assoc (place_bytes version (vault_with (tree ++ cut.here ∷ cut.behind) whole) (suc (length tree)) cut.here) others behind;
     }
 
--- where none stands behind them, they are all
+-- if none stands behind them, they are all
 pub no_other : (version : FileVersion) (tree : List Place) (shelf : List (List (List ℕ))) (bytes rest : List ℕ) → AreReadTo version tree shelf bytes rest → BeginsWithNoPlace version tree shelf rest
     → (all : List Place) (whole : List (List (List ℕ))) (behind : List ℕ) → ArePlaces version all whole → length tree < length all → bytes ≢ places_bytes version (vault_with all whole) 1 all ++ behind
 no_other version tree shelf bytes rest so none all whole behind are within same =
     let next = next_place version tree shelf bytes rest so all whole behind are within same in
     none next.here next.others whole _ (subst (λ (t : List Place). ArePlaces version t whole) next.parts are) next.kept next.spelled
 
--- so there are fewer than so many behind those that were there
+-- so fewer than `count` places stand there
 pub fewer_places : (version : FileVersion) (tree : List Place) (shelf : List (List (List ℕ))) (now : List Place) (shelf_now : List (List (List ℕ))) (bytes rest more : List ℕ) → AreReadOn version tree shelf now shelf_now bytes rest → BeginsWithNoPlace version now shelf_now (rest ++ more)
     → (count : ℕ) → length now + 1 < count → BeginsWithFewerPlaces version count tree shelf (bytes ++ more)
 fewer_places version tree shelf now shelf_now bytes rest more so none count within all whole behind size are same =

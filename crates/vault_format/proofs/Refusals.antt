@@ -13,6 +13,6 @@ same_error (Err e) why told is same = sym is ∙ cc
 pub passed : {T U P : Type 0} (result : Result T SnapshotError) (why : SnapshotError) → IsErrAnd result (λ (e : SnapshotError). e ≡ why) → (◌≡◌ {A = Result U SnapshotError} (Err why) (Err NotWellFormed) → P) → result ≡ Err NotWellFormed → P
 passed {T} {U} result why is told same = told (ap (λ (e : SnapshotError). Err e) (same_error result why NotWellFormed is same))
 
--- what gave a value was not refused
+-- a call that gave a value was not refused
 pub none_refused : {T P : Type 0} (x : T) (told : SnapshotError) → ◌≡◌ {A = Result T SnapshotError} (Ok x) (Err told) → P
 none_refused x told same = cc

@@ -34,11 +34,11 @@ head_right {v} x g at right = elim [
 pub head_open : {v : FileVersion} (x : List ℕ) (g : ℕ) → HasHead v g x → IsOpenFile x
 head_open x g right = record { long = right.long; gate = ap (λ (l : List ℕ). get_or l 0 0) (head_whole x g right) }
 
--- it tells its version
+-- it has its version's number
 pub version_told : {v : FileVersion} (x : List ℕ) (g : ℕ) → HasHead v g x → IsVersion v (version_in x)
 version_told x g right = ap version_in (head_whole x g right)
 
--- bytes tell one version
+-- bytes are the number of one version at most
 pub told_once : (v w : FileVersion) (bytes : List ℕ) → IsVersion v bytes → IsVersion w bytes → v ≡ w
 told_once v w bytes one other = one_version v w (one_number (version_number v) (version_number w) [] [] (version_fits v) (version_fits w) (ap (λ (l : List ℕ). l ++ []) (sym one ∙ other))).0
 
@@ -54,7 +54,7 @@ one_generation {v} {w} x g k one two = (one_head v w g k (drop 20 x) (drop 20 x)
 pub one_told : (x : List ℕ) (v w : FileVersion) (g k : ℕ) → HasHead v g x → HasHead w k x → v ≡ w
 one_told x v w g k one two = (one_head v w g k (drop 20 x) (drop 20 x) one.fits two.fits (sym (head_whole x g one) ∙ head_whole x k two)).0
 
--- an open spare is of a smaller one
+-- an open spare is of a smaller generation
 pub spare_older : {v : FileVersion} (x : List ℕ) (g k : ℕ) → IsSpare g x → HasHead v k x → k < g
 spare_older x g k (inl closed) right = absurd (not_both x closed (head_open x k right))
 spare_older x g k (inr (older, less, (w, there))) right = omega (arith, less, one_generation x older k there right)

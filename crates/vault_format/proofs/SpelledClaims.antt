@@ -37,7 +37,7 @@ regroup_claim n m t i d a = simp append_assoc
 abbrev pub spelled_claim : ℕ → List ℕ → List ℕ → List Item → Claim
 spelled_claim number designer note items = noted_as note (new_check_out number designer items)
 
--- it is told by its number, its designer, its note and its items
+-- its number, its designer, its note and its items determine it
 check_out_is : (c : Claim) → c.id ≡ Long (number_of c.id) → c.owner ≡ owners.Designer (designer_of c.owner) → c ≡ spelled_claim (number_of c.id) (designer_of c.owner) c.note c.items
 check_out_is c long designer = λ i. record c { id = long i; owner = designer i }
 

@@ -1,4 +1,4 @@
--- What is spelled one behind another is spelled by one list.
+-- Spellings one after another are of one list only.
 use Rattle.std.proofs.Common.{◌≡◌, ℕ, ◌<◌, ◌≤◌, ◌^◌, List, [], ◌∷◌, ◌++◌, length, refl, sym, ◌∙◌, ap, arith, append_assoc, All}
 use Rattle.std.specs.List.{flat_map}
 use Rattle.std.proofs.lemmas.List.Concat.{flat_map-cons}
@@ -14,7 +14,7 @@ pub use Rattle.vault_format.specs.Claims.{HasDraft}
 use Rattle.vault_format.specs.Snapshot.{versions_bytes, draft_bytes, drafts_bytes}
 use Rattle.vault_format.proofs.OneReading.{one_spelled, one_number}
 
--- a spelling tells what was spelled, whatever stands behind
+-- a spelling determines what was spelled, whatever stands behind it
 abbrev pub Tells : {X : Type 0} → (X → List ℕ) → (X → Type 0) → Type 0
 Tells {X} spell Has = (x y : X) (a b : List ℕ) → Has x → Has y → spell x ++ a ≡ spell y ++ b → (x ≡ y) × (a ≡ b)
 

@@ -50,7 +50,7 @@ pub record HasPlace (place : Place) : Type 0 where
   pub parent : place.parent < 2 ^ 32
   pub name : IsName place.name
 
--- what is told of places from this number on
+-- what the bytes determine about places from this number on
 pub record AreTold (v w : Vault) (from : ℕ) (xs ys : List Place) (a b : List ℕ) : Type 0 where
   pub places : xs ≡ ys
   pub rest : a ≡ b
@@ -93,7 +93,7 @@ module _ (version : FileVersion) (v w : Vault) (is_v : IsTree v.tree) (is_w : Is
   part_told n true false s t same told = absurd (cc)
   part_told n false true s t same told = absurd (cc)
 
-  -- the kinds of two places under one parent are told by what stands behind their names
+  -- what stands behind their names determines the kinds of two places under one parent
   kind_tells : (front : List Place) (x y : Place) (xs ys : List Place) (s t : List ℕ) → v.tree ≡ front ++ x ∷ xs → w.tree ≡ front ++ y ∷ ys → x.parent ≡ y.parent
       → kind_bytes version (is_part v.tree (suc (length front))) (versions_of v.shelf (suc (length front))) ++ s ≡ kind_bytes version (is_part w.tree (suc (length front))) (versions_of w.shelf (suc (length front))) ++ t → x.kind ≡ y.kind
   kind_tells front x y xs ys s t v_is w_is parents same =

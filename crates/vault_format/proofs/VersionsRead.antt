@@ -41,7 +41,7 @@ module _ (part : ℕ) (shelf : List (List (List ℕ))) (bytes : List ℕ) where
 
 -- ---- all versions
 
--- so many versions were read
+-- `n` versions were read
 pub record AreReadSo (n part : ℕ) (old new : List (List (List ℕ))) (bytes rest : List ℕ) : Type 0 where
   pub contents : List (List ℕ)
   pub read : AreItemsRead content_bytes IsContent contents n bytes rest

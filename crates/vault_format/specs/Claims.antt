@@ -1,4 +1,4 @@
--- The claims of a snapshot with their drafts, and what the functions that read them answer. This project's own.
+-- The claims of a snapshot with their drafts, and what the functions that read them return. This project's own.
 use Rattle.std.specs.Prelude.{◌≡◌, ◌≢◌, ℕ, ◌<◌, ◌≤◌, ◌^◌, List, [], ◌∷◌, ◌++◌, length, map, All, Option, Some}
 use Rattle.std.specs.List.{flat_map}
 use Rattle.vault_model.specs.declared.claims.Claim.{Claim}
@@ -14,12 +14,12 @@ use Rattle.vault_format.specs.declared.version.FileVersion.{FileVersion}
 use Rattle.vault_format.specs.declared.version.FileVersion.TheVariants.{One, Two}
 use Rattle.vault_format.specs.Snapshot.{draft_bytes, drafts_bytes, number_of, designer_of, note_field, IsNoteIn}
 
--- the note that stands in front, as a version spells it, and what stands behind it
+-- the note at the front of the bytes, as a version spells it, and the bytes behind it
 abbrev pub note_before : FileVersion → List ℕ → Option (List ℕ × List ℕ)
 note_before One bytes = Some ([], bytes)
 note_before Two bytes = note_at bytes
 
--- a draft that is spelled
+-- a draft that has a spelling
 pub record HasDraft (draft : Draft) : Type 0 where
   pub place : draft.place < 2 ^ 32
   pub content : length draft.content ≤ longest_content
@@ -32,11 +32,11 @@ abbrev pub drafted_bytes : FileVersion → Drafted → List ℕ
 drafted_bytes version x = in_four (number_of x.0.id) ++ name_bytes (designer_of x.0.owner) ++ note_field version x.0.note
     ++ items_bytes x.0.items ++ drafts_bytes x.1
 
--- the claims of a line with their drafts
+-- a claim with its drafts, taken from all drafts
 abbrev pub drafted : List SavedDraft → Claim → Drafted
 drafted drafts claim = (claim, drafts_of drafts (number_of claim.id))
 
--- a claim that a version spells: a designer's long one, with a note that it can spell
+-- a claim that has a spelling in a version: a designer's check-out, with a note that the version can spell
 pub record HasClaim (version : FileVersion) (x : Drafted) : Type 0 where
   pub long : x.0.id ≡ Long (number_of x.0.id)
   pub fits : number_of x.0.id < 2 ^ 32
@@ -51,14 +51,14 @@ pub record HasOwn (version : FileVersion) (x : Drafted) : Type 0 where
   pub claim : HasClaim version x
   pub few : length x.1 ≤ most_drafts
 
--- one draft was read, and put behind the others
+-- one draft was read, and appended to the others
 pub record IsDraftRead (old new : List Draft) (bytes rest : List ℕ) : Type 0 where
   pub draft : Draft
   pub has : HasDraft draft
   pub pushed : new ≡ old ++ draft ∷ []
   pub spelled : bytes ≡ draft_bytes draft ++ rest
 
--- no draft stands there
+-- the bytes begin with no draft
 abbrev pub BeginsWithNoDraft : List ℕ → Type 0
 BeginsWithNoDraft bytes = (draft : Draft) (rest : List ℕ) → HasDraft draft → bytes ≢ draft_bytes draft ++ rest
 
@@ -68,12 +68,12 @@ pub record AreDraftsRead (drafts : List Draft) (bytes rest : List ℕ) : Type 0 
   pub each : All HasDraft drafts
   pub spelled : bytes ≡ drafts_bytes drafts ++ rest
 
--- no drafts of a check-out stand there
+-- the bytes begin with no drafts of a check-out
 abbrev pub BeginsWithNoDrafts : List ℕ → Type 0
 BeginsWithNoDrafts bytes =
     (drafts : List Draft) (rest : List ℕ) → length drafts ≤ most_drafts → All HasDraft drafts → bytes ≢ drafts_bytes drafts ++ rest
 
--- one claim was read with its drafts, and both were put behind the others
+-- one claim was read with its drafts, and both were appended to the others
 pub record IsClaimRead (version : FileVersion) (claims claims_new : List Claim) (drafts drafts_new : List (List Draft))
     (bytes rest : List ℕ) : Type 0 where
   pub told : Drafted
@@ -82,7 +82,7 @@ pub record IsClaimRead (version : FileVersion) (claims claims_new : List Claim) 
   pub drafts_are : drafts_new ≡ drafts ++ told.1 ∷ []
   pub spelled : bytes ≡ drafted_bytes version told ++ rest
 
--- no claim stands there
+-- the bytes begin with no claim
 abbrev pub BeginsWithNoClaim : FileVersion → List ℕ → Type 0
 BeginsWithNoClaim version bytes = (told : Drafted) (rest : List ℕ) → HasOwn version told → bytes ≢ drafted_bytes version told ++ rest
 
@@ -99,7 +99,7 @@ pub record AreClaimsRead (version : FileVersion) (claims : List Claim) (drafts :
   pub drafts_are : drafts ≡ map (λ (x : Drafted). x.1) told
   pub spelled : bytes ≡ claims_bytes version told ++ rest
 
--- no claims of a line stand there
+-- the bytes begin with no spelling of claims
 abbrev pub BeginsWithNoClaims : FileVersion → List ℕ → Type 0
 BeginsWithNoClaims version bytes = (told : List Drafted) (rest : List ℕ) → length told ≤ most_claims → All (HasOwn version) told
     → bytes ≢ claims_bytes version told ++ rest

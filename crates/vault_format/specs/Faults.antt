@@ -21,7 +21,7 @@ version_in file = slice_range file 8 12
 abbrev pub generation_in : List ℕ → List ℕ
 generation_in file = slice_range file 12 20
 
--- how many bytes its snapshot has, by the head
+-- how many bytes its snapshot has, as the head says
 abbrev pub snapshot_length : List ℕ → ℕ
 snapshot_length file = from_be_bytes w32 (slice_range file 20 24)
 
@@ -29,20 +29,20 @@ snapshot_length file = from_be_bytes w32 (slice_range file 20 24)
 abbrev pub snapshot_in : List ℕ → List ℕ
 snapshot_in file = slice_range file header (header + snapshot_length file)
 
--- an open file: whole up to its snapshot, and its head gate open
+-- an open file: its header is whole, and its head gate open
 pub record IsOpenFile (file : List ℕ) : Type 0 where
   pub long : header ≤ length file
   pub gate : slice_index file 0 ≡ 1
 
--- these four bytes tell a version
+-- these four bytes are a version's number
 abbrev pub IsVersion : FileVersion → List ℕ → Type 0
 IsVersion version bytes = bytes ≡ in_four (version_number version)
 
--- they tell none
+-- these four bytes are no version's number
 abbrev pub IsNoVersion : List ℕ → Type 0
 IsNoVersion bytes = (version : FileVersion) → bytes ≢ in_four (version_number version)
 
--- which version four bytes tell, if any
+-- the version whose number four bytes are, if any
 abbrev pub IsVersionFound : List ℕ → Option FileVersion → Type 0
 IsVersionFound bytes (Some version) = IsVersion version bytes
 IsVersionFound bytes None = IsNoVersion bytes
@@ -59,7 +59,7 @@ IsHeadFault file at =
 abbrev pub IsDamagedHead : List ℕ → ℕ → Type 0
 IsDamagedHead file at = IsOpenFile file × IsHeadFault file at
 
--- bytes are no vault's spelling in this version
+-- these bytes are no vault's spelling in this version
 abbrev pub IsNoSnapshot : FileVersion → List ℕ → Type 0
 IsNoSnapshot version bytes = (v : Vault) → HasSpelling version v → bytes ≢ spelling_of version v
 
@@ -69,8 +69,8 @@ IsSnapshotFault version file at =
     ((at ≡ head_length) × (length file ≤ header + snapshot_length file))
     ⊎ ((at ≡ header) × (header + snapshot_length file < length file) × IsNoSnapshot version (snapshot_in file))
 
--- The first frame of such a file that isn't one: a vault's snapshot and whole frames stand before it, which lead to a vault; an open gate
--- is there; and no frame whose effects may be made on that vault stands there with a byte behind it.
+-- Where the first broken frame of such a file begins. Before it stand a vault's snapshot and whole frames, which lead to a vault. An
+-- open gate stands there, but it begins no frame that is applicable to that vault and has a byte behind it.
 pub record IsFrameFault (version : FileVersion) (file : List ℕ) (at : ℕ) : Type 0 where
   pub generation : ℕ
   pub base : Vault
@@ -85,6 +85,6 @@ pub record IsFrameFault (version : FileVersion) (file : List ℕ) (at : ℕ) : T
   pub none : (effects : List Effect) (next : Vault) (behind : List ℕ) → IsFrame effects → applied vault effects ≡ Some next → behind ≢ []
       → drop at file ≢ frame_of effects ++ behind
 
--- what is wrong behind a right head: the snapshot, or behind a right one a frame
+-- what is wrong behind a right head: the snapshot, or a frame behind a right snapshot
 abbrev pub IsBodyFault : FileVersion → List ℕ → ℕ → Type 0
 IsBodyFault version file at = IsSnapshotFault version file at ⊎ IsFrameFault version file at

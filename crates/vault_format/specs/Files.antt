@@ -17,15 +17,15 @@ use Rattle.vault_format.specs.declared.sizes.TheConstants.{MAX_RECORDS, FRAME_EX
 abbrev pub header : ℕ
 header = HEADER
 
--- how many of them stand before the snapshot's length
+-- how many of these bytes stand before the snapshot's length
 abbrev pub head_length : ℕ
 head_length = 20
 
--- what a file of a vault is known by
+-- the bytes by which a vault's file is known
 abbrev pub mark : List ℕ
 mark = codes "LLVAULT"
 
--- the number of a version, as a file tells it
+-- the number of a version, as it stands in a file
 abbrev pub version_number : FileVersion → ℕ
 version_number One = 1
 version_number Two = 2
@@ -34,15 +34,15 @@ version_number Two = 2
 abbrev pub most_records : ℕ
 most_records = MAX_RECORDS
 
--- how many bytes a frame has beside its records: its gate and the records' length
+-- how many bytes a frame has beside its records: its commit mark (the gate) and the records' length
 abbrev pub frame_extra : ℕ
 frame_extra = FRAME_EXTRA
 
--- the head of an open file of a version and a generation: the gate, the mark, and these two
+-- the head of an open file: the gate, the mark, the version and the generation
 abbrev pub head_of : FileVersion → ℕ → List ℕ
 head_of version generation = 1 ∷ mark ++ in_four (version_number version) ++ in_eight generation
 
--- that of the version that is written today
+-- the head of the version that is written today
 abbrev pub current_head : ℕ → List ℕ
 current_head generation = head_of current_version generation
 
@@ -63,27 +63,27 @@ frame_bytes records = 1 ∷ in_four (length records) ++ records
 abbrev pub frame_of : List Effect → List ℕ
 frame_of effects = frame_bytes (records_of effects)
 
--- frames, one behind another
+-- frames, one after another
 abbrev pub frames_bytes : List (List Effect) → List ℕ
 frames_bytes frames = flat_map frame_of frames
 
--- the effects of a frame: one or more, each with a record, and room for all
+-- the effects of a frame: one or more, each with a record, and the records are short enough for a frame
 pub record IsFrame (effects : List Effect) : Type 0 where
   pub some : effects ≢ []
   pub each : AllByRecursion HasRecord effects
   pub few : length (records_of effects) ≤ most_records
 
--- the durable vault after effects, one behind the other, where each may be made
+-- the durable vault after effects, one after another, if each is applicable
 abbrev pub applied : Vault → List Effect → Option Vault
 applied w [] = Some w
 applied w (effect ∷ effects) = option_and_then (λ (next : Vault). applied next effects) (after w effect)
 
--- the durable vault after frames
+-- the durable vault after frames, one after another, if each is applicable
 abbrev pub after_frames : Vault → List (List Effect) → Option Vault
 after_frames w [] = Some w
 after_frames w (frame ∷ frames) = option_and_then (λ (next : Vault). after_frames next frames) (applied w frame)
 
--- What opening reads: the vault and, of the active file, its version and its generation, where its tail gate stands, and how many
+-- What opening reads: the vault, and for the active file its version, its generation, the offset of its tail gate, and how many
 -- bytes its frames have.
 pub record Reading : Type 0 where
   pub vault : Vault
@@ -92,7 +92,7 @@ pub record Reading : Type 0 where
   pub tail : ℕ
   pub journal_length : ℕ
 
--- These bytes are an open file's, up to its tail gate: the head, a snapshot in the spelling of the file's version, and frames, which
+-- These bytes are an open file's, up to its tail gate: the head, a snapshot in the spelling of the file's version, and frames. They
 -- lead to the reading.
 pub record IsFront (front : List ℕ) (reading : Reading) : Type 0 where
   pub base : Vault
@@ -111,7 +111,7 @@ pub record EndsBehind (front file : List ℕ) : Type 0 where
   pub begins : take (length front) file ≡ front
   pub closed : IsClosed (length front) file
 
--- a file is read as this
+-- a file is read as this reading
 pub record Holds (file : List ℕ) (reading : Reading) : Type 0 where
   pub front : List ℕ
   pub is_front : IsFront front reading
@@ -132,11 +132,11 @@ pub record HasHead (version : FileVersion) (generation : ℕ) (file : List ℕ) 
 abbrev pub HasRightHead : ℕ → List ℕ → Type 0
 HasRightHead generation file = (version : FileVersion) × HasHead version generation file
 
--- the file beside the active one, of which no more is read: closed, or of a smaller generation
+-- the file beside the active one: it is closed, or of a smaller generation. No more of it is read.
 abbrev pub IsSpare : ℕ → List ℕ → Type 0
 IsSpare generation file = IsClosedFile file ⊎ ((older : ℕ) × (older < generation) × HasRightHead older file)
 
--- Two files are read as this: one of them is, and the other is its spare.
+-- Two files are read as this reading: one of them is, and the other is its spare.
 abbrev pub AreRead : List ℕ → List ℕ → Reading → Type 0
 AreRead first second reading =
     (Holds first reading × IsSpare reading.generation second) ⊎ (Holds second reading × IsSpare reading.generation first)

@@ -5,7 +5,7 @@ use Rattle.vault_format.specs.declared.version.FileVersion.{FileVersion}
 use Rattle.vault_format.specs.declared.sizes.TheConstants.{MAX_SNAPSHOT}
 use Rattle.vault_format.specs.Snapshot.{current_version, snapshot_of, spelling_of, HasSnapshot, HasSpelling}
 
--- four bytes can count a spelling
+-- the length of a snapshot fits into four bytes
 abbrev pub SnapshotsAreShort : Type 0
 SnapshotsAreShort = (v : Vault) → HasSnapshot v → length (snapshot_of v) < 2 ^ 32
 
@@ -17,7 +17,7 @@ most_snapshot = MAX_SNAPSHOT
 abbrev pub NoneIsLonger : Type 0
 NoneIsLonger = (version : FileVersion) (v : Vault) → HasSpelling version v → length (spelling_of version v) ≤ most_snapshot
 
--- a spelling in a version is of one vault
+-- no two vaults have the same spelling in a version
 abbrev pub OneSpelling : Type 0
 OneSpelling = (version : FileVersion) (v w : Vault) → HasSpelling version v → HasSpelling version w
     → spelling_of version v ≡ spelling_of version w → v ≡ w

@@ -1,4 +1,4 @@
--- The places of a snapshot, and what the functions that read them answer, part by part. This project's own.
+-- The places of a snapshot, and what the functions that read them return, part by part. This project's own.
 use Rattle.std.specs.Prelude.{◌≡◌, ◌≢◌, ℕ, suc, ◌+◌, ◌^◌, ◌<◌, ◌≤◌, ◌==◌, true, false, if◌then◌else◌, List, [], ◌∷◌, ◌++◌, length, Option, None, Some, All}
 use Rattle.std.specs.List.{flat_map}
 use Rattle.vault_model.specs.declared.place.Place.{Place}
@@ -26,7 +26,7 @@ vault_with tree shelf = record new_vault { tree = tree; shelf = shelf }
 abbrev pub places_of : FileVersion → List Place → List (List (List ℕ)) → List ℕ
 places_of version tree shelf = in_four (length tree + 1) ++ places_bytes version (vault_with tree shelf) 1 tree
 
--- what is spelled so: a tree of names and of kinds that the version can spell, and versions of its parts
+-- what has such a spelling: a tree whose names and kinds the version can spell, and the versions of its parts
 pub record ArePlaces (version : FileVersion) (tree : List Place) (shelf : List (List (List ℕ))) : Type 0 where
   pub tree_is : IsTree tree
   pub kinds : AreKindsIn version tree
@@ -39,7 +39,7 @@ pub record ArePlacesAt (version : FileVersion) (bytes : List ℕ) (tree : List P
   pub are : ArePlaces version tree shelf
   pub spelled : bytes ≡ places_of version tree shelf ++ rest
 
--- no spelling of places stands there
+-- the bytes begin with no spelling of places
 abbrev pub BeginsWithNoPlaces : FileVersion → List ℕ → Type 0
 BeginsWithNoPlaces version bytes = (tree : List Place) (shelf : List (List (List ℕ))) (rest : List ℕ)
     → ArePlaces version tree shelf → bytes ≢ places_of version tree shelf ++ rest
@@ -49,7 +49,7 @@ pub record AreReadTo (version : FileVersion) (tree : List Place) (shelf : List (
   pub are : ArePlaces version tree shelf
   pub spelled : bytes ≡ places_bytes version (vault_with tree shelf) 1 tree ++ rest
 
--- places were read on from the front of bytes, behind those that were there
+-- more places were read from the front of bytes, behind those that were there
 pub record AreReadOn (version : FileVersion) (tree : List Place) (shelf : List (List (List ℕ))) (tree_new : List Place)
     (shelf_new : List (List (List ℕ))) (bytes rest : List ℕ) : Type 0 where
   pub more : List Place
@@ -58,7 +58,7 @@ pub record AreReadOn (version : FileVersion) (tree : List Place) (shelf : List (
   pub kept : (p : ℕ) → p ≤ length tree → versions_of shelf_new p ≡ versions_of shelf p
   pub spelled : bytes ≡ places_bytes version (vault_with tree_new shelf_new) (suc (length tree)) more ++ rest
 
--- no spelling of so many places, with the library, or of more, has those that are there in front, and then these bytes
+-- no spelling of `count` places or more, with the library, begins with the places that are there and then these bytes
 abbrev pub BeginsWithFewerPlaces : FileVersion → ℕ → List Place → List (List (List ℕ)) → List ℕ → Type 0
 BeginsWithFewerPlaces version count tree shelf bytes = (all : List Place) (whole : List (List (List ℕ))) (rest : List ℕ)
     → count ≤ length all + 1 → ArePlaces version all whole
@@ -80,19 +80,19 @@ pub record IsVersionRead (part : ℕ) (old new : List (List (List ℕ))) (bytes 
   pub spelled : bytes ≡ content_bytes content ++ rest
   pub shelf_is : new ≡ shelved old part content
 
--- no content stands there that a well-formed shelf may have as the part's next version
+-- the bytes begin with no content that a well-formed shelf may have as the part's next version
 abbrev pub BeginsWithNoVersion : ℕ → List (List (List ℕ)) → List ℕ → Type 0
 BeginsWithNoVersion part shelf bytes = (content : List ℕ) (whole : List (List (List ℕ))) (rest : List ℕ) → IsShelf whole
     → IsFrontOf (shelved shelf part content) whole → bytes ≢ content_bytes content ++ rest
 
--- so many contents stand there, and the rest behind them
+-- `count` contents stand at the front of the bytes, and the rest behind them
 pub record AreContentsAt (count : ℕ) (bytes rest : List ℕ) : Type 0 where
   pub contents : List (List ℕ)
   pub size : length contents ≡ count
   pub short : All (λ content. length content ≤ longest_content) contents
   pub spelled : bytes ≡ flat_map content_bytes contents ++ rest
 
--- so many don't
+-- fewer contents stand there
 abbrev pub BeginsWithFewerContents : ℕ → List ℕ → Type 0
 BeginsWithFewerContents count bytes = (rest : List ℕ) → AreContentsAt count bytes rest → ⊥
 
@@ -104,27 +104,27 @@ pub record AreVersionsRead (part : ℕ) (old new : List (List (List ℕ))) (byte
   pub shelf_is : new ≡ shelf_with old part contents
   pub well_formed : IsShelf new
 
--- no versions stand there that a well-formed shelf may have as the part's next ones
+-- the bytes begin with no versions that a well-formed shelf may have as the part's next ones
 abbrev pub BeginsWithNoVersions : ℕ → List (List (List ℕ)) → List ℕ → Type 0
 BeginsWithNoVersions part shelf bytes = (contents : List (List ℕ)) (whole : List (List (List ℕ))) (rest : List ℕ) → IsShelf whole
     → IsFrontOf (shelf_with shelf part contents) whole → bytes ≢ versions_bytes contents ++ rest
 
--- what it says of a snapshot that a place was not made
+-- the error of reading a snapshot, if the tree refuses a place with this error
 abbrev pub told_of : AddError → SnapshotError
 told_of unmade.WrongKind = NotWellFormed
 told_of unmade.Exists = NotWellFormed
 told_of unmade.Limit = NotWellFormed
 told_of unmade.NoMemory = NoMemory
 
--- what stands under a place of this kind and is no part
+-- the kind of a place under one of this kind, if it is no part
 abbrev pub no_part_under : Kind → Kind
 no_part_under Library = Project
 no_part_under Project = Assembly
 no_part_under Assembly = Assembly
 no_part_under Part = Assembly
 
--- the kind in front, of a place under this parent, and what stands behind it. In the first version none stands there: it is what is made
--- there where nothing else is asked for.
+-- the kind at the front, for a place under this parent, and the bytes behind it. The first version spells no kind: the place has the
+-- kind that is made there by default.
 abbrev pub kind_before : FileVersion → List Place → ℕ → List ℕ → Option (Kind × List ℕ)
 kind_before One tree parent bytes = Some (kind_under tree parent, bytes)
 kind_before Two tree parent [] = None
@@ -133,7 +133,7 @@ kind_before Two tree parent (byte ∷ rest) =
     else if byte == kind_byte false then Some (no_part_under (kind_of tree parent), rest)
     else None
 
--- a place but for its versions: its parent, its name and its kind
+-- a place without its versions: its parent, its name and its kind
 abbrev pub head_bytes : FileVersion → Place → List ℕ
 head_bytes version place = in_four place.parent ++ name_bytes place.name ++ kind_field version (is_part_kind place.kind)
 
@@ -146,12 +146,12 @@ pub record IsPlaceAdded (version : FileVersion) (old new : List Place) (bytes re
   pub tree_is : IsTree new
   pub spelled : bytes ≡ head_bytes version place ++ rest
 
--- no parent, name and kind stand there of a place that may be the tree's next
+-- the bytes begin with no parent, name and kind of a place that may be the tree's next
 abbrev pub BeginsWithNoName : FileVersion → List Place → List ℕ → Type 0
 BeginsWithNoName version tree bytes = (place : Place) (rest : List ℕ) → IsTree (tree ++ place ∷ []) → IsName place.name
     → IsKindIn version place.kind (suc (depth tree place.parent)) → bytes ≢ head_bytes version place ++ rest
 
--- one place was read, with its versions where it is a part; the versions of the places before it stay
+-- one place was read, with its versions if it is a part; the versions of the places before it stay
 pub record IsPlaceRead (version : FileVersion) (tree : List Place) (shelf : List (List (List ℕ))) (tree_new : List Place)
     (shelf_new : List (List (List ℕ))) (bytes rest : List ℕ) : Type 0 where
   pub place : Place
@@ -163,14 +163,14 @@ pub record IsPlaceRead (version : FileVersion) (tree : List Place) (shelf : List
   pub kept : (p : ℕ) → p ≤ length tree → versions_of shelf_new p ≡ versions_of shelf p
   pub spelled : bytes ≡ place_bytes version (vault_with tree_new shelf_new) (suc (length tree)) place ++ rest
 
--- no place stands there that may be the next one, in a tree and a shelf that may have more places
+-- the bytes begin with no place that may be the next one, in a tree and a shelf that may have more places
 abbrev pub BeginsWithNoPlace : FileVersion → List Place → List (List (List ℕ)) → List ℕ → Type 0
 BeginsWithNoPlace version tree shelf bytes =
     (place : Place) (more : List Place) (whole : List (List (List ℕ))) (rest : List ℕ) → ArePlaces version (tree ++ place ∷ more) whole
     → ((p : ℕ) → p ≤ length tree → versions_of whole p ≡ versions_of shelf p)
     → bytes ≢ place_bytes version (vault_with (tree ++ place ∷ more) whole) (suc (length tree)) place ++ rest
 
--- the fields of a place in today's version, whether or not a tree may have it: its parent, its name, the byte of its kind and, where that is
+-- the fields of a place in today's version, whether or not a tree may have it: its parent, its name, the byte of its kind and, if that is
 -- a part's, its versions
 pub record PlaceFields : Type 0 where
   pub parent : ℕ
@@ -190,12 +190,12 @@ abbrev pub fields_bytes : PlaceFields → List ℕ
 fields_bytes fields =
     in_four fields.parent ++ (name_bytes fields.name ++ fields.kind ∷ versions_field (fields.kind == kind_byte true) fields.contents)
 
--- the fields of a place stand there, and the rest behind them
+-- the fields of a place stand at the front of the bytes, and the rest behind them
 pub record AreFieldsAt (bytes rest : List ℕ) : Type 0 where
   pub fields : PlaceFields
   pub are : AreFields fields
   pub spelled : bytes ≡ fields_bytes fields ++ rest
 
--- none do
+-- the bytes begin with no fields of a place
 abbrev pub BeginsWithNoFields : List ℕ → Type 0
 BeginsWithNoFields bytes = (rest : List ℕ) → AreFieldsAt bytes rest → ⊥

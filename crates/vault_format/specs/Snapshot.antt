@@ -27,12 +27,12 @@ current_version = Two
 abbrev pub versions_bytes : List (List ℕ) → List ℕ
 versions_bytes versions = in_two (length versions) ++ flat_map content_bytes versions
 
--- the kind of a place, by whether it is a part: 1 of a part, 0 of a project or an assembly
+-- the byte for a place's kind: 1 for a part, 0 for a project or an assembly
 abbrev pub kind_byte : Bool → ℕ
 kind_byte true = 1
 kind_byte false = 0
 
--- which kinds of places a version can spell at a depth: the first those alone that are made there where nothing else is asked for
+-- which kinds of places a version can spell at a depth: the first only the kind that is made there by default
 abbrev pub IsKindIn : FileVersion → Kind → ℕ → Type 0
 IsKindIn One kind depth = kind ≡ kind_at depth
 IsKindIn Two kind depth = Unit {0}
@@ -42,26 +42,26 @@ abbrev pub AreKindsIn : FileVersion → List Place → Type 0
 AreKindsIn version tree =
     (i : ℕ) (place : Place) → slice_get tree i ≡ Some place → IsKindIn version place.kind (suc (depth tree place.parent))
 
--- the kind as a version spells it; in the first it isn't spelled, since it follows from how deep the place stands
+-- the kind as a version spells it; the first doesn't, since the kind follows from the place's depth
 abbrev pub kind_field : FileVersion → Bool → List ℕ
 kind_field One part = []
 kind_field Two part = kind_byte part ∷ []
 
--- the versions, of a part alone
+-- the versions, if the place is a part
 abbrev pub versions_field : Bool → List (List ℕ) → List ℕ
 versions_field true versions = versions_bytes versions
 versions_field false versions = []
 
--- what stands behind a place's name: its kind and, of a part, its versions
+-- what follows a place's name: its kind and, for a part, its versions
 abbrev pub kind_bytes : FileVersion → Bool → List (List ℕ) → List ℕ
 kind_bytes version part versions = kind_field version part ++ versions_field part versions
 
--- the place of this number: its parent, its name, its kind and, of a part, its versions
+-- the place with this number: its parent, its name, its kind and, for a part, its versions
 abbrev pub place_bytes : FileVersion → Vault → ℕ → Place → List ℕ
 place_bytes version v number place =
     in_four place.parent ++ name_bytes place.name ++ kind_bytes version (is_part v.tree number) (versions_of v.shelf number)
 
--- places, the first of which has this number
+-- places; the first has this number
 abbrev pub places_bytes : FileVersion → Vault → ℕ → List Place → List ℕ
 places_bytes version v number [] = []
 places_bytes version v number (place ∷ rest) = place_bytes version v number place ++ places_bytes version v (suc number) rest
@@ -79,7 +79,7 @@ abbrev pub number_of : ClaimId → ℕ
 number_of (Long n) = n
 number_of (Short n) = n
 
--- the designer who owns a claim; of a session's there is none
+-- the designer who owns a claim; a session's claim has none
 abbrev pub designer_of : Owner → List ℕ
 designer_of (owners.Designer name) = name
 designer_of (owners.Session number) = []
@@ -89,7 +89,7 @@ abbrev pub note_field : FileVersion → List ℕ → List ℕ
 note_field One note = []
 note_field Two note = note_bytes note
 
--- which notes a version can spell: the first none but the empty one
+-- which notes a version can spell: the first only the empty one
 abbrev pub IsNoteIn : FileVersion → List ℕ → Type 0
 IsNoteIn One note = note ≡ []
 IsNoteIn Two note = IsNote note
@@ -100,23 +100,23 @@ claim_bytes version v claim = in_four (number_of claim.id) ++ name_bytes (design
     ++ items_bytes claim.items ++ drafts_bytes (drafts_of v.drafts (number_of claim.id))
 
 -- The spelling of a vault in a version: the last number given to a check-out, how many places there are, with the library, each place
--- from 1 on, how many check-outs there are, and each in the order of the line.
+-- from 1 on, how many check-outs there are, and each in the order of the queue.
 abbrev pub spelling_of : FileVersion → Vault → List ℕ
 spelling_of version v = in_four v.last_long ++ in_four (length v.tree + 1) ++ places_bytes version v 1 v.tree ++ in_two (length v.line)
     ++ flat_map (claim_bytes version v) v.line
 
--- the one that is written today
+-- the spelling that is written today
 abbrev pub snapshot_of : Vault → List ℕ
 snapshot_of v = spelling_of current_version v
 
--- what has a snapshot: a well-formed durable vault, whose names are names
+-- which vaults have a snapshot: the well-formed and durable ones, whose names are well formed
 pub record HasSnapshot (v : Vault) : Type 0 where
   pub well_formed : IsVault v
   pub durable : IsDurable v
   pub places : All (λ (place : Place). IsName place.name) v.tree
   pub owners : All (λ (claim : Claim). IsName (designer_of claim.owner)) v.line
 
--- what has a spelling in a version: such a vault, whose kinds and notes the version can spell
+-- which vaults have a spelling in a version: those with a snapshot, whose kinds and notes the version can spell
 pub record HasSpelling (version : FileVersion) (v : Vault) : Type 0 where
   pub has : HasSnapshot v
   pub kinds : AreKindsIn version v.tree

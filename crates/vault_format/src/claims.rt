@@ -12,11 +12,11 @@ use vault_model::{
     Claim, ClaimId, Draft, DraftIn, Drafts, Listing, MAX_CLAIMS, MAX_DRAFTS, Note, Owner, PlaceId,
 };
 
-// The check-outs of a snapshot, in the order of the line, one field behind another:
+// The check-outs of a snapshot, in the order of the queue of claims, one field after another:
 //
 //   bytes
 //       2  how many there are, at most 256
-//          then of each:
+//          then for each:
 //       4  its number
 //   1 + n  its owner's name: n, 1 to 32, and n bytes
 //   1 + n  its note: n, at most 64, and n bytes; not in version 1
@@ -25,7 +25,7 @@ use vault_model::{
 //       1  how many drafts it has, at most 64
 //   6 + n  each draft, by rising place: its place in 4, n in 2, and n bytes
 
-// Reads a draft behind the others, and answers the bytes behind it.
+// Reads a draft and appends it to the others. Returns the bytes behind it.
 fn read_draft<'a, A: Allocator + Copy>(
     alloc: A,
     drafts: &mut Vec<DraftIn<A>, A>,
@@ -48,7 +48,7 @@ fn read_draft<'a, A: Allocator + Copy>(
     Ok(after)
 }
 
-// Reads the drafts of a check-out, and answers the bytes behind them.
+// Reads the drafts of a check-out. Returns the bytes behind them.
 fn read_drafts<'a, A: Allocator + Copy>(
     alloc: A,
     drafts: &mut Vec<DraftIn<A>, A>,
@@ -71,7 +71,7 @@ fn read_drafts<'a, A: Allocator + Copy>(
     Ok(rest)
 }
 
-// The note in front, and what stands behind it. In version 1 there are none.
+// The note at the front of the bytes, and the bytes behind it. Version 1 has no notes.
 fn note_before(version: FileVersion, bytes: &[u8]) -> Option<(Note, &[u8])>
     ensures { Reads (λ x. (x.0, x.1.now)) result (note_before version bytes.now) }
 {
@@ -81,7 +81,7 @@ fn note_before(version: FileVersion, bytes: &[u8]) -> Option<(Note, &[u8])>
     }
 }
 
-// Reads a claim and its drafts behind the others, and answers the bytes behind them.
+// Reads a claim and its drafts, and appends both to the others. Returns the bytes behind them.
 fn read_claim<'a, A: Allocator + Copy>(
     alloc: A,
     version: FileVersion,
@@ -117,7 +117,7 @@ fn read_claim<'a, A: Allocator + Copy>(
     Ok(after)
 }
 
-/// Reads how many claims there are and each of them with its drafts, and answers the bytes behind them.
+/// Reads the number of claims, and each claim with its drafts. Returns the bytes behind them.
 ///
 /// The work grows with the bytes that are read.
 pub fn read_claims<'a, A: Allocator + Copy>(

@@ -1,4 +1,4 @@
-//! The fields of a snapshot, written one behind another.
+//! The fields of a snapshot, written one after another.
 #![tactic(auto, using(crate::proofs::Adding::adds_after))]
 
 ghost use Rattle.std.specs.Prelude.{◌≡◌, ◌<◌, ◌≤◌, ◌-◌, All, length, slice_get, Some, true};
@@ -87,7 +87,7 @@ pub fn put_items<A: Allocator>(out: &mut Vec<u8, A>, items: &[Item]) -> Result<(
     put_each_item(out, items)
 }
 
-// Adds a content behind its length.
+// Adds the length of a content, and the content.
 fn put_content<A: Allocator>(out: &mut Vec<u8, A>, content: &[u8]) -> Result<(), NoMemory>
     requires { length content.now ≤ longest_content }
     ensures { Adds out.old.items out.new.items (content_bytes content.now) result }
@@ -147,14 +147,14 @@ pub fn put_versions<A: Allocator, B: Allocator>(
     put(out, shelf.spelled(place))
 }
 
-/// The kind of a place, by whether it is a part.
+/// The byte for a place's kind: 1 for a part, 0 for any other.
 pub fn kind_byte(is_part: bool) -> u8
     ensures { result ≡ kind_byte is_part }
 {
     if is_part { 1 } else { 0 }
 }
 
-/// Adds what stands behind a place's name: its kind and, of a part, its versions.
+/// Adds what follows a place's name: its kind and, for a part, its versions.
 pub fn put_kind<A: Allocator, B: Allocator>(
     out: &mut Vec<u8, A>,
     tree: &Tree<B>,
@@ -172,7 +172,7 @@ pub fn put_kind<A: Allocator, B: Allocator>(
     put_versions(out, shelf, place)
 }
 
-/// The place of this number.
+/// The parent and the name of the place with this number.
 pub fn place_at<B: Allocator + Copy>(tree: &Tree<B>, number: u32) -> (PlaceId, Name)
     requires some { 0 < number }
     requires there { number ≤ length tree.now }
@@ -182,7 +182,7 @@ pub fn place_at<B: Allocator + Copy>(tree: &Tree<B>, number: u32) -> (PlaceId, N
     (tree.parent(place).unwrap(), tree.name_of(place).unwrap())
 }
 
-/// Adds whom a check-out belongs to.
+/// Adds the name of a check-out's owner.
 pub fn put_owner<A: Allocator>(out: &mut Vec<u8, A>, owner: &Owner) -> Result<(), NoMemory>
     ensures { Adds out.old.items out.new.items (name_bytes (designer_of owner.now)) result }
 {

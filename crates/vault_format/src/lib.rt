@@ -1,14 +1,14 @@
 //! The bytes of a vault's two files: the grammar of a file, its head, its snapshot and its frames, and the readers and writers of the
 //! snapshot's fields.
 //!
-//! Promises: places, with the versions of parts, and claims, with their drafts, are read exactly from their spelling in a version of
-//! the files; want of memory aside, bytes that begin with none are refused as such (`read_places`, `read_claims`). Bytes that end within a
-//! place are read as far as whole places stand there (`read_places_on`). Each writer adds the one spelling of its field (`fields`). Four
-//! bytes tell a version exactly where they are its number (`version_of`). Each durable vault has at most one spelling in each version of
-//! the files (`laws`).
+//! Promises: places with the versions of parts, and claims with their drafts, are read exactly from their spelling in a version of the
+//! files. Bytes that don't begin with such a spelling are refused as not well formed, unless memory runs out (`read_places`,
+//! `read_claims`). If the bytes end within a place, the whole places before it are read (`read_places_on`). Each writer adds the one
+//! spelling of its field (`fields`). Four bytes give a version exactly if they are its number (`version_of`). Each durable vault has at
+//! most one spelling in each version of the files (`laws`).
 //! Stands on: vault_model, vault_journal, design_tree, part_versions. Must not know: devices, books, commits, which file is active.
 //!
-//! Only tested: that memory is asked for only where a field needs it.
+//! Only tested: that memory is allocated only where a field needs it.
 //! Start at: docs/FORMAT.md; specs/Files.antt, the two files; specs/Snapshot.antt, the spelling of a vault; places.rt and claims.rt.
 #![tactic(auto)]
 

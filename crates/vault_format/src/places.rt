@@ -37,20 +37,20 @@ impl From<AddError> for SnapshotError {
     }
 }
 
-// The places of a snapshot, one field behind another:
+// The places of a snapshot, one field after another:
 //
 //   bytes
-//       4  how many places there are; the library counts
-//          then of each place from number 1 on:
+//       4  how many places there are, with the library
+//          then for each place from number 1 on:
 //       4  its parent, which has a smaller number
 //   1 + n  its name: n, 1 to 32, and n bytes
-//       1  its kind: 1 of a part, and 0 of another: a project right under the library, an assembly elsewhere; not in version 1
-//          and of a part:
+//       1  its kind: 1 for a part, 0 for another place: a project right under the library, an assembly elsewhere; not in version 1
+//          and for a part:
 //       2  how many versions it has
 //   2 + n  each version: n, at most 1,024, and n bytes
 
-// Reads one version of a part onto the shelf, and answers the bytes behind it. So many bytes stand behind the part's last version: the
-// shelf takes room for those before them.
+// Reads one version of a part onto the shelf. Returns the bytes behind it. `behind` is how many bytes follow the part's last version:
+// the shelf allocates room for all bytes before them.
 fn read_version<'a, A: Allocator + Copy>(
     part: PlaceId,
     behind: usize,
@@ -71,7 +71,7 @@ fn read_version<'a, A: Allocator + Copy>(
     }
 }
 
-// How many bytes stand behind so many versions in front; all, where the versions aren't all there.
+// How many bytes stand behind the first `count` versions. It counts all bytes if a version is missing.
 fn length_behind(count: u16, bytes: &[u8]) -> usize {
     match behind_versions(count, bytes) {
         Some(rest) => rest.len(),
@@ -79,7 +79,7 @@ fn length_behind(count: u16, bytes: &[u8]) -> usize {
     }
 }
 
-// Reads the versions of a part onto the shelf, and answers the bytes behind them.
+// Reads the versions of a part onto the shelf. Returns the bytes behind them.
 fn read_versions<'a, A: Allocator + Copy>(
     part: PlaceId,
     shelf: &mut Shelf<A>,
@@ -100,7 +100,7 @@ fn read_versions<'a, A: Allocator + Copy>(
     Ok(rest)
 }
 
-// What stands under a place of this kind and is no part.
+// The kind of a place under one of this kind, if it is no part.
 fn no_part_under(kind: Kind) -> Kind
     ensures { result ≡ no_part_under kind }
 {
@@ -110,7 +110,7 @@ fn no_part_under(kind: Kind) -> Kind
     }
 }
 
-// The kind in front, of a place under this parent, and what stands behind it. In version 1 it follows from how deep the place stands.
+// The kind at the front, for a place under this parent, and the bytes behind it. In version 1 it follows from the place's depth.
 fn kind_before<'a, A: Allocator>(
     version: FileVersion,
     tree: &Tree<A>,
@@ -133,7 +133,7 @@ fn kind_before<'a, A: Allocator>(
     None
 }
 
-// Reads the parent, the name and the kind of a place, makes it in the tree, and answers the bytes behind them.
+// Reads the parent, the name and the kind of a place, and adds it to the tree. Returns the bytes behind them.
 fn read_name<'a, A: Allocator + Copy>(
     version: FileVersion,
     tree: &mut Tree<A>,
@@ -158,7 +158,7 @@ fn read_name<'a, A: Allocator + Copy>(
     Ok(kind.1)
 }
 
-// Reads the place of this number, with its versions where it is a part, and answers the bytes behind it.
+// Reads the place with this number, and its versions if it is a part. Returns the bytes behind it.
 fn read_place<'a, A: Allocator + Copy>(
     version: FileVersion,
     place: PlaceId,
@@ -178,7 +178,7 @@ fn read_place<'a, A: Allocator + Copy>(
     read_versions(place, shelf, rest)
 }
 
-// What stands behind so many versions in front, where all of them are there.
+// The bytes behind the first `count` versions, if all of them are there.
 fn behind_versions(count: u16, bytes: &[u8]) -> Option<&[u8]>
     ensures there { IfSome result (λ rest. AreContentsAt count bytes.now rest.now) }
     ensures none { result ≡ None → BeginsWithFewerContents count bytes.now }
@@ -193,7 +193,7 @@ fn behind_versions(count: u16, bytes: &[u8]) -> Option<&[u8]>
     Some(rest)
 }
 
-// What stands behind the place in front, in the spelling of today's version, where all of it is there.
+// The bytes behind the place at the front, spelled as in today's version, if its fields are all there.
 fn behind_place(bytes: &[u8]) -> Option<&[u8]>
     ensures there { IfSome result (λ rest. AreFieldsAt bytes.now rest.now) }
     ensures none { result ≡ None → BeginsWithNoFields bytes.now }
@@ -210,12 +210,12 @@ fn behind_place(bytes: &[u8]) -> Option<&[u8]>
     behind_versions(count, rest)
 }
 
-/// Reads places on, behind those that are there, until there are so many with the library, or the fields of the next one aren't all there.
-/// Answers the bytes behind them. `NotWellFormed`: so many places don't stand there, whatever follows these bytes.
+/// Reads more places, behind those that the tree has, until there are `count` with the library, or the fields of the next one aren't all
+/// there. Returns the bytes behind them. `NotWellFormed`: these bytes don't begin `count` places, whatever follows them.
 ///
-/// The places are spelled as in today's version. The work grows with the bytes that are read, the bytes of one place more and, for each
-/// place, with the number of its siblings. It takes memory for the tree and the shelf alone, and of a part's versions for all at once. After
-/// an error the tree and the shelf may have part of a place.
+/// The places are spelled as in today's version. The work grows with the bytes that are read, the bytes of one more place and, for each
+/// place, with the number of its siblings. It allocates memory only for the tree and the shelf, and for all versions of a part at once.
+/// After an error the tree and the shelf may have part of a place.
 pub fn read_places_on<'a, A: Allocator + Copy>(
     count: u32,
     tree: &mut Tree<A>,
@@ -239,7 +239,7 @@ pub fn read_places_on<'a, A: Allocator + Copy>(
     Ok(rest)
 }
 
-// Reads how many places there are and each of them, and answers the bytes behind them.
+// Reads the number of places, and each place. Returns the bytes behind them.
 fn read_each_place<'a, A: Allocator + Copy>(
     version: FileVersion,
     tree: &mut Tree<A>,
@@ -264,10 +264,10 @@ fn read_each_place<'a, A: Allocator + Copy>(
     Ok(rest)
 }
 
-/// The places whose spelling in this version stands at the front of the bytes, with the versions of their parts.
+/// Reads the places from the front of the bytes, spelled as in this version, with the versions of the parts.
 ///
-/// The work grows with the bytes that are read and, for each place, with the number of its siblings. It takes memory for the tree and the
-/// shelf alone, and of a part's versions for all at once: each of them is copied once.
+/// The work grows with the bytes that are read and, for each place, with the number of its siblings. It allocates memory only for the
+/// tree and the shelf, and for all versions of a part at once: each version is copied once.
 pub fn read_places<'a, A: Allocator + Copy>(
     alloc: A,
     version: FileVersion,

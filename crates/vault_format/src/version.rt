@@ -8,13 +8,13 @@ const SECOND_VERSION: [u8; 4] = [0, 0, 0, 2];
 /// The version of a file, which says how its snapshot is spelled. Frames are the same in both.
 #[derive(Clone, Copy, Debug, PartialEq, Eq)]
 pub enum FileVersion {
-    /// The first: the kind of a place isn't written, and no claim has a note. It is read, and not written any more.
+    /// The first: it has no kinds of places and no notes of claims. It is still read, but no longer written.
     One,
     /// Today's.
     Two,
 }
 
-/// The version that these four bytes tell, if any.
+/// The version whose number these four bytes are, if any.
 pub fn version_of(bytes: &[u8]) -> Option<FileVersion>
     ensures { IsVersionFound bytes.now result }
 {

@@ -1,4 +1,4 @@
--- How many versions and drafts there are: each version is of one place of the tree, each draft of one claim of the line.
+-- How many versions and drafts there are: each version is of one place of the tree, each draft of one claim in the queue.
 use Rattle.std.proofs.Common.{◌≡◌, ℕ, zero, suc, ◌+◌, ◌<◌, ◌≤◌, Bool, true, false, cond, List, [], ◌∷◌, length, map, filter, refl, sym, ap, ◌∙◌, subst, arith, take, ◌++◌, Some, ◌⊎◌, inl, inr}
 use Rattle.std.specs.Prelude.{sum_by, count_by, is_some, slice_get, All, ◌==◌}
 use Rattle.std.specs.List.{IsDistinct, AllByRecursion, range_with_len}

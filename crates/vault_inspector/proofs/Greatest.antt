@@ -1,4 +1,4 @@
--- The greatest of a figure of the first so many things, one more at a time.
+-- The greatest value of a figure over the first things, one more at a time.
 use Rattle.std.proofs.Common.{◌≡◌, inl, inr, ℕ, ◌+◌, ◌<◌, ◌≤◌, ◌⊎◌, refl, sym, ap, ◌∙◌, subst, arith}
 use Rattle.std.proofs.lemmas.Bool.{cases_lt}
 use Rattle.vault_inspector.specs.Figures.{IsGreatest}

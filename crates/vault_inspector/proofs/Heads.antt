@@ -1,4 +1,4 @@
--- What a head tells: the version and the generation of a right one, and of no other.
+-- What a head says: a right one its version and generation, any other nothing.
 use Rattle.std.proofs.Common.{◌≡◌, ℕ, List, Some, refl, subst}
 use Rattle.vault_store.specs.declared.front.Head.{Head}
 use Rattle.vault_store.specs.declared.front.Head.TheVariants.{Closed, Open, Damaged}

@@ -1,4 +1,4 @@
--- What all drafts weigh: each is of one claim of the line.
+-- What all drafts weigh: each is of one claim in the queue.
 use Rattle.std.proofs.Common.{◌≡◌, ℕ, suc, ◌+◌, ◌<◌, ◌≤◌, Bool, true, false, cond, get_or, length, Fits, w64, List, [], ◌∷◌, map, filter, refl, sym, ap, ◌∙◌, arith, take, drop, ◌++◌, Some}
 use Rattle.std.specs.Prelude.{sum_by, count_by, slice_get, All, ◌==◌}
 use Rattle.std.specs.List.{IsDistinct}
@@ -70,7 +70,7 @@ sum_none (c ∷ line) = sum_by-cons (λ (d : Claim). own_weight [] d.id) c line 
     by_id (Long n) = refl
     by_id (Short n) = refl
 
--- a weight of each of those that are counted: none, where none is, and itself, where one is
+-- the sum of a weight over those that are counted: 0 where none is, and the weight where one is
 none_weighed : {X : Type 0} (p : X → Bool) (w : ℕ) (xs : List X) → count_by p xs ≡ 0 → sum_by (λ (x : X). cond (p x) w 0) xs ≡ 0
 none_weighed {X} p w [] none = refl
 none_weighed {X} p w (x ∷ xs) none = by_test (p x) refl (none_weighed p w xs)
@@ -129,7 +129,7 @@ all_weighed v is = sum_all v.tree v.line v.drafts is.apart is.drafts.each
 pub weight_is_total : WeightIsTotal
 weight_is_total v is = ap (λ (n : ℕ). weight v.shelf + n) (all_weighed v is)
 
--- those of the claims up to one more are light
+-- the drafts of the first claims, with the next one, stay within the weight limit
 pub light_so_far : (v : Vault) → IsVault v → (i : ℕ) (c : Claim) → slice_get v.line i ≡ Some c
     → sum_by (λ (d : Claim). own_weight v.drafts d.id) (take i v.line) + own_weight v.drafts c.id ≤ most_weight
 light_so_far v is i c at =
@@ -156,7 +156,7 @@ module _ (xs : List Draft) (i sum all : ℕ) (so_far : sum + drafts_weight (drop
     pub weighed_fits : all ≤ most_weight → Fits w64 (sum + (length content + 8))
     weighed_fits light = let next = weighed_next in omega arith
 
--- what was summed at the end of the line
+-- the sum at the end of the queue stays within the weight limit
 pub light_at_end : (v : Vault) → IsVault v → (i total : ℕ) → length v.line ≤ i → total ≡ sum_by (λ (c : Claim). own_weight v.drafts c.id) (take i v.line)
     → weight v.shelf + total ≤ most_weight
 light_at_end v is i total past summed =

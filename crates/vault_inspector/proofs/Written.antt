@@ -1,4 +1,4 @@
--- What is written of a text, piece by piece.
+-- How much of a text is written, piece by piece.
 use Rattle.std.proofs.Common.{◌≡◌, ℕ, suc, ◌+◌, ◌<◌, List, [], ◌∷◌, ◌++◌, Option, sym, ap, ◌∙◌, subst, append_assoc, append-nil, length, get_or, take, drop}
 use Rattle.std.specs.Prelude.{Result, Ok, Err, IsErr, OnOk, OnErr}
 use Rattle.std.specs.List.{flat_map}
@@ -17,7 +17,7 @@ use Rattle.vault_model.specs.Tree.{path_of}
 use Rattle.vault_inspector.specs.Output.{GetsPart, Writes}
 use Rattle.vault_inspector.specs.Texts.{intent_text, item_text}
 
--- a first part of a piece, of the piece with another behind it
+-- a first part of a piece is also a first part of the piece with another behind it
 pub part_then : (a b : Option (List ℕ)) (text more : List ℕ) → GetsPart a b text → GetsPart a b (text ++ more)
 part_then a b text more p = record {
   part = p.part;
@@ -51,7 +51,7 @@ pub writes_part : {T E : Type 0} (a b : Option (List ℕ)) (text : List ℕ) (re
 writes_part a b text (Ok x) failed p = absurd (false≢true failed)
 writes_part a b text (Err e) failed p = p
 
--- of the pieces of some things: those of the first, and a first part of the next
+-- the pieces of the first things, and a first part of the next piece
 pub part_of_each : {X : Type 0} (f : X → List ℕ) (xs : List X) (i : ℕ) (x : X) (a b c : Option (List ℕ))
     → i < length xs → get_or xs i x ≡ x → Appends a b (flat_map f (take i xs)) → GetsPart b c (f x) → GetsPart a c (flat_map f xs)
 part_of_each f xs i x a b c within is first part =
@@ -59,7 +59,7 @@ part_of_each f xs i x a b c within is first part =
     let split = ap (flat_map f) cut ∙ flat_map-append f (take i xs) (x ∷ drop (suc i) xs) ∙ ap (λ (l : List ℕ). flat_map f (take i xs) ++ l) (flat_map-cons f x (drop (suc i) xs)) in
     subst (GetsPart a c) (sym split) (part_after a b c (flat_map f (take i xs)) (f x ++ flat_map f (drop (suc i) xs)) first (part_then b c (f x) (flat_map f (drop (suc i) xs)) part))
 
--- those of the first, and the next
+-- the pieces of the first things, and the whole next piece
 pub more_of_each : {X : Type 0} (f : X → List ℕ) (xs : List X) (i : ℕ) (x : X) (a b c : Option (List ℕ))
     → i < length xs → get_or xs i x ≡ x → Appends a b (flat_map f (take i xs)) → Appends b c (f x) → Appends a c (flat_map f (take (i + 1) xs))
 more_of_each f xs i x a b c within is first next =
@@ -68,7 +68,7 @@ more_of_each f xs i x a b c within is first next =
     let split = ap (flat_map f) cut ∙ flat_map-append f (take i xs) (x ∷ []) ∙ ap (λ (l : List ℕ). flat_map f (take i xs) ++ l) one in
     subst (Appends a c) (sym split) (Appends-trans a b c (flat_map f (take i xs)) (f x) first next)
 
--- the two ends of a writing
+-- what is written at Ok, and at an error
 pub whole_of : {T E : Type 0} (a b : Option (List ℕ)) (text : List ℕ) (result : Result T E) → Writes a b text result → OnOk result (Appends a b text)
 whole_of a b text (Ok x) w = w
 whole_of a b text (Err e) w = tt

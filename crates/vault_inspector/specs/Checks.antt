@@ -1,4 +1,4 @@
--- What is told of two files, and of a vault's limits. This project's own.
+-- What is said of two files, and of a vault's limits. This project's own.
 use Rattle.std.specs.Prelude.{ℕ, ◌*◌, ◌/◌, Bool, ◌&&◌, nat_le, nat_lt, if◌then◌else◌, List, [], ◌∷◌, ◌++◌, codes, decimal, Option, None, Some}
 use Rattle.vault_model.specs.Limits.{most_places, most_children, most_claims, most_versions, most_weight, last_number}
 use Rattle.vault_store.specs.declared.opening.File.TheVariants.{First, Second}
@@ -21,15 +21,15 @@ name_of Versions = codes "versions"
 name_of Weight = codes "weight"
 name_of CheckOuts = codes "check-outs"
 
--- how much a part is of a hundred; what is past a limit is all of it
+-- how much of a limit is used in per cent; more than the limit counts as 100
 abbrev pub per_cent_of : ℕ → ℕ → ℕ
 per_cent_of used limit = if nat_lt used limit then used * 100 / limit else 100
 
--- a limit, how much of it is used, and how much that is of a hundred
+-- a limit, how much of it is used, and how much that is in per cent
 abbrev pub limit_of : Limited → ℕ → ℕ → Limit
 limit_of limited used limit = record { limited = limited; used = used; limit = limit; per_cent = per_cent_of used limit }
 
--- each limit that a vault's files show; of the versions it is the part's that has the most
+-- each limit that a vault's files show; for versions it is that of the part with the most
 abbrev pub limits_of : Figures → List Limit
 limits_of figures =
     limit_of Places figures.places most_places
@@ -70,7 +70,7 @@ sentence_of (Older generation) =
     codes "is the file before: generation " ++ decimal generation ++ codes "; the next snapshot is written over it"
 sentence_of (Damaged offset) = codes "is damaged at " ++ decimal offset
 
--- the first fault of two files, where the first one's stands at this offset: heads come before what stands behind them
+-- which fault of two files is reported, where the first file has one at this offset: a fault in a head comes before one behind a head
 abbrev pub first_fault : ℕ → FileState → OpenError
 first_fault at (Damaged other) =
     if nat_le head_length at && nat_lt other head_length then errors.Damaged Second other else errors.Damaged First at
@@ -78,14 +78,14 @@ first_fault at Closed = errors.Damaged First at
 first_fault at (Open generation frames tail version) = errors.Damaged First at
 first_fault at (Older generation) = errors.Damaged First at
 
--- the same, where the first has none
+-- the same, where the first file has none
 abbrev pub second_fault : FileState → Option OpenError
 second_fault (Damaged at) = Some (errors.Damaged Second at)
 second_fault Closed = None
 second_fault (Open generation frames tail version) = None
 second_fault (Older generation) = None
 
--- where neither has a fault: a closed first file has no vault beside a closed one
+-- why two files aren't opened, where the first is closed: the second is closed, too, or damaged
 abbrev pub beside_closed : FileState → Option OpenError
 beside_closed Closed = Some errors.NoVault
 beside_closed (Open generation frames tail version) = None

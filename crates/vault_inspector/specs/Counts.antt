@@ -8,7 +8,7 @@ use Rattle.vault_model.specs.Drafts.{SavedDraft, drafts_of}
 use Rattle.vault_model.specs.Shelf.{versions_of}
 use Rattle.vault_model.specs.Vault.{Vault, IsVault}
 
--- the versions of each place, from the library on
+-- how many versions all places have together, the library included
 abbrev pub version_count : Vault → ℕ
 version_count v = sum_by length (map (versions_of v.shelf) (range_with_len 0 (length v.tree + 1)))
 
@@ -17,7 +17,7 @@ abbrev pub own_drafts : List SavedDraft → ClaimId → ℕ
 own_drafts drafts (Long number) = length (drafts_of drafts number)
 own_drafts drafts (Short number) = 0
 
--- the drafts of each claim of the line
+-- how many drafts the claims in the queue have together
 abbrev pub draft_count : Vault → ℕ
 draft_count v = sum_by (λ (c : Claim). own_drafts v.drafts c.id) v.line
 

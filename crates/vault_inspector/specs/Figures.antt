@@ -13,7 +13,7 @@ use Rattle.vault_model.specs.Vault.{Vault, IsVault, weight_of}
 use Rattle.vault_inspector.specs.declared.figures.Figures.{Figures}
 use Rattle.vault_inspector.specs.Counts.{version_count, own_drafts, draft_count}
 
--- whether a claim is held, and whether it waits behind another
+-- whether a claim is granted (held), and whether it waits behind another
 abbrev pub is_held : Option Standing → Bool
 is_held (Some Held) = true
 is_held (Some (Queued other)) = false
@@ -24,12 +24,12 @@ is_waiting (Some Held) = false
 is_waiting (Some (Queued other)) = true
 is_waiting None = false
 
--- whether a claim stands so: held, or waiting
+-- whether a claim is granted (at true), or whether it waits (at false)
 abbrev pub stands : Bool → Option Standing → Bool
 stands true standing = is_held standing
 stands false standing = is_waiting standing
 
--- how many claims stand so
+-- how many claims are granted, or how many wait
 abbrev pub standing_count : Bool → Vault → ℕ
 standing_count held v = count_by (λ (c : Claim). stands held (standing_of v.tree v.line c.id)) v.line
 
@@ -38,16 +38,16 @@ abbrev pub own_weight : List SavedDraft → ClaimId → ℕ
 own_weight drafts (Long number) = drafts_weight (drafts_of drafts number)
 own_weight drafts (Short number) = 0
 
--- what the drafts of each claim of the line weigh together
+-- what the drafts of all claims in the queue weigh together
 abbrev pub draft_weight : Vault → ℕ
 draft_weight v = sum_by (λ (c : Claim). own_weight v.drafts c.id) v.line
 
--- the greatest of a figure of the first so many things, and 0 where there are none
+-- the greatest value of a figure below count, and 0 where there is none
 pub record IsGreatest (figure : ℕ → ℕ) (count greatest : ℕ) : Type 0 where
   pub bound : (n : ℕ) → n < count → figure n ≤ greatest
   pub reached : (greatest ≡ 0) ⊎ ((n : ℕ) × (n < count) × (figure n ≡ greatest))
 
--- how many places stand beneath a place
+-- how many places stand right beneath a place
 abbrev pub children_at : Vault → ℕ → ℕ
 children_at v place = length (children_of v.tree place)
 
@@ -69,6 +69,6 @@ pub record AreFigures (v : Vault) (figures : Figures) : Type 0 where
   pub weight : figures.weight ≡ weight v.shelf + draft_weight v
   pub last_check_out : figures.last_check_out ≡ v.last_long
 
--- In a well-formed vault that is what all contents weigh.
+-- In a well-formed vault the weight among the figures is what all contents weigh.
 abbrev pub WeightIsTotal : Type 0
 WeightIsTotal = (v : Vault) → IsVault v → weight v.shelf + draft_weight v ≡ weight_of v

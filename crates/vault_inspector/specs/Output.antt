@@ -1,4 +1,4 @@
--- What is written of a text.
+-- How much of a text is written.
 use Rattle.std.specs.Prelude.{◌≡◌, List, ◌++◌, ℕ, Option, Result, MatchResult}
 use Rattle.std.specs.Io.KnownBytes.{Appends}
 
@@ -9,6 +9,6 @@ pub record GetsPart (old new : Option (List ℕ)) (text : List ℕ) : Type 0 whe
   pub whole : text ≡ part ++ rest
   pub got : Appends old new part
 
--- at Ok it got the whole text, and else a first part of it
+-- at Ok it got the whole text, otherwise a first part of it
 abbrev pub Writes : {T E : Type 0} → Option (List ℕ) → Option (List ℕ) → List ℕ → Result T E → Type 0
 Writes old new text result = MatchResult result (λ _. Appends old new text) (λ _. GetsPart old new text)

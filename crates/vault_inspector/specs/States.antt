@@ -20,11 +20,11 @@ pub record IsSecondActive (first second : List ℕ) (version : FileVersion) (gen
   pub head : HasHead version generation second
   pub newest : (other : ℕ) → HasRightHead other first → other < generation
 
--- a file is whole behind its head, with so many frames and its tail gate there
+-- a file is whole behind its head, with this number of frames and its tail gate at this offset
 abbrev pub IsWholeFile : FileVersion → ℕ → List ℕ → ℕ → ℕ → Type 0
 IsWholeFile version generation file frames tail = (vault : Vault) × IsWhole version generation file vault frames tail
 
--- a file's head is right, and the other's is right and of a greater generation
+-- both heads are right, and the other file's has a greater generation
 abbrev pub IsOlder : ℕ → List ℕ → List ℕ → Type 0
 IsOlder generation file other = HasRightHead generation file × ((newer : ℕ) × (generation < newer) × HasRightHead newer other)
 
@@ -53,7 +53,7 @@ IsSecondState first second (Damaged offset) =
     ⊎ ((offset ≡ 12) × AreAlike first second)
     ⊎ ((version : FileVersion) × (generation : ℕ) × IsSecondActive first second version generation × IsBodyFault version second offset)
 
--- the vault that both files stand for; or there is none, since they aren't opened for what is found in them
+-- the vault that both files stand for; or none, where they aren't opened because of what is found in them
 abbrev pub IsVaultFound : List ℕ → List ℕ → Option Vault → Type 0
 IsVaultFound first second (Some vault) = StandFor first second vault
 IsVaultFound first second None = (why : OpenError) × IsFound why × IsNotOpened first second why

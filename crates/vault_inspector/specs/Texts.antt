@@ -31,12 +31,12 @@ newline = 10 ∷ []
 unfoldable pub numbered : List ℕ → ℕ → List ℕ
 numbered words n = words ++ decimal n
 
--- the version of a file, where it isn't today's
+-- the version of a file, where it isn't the current one
 abbrev pub version_text : FileVersion → List ℕ
 version_text One = codes ", version 1"
 version_text Two = []
 
--- of the active file its generation, how many frames it has, and where its tail gate stands
+-- the active file: its generation, how many frames it has, and where its tail gate stands
 abbrev pub open_text : ℕ → ℕ → ℕ → List ℕ
 open_text generation frames tail =
     numbered (codes "open, generation ") generation ++ numbered (codes ", frames ") frames ++ numbered (codes ", tail ") tail
@@ -104,7 +104,7 @@ claim_line v c =
     ++ note_text c.note
     ++ newline
 
--- the lines of the vault: its counts, and its claims in the order of the line
+-- the lines of the vault: its counts, and its claims in the order of the queue
 abbrev pub vault_text : Option Vault → List ℕ
 vault_text None = codes "no vault\n"
 vault_text (Some v) = counts_line v ++ flat_map (claim_line v) v.line

@@ -31,7 +31,7 @@ fn print_id<W: Write>(writer: &mut W, id: ClaimId) -> Result<(), PrintError>
     }
 }
 
-// Writes whom a claim belongs to.
+// Writes the owner of a claim.
 fn print_owner<W: Write>(writer: &mut W, owner: &Owner) -> Result<(), PrintError>
     ensures { Writes (W.contents writer.old) (W.contents writer.new) (owner_text owner.now) result }
 {
@@ -49,7 +49,7 @@ pub(crate) fn standing_in<A: Allocator + Copy>(book: &Book<A>, id: ClaimId) -> O
     book.line().standing(id)
 }
 
-// Writes that a claim is queued behind another.
+// Writes that a claim waits behind another.
 fn print_queued<W: Write>(writer: &mut W, other: ClaimId) -> Result<(), PrintError>
     ensures { Writes (W.contents writer.old) (W.contents writer.new) (codes " queued behind " ++ claim_text other) result }
 {
@@ -100,7 +100,7 @@ fn print_path<W: Write>(writer: &mut W, names: &[Name]) -> Result<(), PrintError
     print_names(writer, names)
 }
 
-// The path of a place; one that isn't there has the library's.
+// The path of a place, or the library's if there is no such place.
 fn path_at<A: Allocator + Copy>(tree: &Tree<A>, place: PlaceId) -> Path
     ensures { result ≡ path_of tree.now place }
 {
@@ -151,7 +151,7 @@ fn print_claimed<W: Write, A: Allocator + Copy>(
     print_items(writer, book.tree(), claim.items.as_slice())
 }
 
-// Writes two digits for each byte of a note.
+// Writes two hexadecimal digits for each byte of a note.
 fn print_digits<W: Write>(writer: &mut W, note: &[u8]) -> Result<(), PrintError>
     requires { length note.now ≤ longest_note }
     ensures { Writes (W.contents writer.old) (W.contents writer.new) (encode_lower note.now) result }
@@ -191,7 +191,7 @@ fn print_claim<W: Write, A: Allocator + Copy>(
     put(writer, b"\n")
 }
 
-/// The claim at a position of the line, counted from 0.
+/// The claim at a position in the queue, counted from 0.
 pub(crate) fn claim_at<A: Allocator + Copy>(book: &Book<A>, position: usize) -> &Claim
     requires { position < length book.now.line }
     ensures { slice_get book.now.line position ≡ Some result.now }
@@ -199,7 +199,7 @@ pub(crate) fn claim_at<A: Allocator + Copy>(book: &Book<A>, position: usize) -> 
     book.line().at(position).unwrap()
 }
 
-/// Writes the lines of all claims, in the order of the line.
+/// Writes the lines of all claims, in the order of the queue.
 pub(crate) fn print_claims<W: Write, A: Allocator + Copy>(
     writer: &mut W,
     book: &Book<A>,

@@ -11,16 +11,16 @@ use std::alloc::Allocator;
 use vault_checkout::Book;
 use vault_model::{ClaimId, DraftIn, EXTRA_WEIGHT, NoMemory, PlaceId, Standing};
 
-/// What is used of each limit of a vault that its files show.
+/// What is used of each of a vault's limits that its files show.
 #[derive(Clone, Copy, Debug, PartialEq, Eq)]
 pub struct Figures {
     /// With the library.
     pub places: usize,
     pub projects: usize,
-    /// How many places stand beneath the one that has the most.
+    /// The most places right beneath one place.
     pub children: usize,
     pub versions: usize,
-    /// How many the part has that has the most.
+    /// The most versions of one part.
     pub part_versions: u32,
     pub claims: usize,
     pub held: usize,
@@ -32,7 +32,7 @@ pub struct Figures {
     pub last_check_out: u32,
 }
 
-// Whether a claim is held, or whether it waits.
+// Whether a claim is granted (if `held`), or whether it waits (if not).
 fn stands(standing: Option<Standing>, held: bool) -> bool
     ensures { result ≡ stands held standing }
 {
@@ -43,7 +43,7 @@ fn stands(standing: Option<Standing>, held: bool) -> bool
     }
 }
 
-// How many claims are held, or how many wait.
+// How many claims are granted (if `held`), or how many wait (if not).
 fn standing_count<A: Allocator + Copy>(book: &Book<A>, held: bool) -> usize
     ensures { result ≡ standing_count held book.now }
 {
@@ -84,7 +84,7 @@ fn draft_weight<A: Allocator + Copy>(book: &Book<A>) -> usize
     ensures weight { result ≡ draft_weight book.now }
     ensures light { weight book.now.shelf + result ≤ most_weight }
 {
-    // What every book keeps bounds each sum below.
+    // The invariant of a book bounds each sum below.
     let _ = book.check_out_of(0);
     let mut total = 0;
     for position in 0..book.line().len() {
@@ -93,7 +93,7 @@ fn draft_weight<A: Allocator + Copy>(book: &Book<A>) -> usize
     total
 }
 
-// How many places stand beneath a place.
+// How many places stand right beneath a place.
 fn children_at<A: Allocator + Copy>(book: &Book<A>, place: usize) -> Result<usize, NoMemory>
     requires { place < length book.now.tree + 1 }
     ensures { IfOk result (λ count. count ≡ children_at book.now place) }
@@ -103,7 +103,7 @@ fn children_at<A: Allocator + Copy>(book: &Book<A>, place: usize) -> Result<usiz
     Ok(children.len())
 }
 
-// How many the place has beneath it that has the most.
+// The most places right beneath one place.
 fn most_children<A: Allocator + Copy>(book: &Book<A>) -> Result<usize, NoMemory>
     ensures { IfOk result (λ most. IsGreatest (children_at book.now) (length book.now.tree + 1) most) }
 {
@@ -117,7 +117,7 @@ fn most_children<A: Allocator + Copy>(book: &Book<A>) -> Result<usize, NoMemory>
     Ok(most)
 }
 
-// How many versions the part has that has the most.
+// The most versions of one part.
 fn most_versions<A: Allocator + Copy>(book: &Book<A>) -> u32
     ensures { IsGreatest (versions_at book.now) (length book.now.tree + 1) result }
 {

@@ -44,14 +44,14 @@ impl From<BodyError> for InspectError {
     }
 }
 
-/// What a right head tells.
+/// What a right head says.
 #[derive(Clone, Copy)]
 struct Right {
     version: FileVersion,
     generation: u64,
 }
 
-/// The file that is read as the active one, with what its head tells.
+/// The file that is read as the active one, with what its head says.
 #[derive(Clone, Copy)]
 enum Active {
     Neither,
@@ -66,7 +66,7 @@ struct Read<A: Allocator> {
     book: Option<Book<A>>,
 }
 
-// What a head tells, where it is right.
+// What a head says, where it is right.
 fn right_in(head: Head) -> Option<Right>
     ensures { result ≡ right_in head }
 {
@@ -94,7 +94,7 @@ fn active_among(first: Option<Right>, second: Option<Right>) -> Active
     }
 }
 
-// What a file is by its head alone, where that isn't right.
+// The state of a file by its head alone, where the head isn't right.
 fn head_state(head: Head) -> FileState
     ensures { result ≡ head_state head }
 {
@@ -104,7 +104,7 @@ fn head_state(head: Head) -> FileState
     }
 }
 
-// What a file is by its head, beside an active one of this generation.
+// The state of a file by its head, where the other file is the active one and has this generation.
 fn beside(head: Head, active: u64) -> FileState
     ensures { result ≡ beside head active }
 {
@@ -121,7 +121,7 @@ fn beside(head: Head, active: u64) -> FileState
     }
 }
 
-// The book of the active file, where nothing is wrong with the other.
+// The book of the active file, or none where the other file is damaged.
 fn found<A: Allocator>(book: Option<Book<A>>, other: FileState) -> Option<Book<A>>
     ensures { result ≡ found book other }
 {
@@ -131,7 +131,7 @@ fn found<A: Allocator>(book: Option<Book<A>>, other: FileState) -> Option<Book<A
     }
 }
 
-// Reads the active file, whose head tells this.
+// Reads the active file, whose head says this.
 fn read_active<D: Device, A: Allocator + Copy>(
     alloc: A,
     device: &mut D,
@@ -160,9 +160,9 @@ fn read_active<D: Device, A: Allocator + Copy>(
     }
 }
 
-/// Reports on the two files of a vault. It makes reads only, and no call that changes a device: the head of each file is read, and
-/// the active file whole, where there is one. Beside the book it takes memory for the bytes of a snapshot, and for the bytes and
-/// the effects of one frame at a time.
+/// Reports on the two files of a vault. It only reads, and changes neither device. It reads the head of each file, and the whole
+/// active file, where there is one. In addition to the book it takes memory for the bytes of a snapshot, and for the bytes and the
+/// effects of one frame at a time.
 pub fn inspect<D: Device, A: Allocator + Copy>(
     alloc: A,
     first: &mut D,

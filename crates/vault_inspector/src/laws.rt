@@ -1,4 +1,4 @@
-//! What the counts of a report are of any well-formed vault. Each law is the contract of a function that does nothing.
+//! What the counts of a report are for any well-formed vault. Each law is the contract of a function that does nothing.
 ghost use Rattle.vault_inspector.specs.Counts.{CountsAreTotals};
 ghost use Rattle.vault_inspector.specs.Figures.{WeightIsTotal};
 
@@ -7,7 +7,7 @@ pub fn counts_are_totals()
     ensures { CountsAreTotals }
 {}
 
-/// What is told as a vault's weight is what all its versions and drafts weigh.
+/// The reported weight of a vault is what all its versions and drafts weigh.
 pub fn weight_is_total()
     ensures { WeightIsTotal }
 {}

@@ -7,10 +7,10 @@ ghost use Rattle.vault_inspector.specs.Found.{IsSnapshotLength};
 
 use vault_device::{Device, Fault};
 
-// How many bytes stand before a snapshot, the last four of which have its length.
+// How many bytes stand before a snapshot. The last four of them have its length.
 const HEADER: u64 = 24;
 
-/// How many bytes the snapshot of a file has, by its header; of a file without a whole header there is none. Two device calls at most,
+/// How many bytes the snapshot of a file has, by its header, or `None` for a file without a whole header. Two device calls at most,
 /// which change nothing.
 pub fn snapshot_length<D: Device>(device: &mut D) -> Result<Option<u32>, Fault>
     ensures reads { AreReads (D.disk device.old) (D.disk device.new) }

@@ -12,7 +12,7 @@ pub enum Limited {
     Places,
     Projects,
     Claims,
-    /// Of the part that has the most.
+    /// The versions of the part that has the most.
     Versions,
     Weight,
     /// The numbers given to check-outs.
@@ -35,7 +35,7 @@ impl Limited {
     }
 }
 
-/// A limit of a vault, how much of it is used, and how much that is of a hundred, rounded down.
+/// A limit of a vault, how much of it is used, and how much that is in per cent, rounded down.
 #[derive(Clone, Copy, Debug, PartialEq, Eq)]
 pub struct Limit {
     pub limited: Limited,
@@ -59,7 +59,7 @@ impl fmt::Display for Limit {
     }
 }
 
-// How much a part is of a hundred, rounded down. What is past a limit is all of it.
+// How much of a limit is used in per cent, rounded down. More than the limit counts as 100.
 fn per_cent(used: u64, limit: u64) -> u64
     requires some { 0 < limit }
     requires fits { limit < 2 ^ 57 }

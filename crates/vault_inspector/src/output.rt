@@ -14,7 +14,7 @@ pub enum PrintError {
     Write,
 }
 
-/// Writes a text. A writer that takes none of some bytes has failed.
+/// Writes a text. A writer that is given bytes and takes none has failed.
 pub(crate) fn put<W: Write>(writer: &mut W, text: &[u8]) -> Result<(), PrintError>
     ensures { Writes (W.contents writer.old) (W.contents writer.new) text.now result }
 {

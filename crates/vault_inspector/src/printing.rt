@@ -15,7 +15,7 @@ use std::io::Write;
 use vault_checkout::Book;
 use vault_store::FileVersion;
 
-// Writes the version of a file, where it isn't today's.
+// Writes the version of a file, where it isn't the current one.
 fn print_version<W: Write>(writer: &mut W, version: FileVersion) -> Result<(), PrintError>
     ensures { Writes (W.contents writer.old) (W.contents writer.new) (version_text version) result }
 {

@@ -9,8 +9,8 @@ use vault_store::FileVersion;
 pub enum FileState {
     /// It has no whole header, or its head gate is closed.
     Closed,
-    /// It is read as the active one, and is whole: its generation, how many frames it has, the offset of its tail gate, and its
-    /// version.
+    /// It is read as the active one, and is whole: its generation, how many frames it has, the offset of its tail gate (the closed
+    /// commit mark where its journal ends), and its version.
     Open {
         generation: u64,
         frames: u64,

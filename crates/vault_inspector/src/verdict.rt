@@ -6,10 +6,10 @@ use crate::FileState;
 use std::fmt;
 use vault_store::{File, OpenError};
 
-// From where on a fault stands behind a file's head.
+// The length of a file's head. A fault at this offset or after it stands behind the head.
 const HEAD: u64 = 20;
 
-// The first fault of two files, where the first one's stands at this offset.
+// Which fault of two files is reported, where the first file has one at this offset.
 fn first_fault(first: u64, second: FileState) -> OpenError
     ensures { result ≡ first_fault first second }
 {
@@ -38,7 +38,7 @@ fn second_fault(second: FileState) -> Option<OpenError>
     }
 }
 
-// Why a closed first file isn't opened beside the second.
+// Why two files aren't opened, where the first is closed.
 fn beside_closed(second: FileState) -> Option<OpenError>
     ensures { result ≡ beside_closed second }
 {
@@ -50,7 +50,7 @@ fn beside_closed(second: FileState) -> Option<OpenError>
     }
 }
 
-/// Why two files of these states aren't opened; None: they are. The heads of both are looked at before what stands behind one.
+/// Why two files of these states aren't opened, or `None` if they are. A fault in a head comes before one behind a head.
 pub fn why_of(first: FileState, second: FileState) -> Option<OpenError>
     ensures { result ≡ why_of first second }
 {

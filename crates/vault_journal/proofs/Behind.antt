@@ -31,6 +31,6 @@ items_more at next end i n items d old mid new below so_far one =
     flat_map_more item_bytes (n ∷ []) (take i items) (get_or items i d) ∙ ap (λ (l : List Item). n ∷ flat_map item_bytes l) (sym (take_more items i d below)) in
     rw (← more) joined
 
--- the record of what an effect is, is the effect's
+-- equal effects have the same record
 pub record_is : (at next : ℕ) (effect is : Effect) (old new : List ℕ) → effect ≡ is → IsWritten at (record_of is) next old new → IsWritten at (record_of effect) next old new
 record_is at next effect is old new same one = subst (λ (e : Effect). IsWritten at (record_of e) next old new) (sym same) one

@@ -104,7 +104,7 @@ nested_takes bytes f rest fits e =
     let joined = Takes-behind 9 bytes (in_four a.0.0 ++ name_bytes b.0.0) b.0.1 (Takes-then bytes (in_four a.0.0) a.0.1 (name_bytes b.0.0) b.0.1 t.0 u.0) in
     subst (IsRead 9 bytes) (some_is (Nested a.0.0 b.0.0, b.0.1) (f, rest) b.2) (joined, (t.1, u.1))
 
--- the kinds that are left, from each on
+-- the kinds that are still to try, from each number on
 abbrev from_nine : ℕ → List ℕ → Option (Effect × List ℕ)
 from_nine kind bytes = cond (eqb kind 9) (nested_at bytes) None
 

@@ -21,7 +21,7 @@ use Rattle.vault_journal.proofs.Takes.{AreBytes-drop, AreBytes-take, bind_some, 
 
 -- ---- numbers
 
--- a reader of so many bytes
+-- a reader of this number of bytes
 abbrev front : ℕ → (List ℕ → ℕ) → List ℕ → Option (ℕ × List ℕ)
 front size read bytes = cond (ltb (length bytes) size) None (Some (read (take size bytes), drop size bytes))
 

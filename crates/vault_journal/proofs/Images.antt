@@ -1,4 +1,4 @@
--- What a write behind a closed gate and a write of the gate leave.
+-- What a crash leaves of a write behind a closed commit mark (gate), and of a write of the mark.
 use Rattle.std.proofs.Common.{◌≡◌, ◌≢◌, inl, inr, ℕ, ◌+◌, ◌<◌, List, length, get_or, set, refl, sym, ◌∙◌, ap, subst, arith}
 use Rattle.std.proofs.lemmas.List.{length-set, set-set}
 use Rattle.std.proofs.lemmas.Bool.{cases_eq}
@@ -6,7 +6,7 @@ use Rattle.vault_device.specs.Disk.{Disk, IsTorn, LeavesOnly, IsTornImage}
 use Rattle.vault_device.proofs.Torn.{torn_front, torn_byte, torn_none}
 use Rattle.vault_journal.specs.Gate.{IsBehind, SameBut, IsOpening, StaysClosed}
 
--- a write behind a closed gate leaves it closed, and what stands before it
+-- a write behind a closed commit mark leaves it closed, and what stands before it
 pub behind : (gate n : ℕ) (old : Disk) (x : List ℕ) → StaysClosed gate old → IsTornImage old (gate + 1) n x → IsBehind gate old x
 behind gate n old x closed from =
     let y = from.0 in
@@ -16,7 +16,7 @@ behind gate n old x closed from =
       front = (y, from.1, torn_front (gate + 1) n y x (omega (arith, shut.stands)) from.2);
     }
 
--- what was left before is left behind it too
+-- what a crash before the write leaves has the same form
 pub untouched : (gate : ℕ) (old : Disk) (x : List ℕ) → StaysClosed gate old → old.IsImage x → IsBehind gate old x
 untouched gate old x closed image = record { closed = closed x image; front = (x, image, refl) }
 
@@ -29,7 +29,7 @@ opening gate old x stands same = record {
   ];
 }
 
--- a write of the gate over settled bytes leaves them, but for the gate
+-- a write of the commit mark over durable bytes leaves them, but for the mark
 pub opens : (gate : ℕ) (old : Disk) (x : List ℕ) → gate < length old.shown → LeavesOnly old old.shown → IsTornImage old gate 1 x → IsOpening gate old.shown x
 opens gate old x stands only from =
     opening gate old.shown x stands (torn_byte gate old.shown x stands (subst (λ (y : List ℕ). IsTorn gate 1 y x) (only from.0 from.1) from.2))
@@ -37,7 +37,7 @@ opens gate old x stands only from =
 pub opens_none : (gate : ℕ) (old : Disk) (x : List ℕ) → gate < length old.shown → LeavesOnly old old.shown → old.IsImage x → IsOpening gate old.shown x
 opens_none gate old x stands only image = opens gate old x stands only (x, image, torn_none gate 1 x)
 
--- two that differ from a third at most there differ from each other at most there
+-- two texts that differ from a third at most at the mark differ from each other at most there
 pub same_but : (gate : ℕ) (old x y : List ℕ) → SameBut gate old x → SameBut gate old y → SameBut gate y x
 same_but gate old x y from_x from_y =
     from_x ∙ sym (set-set old gate (get_or y gate 0) (get_or x gate 0)) ∙ ap (λ (l : List ℕ). set l gate (get_or x gate 0)) (sym from_y)

@@ -48,7 +48,7 @@ records_behind e es rest = ap (λ (l : List ℕ). l ++ rest) (flat_map-cons reco
 not_empty : (e : Effect) (rest : List ℕ) → record_of e ++ rest ≢ []
 not_empty e rest empty = absurd (omega (arith, ap length empty, length-append (record_of e) rest, record_some e))
 
--- two lists of records in front of ends with no record at their front are one
+-- two lists of records are the same, if the bytes are and no record stands at the front of what follows either
 same_records : (es fs : List Effect) (x y : List ℕ) → AllByRecursion HasRecord es → AllByRecursion HasRecord fs
     → ((effect : Effect) (tail : List ℕ) → HasRecord effect → x ≢ record_of effect ++ tail) → ((effect : Effect) (tail : List ℕ) → HasRecord effect → y ≢ record_of effect ++ tail)
     → records_of es ++ x ≡ records_of fs ++ y → (es ≡ fs) × (x ≡ y)

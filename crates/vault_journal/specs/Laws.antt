@@ -11,7 +11,7 @@ use Rattle.vault_journal.specs.Rows.{AreRecordsOf, IsFirstFault}
 abbrev pub AreBytes : List ℕ → Type 0
 AreBytes bytes = (i : ℕ) → slice_index bytes i < 256
 
--- a reader and a spelling of what has one are inverse
+-- a reader and a spelling are inverse on all that has a spelling
 pub record IsInverse {X : Type 0} (spell : X → List ℕ) (Has : X → Type 0) (read : List ℕ → Option (X × List ℕ)) : Type 0 where
   -- what is spelled is read, whatever follows
   pub reads : (x : X) (rest : List ℕ) → Has x → read (spell x ++ rest) ≡ Some (x, rest)
@@ -38,7 +38,7 @@ EffectsAreSpelled = IsInverse record_of HasRecord effect_at
 abbrev pub RecordsAreShort : Type 0
 RecordsAreShort = (effect : Effect) → HasRecord effect → length (record_of effect) ≤ longest_record
 
--- where two records stand at the front of the same bytes, they are of one effect, and the same stands behind them
+-- if the same bytes begin with the records of two effects, the effects are equal, and so is what follows
 abbrev pub OneRecordAtTheFront : Type 0
 OneRecordAtTheFront = (e f : Effect) (behind_e behind_f : List ℕ) → HasRecord e → HasRecord f
     → record_of e ++ behind_e ≡ record_of f ++ behind_f → (e ≡ f) × (behind_e ≡ behind_f)

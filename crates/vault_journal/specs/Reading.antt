@@ -1,4 +1,4 @@
--- One field after another from the front of bytes. `specs/Laws.antt` ties each to its spelling.
+-- Single fields at the front of bytes. `specs/Laws.antt` ties each to its spelling.
 use Rattle.std.specs.Prelude.{◌≡◌, ℕ, zero, suc, List, [], ◌∷◌, length, take, drop, Option, Some, None, Result, Ok, Err, nat_lt, nat_le, ◌==◌, ◌&&◌, if◌then◌else◌}
 use Rattle.std.specs.Int.{w16, w32, w64, from_be_bytes}
 use Rattle.vault_model.specs.Name.{is_name}
@@ -17,7 +17,7 @@ abbrev pub ◌>>=◌ : {A B : Type 0} → Option A → (A → Option B) → Opti
 (Some x) >>= f = f x
 None >>= f = None
 
--- what a reader returned, seen by view, is what stands at the front, or nothing stands there
+-- a reader returned what stands at the front, seen through view, or None where no such field stands there
 abbrev pub Reads : {X Y : Type 0} → (X → Y) → Option X → Option Y → Type 0
 Reads view (Some x) front = front ≡ Some (view x)
 Reads view None front = front ≡ None
@@ -45,7 +45,7 @@ u32_at bytes = if nat_lt (length bytes) 4 then None else Some (from_be_bytes w32
 abbrev pub u64_at : List ℕ → Option (ℕ × List ℕ)
 u64_at bytes = if nat_lt (length bytes) 8 then None else Some (from_be_bytes w64 (take 8 bytes), drop 8 bytes)
 
--- so many bytes
+-- the first n bytes
 abbrev pub bytes_at : ℕ → List ℕ → Option (List ℕ × List ℕ)
 bytes_at n bytes = if nat_lt (length bytes) n then None else Some (take n bytes, drop n bytes)
 
@@ -74,7 +74,7 @@ item_at (suc zero ∷ rest) = do
   Some (record { intent = Change; place = place.0 }, place.1)
 item_at (suc (suc _) ∷ rest) = None
 
--- so many items
+-- the first items, as many as the number says
 unfoldable pub each_item_at : ℕ → List ℕ → Option (List Item × List ℕ)
 each_item_at zero bytes = Some ([], bytes)
 each_item_at (suc n) bytes = do
@@ -154,7 +154,7 @@ nested_at bytes = do
   child ← name_at parent.1
   Some (Nested parent.0 child.0, child.1)
 
--- the effect whose kind this is
+-- the effect of this kind
 unfoldable pub effect_of_kind : ℕ → List ℕ → Option (Effect × List ℕ)
 effect_of_kind kind bytes =
     if kind == 1 then made_at bytes
@@ -168,7 +168,7 @@ effect_of_kind kind bytes =
     else if kind == 9 then nested_at bytes
     else None
 
--- the same of any kind but a saved content
+-- the same for any kind but a saved content
 unfoldable pub unsaved_at : ℕ → List ℕ → Option (Effect × List ℕ)
 unsaved_at kind bytes = if kind == 4 then None else effect_of_kind kind bytes
 

@@ -1,4 +1,4 @@
--- Records one behind another, and what isn't one.
+-- Records one behind another, and the first fault in bytes.
 use Rattle.std.specs.Prelude.{◌≡◌, ◌≢◌, ℕ, List, [], ◌++◌, length}
 use Rattle.std.specs.List.{AllByRecursion}
 use Rattle.vault_model.specs.Said.{Effect}
@@ -14,7 +14,7 @@ pub record AreRecords (bytes : List ℕ) : Type 0 where
   pub effects : List Effect
   pub are : AreRecordsOf effects bytes
 
--- the offset of the first record that isn't one: records stand before it, and what is there begins with none
+-- the first offset where a record should stand and none does: records stand before it, and the bytes from it on begin with none
 pub record IsFirstFault (bytes : List ℕ) (at : ℕ) : Type 0 where
   pub before : List Effect
   pub rest : List ℕ

@@ -85,7 +85,7 @@ pub record AreItems (items : List Item) : Type 0 where
   pub few : length items ≤ most_items
   pub fit : AllByRecursion ItemFits items
 
--- what has a record
+-- the effects that have a record
 abbrev pub HasRecord : Effect → Type 0
 HasRecord (Made parent child) = (parent < 2 ^ 32) × IsName child
 HasRecord (Asked claim owner items) = IsClaimNumber claim × IsName owner × AreItems items

@@ -1,4 +1,4 @@
-//! A commit's first two device calls: the frame's body, written and settled behind its gate.
+//! A commit's first two device calls: one writes the frame's body behind the commit mark (the gate), one syncs it.
 ghost use Rattle.std.specs.Prelude.{◌<◌, ◌+◌, ◌^◌, List, ℕ, IsTrue};
 ghost use Rattle.vault_device.specs.Disk.{IsOneCall, IsWrite, IsSync, LeavesSince};
 ghost use Rattle.vault_journal.specs.Gate.{body_of, frame_room, StaysClosed, IsBehind};
@@ -7,8 +7,8 @@ use crate::Frame;
 use std::alloc::Allocator;
 use vault_device::{Device, Fault};
 
-/// Writes the frame's length, its records and a closed gate behind the gate, which is settled and closed. One device
-/// call.
+/// Writes the records' length, the records and a closed mark behind the frame's own commit mark, which has to be durable and
+/// closed. One device call.
 pub fn write_body<D: Device, A: Allocator>(
     device: &mut D,
     gate: u64,
@@ -20,7 +20,7 @@ pub fn write_body<D: Device, A: Allocator>(
     ensures write { IsTrue (D.disk device.old).honest
         → IsWrite (gate + 1) (body_of frame.now) result (D.disk device.old) (D.disk device.new) }
 
-    // At each moment and at the end a crash leaves the gate closed, and before it what a crash left there before.
+    // A crash during the call or after it leaves the commit mark closed, and up to it what a crash before the call could leave.
     ensures moments { IsTrue (D.disk device.old).honest
         → LeavesSince (D.disk device.old) (D.disk device.new) (IsBehind gate (D.disk device.old)) }
     ensures images { IsTrue (D.disk device.old).honest → (x : List ℕ) → (D.disk device.new).IsImage x
@@ -29,7 +29,7 @@ pub fn write_body<D: Device, A: Allocator>(
     device.write_at(gate + 1, frame.body())
 }
 
-/// Has the body on the disk. One device call.
+/// Syncs the body. One device call.
 pub fn settle_body<D: Device>(device: &mut D) -> Result<(), Fault>
     ensures one_call { IsOneCall (D.disk device.old) (D.disk device.new) result }
     ensures sync { IsTrue (D.disk device.old).honest → IsSync result (D.disk device.old) (D.disk device.new) }

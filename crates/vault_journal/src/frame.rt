@@ -9,14 +9,14 @@ use std::alloc::{Allocator, Global};
 use std::marker::Model;
 use vault_model::{EffectIn, NoMemory};
 
-/// The most bytes of a frame behind its gate: its records, their length in 4 bytes and a closed gate.
+/// The most bytes of a frame behind its commit mark: its records, their length in 4 bytes and the next mark, which is closed.
 pub const FRAME_ROOM: usize = 262_144;
 
-/// The records of one commit, which contracts see as their bytes. It is always sealed: the records' length stands
-/// before them and a closed gate behind them.
+/// The records of one commit. Contracts see it as the records' bytes. It is always sealed: the records' length stands
+/// before them and a closed commit mark behind them.
 #[derive(Drop)]
 pub struct Frame<A: Allocator = Global> {
-    /// The records' length in 4 bytes, the records, a closed gate, and room.
+    /// The records' length in 4 bytes, the records, a closed commit mark, and spare room.
     buffer: Vec<u8, A>,
     /// How many bytes the records have.
     used: usize,
@@ -34,7 +34,7 @@ impl<A: Allocator> Model for Frame<A> {
     ghost invariant = { IsFrame };
 }
 
-// Zeros, the first five of which are the body of no records.
+// Zeros. The first five are the body of a frame without records.
 fn zeros<A: Allocator>(alloc: A, size: usize) -> Result<Vec<u8, A>, NoMemory>
     requires { 5 ≤ size }
     ensures size { IfOk result (λ v. length v.items ≡ size) }
@@ -43,10 +43,10 @@ fn zeros<A: Allocator>(alloc: A, size: usize) -> Result<Vec<u8, A>, NoMemory>
     vec![in alloc; 0; size].map_err(|_| NoMemory)
 }
 
-// What the buffer of a frame begins with, which is written behind its gate: m in 4 bytes, the records in m, a closed gate in 1.
-// A record of n bytes more goes to 4 + m, and the closed gate to 4 + m + n.
+// The buffer begins with what a commit writes behind the commit mark: m in 4 bytes, the records in m bytes, a closed mark in 1.
+// The next record, of n bytes, goes to offset 4 + m, and the closed mark then to 4 + m + n.
 
-// Writes a record behind the others, the length before them and a closed gate behind them.
+// Writes a record behind the others, the length of all before them and a closed commit mark behind them. Returns that length.
 fn append<A: Allocator>(buffer: &mut [u8], used: usize, effect: &EffectIn<A>) -> usize
     requires has { HasRecord effect.now }
     requires room { used + length (record_of effect.now) + 5 ≤ length buffer.old }
@@ -64,7 +64,7 @@ fn append<A: Allocator>(buffer: &mut [u8], used: usize, effect: &EffectIn<A>) ->
 }
 
 impl<A: Allocator> Frame<A> {
-    /// A frame of no records, with room for the largest, so that nothing else of it takes memory.
+    /// A frame without records. It has room for the largest, so no later call takes memory.
     pub fn new(alloc: A) -> Result<Frame<A>, NoMemory>
         ensures { IfOk result (λ frame. frame ≡ []) }
     {
@@ -97,7 +97,7 @@ impl<A: Allocator> Frame<A> {
         self.used = append(&mut self.buffer, self.used, effect);
     }
 
-    /// Takes all records out. Takes no memory, and keeps the room.
+    /// Removes all records. Takes no memory, and keeps the room.
     pub fn clear(&mut self)
         ensures { self.new ≡ [] }
     {
@@ -106,7 +106,7 @@ impl<A: Allocator> Frame<A> {
         put_u8(&mut self.buffer, 4, 0);
     }
 
-    /// What is written behind the gate: the records' length in 4 bytes, the records and a closed gate.
+    /// What a commit writes behind the commit mark: the records' length in 4 bytes, the records and a closed mark.
     pub fn body(&self) -> &[u8]
         ensures body { result.now ≡ body_of self.now }
         ensures size { length result.now ≤ frame_room }

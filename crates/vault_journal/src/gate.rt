@@ -1,11 +1,11 @@
-//! A commit's last two device calls: the gate, opened and settled.
+//! A commit's last two device calls: one opens the commit mark (the gate), one syncs it.
 ghost use Rattle.std.specs.Prelude.{◌≡◌, ◌<◌, ◌+◌, ◌^◌, [], ◌∷◌, List, ℕ, IsTrue, OnOk, length, slice_set};
 ghost use Rattle.vault_device.specs.Disk.{IsOneCall, IsWrite, IsSync, LeavesOnly, LeavesSince};
 ghost use Rattle.vault_journal.specs.Gate.{IsOpening, SameBut};
 
 use vault_device::{Device, Fault};
 
-/// Writes 1 into the gate, where all that stands on the disk is settled. One device call.
+/// Writes 1 into the commit mark. All that stands on the disk has to be durable before. One device call.
 pub fn open_gate<D: Device>(device: &mut D, gate: u64) -> Result<(), Fault>
     requires end { gate + 1 < 2 ^ 63 }
     requires stands { IsTrue (D.disk device.old).honest → gate < length (D.disk device.old).shown }
@@ -15,7 +15,7 @@ pub fn open_gate<D: Device>(device: &mut D, gate: u64) -> Result<(), Fault>
     ensures opened { IsTrue (D.disk device.old).honest
         → OnOk result ((D.disk device.new).shown ≡ slice_set (D.disk device.old).shown gate 1) }
 
-    // At each moment and at the end a crash leaves the settled bytes, but for the gate, which is open or closed.
+    // A crash during the call or after it leaves the durable bytes, but for the commit mark, which is open or closed.
     ensures moments { IsTrue (D.disk device.old).honest
         → LeavesSince (D.disk device.old) (D.disk device.new) (IsOpening gate (D.disk device.old).shown) }
     ensures images { IsTrue (D.disk device.old).honest → (x : List ℕ) → (D.disk device.new).IsImage x
@@ -26,7 +26,7 @@ pub fn open_gate<D: Device>(device: &mut D, gate: u64) -> Result<(), Fault>
     device.write_at(gate, &[1])
 }
 
-/// Has the open gate on the disk. One device call.
+/// Syncs the open commit mark. One device call.
 pub fn settle_gate<D: Device>(device: &mut D) -> Result<(), Fault>
     ensures one_call { IsOneCall (D.disk device.old) (D.disk device.new) result }
     ensures sync { IsTrue (D.disk device.old).honest → IsSync result (D.disk device.old) (D.disk device.new) }

@@ -16,7 +16,7 @@ pub fn records_are_short()
     ensures { RecordsAreShort }
 {}
 
-/// Records that stand at the front of the same bytes are of one effect, and the same stands behind them.
+/// If the same bytes begin with the records of two effects, the effects are equal, and so is what follows.
 pub fn one_record_at_the_front()
     ensures { OneRecordAtTheFront }
 {}

@@ -1,14 +1,16 @@
-//! The journal: the one spelling of each effect, frames of them, and the gate that opens a frame.
+//! The journal: the one spelling of each effect, frames of records, and the commit mark that makes a frame count. The mark is
+//! called gate in code: one byte, open where it is 1 and closed otherwise.
 //!
-//! Promises: an effect has one spelling, which is read back whatever follows. Bytes are records, or the first offset that is
-//! none is told (`push_effect`, `read_effects`, `laws`). A commit has four steps. Until the third every crash leaves the gate
-//! closed; in it one byte alone is in doubt (`write_body`, `settle_body`, `open_gate`, `settle_gate`).
+//! Promises: an effect has one spelling, and is read back from it, whatever follows. Bytes are records, or the offset of the
+//! first fault is reported (`push_effect`, `read_effects`, `laws`). A commit has four steps. A crash before the third leaves
+//! the mark closed. From then until the fourth has succeeded, the mark is the only byte in doubt (`write_body`, `settle_body`,
+//! `open_gate`, `settle_gate`).
 //! Stands on: vault_model, vault_device. Must not know: a file's head, a snapshot, or whether an effect is applicable.
 //!
 //! Invariants, of `Frame`:
-//! 1. The buffer has the whole room of a frame, 262,144 bytes.
-//! 2. The records, their length before them and a closed gate behind them have room in it.
-//! 3. It is sealed at any time: its front is what a commit would write now.
+//! 1. The buffer always has its full size, 262,144 bytes.
+//! 2. The records fit in it, with their length before them and a closed mark behind them.
+//! 3. It is always sealed: it begins with what a commit would write now.
 //!
 //! Start at: docs/FORMAT.md, then specs/Spelling.antt and records.rt; for the steps of a commit specs/Gate.antt, body.rt and
 //! gate.rt.

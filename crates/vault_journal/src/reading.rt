@@ -1,4 +1,4 @@
-//! One field after another from the front of a slice, without memory. Each reader answers the field and what stands
+//! Readers of single fields at the front of a slice. They take no memory. Each returns the field and what stands
 //! behind it, or `None` where no such field stands at the front.
 ghost use Rattle.std.specs.Prelude.{◌≡◌, ◌≤◌};
 ghost use Rattle.vault_model.specs.Limits.{most_items};
@@ -51,7 +51,7 @@ pub fn u64_at(bytes: &[u8]) -> Option<(u64, &[u8])>
     Some((number, rest))
 }
 
-// So many bytes.
+// The first `count` bytes.
 fn bytes_at(count: usize, bytes: &[u8]) -> Option<(&[u8], &[u8])>
     ensures { Reads (λ x. (x.0.now, x.1.now)) result (bytes_at count bytes.now) }
 {
@@ -112,7 +112,7 @@ pub fn item_at(bytes: &[u8]) -> Option<(Item, &[u8])>
     Some((Item { intent, place }, rest))
 }
 
-// So many items.
+// The first `count` items.
 fn each_item_at(count: usize, bytes: &[u8]) -> Option<(Items, &[u8])>
     requires { count ≤ most_items }
     ensures { Reads (λ x. (x.0, x.1.now)) result (each_item_at count bytes.now) }

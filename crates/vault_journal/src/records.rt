@@ -97,7 +97,7 @@ fn put_noted(out: &mut [u8], at: usize, claim: u32, note: &Note) -> usize
     put_note(out, at, note)
 }
 
-/// Writes the record of an effect into a slice, and answers the offset behind it. Takes no memory.
+/// Writes the record of an effect into a slice, and returns the offset behind it. Takes no memory.
 #[tactic(auto, using(crate::proofs::Sizes::record_size))]
 pub fn put_effect<A: Allocator>(out: &mut [u8], at: usize, effect: &EffectIn<A>) -> usize
     requires has { HasRecord effect.now }
@@ -202,7 +202,7 @@ fn extended_at<A: Allocator>(bytes: &[u8]) -> Option<(EffectIn<A>, &[u8])>
     Some((Effect::Extended(claim, items), rest))
 }
 
-// A saved content, not yet in memory of its own.
+// A saved content, copied into memory of its own.
 #[tactic(auto, unfolding(crate::specs::Reading::saved_at))]
 fn saved_at<A: Allocator>(alloc: A, bytes: &[u8]) -> Result<(EffectIn<A>, &[u8]), ReadError>
     ensures { Gives (λ x. (x.0, x.1.now)) result (saved_at bytes.now) }
@@ -263,7 +263,7 @@ fn nested_at<A: Allocator>(bytes: &[u8]) -> Option<(EffectIn<A>, &[u8])>
     Some((Effect::Nested(PlaceId(parent), child), rest))
 }
 
-// The effect of any kind but a saved content, behind its kind.
+// An effect of any kind but a saved content, from the bytes behind its kind.
 #[tactic(auto, unfolding(crate::specs::Reading::unsaved_at, crate::specs::Reading::effect_of_kind))]
 fn unsaved_at<A: Allocator>(kind: u8, bytes: &[u8]) -> Option<(EffectIn<A>, &[u8])>
     ensures { Reads (λ x. (x.0, x.1.now)) result (unsaved_at kind bytes.now) }
@@ -322,7 +322,7 @@ fn behind_record<A: Allocator>(bytes: &[u8]) -> Option<&[u8]>
 /// Why bytes were not read as records.
 #[derive(Clone, Copy, Debug, PartialEq, Eq, Error)]
 pub enum Damage {
-    /// At this offset stands the first record that isn't one.
+    /// The first offset where a record should stand and none does.
     #[error("damaged at {0}")]
     At(usize),
     /// The bytes are records, and memory for their effects was refused.
@@ -338,7 +338,7 @@ impl<T: Drop> From<AllocFailed<T>> for Damage {
     }
 }
 
-// Where the first record stands that isn't one. Takes no memory.
+// The first offset where a record should stand and none does. Takes no memory.
 fn first_fault<A: Allocator>(bytes: &[u8]) -> Option<usize>
     ensures some { IfSome result (λ at. IsFirstFault bytes.now at) }
     ensures none { IfNone result (AreRecords bytes.now) }
@@ -353,8 +353,8 @@ fn first_fault<A: Allocator>(bytes: &[u8]) -> Option<usize>
     None
 }
 
-/// The effects whose records the bytes are. A first pass takes no memory, so that bytes that aren't records are told as such wherever
-/// the memory ends.
+/// The effects whose records the bytes are. A first pass takes no memory, so damaged bytes are always reported as damaged, never as
+/// out of memory.
 pub fn read_effects<A: Allocator + Copy>(
     alloc: A,
     bytes: &[u8],

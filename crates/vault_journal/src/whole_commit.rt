@@ -7,7 +7,7 @@ use crate::{Frame, open_gate, settle_body, settle_gate, write_body};
 use std::alloc::Allocator;
 use vault_device::{Device, Fault};
 
-/// Writes a frame behind the gate, settles it, opens the gate and settles that. Four device calls, or fewer at a fault.
+/// Writes a frame behind the commit mark (the gate), syncs, opens the mark, and syncs. Four device calls, or fewer at a fault.
 pub fn commit<D: Device, A: Allocator>(
     device: &mut D,
     gate: u64,

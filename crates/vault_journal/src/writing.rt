@@ -1,4 +1,4 @@
-//! One field after another into a slice, without memory. Each writer answers the offset behind what it wrote.
+//! Writers of single fields into a slice. They take no memory. Each returns the offset behind what it wrote.
 ghost use Rattle.std.specs.Prelude.{◌≡◌, ◌≤◌, ◌<◌, ◌+◌, ◌*◌, ◌∷◌, [], length};
 ghost use Rattle.vault_journal.specs.Spelling.{in_two, in_four, in_eight, name_bytes, intent_byte, item_bytes, items_bytes, content_bytes, note_bytes, longest_content};
 ghost use Rattle.vault_journal.specs.Written.{IsWritten};
@@ -99,7 +99,7 @@ pub fn put_item(out: &mut [u8], at: usize, item: &Item) -> usize
     put_u32(out, at, item.place.number())
 }
 
-/// Writes how many items there are, and each.
+/// Writes the number of items, then each item.
 pub fn put_items(out: &mut [u8], at: usize, items: &[Item]) -> usize
     requires few { length items.now < 256 }
     requires room { at + 1 + 5 * length items.now ≤ length out.old }

@@ -16,7 +16,7 @@ use Rattle.vault_lines.specs.Words.{long_in, short_in, claim_in, content_in}
 use Rattle.vault_lines.specs.Items.{items_in}
 use Rattle.vault_lines.specs.Grammar.{arguments_in, words_in}
 
--- the error of a step that gave one
+-- the error of a step that failed is passed on
 pub passed_on : {X : Type 0} (r : Result X LineError) (e : LineError) (there : Option X) → IsErr r × IsErrAnd r (λ f. f ≡ e) → (e ≡ BadLine → there ≡ None)
     → Gives r there
 passed_on (Ok x) e there err none = cc
@@ -58,7 +58,7 @@ module _ {W : Type 0} (bytes : W → List ℕ) (words : List W) (d : W) (low : 3
           → arguments_in keywords.Save (map bytes words) ≡ Some (commands.Save claim path content)
       all_saved content e = rw (three_words bytes words d low high) (rw (claimed, at, e) refl)
 
--- the two of `give`
+-- the two words of `give`
 module _ {W : Type 0} (bytes : W → List ℕ) (words : List W) (d : W) (low : 2 ≤ length words) (high : length words < 3) where
   pub no_claim_given : long_in (bytes (get_or words 0 d)) ≡ None → arguments_in keywords.Give (map bytes words) ≡ None
   no_claim_given e = rw (two_words bytes words d low high) (rw e refl)
@@ -71,7 +71,7 @@ module _ {W : Type 0} (bytes : W → List ℕ) (words : List W) (d : W) (low : 2
         → arguments_in keywords.Give (map bytes words) ≡ Some (commands.Give claim designer)
     all_given designer e = rw (two_words bytes words d low high) (rw (claimed, e) refl)
 
--- the two of `draft`
+-- the two words of `draft`
 module _ {W : Type 0} (bytes : W → List ℕ) (words : List W) (d : W) (low : 2 ≤ length words) (high : length words < 3) where
   pub no_claim_read : long_in (bytes (get_or words 0 d)) ≡ None → arguments_in keywords.Draft (map bytes words) ≡ None
   no_claim_read e = rw (two_words bytes words d low high) (rw e refl)
@@ -84,7 +84,7 @@ module _ {W : Type 0} (bytes : W → List ℕ) (words : List W) (d : W) (low : 2
         → arguments_in keywords.Draft (map bytes words) ≡ Some (commands.Draft claim path)
     draft_asked path e = rw (two_words bytes words d low high) (rw (claimed, e) refl)
 
--- the one of `hello`, and that of `count`
+-- the one word of `hello`, and that of `count`
 module _ {W : Type 0} (bytes : W → List ℕ) (words : List W) (d : W) (low : 1 ≤ length words) (high : length words < 2) where
   pub no_name : name_in (bytes (get_or words 0 d)) ≡ None → arguments_in keywords.Hello (map bytes words) ≡ None
   no_name e = rw (one_word bytes words d low high) (rw e refl)
@@ -100,7 +100,7 @@ module _ {W : Type 0} (bytes : W → List ℕ) (words : List W) (d : W) (low : 1
       → arguments_in keywords.Count (map bytes words) ≡ Some (commands.Count part)
   counted part e = rw (one_word bytes words d low high) (rw e refl)
 
--- one word or two of `make` and of `nest`: the path, and the claim if there is one
+-- the one or two words of `make` and of `nest`: the path, and the claim if there is one
 module _ {W : Type 0} (bytes : W → List ℕ) (words : List W) (d : W) where
   pub made_one : (at : W × Option ℕ) → at ≡ (get_or words 0 d, None) → 1 ≤ length words → length words < 2
       → arguments_in keywords.Make (map bytes words) ≡ (path_in (bytes at.0) >>= (λ path. Some (commands.Make path at.1)))
@@ -135,7 +135,7 @@ keyword_first bytes [] d low = absurd (omega arith)
 keyword_first bytes (x ∷ words) d low =
     ap (λ rest. keyword_in (bytes x) >>= (λ keyword. arguments_in keyword (map bytes rest))) (sym (take_all (length (x ∷ words) - 1) words (omega arith)))
 
--- one word or two of `note`
+-- the one or two words of `note`
 module _ {W : Type 0} (bytes : W → List ℕ) (words : List W) (d : W) where
   module _ (low : 1 ≤ length words) (high : length words < 2) where
     pub none_asked : long_in (bytes (get_or words 0 d)) ≡ None → arguments_in keywords.Note (map bytes words) ≡ None
@@ -154,7 +154,7 @@ module _ {W : Type 0} (bytes : W → List ℕ) (words : List W) (d : W) where
           → arguments_in keywords.Note (map bytes words) ≡ Some (commands.Note claim text)
       noted text e = rw (two_words bytes words d low high) (rw (claimed, e) refl)
 
--- the one of `checkin`, `abandon`, `release`, `state`, `show`, `wait`, `drafts` and `claims`
+-- the one word of `checkin`, `abandon`, `release`, `state`, `show`, `wait`, `drafts` and `claims`
 module _ {W : Type 0} (bytes : W → List ℕ) (words : List W) (d : W) (low : 1 ≤ length words) (high : length words < 2) where
   pub checked_in : arguments_in keywords.CheckIn (map bytes words) ≡ (long_in (bytes (get_or words 0 d)) >>= (λ claim. Some (commands.CheckIn claim)))
   checked_in = rw (one_word bytes words d low high) refl
@@ -180,7 +180,7 @@ module _ {W : Type 0} (bytes : W → List ℕ) (words : List W) (d : W) (low : 1
   pub claims_asked : arguments_in keywords.Claims (map bytes words) ≡ (path_in (bytes (get_or words 0 d)) >>= (λ path. Some (commands.Claims path)))
   claims_asked = rw (one_word bytes words d low high) refl
 
--- the first of `extend`
+-- the first word of `extend`
 pub extended : {W : Type 0} (bytes : W → List ℕ) (words : List W) (d : W) → 1 ≤ length words
     → arguments_in keywords.Extend (map bytes words)
     ≡ (claim_in (bytes (get_or words 0 d)) >>= (λ claim. items_in (map bytes (take (length words - 1) (drop 1 words))) >>= (λ items. Some (commands.Extend claim items))))

@@ -110,7 +110,7 @@ content_again word (byte ∷ bytes) spelled =
     ∙ cond-false (length word == 0) None (result_ok (decode_of word)) full
     ∙ ap result_ok (decode_of-even word (omega (arith, size)) ∙ read)
 
--- What is told is spelled so.
+-- What a reply prints is spelled so.
 
 pub told_as_spelled : ToldAsSpelled
 told_as_spelled [] bytes = refl

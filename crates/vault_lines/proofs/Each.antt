@@ -6,7 +6,7 @@ use Rattle.std.specs.Option.{option_map}
 use Rattle.vault_lines.specs.Items.{item_in, items_in}
 use Rattle.vault_lines.specs.Reading.{each_in, ◌>>=◌}
 
--- those before, and those there
+-- the values read before, and those that are read here
 abbrev pub with_front : {X : Type 0} → List X → Option (List X) → Option (List X)
 with_front front there = option_map (λ xs. front ++ xs) there
 
@@ -55,7 +55,7 @@ module _ {X W : Type 0} (read : List ℕ → Option X) (bytes : W → List ℕ) 
         sym so_far ∙ ap (with_front front) taken
         ∙ each_in-none read front (bytes (get_or words i word)) (map bytes (drop (i + 1) words)) e
 
--- items are there where a word is
+-- if there is a word, the words are read as items
 pub items_are : {W : Type 0} (bytes : W → List ℕ) (words : List W) → false ≡ (length words == 0)
     → items_in (map bytes words) ≡ each_in item_in (map bytes words)
 items_are bytes [] some = cc

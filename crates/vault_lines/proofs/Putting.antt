@@ -10,7 +10,7 @@ use Rattle.std.proofs.lemmas.List.Concat.{flat_map-cons}
 pub two_pieces : (a b c one more : List ℕ) → b ≡ a ++ one → c ≡ b ++ more → c ≡ a ++ (one ++ more)
 two_pieces a b c one more first next = next ∙ ap (λ (l : List ℕ). l ++ more) first ∙ append_assoc a one more
 
--- those of the first things, and the next
+-- the bytes of the first things, and of the next
 pub adds_more : {X : Type 0} (f : X → List ℕ) (xs : List X) (i : ℕ) (x : X) (a b c : List ℕ)
     → i < length xs → get_or xs i x ≡ x → b ≡ a ++ flat_map f (take i xs) → c ≡ b ++ f x → c ≡ a ++ flat_map f (take (i + 1) xs)
 adds_more f xs i x a b c within is first next =
@@ -19,6 +19,6 @@ adds_more f xs i x a b c within is first next =
     let split = ap (flat_map f) cut ∙ flat_map-append f (take i xs) (x ∷ []) ∙ ap (λ (l : List ℕ). flat_map f (take i xs) ++ l) one in
     next ∙ ap (λ (l : List ℕ). l ++ f x) first ∙ append_assoc a (flat_map f (take i xs)) (f x) ∙ ap (λ (l : List ℕ). a ++ l) (sym split)
 
--- those of all things, where none is left
+-- the bytes of all things, when none is left
 pub adds_all : {X : Type 0} (f : X → List ℕ) (xs : List X) (i : ℕ) (a b : List ℕ) → length xs ≤ i → b ≡ a ++ flat_map f (take i xs) → b ≡ a ++ flat_map f xs
 adds_all f xs i a b none_left first = first ∙ ap (λ (ys : List _). a ++ flat_map f ys) (take_all i xs none_left)

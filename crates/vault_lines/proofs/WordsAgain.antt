@@ -176,7 +176,7 @@ in_items : (items : List PathItem) → AllByRecursion (λ (item : PathItem). IsP
 in_items [] h = tt
 in_items (item ∷ items) h = (in_item item h.0, in_items items h.1)
 
--- the words of a command are not none, and none has a space
+-- a command has at least one word, and no word has a space
 pub record AreWords (words : List (List ℕ)) : Type 0 where
   pub first : List ℕ
   pub others : List (List ℕ)

@@ -214,7 +214,7 @@ one_word kind keyword make none one more spells [] = none_found keyword [] none
 one_word kind keyword make none one more spells (word ∷ []) = one_found kind keyword make word (one word) spells
 one_word kind keyword make none one more spells (word ∷ other ∷ words) = none_found keyword (word ∷ other ∷ words) (more word other words)
 
--- one with two
+-- a keyword with two words behind it
 two_words : {A B : Type 0} (kind : Kind A) (another : Kind B) (keyword : Keyword) (make : A → B → Command) → arguments_in keyword [] ≡ None
     → ((word : List ℕ) → arguments_in keyword (word ∷ []) ≡ None)
     → ((word other : List ℕ) → arguments_in keyword (word ∷ other ∷ []) ≡ (kind.read word >>= λ x. another.read other >>= λ y. Some (make x y)))
@@ -227,7 +227,7 @@ two_words kind another keyword make none one two more spells (word ∷ other ∷
 two_words kind another keyword make none one two more spells (word ∷ other ∷ third ∷ words) =
     none_found keyword (word ∷ other ∷ third ∷ words) (more word other third words)
 
--- one with a path, and maybe the check-out in whose name a place is made there
+-- a keyword with a path, and maybe the check-out in whose name a place is made there
 place_words : (keyword : Keyword) (make : List (List ℕ) → Option ℕ → Command) → arguments_in keyword [] ≡ None
     → ((word : List ℕ) → arguments_in keyword (word ∷ []) ≡ (path_in word >>= λ path. Some (make path None)))
     → ((word other : List ℕ) → arguments_in keyword (word ∷ other ∷ []) ≡ (path_in word >>= λ path. long_in other >>= λ n. Some (make path (Some n))))
@@ -242,7 +242,7 @@ place_words keyword make none one two more alone named (word ∷ other ∷ []) =
 place_words keyword make none one two more alone named (word ∷ other ∷ third ∷ words) =
     none_found keyword (word ∷ other ∷ third ∷ words) (more word other third words)
 
--- one with items alone
+-- a keyword with items alone
 all_items : (keyword : Keyword) (make : List PathItem → Command) (words : List (List ℕ))
     → arguments_in keyword words ≡ (items_in words >>= λ items. Some (make items))
     → ((items : List PathItem) → AreItems items → Spells (keyword_text keyword ∷ map item_text items) (make items)) → AreFound keyword words

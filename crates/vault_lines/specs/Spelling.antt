@@ -1,4 +1,4 @@
--- How commands are spelled on a line, in the subject's words: what the grammar's reading must give back.
+-- How commands are spelled on a line, in the domain's terms: what reading by the grammar must give back.
 -- This project's own.
 use Rattle.std.specs.Prelude.{ℕ, ◌≡◌, ◌<◌, ◌≤◌, ◌^◌, ◌*◌, ◌+◌, ◌↔◌, List, [], ◌∷◌, length, map, codes, decimal, Some, None}
 use Rattle.std.specs.List.{join_with_byte, AllByRecursion}
@@ -92,6 +92,6 @@ ReadAsSpelled = (line : List ℕ) (command : Command) → (command_of line ≡ S
 abbrev pub OneCommand : Type 0
 OneCommand = (line : List ℕ) (one other : Command) → LineSpells line one → LineSpells line other → one ≡ other
 
--- a content, or a note, is told as one of its spellings
+-- the text of a content, or a note, in a reply is one of its spellings
 abbrev pub ToldAsSpelled : Type 0
 ToldAsSpelled = (content : List ℕ) → IsBytes content → ContentSpells (content_text content) content

@@ -27,7 +27,7 @@ abbrev pub claim_text : ClaimId → List ℕ
 claim_text (Long number) = codes "c" ++ decimal number
 claim_text (Short number) = codes "h" ++ decimal number
 
--- the number of a refusal, and the claim that is in the way
+-- the number of a refusal, and the claim that is in the way, if one is
 abbrev pub refusal_text : Refusal → List ℕ
 refusal_text refusals.NoSession = codes "ERR 11"
 refusal_text refusals.Joined = codes "ERR 12"
@@ -48,7 +48,7 @@ refusal_text refusals.Limit = codes "ERR 50"
 abbrev pub queued_text : ClaimId → ClaimId → List ℕ
 queued_text claim before = codes "OK queued " ++ claim_text claim ++ (codes " behind " ++ claim_text before ++ newline)
 
--- names, each behind a space, after how many there are
+-- the number of names, then the names, each after a space
 abbrev pub children_text : List (List ℕ) → List ℕ
 children_text names = codes "OK list " ++ decimal (length names) ++ flat_map (λ name. 32 ∷ name) names ++ newline
 
@@ -66,26 +66,26 @@ intent_letter Change = 119
 abbrev pub item_text : PathItem → List ℕ
 item_text item = intent_letter item.intent ∷ 58 ∷ path_text item.path
 
--- how a claim stands, behind its owner
+-- how a claim stands, as the text behind its owner
 abbrev pub standing_text : Standing → List ℕ
 standing_text standings.Held = codes " held"
 standing_text (standings.Queued before) = codes " queued behind " ++ claim_text before
 
--- all that is said of a claim: whose it is, how it stands, and its items, each behind a space
+-- all about a claim: its owner, how it stands, and its items, each after a space
 abbrev pub shown_text : ShownClaim (List PathItem) → List ℕ
 shown_text shown =
     codes "OK claim " ++ claim_text shown.id ++ codes " " ++ shown.designer ++ standing_text shown.standing
     ++ flat_map (λ item. 32 ∷ item_text item) shown.items ++ newline
 
--- claims, each behind a space, after how many there are
+-- the number of claims, then the claims, each after a space
 abbrev pub claims_text : List ClaimId → List ℕ
 claims_text ids = codes "OK claims " ++ decimal (length ids) ++ flat_map (λ id. 32 ∷ claim_text id) ids ++ newline
 
--- paths of drafts, each behind a space, after how many there are
+-- the number of drafts, then their paths, each after a space
 abbrev pub drafts_text : List (List (List ℕ)) → List ℕ
 drafts_text paths = codes "OK drafts " ++ decimal (length paths) ++ flat_map (λ path. 32 ∷ path_text path) paths ++ newline
 
--- the line that a reply is told as
+-- the line of a reply
 abbrev pub reply_text : Reply → List ℕ
 reply_text (Session number) = codes "OK session " ++ decimal number ++ newline
 reply_text (Place number) = codes "OK place " ++ decimal number ++ newline
@@ -107,7 +107,7 @@ reply_text (DraftsOf paths) = drafts_text paths
 reply_text Left = codes "OK left\n"
 reply_text (Refused refusal) = refusal_text refusal ++ newline
 
--- the line that an outside refusal is told as
+-- the line of an outside refusal
 abbrev pub outside_text : Outside → List ℕ
 outside_text outsides.BadLine = codes "ERR 10\n"
 outside_text outsides.Busy = codes "ERR 80\n"

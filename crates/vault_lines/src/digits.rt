@@ -1,10 +1,10 @@
-//! Hexadecimal digits, read.
+//! Reading hexadecimal digits.
 ghost use Rattle.std.specs.Prelude.{◌≡◌, ◌*◌, length, unwrap_or, true, false, Ok, None};
 ghost use Rattle.std.specs.Result.{result_ok};
 ghost use Rattle.hex.specs.Hex.{decode_pairs, hex_digit_value};
 
-// What each byte is worth as a digit of either case, and 16 where it is none. It is looked up, since a processor can't foresee whether the
-// next digit of a content is a letter.
+// The value of each byte as a digit of either case, or 16 if it is none. It is a table and not a branch, since a processor can't predict
+// whether the next digit of a content is a letter.
 static WORTHS: [u8; 256] = [
     16, 16, 16, 16, 16, 16, 16, 16, 16, 16, 16, 16, 16, 16, 16, 16, 16, 16, 16, 16, 16, 16, 16, 16,
     16, 16, 16, 16, 16, 16, 16, 16, 16, 16, 16, 16, 16, 16, 16, 16, 16, 16, 16, 16, 16, 16, 16, 16,
@@ -26,7 +26,7 @@ fn worth_of(digit: u8) -> u8
     WORTHS[digit as usize]
 }
 
-/// Writes the bytes that pairs of digits spell. Whether all are digits: where one isn't, it is not said what is written.
+/// Writes the bytes that pairs of digits spell. Whether all are digits; if one isn't, nothing is promised of what is written.
 pub(crate) fn write_bytes(digits: &[u8], bytes: &mut [u8]) -> bool
     requires { length digits.now ≡ 2 * length bytes.old }
     ensures written { result ≡ true → decode_pairs 0 digits.now ≡ Ok bytes.new }

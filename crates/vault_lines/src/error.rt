@@ -9,10 +9,10 @@ use thiserror::Error;
 /// Why a line gives no command.
 #[derive(Clone, Copy, Debug, PartialEq, Eq, Error)]
 pub enum LineError {
-    /// It spells none.
+    /// It spells no command.
     #[error("the line is no command")]
     BadLine,
-    /// Memory was wanted and refused.
+    /// Out of memory: an allocation was refused.
     #[error("want of memory")]
     NoMemory,
 }

@@ -87,7 +87,7 @@ impl Keyword {
         }
     }
 
-    /// The keyword that the word is.
+    /// The keyword that this word is, if any.
     pub(crate) fn read(word: &[u8]) -> Option<Keyword>
         ensures { result ≡ keyword_in word.now }
     {

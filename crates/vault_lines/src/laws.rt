@@ -2,7 +2,8 @@
 
 ghost use Rattle.vault_lines.specs.Spelling.{OneCommand, ReadAsSpelled, ToldAsSpelled};
 
-/// A line that reads as a command is its words joined by single spaces, each a spelling of its part, and each such line is read.
+/// A line is read as a command exactly if it is the command's words, joined by single spaces and not too long in all. The words
+/// are the keyword and a spelling of each part of the command.
 pub fn read_as_spelled()
     ensures { ReadAsSpelled }
 {}
@@ -12,7 +13,7 @@ pub fn one_command()
     ensures { OneCommand }
 {}
 
-/// What is told of a content spells that content, so that a later line may save it as it was told.
+/// The text of a content in a reply spells that content, so a later line may save it in the same text.
 pub fn told_as_spelled()
     ensures { ToldAsSpelled }
 {}

@@ -4,7 +4,7 @@
 //! text (`read_line_of`, `read_number`, `text_of`, `outside_text`, `laws`).
 //! Stands on: vault_model. Must not know: scripts, sockets, files, threads, a vault that runs.
 //!
-//! Neither: that `NoMemory` comes from a request that was refused.
+//! Neither proved nor tested: that `NoMemory` comes from an allocation that was refused.
 //! Start at: docs/PROTOCOL.md, specs/Grammar.antt and reading.rt.
 #![tactic(auto)]
 

@@ -1,4 +1,4 @@
-//! Paths, items and claims put behind a text.
+//! Appending paths, items and claims to a text.
 
 ghost use Rattle.std.specs.Prelude.{◌≡◌, ◌++◌, ◌∷◌, OnOk};
 ghost use Rattle.std.specs.List.{flat_map};
@@ -9,7 +9,7 @@ use itoa::Buffer;
 use std::alloc::{AllocError, Allocator};
 use vault_model::{ClaimId, Intent, Name, Path, PathItem};
 
-/// Puts some bytes behind a text, and others behind these.
+/// Appends two runs of bytes to a text.
 fn put<A: Allocator>(text: &mut Vec<u8, A>, bytes: &[u8], more: &[u8]) -> Result<(), AllocError>
     ensures { OnOk result (text.new.items ≡ text.old.items ++ (bytes.now ++ more.now)) }
 {
@@ -18,7 +18,7 @@ fn put<A: Allocator>(text: &mut Vec<u8, A>, bytes: &[u8], more: &[u8]) -> Result
     Ok(())
 }
 
-/// Puts names behind a text, each behind a slash.
+/// Appends names to a text, each after a slash.
 fn put_names<A: Allocator>(text: &mut Vec<u8, A>, names: &[Name]) -> Result<(), AllocError>
     ensures { OnOk result (text.new.items ≡ text.old.items ++ flat_map (λ name. 47 ∷ name) names.now) }
 {
@@ -28,7 +28,7 @@ fn put_names<A: Allocator>(text: &mut Vec<u8, A>, names: &[Name]) -> Result<(), 
     Ok(())
 }
 
-/// Puts a path behind a text.
+/// Appends a path to a text.
 fn put_path<A: Allocator>(text: &mut Vec<u8, A>, path: &Path) -> Result<(), AllocError>
     ensures { OnOk result (text.new.items ≡ text.old.items ++ path_text path.now) }
 {
@@ -39,7 +39,7 @@ fn put_path<A: Allocator>(text: &mut Vec<u8, A>, path: &Path) -> Result<(), Allo
     put_names(text, names)
 }
 
-/// Puts an item behind a text and a space.
+/// Appends a space and an item to a text.
 fn put_item<A: Allocator>(text: &mut Vec<u8, A>, item: &PathItem) -> Result<(), AllocError>
     ensures { OnOk result (text.new.items ≡ text.old.items ++ 32 ∷ item_text item.now) }
 {
@@ -50,7 +50,7 @@ fn put_item<A: Allocator>(text: &mut Vec<u8, A>, item: &PathItem) -> Result<(), 
     put_path(text, &item.path)
 }
 
-/// Puts items behind a text, each behind a space.
+/// Appends items to a text, each after a space.
 pub(crate) fn put_items<A: Allocator>(
     text: &mut Vec<u8, A>,
     items: &[PathItem],
@@ -63,7 +63,7 @@ pub(crate) fn put_items<A: Allocator>(
     Ok(())
 }
 
-/// Puts a claim behind a text and a space.
+/// Appends a space and a claim to a text.
 fn put_claim<A: Allocator>(text: &mut Vec<u8, A>, id: ClaimId) -> Result<(), AllocError>
     ensures { OnOk result (text.new.items ≡ text.old.items ++ 32 ∷ claim_text id) }
 {
@@ -73,7 +73,7 @@ fn put_claim<A: Allocator>(text: &mut Vec<u8, A>, id: ClaimId) -> Result<(), All
     }
 }
 
-/// Puts claims behind a text, each behind a space.
+/// Appends claims to a text, each after a space.
 pub(crate) fn put_claims<A: Allocator>(
     text: &mut Vec<u8, A>,
     ids: &[ClaimId],
@@ -86,7 +86,7 @@ pub(crate) fn put_claims<A: Allocator>(
     Ok(())
 }
 
-/// Puts paths behind a text, each behind a space.
+/// Appends paths to a text, each after a space.
 pub(crate) fn put_drafts<A: Allocator>(
     text: &mut Vec<u8, A>,
     paths: &[Path],

@@ -263,7 +263,7 @@ fn quit<A: Allocator>(arguments: &[&[u8]]) -> Result<CommandIn<A>, LineError>
     }
 }
 
-/// The command of a keyword and the words behind it.
+/// The command of a keyword and its arguments, the words behind it.
 fn read_arguments<A: Allocator>(
     alloc: A,
     keyword: Keyword,
@@ -297,7 +297,7 @@ fn read_arguments<A: Allocator>(
     }
 }
 
-/// The command of the words.
+/// The command that the words spell.
 fn read_words<A: Allocator>(alloc: A, words: &[&[u8]]) -> Result<CommandIn<A>, LineError>
     ensures { Gives result (words_in (map (λ word. word.now) words.now)) }
 {
@@ -308,9 +308,9 @@ fn read_words<A: Allocator>(alloc: A, words: &[&[u8]]) -> Result<CommandIn<A>, L
     read_arguments(alloc, keyword, arguments)
 }
 
-/// The command that the line spells. The line comes without the line feed at its end.
-/// Memory goes to the list of its words, to the items of a check-out, an extension or a hold, and to a draft's content and a
-/// note's text, which may have any number of bytes here.
+/// The command that the line spells. The line comes without the line feed at its end. Reading it allocates memory for the
+/// list of its words, for the items of a check-out, an extension or a hold, and for a draft's content and a note's text.
+/// The sizes of the last two aren't limited here.
 pub fn read_line_of<A: Allocator + Copy>(alloc: A, line: &[u8]) -> Result<CommandIn<A>, LineError>
     ensures { Gives result (command_of line.now) }
 {

@@ -6,7 +6,7 @@ ghost use Rattle.std.specs.List.{slice_split};
 use std::alloc::{AllocError, Allocator};
 use vault_model::split::cut;
 
-/// The words between single spaces.
+/// The words of the line, which single spaces separate.
 pub(crate) fn words_of<A: Allocator>(alloc: A, line: &[u8]) -> Result<Vec<&[u8], A>, AllocError>
     ensures { IfOk result (λ words. map (λ word. word.now) words.items ≡ slice_split (λ b. b == 32) line.now) }
 {

@@ -26,7 +26,7 @@ impl fmt::Display for ClaimText {
     }
 }
 
-/// How a claim stands, behind its owner.
+/// How a claim stands, as the text behind its owner.
 #[derive(Clone, Copy)]
 struct StandingText(Standing);
 
@@ -41,7 +41,7 @@ impl fmt::Display for StandingText {
     }
 }
 
-/// A refusal by its number, with the claim that is in the way.
+/// A refusal by its number, with the claim that is in the way, if one is.
 #[derive(Clone, Copy)]
 struct RefusalText(Refusal);
 
@@ -117,7 +117,7 @@ fn text_of_note<A: Allocator + Copy>(alloc: A, note: &[u8]) -> Result<Vec<u8, A>
     Ok(format!(in alloc; "OK note {digits}\n")?.into_bytes())
 }
 
-/// The text of all that is said of a claim.
+/// The text of the reply to `show`: all about a claim.
 fn text_of_shown<A: Allocator + Copy, B: Allocator>(
     alloc: A,
     shown: &ShownClaim<Listing<PathItem, B>>,
@@ -153,7 +153,7 @@ fn text_of_drafts<A: Allocator + Copy>(alloc: A, paths: &[Path]) -> Result<Vec<u
     Ok(text)
 }
 
-/// The text of a reply, where memory is there.
+/// The text of a reply, unless memory runs out.
 fn reply_text_of<A: Allocator + Copy, B: Allocator>(
     alloc: A,
     reply: &ReplyIn<B>,
@@ -188,7 +188,7 @@ fn reply_text_of<A: Allocator + Copy, B: Allocator>(
     }
 }
 
-/// The line that a reply is told as, with its line feed. Takes time proportional to its length.
+/// The line of a reply, with its line feed. Takes time proportional to its length.
 pub fn text_of<A: Allocator + Copy, B: Allocator>(
     alloc: A,
     reply: &ReplyIn<B>,
@@ -198,7 +198,7 @@ pub fn text_of<A: Allocator + Copy, B: Allocator>(
     reply_text_of(alloc, reply).or(Err(NoMemory))
 }
 
-/// The line that an outside refusal is told as, with its line feed.
+/// The line of an outside refusal, with its line feed.
 pub fn outside_text<A: Allocator>(alloc: A, outside: Outside) -> Result<Vec<u8, A>, NoMemory>
     ensures { IfOk result (λ text. text.items ≡ outside_text outside) }
 {

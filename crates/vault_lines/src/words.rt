@@ -11,7 +11,7 @@ use itoa::Buffer;
 use std::alloc::Allocator;
 use vault_model::{ClaimId, Intent, Listing, Path, PathItem};
 
-/// The number below 2^32 whose decimal text the word is, so one without leading zeros.
+/// The number below 2^32 whose decimal text the word is, so without leading zeros.
 pub fn read_number(word: &[u8]) -> Option<u32>
     ensures { result ≡ number_in word.now }
 {

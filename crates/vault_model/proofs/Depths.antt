@@ -48,7 +48,7 @@ stands_above Assembly d e other = by_test (d == 2) refl e
     by_test false two h = let bounds = between_bounds d h in omega (arith, bounds.1)
 stands_above Part d e other = cc
 
--- what is made where nothing else is asked for may stand there
+-- the kind that is made by default may stand there
 pub kind_at_stands : (d : ℕ) → d < greatest_depth → may_stand (kind_at (suc d)) (suc d) ≡ true
 kind_at_stands d below = by_tests (suc d == 1) (suc d == 2) refl refl
   where
@@ -88,7 +88,7 @@ part_deep d e = by_test (is_between d) refl e
     by_test true between h = let bounds = between_bounds d between in omega (arith, bounds.0)
     by_test false between h = grind (arith, nat_tests, h)
 
--- at one depth stands one kind of parts, and one of what are no parts
+-- at each depth may stand at most one kind that is a part's, and at most one that isn't
 pub one_kind : (k l : Kind) (d : ℕ) → may_stand k d ≡ true → may_stand l d ≡ true → is_part_kind k ≡ is_part_kind l → k ≡ l
 one_kind Library Library d a b same = refl
 one_kind Project Project d a b same = refl
@@ -107,13 +107,13 @@ one_kind Library Part d a b same = cc
 one_kind Project Part d a b same = cc
 one_kind Assembly Part d a b same = cc
 
--- a place that is no part may have what is made under it where nothing else is asked for
+-- a place that is no part may have what is made under it by default
 pub may_have_made : (tree : List Place) (parent : ℕ) → IsTree tree → is_part tree parent ≡ false → may_have tree parent (kind_under tree parent) ≡ true
 may_have_made tree parent is other =
     let stands = kind_at_stands (depth tree parent) (stands_above (kind_of tree parent) (depth tree parent) (is.kinds parent) other) in
     rw (other, stands) refl
 
--- and an assembly, where one may be asked for
+-- and it may have an assembly, where one may be asked for
 pub may_have_nested : (tree : List Place) (parent : ℕ) → may_nest_under tree parent ≡ true → is_part tree parent ≡ false → may_have tree parent Assembly ≡ true
 may_have_nested tree parent between other =
     let stands = between_stands (suc (depth tree parent)) between in

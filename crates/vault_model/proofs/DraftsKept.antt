@@ -1,4 +1,4 @@
--- What the drafts of a vault keep, through each change of the tree, the line and themselves.
+-- The invariant of a vault's drafts is kept by each change of the tree, the queue of claims and the drafts themselves.
 use Rattle.std.specs.Prelude.{◌≡◌, ℕ, ◌+◌, ◌<◌, ◌≤◌, ◌==◌, ◌&&◌, nat_lt, Bool, true, false, not, List, [], ◌∷◌, ◌++◌, length, filter, Option, None, Some, is_some, All, ◌⊎◌, refl}
 use Rattle.std.proofs.Common.{sym, subst, ap, ◌∙◌, cond, arith, length-append, inl, inr}
 use Rattle.std.specs.List.{IsDistinct, AllByRecursion}
@@ -26,7 +26,7 @@ use Rattle.vault_model.proofs.Grown.{standing_of-grown}
 use Rattle.vault_model.proofs.Stays.{ids, own_id, same_id_is, claim_of-push, standing_of-push, claim_of-kept, held_kept, held_there}
 use Rattle.vault_model.proofs.Lists.{filter_passes}
 
--- what a change of the line keeps of the claims with drafts
+-- what a change of the queue keeps for the claims with drafts
 pub record Keeps (tree : List Place) (line others : List Claim) (number : ℕ) : Type 0 where
   pub held : standing_of tree others (Long number) ≡ Some Held
   pub wider : (c : Claim) → claim_of others (Long number) ≡ Some c → (d : Claim) × (claim_of line (Long number) ≡ Some d) × ((p : ℕ) → change_set tree d.items p ≡ true → change_set tree c.items p ≡ true)
@@ -225,7 +225,7 @@ drafts_put_first tree line id claim more drafts distinct found held are = record
         let both = and_both (option_map_or (λ c. is_held tree (put_first line id (claim.items ++ more)) c) (claim_of (put_first line id (claim.items ++ more)) (Long x.claim)) false) (drafts_held tree (put_first line id (claim.items ++ more)) xs) e in
         All-cons (IsDraft tree (put_first line id (claim.items ++ more))) x xs (one x both.0 (All-head (IsDraft tree line) x xs all)) (each xs both.1 (All-tail (IsDraft tree line) x xs all))
 
--- drafts that are kept are held
+-- drafts with their invariant have granted check-outs
 pub all_held : (tree : List Place) (line : List Claim) (drafts : List SavedDraft) → All (IsDraft tree line) drafts → drafts_held tree line drafts ≡ true
 all_held tree line [] all = refl
 all_held tree line (x ∷ xs) all =

@@ -89,7 +89,7 @@ always P each (x ∷ line) = All-cons P x line (each x) (always P each line)
 abbrev lasts : Claim → Bool
 lasts c = not (is_short c.id)
 
--- without a short claim, the others that last are the same
+-- without one short claim, the long claims are the same
 short_gone : (line : List Claim) (n : ℕ) → without_short (without line (Short n)) ≡ without_short line
 short_gone line n = filter_absorbs lasts (λ (c : Claim). not (same_id c.id (Short n))) line (always (λ c. lasts c ≡ true → not (same_id c.id (Short n)) ≡ true) (λ c h. by_id c.id h) line)
   where
@@ -113,7 +113,7 @@ counted_change : (v : Vault) (n : ℕ) (effect : Option Effect) (w : Vault) → 
 counted_change v n None w change = counted_durable n w ∙ change
 counted_change v n (Some effect) w change = change ∙ ap Some (sym (counted_durable n w))
 
--- each effect, where it may be made
+-- each effect is applicable where its command may do it
 makes : (w : Vault) (parent : ℕ) (name : List ℕ) → CanMake w.tree parent name → after w (effects.Made parent name) ≡ Some (with_place w parent name (kind_under w.tree parent))
 unfolding after after_made
 makes w parent name can = let there = can.there in let near : nat_le parent (length w.tree) ≡ true = grind (arith, nat_tests, there) in rw (near, can.above, can.fresh, can.room) refl
@@ -175,7 +175,7 @@ unfolding after after_checked_in
 checks_in w number claim found held fits = rw found (only_if_true _ _ (and_intro (is_held w.tree w.line claim) (is_shelvable w.shelf (drafts_of w.drafts number)) held fits))
 
 module _ (v : Vault) (kept : IsVault v) where
-  -- a long claim lasts as it is
+  -- a long claim is in the durable vault as it is
   lasting : (number : ℕ) (claim : Claim) → claim_of v.line (Long number) ≡ Some claim → claim_of (without_short v.line) (Long number) ≡ Some claim
   lasting number claim found =
       let there = kept_there lasts v.line (Long number) (λ c own. rw own refl) (rw found refl) in
@@ -186,7 +186,7 @@ module _ (v : Vault) (kept : IsVault v) where
       let there = kept_there lasts v.line (Long number) (λ c own. rw own refl) (rw found refl) in
       held_claim v.tree (without_short v.line) (Long number) claim (lasting number claim found) (held_kept lasts v.tree v.line (Long number) kept.apart there (stands_held v.tree v.line (Long number) claim found held))
 
-  -- the changes of what lasts are those of the durable vault
+  -- a change and then `durable` gives the same as `durable` and then the change
   asked_lasts : (number : ℕ) (designer : List ℕ) (items : List Item) → durable (with_check_out v number designer items) ≡ with_check_out (durable v) number designer items
   asked_lasts number designer items = ap (λ line. record (durable v) { line = line; last_long = number }) (filter-append lasts v.line (new_check_out number designer items ∷ []))
 

@@ -39,7 +39,7 @@ abbrev pub bytes_left : Option (List ℕ) → ℕ
 bytes_left None = 0
 bytes_left (Some rest) = length rest + 1
 
--- where a separator stands first, as a search of all bytes at once tells it
+-- where a separator stands first, as a search of all bytes at once finds it
 pub first_place : (separator : ℕ) (bs : List ℕ) (found : Option ℕ) → IsFirstByte (is_byte separator) bs found
     → found ≡ position (λ b. b == separator) bs
 first_place separator bs None nowhere =

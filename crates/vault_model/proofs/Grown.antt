@@ -17,7 +17,7 @@ use Rattle.vault_model.proofs.Walks.{Rises}
 use Rattle.vault_model.proofs.Growth.{is_under-push, Rises-push, AreThere-push}
 use Rattle.vault_model.proofs.Stays.{claim_there}
 
--- tests that agree on what each member is
+-- two tests that agree on all members
 any_same : {X : Type 0} (P : X → Type 0) (p q : X → Bool) (xs : List X) → All P xs → ((x : X) → P x → p x ≡ q x) → list_any p xs ≡ list_any q xs
 any_same P p q [] all h = refl
 any_same P p q (x ∷ xs) all h =

@@ -137,7 +137,7 @@ module _ (id : ClaimId) (f : Claim → Claim) (own : (c : Claim) → (f c).id �
       by_claim None = refl
       by_claim (Some c) = refl
 
-  -- what a test of ids leaves of the line is changed alike
+  -- a test of ids and the change may be taken in either order
   pub filter-changed : (p : Claim → Bool) (line : List Claim) → ((c : Claim) → p (one c) ≡ p c) → filter p (changed line id f) ≡ changed (filter p line) id f
   filter-changed p line alike = filter-map one one_id one_items p line alike
 

@@ -1,4 +1,4 @@
--- What every vault keeps, through each change.
+-- Each change keeps the invariant of a vault.
 use Rattle.std.specs.Prelude.{◌≡◌, ◌≢◌, ℕ, zero, suc, Option, None, Some, is_some, ◌+◌, ◌<◌, ◌≤◌, ◌==◌, Bool, true, false, not, nat_eq, List, [], ◌∷◌, ◌++◌, length, map, filter, All, refl}
 use Rattle.std.proofs.Common.{arith, ap, sym, subst, cond, length-append, ◌∙◌}
 use Rattle.std.proofs.lemmas.List.{length-map}
@@ -44,7 +44,7 @@ All-kept P Q keep (x ∷ xs) more all = by_test (keep x) refl (All-kept P Q keep
     by_test true e rest = All-cons Q x (filter keep xs) (more x (All-head P x xs all) e) rest
     by_test false e rest = rest
 
--- a session still stands as others come, are counted, or go
+-- a session stays open as others join, are counted, or leave
 stands_push : (sessions : List Session) (s : Session) (number : ℕ) → is_some (session_of sessions number) ≡ true → is_some (session_of (sessions ++ s ∷ []) number) ≡ true
 stands_push [] s number h = cc
 stands_push (t ∷ sessions) s number h = by_test (t.number == number) h (stands_push sessions s number)
@@ -96,11 +96,11 @@ own_number (t ∷ others) number s e = by_test (t.number == number) refl e (own_
     by_test true g h rest = let same : t ≡ s = cc in subst (λ (x : Session). x.number ≡ number) same (eq_from t.number number g)
     by_test false g h rest = rest h
 
--- a session that is found stands by its own number
+-- a session that is found is found by its own number, too
 pub session_stands : (sessions : List Session) (number : ℕ) (s : Session) → session_of sessions number ≡ Some s → is_some (session_of sessions s.number) ≡ true
 session_stands sessions number s found = rw (own_number sessions number s found) (rw found refl)
 
--- a claim is still a claim with other sessions that have its own
+-- a claim keeps its invariant with other sessions, if its own is among them
 claim_with : (tree : List Place) (sessions others : List Session) (last_long last_short : ℕ) (c : Claim) → ((number : ℕ) → is_some (session_of sessions number) ≡ true → is_some (session_of others number) ≡ true) → IsClaim tree sessions last_long last_short c → IsClaim tree others last_long last_short c
 claim_with tree sessions others last_long last_short c more h = record { given = h.given; owned = by_owner c.owner c.id h.owned; some = h.some; few = h.few; there = h.there; noted = h.noted }
   where
@@ -110,7 +110,7 @@ claim_with tree sessions others last_long last_short c more h = record { given =
     by_owner (owners.Designer name) (Short n) owned = owned
     by_owner (owners.Session number) (Long n) owned = owned
 
--- without a claim that stands the line is shorter
+-- the queue is shorter without a claim that was in it
 without_shorter : (line : List Claim) (id : ClaimId) → length (without line id) + cond (is_some (claim_of line id)) 1 0 ≤ length line
 without_shorter [] id = omega arith
 without_shorter (x ∷ line) id = by_test (same_id x.id id) (claim_of line id) (without_shorter line id)
@@ -311,7 +311,7 @@ module _ (v : Vault) (kept : IsVault v) where
     light = kept.light;
   })
 
-  -- sessions that have those of the claims
+  -- other sessions, with all those that own claims
   kept_sessions : (sessions : List Session) (last : ℕ) → last ≤ last_number → AreSessions last sessions → ((number : ℕ) → is_some (session_of v.sessions number) ≡ true → is_some (session_of sessions number) ≡ true) → IsVault (record v { sessions = sessions; last_session = last })
   kept_sessions sessions last below are more = record {
     tree = kept.tree;
@@ -556,6 +556,6 @@ counts_rise n bound v h = record {
       (All-weaker (λ (s : Session). s.count < bound) (λ (s : Session). (one_more n s).count < bound + 1) (λ s k. count_rises n bound s k) v.sessions h.each);
 }
 
--- fewer sessions have no other counts
+-- when a session leaves, no count changes
 pub counts_left : (gone bound : ℕ) (v : Vault) (line : List Claim) → CountsBelow bound v → CountsBelow bound (record v { line = line; sessions = filter (λ (s : Session). not (s.number == gone)) v.sessions })
 counts_left gone bound v line h = record { door = h.door; each = All-filter (λ (s : Session). not (s.number == gone)) (λ (s : Session). s.count < bound) v.sessions h.each }

@@ -1,4 +1,4 @@
--- Lemmas on lists and tests that std has not.
+-- Lemmas on lists and tests that std doesn't have.
 use Rattle.std.specs.Prelude.{◌≡◌, ℕ, zero, suc, ◌<◌, ◌&&◌, Bool, true, false, not, List, [], ◌∷◌, ◌++◌, length, filter, slice_get, Option, Some, None, All, refl}
 use Rattle.std.proofs.Common.{arith, cond, inl, inr, ◌⊎◌}
 use Rattle.std.specs.List.{AllByRecursion}

@@ -1,4 +1,4 @@
--- The sentences that overlap and "under" stand for.
+-- What overlap and "under" mean.
 use Rattle.std.specs.Prelude.{◌≡◌, ℕ, suc, ◌<◌, ◌≤◌, ◌↔◌, ◌⊎◌, ◌||◌, ◌==◌, Bool, true, false, List, length, Option, None, Some, refl}
 use Rattle.std.proofs.Common.{sym, ◌∙◌, arith, inl, inr}
 use Rattle.vault_model.specs.declared.place.Place.{Place}

@@ -1,4 +1,4 @@
--- Drafts in order are told by those of each check-out.
+-- The drafts of each check-out determine the list of all drafts in order.
 use Rattle.std.proofs.Common.{◌≡◌, ℕ, ◌<◌, ◌≤◌, ◌==◌, Bool, true, false, cond, List, [], ◌∷◌, map, filter, Option, None, Some, refl, sym, ◌∙◌, ap, subst, arith, All, inl, inr}
 use Rattle.std.specs.List.{AllByRecursion}
 use Rattle.std.specs.Option.{option_map}
@@ -42,7 +42,7 @@ same_first : (d e : SavedDraft) (ds es : List SavedDraft) → AllByRecursion (λ
 same_first d e ds es before same less =
     let none = sym (first_of d ds d.claim refl) ∙ same d.claim ∙ later_drafts (e ∷ es) d.claim e.claim less (omega arith, none_before e es before) in cc
 
--- drafts in order are told by those of each check-out
+-- the drafts of each check-out determine the list of all drafts in order
 pub one_drafts : (ds es : List SavedDraft) → IsOrdered ds → IsOrdered es → ((n : ℕ) → drafts_of ds n ≡ drafts_of es n) → ds ≡ es
 unfolding IsOrdered
 one_drafts [] [] order_ds order_es same = refl
@@ -59,7 +59,7 @@ one_drafts (d ∷ ds) (e ∷ es) order_ds order_es same =
     let others : (n : ℕ) → drafts_of ds n ≡ drafts_of es n = λ n. tails d e ds es n claims (same n) in
     ap (λ (x : SavedDraft). x ∷ ds) first ∙ ap (λ (xs : List SavedDraft). e ∷ xs) (one_drafts ds es order_ds.1 order_es.1 others)
 
--- a claim that doesn't stand has no held drafts
+-- a claim that isn't in the queue has no drafts, where each draft's check-out is granted
 pub no_drafts_of : (tree : List Place) (line : List Claim) (ds : List SavedDraft) (n : ℕ) → claim_of line (Long n) ≡ None → All (λ (x : SavedDraft). standing_of tree line (Long x.claim) ≡ Some Held) ds → drafts_of ds n ≡ []
 no_drafts_of tree line [] n gone held = refl
 no_drafts_of tree line (d ∷ ds) n gone held =

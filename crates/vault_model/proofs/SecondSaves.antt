@@ -21,7 +21,7 @@ use Rattle.vault_model.specs.Step.{Outcome, ◌>>=◌, chained, refuse_if, usabl
 use Rattle.vault_model.specs.Laws.{SecondSaveReplaces}
 use Rattle.vault_model.proofs.DraftsKept.{not_both}
 
--- what a filter kept it keeps again, and what another kept that passes none of its own it drops
+-- a filter keeps all that it kept before, and drops all that another kept, if nothing passes both
 filter_again : {X : Type 0} (p : X → Bool) (xs : List X) → filter p (filter p xs) ≡ filter p xs
 filter_again p [] = refl
 filter_again p (x ∷ xs) = by_test (p x) refl (filter_again p xs)
@@ -38,7 +38,7 @@ filter_none p q (x ∷ xs) never = by_test (q x) refl (filter_none p q xs never)
     by_test true e none = rw (never x e) none
     by_test false e none = none
 
--- a draft stands in for one of its check-out and place
+-- a second draft of the same check-out and place replaces the first
 pub with_draft-twice : (drafts : List SavedDraft) (number place : ℕ) (first second : List ℕ) → with_draft (with_draft drafts (new_draft number place first)) (new_draft number place second) ≡ with_draft drafts (new_draft number place second)
 with_draft-twice drafts number place first second = λ i. before i ++ new_draft number place second ∷ behind i
   where
@@ -72,13 +72,13 @@ with_draft-twice drafts number place first second = λ i. before i ++ new_draft 
         ∙ filter_again (λ x. comes_before new x) drafts
 
 module _ (v : Vault) (session : Session) (number : ℕ) (path : List (List ℕ)) where
-  -- the lines of a save before that on the limits, and what comes behind them
+  -- the lines of a save's definition before the one on the limits, and then the rest
   abbrev lines : (ℕ → Result Outcome Refusal) → Result Outcome Refusal
   lines rest =
       usable v session (Long number) >>= λ claim. ok_or (find_place v.tree path) NoPlace >>= λ place. refuse_if (not (is_part v.tree place)) WrongKind
       >>= λ _. refuse_if (not (change_set v.tree claim.items place)) NotCovered >>= λ _. rest place
 
-  -- the line on the limits and the answer, where these are all drafts then
+  -- the line on the limits and the outcome, with these as all drafts afterwards
   abbrev ends : List SavedDraft → ℕ → List ℕ → Result Outcome Refusal
   ends drafts place content =
       refuse_if (not (nat_le (length content) longest_content && nat_le (length (drafts_of drafts number)) most_drafts && nat_le (weight_of (record v { drafts = drafts })) most_weight)) Limit
@@ -88,7 +88,7 @@ module _ (v : Vault) (session : Session) (number : ℕ) (path : List (List ℕ))
   unfolding save usable
   save_is drafts content = refl
 
-  -- where the whole succeeds, all these lines let it pass, whatever comes behind them
+  -- where the whole succeeds, none of these lines refuses, whatever the rest is
   passed : (rest : ℕ → Result Outcome Refusal) (outcome : Outcome) → lines rest ≡ Ok outcome → (place : ℕ) × (rest place ≡ Ok outcome) × ((other : ℕ → Result Outcome Refusal) → lines other ≡ other place)
   unfolding chained
   passed rest outcome e = by_claim (usable v session (Long number)) e

@@ -95,7 +95,7 @@ are_short drafts = list_all (λ (d : Draft). nat_le (length d.content) longest_c
 abbrev pub have_room : List (List (List ℕ)) → List Draft → Bool
 have_room shelf drafts = list_all (λ (d : Draft). nat_le (length (versions_of shelf d.place) + count_by (λ (e : Draft). e.place == d.place) drafts) most_versions) drafts
 
--- so it is of each place, of the shelf or not
+-- this bound is kept at each place, on the shelf's list or past its end
 pub few_at : (shelf : List (List (List ℕ))) (place : ℕ) → All (λ versions. length versions ≤ most_versions) shelf → length (versions_of shelf place) ≤ most_versions
 few_at shelf place few = elim (cases_lt place (length shelf)) [
   | inl inside ↦ few place [] inside
@@ -106,7 +106,7 @@ few_at shelf place few = elim (cases_lt place (length shelf)) [
 abbrev HasRoom : List (List (List ℕ)) → List Draft → Draft → Type 0
 HasRoom shelf all d = length (versions_of shelf d.place) + count_by (λ (e : Draft). e.place == d.place) all ≤ most_versions
 
--- a place has no draft among these, or one of which the bound is said
+-- a place has no draft among these, or its bound is known from one
 drafted : (shelf : List (List (List ℕ))) (all drafts : List Draft) (place : ℕ)
     → All (HasRoom shelf all) drafts
     → (count_by (λ (e : Draft). e.place == place) drafts ≡ 0) ⊎ (length (versions_of shelf place) + count_by (λ (e : Draft). e.place == place) all ≤ most_versions)
@@ -169,7 +169,7 @@ shelvable-is shelf drafts few =
     swapped true false false = refl
     swapped false b c = refl
 
--- what is so of no versions, and stays so with the content, is so of each place
+-- what is true of no versions, and stays true with the content added, stays true of each place
 all_shelved : (P : List (List ℕ) → Type 0) (content : List ℕ) → P [] → ((versions : List (List ℕ)) → P versions → P (versions ++ content ∷ []))
     → (shelf : List (List (List ℕ))) (place : ℕ) → All P shelf → All P (shelved shelf place content)
 all_shelved P content none more [] zero all = All-cons P (content ∷ []) [] (more [] none) (All-nil P)

@@ -70,8 +70,8 @@ pub record CanSave (v : Vault) (claim : Claim) (number place : ℕ) (content : L
   pub changed : change_set v.tree claim.items place ≡ true
   pub limits : may_save v (new_draft number place content) ≡ true
 
--- What a command that isn't refused does to a vault, before it is counted: its effect, and the vault after it. A command that changes nothing
--- is answered. Each law of the step is one match on this.
+-- What a command that isn't refused does to a vault, before it is counted: its effect, and the vault after it. A command that changes
+-- nothing is `answered`. Each law of the step is one match on this.
 pub data Transition (v : Vault) : Option Effect → Vault → Type 0 where
   answered : Transition v None v
   joined : (name : List ℕ) → length v.sessions < most_sessions → (v.last_session == last_number) ≡ false
@@ -267,7 +267,7 @@ module _ (v : Vault) where
       by_door true = finds _ _ _ (λ name _. join_is name)
       by_door false = finds _ _ _ (λ session found. session_is session (session_stands v.sessions n session found) command)
 
--- what holds of a vault with one more command of the door counted, and with one more of a session, holds of one with either
+-- what is true with one more command of the door counted, and with one more of a session, is true with either
 pub by_count : (P : Vault → Type 0) (n : ℕ) (w : Vault) → P (record w { door_count = w.door_count + 1 }) → P (record w { sessions = counted_in n w.sessions }) → P (counted n w)
 by_count P n w door session = by_door (n == 0)
   where
@@ -275,7 +275,7 @@ by_count P n w door session = by_door (n == 0)
     by_door true = door
     by_door false = session
 
--- what holds after each transition, with the command counted, holds after each step
+-- what is true after each transition, with the command counted, is true after each step
 pub by_transition : (P : Option Effect → Vault → Type 0) (v : Vault) (n : ℕ) (command : Command) → ((effect : Option Effect) (w : Vault) → Transition v effect w → P effect (counted n w)) → P (step v n command).effect (step v n command).vault
 unfolding step Decided
 by_transition P v n command each = by_decision (decide v n command) (decide_is v n command)

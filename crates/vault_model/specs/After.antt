@@ -1,4 +1,4 @@
--- What an effect changes in a durable vault, where it may be made there. Claims are not judged again. This project's own.
+-- What an effect changes in a durable vault, where it is applicable. Which claims are in the way isn't judged again. This project's own.
 use Rattle.std.specs.Prelude.{◌≡◌, ℕ, ◌+◌, Bool, true, false, not, ◌&&◌, ◌==◌, nat_le, nat_lt, List, ◌++◌, length, Option, None, Some, is_some}
 use Rattle.std.specs.List.{list_all}
 use Rattle.std.specs.Option.{option_and_then, option_map_or}
@@ -33,19 +33,19 @@ abbrev pub may_make : Vault → ℕ → List ℕ → Bool
 may_make w parent name =
     nat_le parent (length w.tree) && not (is_part w.tree parent) && not (is_some (child w.tree parent name)) && not (is_full w.tree parent)
 
--- a check-out may be asked for: it has the next number, 1 to the most items at places that are there, there is room, and its number is one
--- that may be given
+-- a check-out may be asked for: it has the next number, which is within the limit, and 1 to the most items at places that are there; and
+-- there is room
 abbrev pub may_ask : Vault → ℕ → List Item → Bool
 may_ask w number items =
     (number == w.last_long + 1) && not (length items == 0) && nat_le (length items) most_items && are_there w.tree items
     && nat_lt (length w.line) most_claims
     && nat_le number last_number
 
--- a claim may be extended: it is held, has no more than the most items with these, and their places are there
+-- a claim may be extended: it is granted, has no more than the most items with these, and their places are there
 abbrev pub may_extend : Vault → Claim → List Item → Bool
 may_extend w claim items = is_held w.tree w.line claim && nat_le (length claim.items + length items) most_items && are_there w.tree items
 
--- every draft's check-out is held
+-- every draft's check-out is granted
 abbrev pub drafts_held : List Place → List Claim → List SavedDraft → Bool
 drafts_held tree line drafts =
     list_all (λ (x : SavedDraft). option_map_or (λ c. is_held tree line c) (claim_of line (Long x.claim)) false) drafts
@@ -63,7 +63,7 @@ after_asked w number designer items =
     only_if (may_ask w number items)
     (with_check_out w number designer items)
 
--- and afterwards every draft's check-out is held, too
+-- a claim may get more items if it may be extended, and every draft's check-out is granted afterwards, too
 unfoldable pub after_extended : Vault → ℕ → List Item → Option Vault
 after_extended w number items =
     option_and_then
@@ -72,7 +72,7 @@ after_extended w number items =
     (with_items w (Long number) (claim.items ++ items)))
     (claim_of w.line (Long number))
 
--- a draft may be saved: the claim is held, the place is a part of its change set, and the limits hold
+-- a draft may be saved: the claim is granted, the place is a part of its change set, and the limits are kept
 unfoldable pub after_saved : Vault → ℕ → ℕ → List ℕ → Option Vault
 after_saved w number place content =
     option_and_then
@@ -83,7 +83,7 @@ after_saved w number place content =
     (with_content w number place content))
     (claim_of w.line (Long number))
 
--- drafts may become versions: the claim is held, and the shelf takes them
+-- drafts may become versions: the claim is granted, and the shelf takes them
 unfoldable pub after_checked_in : Vault → ℕ → Option Vault
 after_checked_in w number =
     option_and_then
@@ -92,19 +92,19 @@ after_checked_in w number =
     (with_versions w number))
     (claim_of w.line (Long number))
 
--- one that stands may be given up
+-- a check-out that is there may be given up
 unfoldable pub after_abandoned : Vault → ℕ → Option Vault
 after_abandoned w number = only_if (is_some (claim_of w.line (Long number))) (without_check_out w number)
 
--- one that stands may be given to a designer
+-- a check-out that is there may be given to a designer
 unfoldable pub after_given : Vault → ℕ → List ℕ → Option Vault
 after_given w number designer = only_if (is_some (claim_of w.line (Long number))) (with_owner w number designer)
 
--- one that stands may get a note that is short enough
+-- a check-out that is there may get a note that is short enough
 unfoldable pub after_noted : Vault → ℕ → List ℕ → Option Vault
 after_noted w number note = only_if (is_some (claim_of w.line (Long number)) && is_note note) (with_note w number note)
 
--- The durable vault after an effect, where that is applicable.
+-- The durable vault after an effect, where the effect is applicable.
 unfoldable pub after : Vault → Effect → Option Vault
 after w (effects.Made parent name) = after_made w parent name
 after w (effects.Nested parent name) = after_nested w parent name
@@ -120,7 +120,7 @@ after w (effects.Noted number note) = after_noted w number note
 abbrev pub IsDurable : Vault → Type 0
 IsDurable w = durable w ≡ w
 
--- what a step changed for good is its effect, if it has one, and nothing else
+-- a step changes the durable vault as its effect does, and not at all where it has none
 abbrev pub IsDurableChange : Vault → Option Effect → Vault → Type 0
 IsDurableChange v None w = durable w ≡ durable v
 IsDurableChange v (Some effect) w = after (durable v) effect ≡ Some (durable w)

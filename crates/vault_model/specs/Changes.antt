@@ -35,7 +35,7 @@ with_check_out v number designer items = record v { line = v.line ++ new_check_o
 abbrev pub with_hold : Vault → ℕ → ℕ → List Item → Vault
 with_hold v number session items = record v { line = v.line ++ new_hold number session items ∷ []; last_short = number }
 
--- a claim has these items, and stands first
+-- a claim has these items, and is at the front of the queue
 abbrev pub with_items : Vault → ClaimId → List Item → Vault
 with_items v id items = record v { line = put_first v.line id items }
 
@@ -43,7 +43,7 @@ with_items v id items = record v { line = put_first v.line id items }
 abbrev pub with_content : Vault → ℕ → ℕ → List ℕ → Vault
 with_content v number place content = record v { drafts = with_draft v.drafts (new_draft number place content) }
 
--- a check-out's drafts became versions, and it went
+-- a check-out's drafts became versions, and it was given up
 abbrev pub with_versions : Vault → ℕ → Vault
 with_versions v number = record v {
   shelf = shelved_all v.shelf (drafts_of v.drafts number);
@@ -51,15 +51,15 @@ with_versions v number = record v {
   drafts = without_drafts v.drafts number;
 }
 
--- a check-out went, and its drafts with it
+-- a check-out was given up, and its drafts with it
 abbrev pub without_check_out : Vault → ℕ → Vault
 without_check_out v number = record v { line = without v.line (Long number); drafts = without_drafts v.drafts number }
 
--- a check-out was given to a designer, in its place
+-- a check-out was given to a designer, and keeps its place in the queue
 abbrev pub with_owner : Vault → ℕ → List ℕ → Vault
 with_owner v number designer = record v { line = changed v.line (Long number) (given_to designer) }
 
--- a check-out got a note, in its place
+-- a check-out got a note, and keeps its place in the queue
 abbrev pub with_note : Vault → ℕ → List ℕ → Vault
 with_note v number note = record v { line = changed v.line (Long number) (noted_as note) }
 

@@ -21,7 +21,7 @@ new_draft number place content = saved_by number (draft_at place content)
 abbrev pub comes_before : SavedDraft → SavedDraft → Bool
 comes_before x y = nat_lt x.claim y.claim || ((x.claim == y.claim) && nat_lt x.draft.place y.draft.place)
 
--- the drafts with this one, which stands in for one of the same check-out and place
+-- the drafts with this one, which replaces one of the same check-out and place
 abbrev pub with_draft : List SavedDraft → SavedDraft → List SavedDraft
 with_draft drafts new = filter (λ x. comes_before x new) drafts ++ new ∷ filter (λ x. comes_before new x) drafts
 
@@ -41,7 +41,7 @@ without_drafts drafts number = filter (λ (x : SavedDraft). not (x.claim == numb
 abbrev pub saved_weight : List SavedDraft → ℕ
 saved_weight drafts = drafts_weight (map (λ (x : SavedDraft). x.draft) drafts)
 
--- each draft stands before those behind it
+-- the drafts are in the order of `comes_before`
 unfoldable pub IsOrdered : List SavedDraft → Type 0
 IsOrdered [] = Unit {0}
 IsOrdered (x ∷ drafts) = AllByRecursion (λ y. comes_before x y ≡ true) drafts × IsOrdered drafts

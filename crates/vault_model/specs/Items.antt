@@ -1,4 +1,4 @@
--- Items in room for the most that a claim has.
+-- Items in an array of fixed length, the most that a claim has.
 use Rattle.std.specs.Prelude.{◌≡◌, ℕ, ◌-◌, ◌≤◌, List, ◌++◌, length, take, drop, replicate}
 use Rattle.std.proofs.Common.{sym, ap, ◌∙◌, length-take-le}
 use Rattle.std.proofs.lemmas.List.{take-append-drop}
@@ -6,7 +6,7 @@ use Rattle.vault_model.specs.declared.claims.Item.{Item}
 use Rattle.vault_model.specs.declared.ids.Intent.TheVariants.{Look}
 use Rattle.vault_model.specs.Limits.{most_items}
 
--- what stands in room that no item has
+-- the item that fills spare room
 abbrev pub spare_item : Item
 spare_item = record { intent = Look; place = 0 }
 

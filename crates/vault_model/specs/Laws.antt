@@ -1,4 +1,4 @@
--- Laws of the definitions: what they say in the subject's own words.
+-- Laws of the definitions: what they mean in the terms of the subject.
 use Rattle.std.specs.Prelude.{◌≡◌, ℕ, ◌+◌, ◌≤◌, ◌↔◌, ◌⊎◌, true, List, Some, is_some, length, false, Ok, Err}
 use Rattle.std.specs.List.{Contains}
 use Rattle.vault_model.specs.declared.place.Place.{Place}
@@ -50,25 +50,25 @@ WellFormedStays = IsVault new_vault × ((v : Vault) (n : ℕ) (command : Command
 abbrev pub CountsRise : Type 0
 CountsRise = (bound : ℕ) (v : Vault) (n : ℕ) (command : Command) → CountsBelow bound v → CountsBelow (bound + 1) (step v n command).vault
 
--- a claim that is held, and still stands after a step, is held there
+-- a granted claim that is still there after a step is still granted
 abbrev pub HeldStays : Type 0
 HeldStays = (v : Vault) (n : ℕ) (command : Command) (id : ClaimId) → IsVault v → standing_of v.tree v.line id ≡ Some Held
     → is_some (claim_of (step v n command).vault.line id) ≡ true
     → standing_of (step v n command).vault.tree (step v n command).vault.line id ≡ Some Held
 
--- a long claim that is held is held in the durable vault
+-- a granted long claim is granted in the durable vault, too
 abbrev pub HeldIsDurable : Type 0
 HeldIsDurable = (v : Vault) (n : ℕ) → IsVault v → standing_of v.tree v.line (Long n) ≡ Some Held
     → standing_of (durable v).tree (durable v).line (Long n) ≡ Some Held
 
--- two held claims don't overlap
+-- two granted claims don't overlap
 abbrev pub HeldAreApart : Type 0
 HeldAreApart = (tree : List Place) (line : List Claim) (a b : ClaimId) (c d : Claim) → same_id a b ≡ false → claim_of line a ≡ Some c
     → claim_of line b ≡ Some d
     → standing_of tree line a ≡ Some Held → standing_of tree line b ≡ Some Held → overlap tree c.items d.items ≡ false
 
--- where a step has an effect, it is applicable to the durable vault before, and gives the durable vault after; where it has
--- none, the durable vault stays
+-- where a step has an effect, the effect is applicable to the durable vault before the step, and gives the one after it; where it
+-- has none, the durable vault stays as it is
 abbrev pub EffectIsTheDurableChange : Type 0
 EffectIsTheDurableChange =
     (v : Vault) (n : ℕ) (command : Command) → IsVault v → IsDurableChange v (step v n command).effect (step v n command).vault
@@ -85,14 +85,14 @@ PathLeadsBack = (tree : List Place) (place : ℕ) → IsTree tree → place ≤ 
 abbrev pub CheckInKeepsTheWeight : Type 0
 CheckInKeepsTheWeight = (v : Vault) (n number : ℕ) → weight_of (step v n (commands.CheckIn number)).vault ≡ weight_of v
 
--- a check-out that may be used is refused by a limit exactly where a part of which it has a draft has the most versions already
+-- a limit refuses the check-in of a check-out that may be used exactly where a part of which it has a draft has the most versions
 abbrev pub CheckInIsRefusedForFullParts : Type 0
 CheckInIsRefusedForFullParts =
     (v : Vault) (session : Session) (number : ℕ) (claim : Claim) → IsVault v → usable v session (Long number) ≡ Ok claim
     → (check_in v session number ≡ Err Limit)
     ↔ ((draft : Draft) × Contains (drafts_of v.drafts number) draft × (length (versions_of v.shelf draft.place) ≡ most_versions))
 
--- behind a save, a second one of the same place answers and leaves what it would without the first
+-- a second save of the same place gives the same reply, vault and effect as without the first
 abbrev pub SecondSaveReplaces : Type 0
 SecondSaveReplaces = (v : Vault) (session : Session) (number : ℕ) (path : List (List ℕ)) (first second : List ℕ) (saved : Outcome)
     → save v session number path first ≡ Ok saved → save saved.vault session number path second ≡ save v session number path second

@@ -2,7 +2,7 @@
 use Rattle.std.specs.Prelude.{ℕ}
 use Rattle.vault_model.specs.declared.limits.TheConstants.{GREATEST_DEPTH, MAX_NAMES, PART_DEPTH, LONGEST_NAME, MAX_PLACES, MAX_CHILDREN, MAX_ITEMS, MAX_CLAIMS, MAX_SESSIONS, LAST_NUMBER, LONGEST_CONTENT, MAX_VERSIONS, MAX_WEIGHT, EXTRA_WEIGHT, MAX_DRAFTS, LONGEST_NOTE}
 
--- how many places above it a place has at most
+-- the most places above a place
 abbrev pub greatest_depth : ℕ
 greatest_depth = GREATEST_DEPTH
 
@@ -30,7 +30,7 @@ most_children = MAX_CHILDREN
 abbrev pub most_items : ℕ
 most_items = MAX_ITEMS
 
--- the most claims that stand, of both kinds
+-- the most claims at once, of both kinds
 abbrev pub most_claims : ℕ
 most_claims = MAX_CLAIMS
 
@@ -54,7 +54,7 @@ most_versions = MAX_VERSIONS
 abbrev pub most_weight : ℕ
 most_weight = MAX_WEIGHT
 
--- what a content weighs beside its bytes
+-- what a content weighs in addition to its bytes
 abbrev pub extra_weight : ℕ
 extra_weight = EXTRA_WEIGHT
 

@@ -20,7 +20,7 @@ IsName text = IsTrue (is_name text)
 abbrev pub name_in : List ℕ → Option (List ℕ)
 name_in word = if is_name word then Some word else None
 
--- a text in its room, with zeros behind it
+-- a text in an array of fixed length, with zeros behind it
 abbrev pub padded : List ℕ → List ℕ
 padded text = text ++ replicate (longest_name - length text) 0
 

@@ -15,7 +15,7 @@ IsNote text = length text ≤ longest_note
 abbrev pub note_in : List ℕ → Option (List ℕ)
 note_in text = if is_note text then Some text else None
 
--- a text in its room, with zeros behind it
+-- a text in an array of fixed length, with zeros behind it
 abbrev pub padded : List ℕ → List ℕ
 padded text = text ++ replicate (longest_note - length text) 0
 

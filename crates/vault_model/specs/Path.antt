@@ -33,7 +33,7 @@ abbrev pub path_in : List ℕ → Option (List (List ℕ))
 path_in [] = None
 path_in (b ∷ text) = if b == 47 then behind_slash text else None
 
--- a path's names but for the last, and the last
+-- a path's names but for the last
 abbrev pub front : List (List ℕ) → List (List ℕ)
 front path = take (length path - 1) path
 
@@ -41,7 +41,7 @@ front path = take (length path - 1) path
 abbrev pub last : List (List ℕ) → Option (List ℕ)
 last path = slice_get path (length path - 1)
 
--- what stands in room that no name has
+-- the name that fills spare room
 abbrev pub blank : List ℕ
 blank = 95 ∷ []
 

@@ -13,7 +13,7 @@ use Rattle.vault_model.specs.declared.ids.Intent.TheVariants.{Look, Change}
 use Rattle.vault_model.specs.Vault.{Vault, new_vault}
 use Rattle.vault_model.specs.Step.{Outcome, step}
 
--- what sessions are told, one command after the other
+-- the replies to these commands of sessions, one after the other
 unfoldable pub replies_of : Vault → List (ℕ × Command) → List Reply
 replies_of v [] = []
 replies_of v (command ∷ commands) = let o : Outcome = step v command.0 command.1 in o.reply ∷ replies_of o.vault commands
@@ -55,15 +55,15 @@ abbrev pub start : List (ℕ × Command)
 start =
     (0, Join anna) ∷ (0, Join ben) ∷ (1, Make path_e None) ∷ (1, Make path_b None) ∷ (1, Make path_p1 None) ∷ (1, Make path_p2 None) ∷ []
 
--- what the start is told
+-- the replies to the start
 abbrev pub start_replies : List Reply
 start_replies = Session 1 ∷ Session 2 ∷ Place 1 ∷ Place 2 ∷ Place 3 ∷ Place 4 ∷ []
 
--- after the start, these commands are told these replies
+-- after the start, these commands get these replies
 abbrev pub Told : List (ℕ × Command) → List Reply → Type 0
 Told commands replies = replies_of new_vault (start ++ commands) ≡ start_replies ++ replies
 
--- one who looks is queued behind one who changes
+-- a claim to look waits behind a claim to change
 abbrev pub TwoDesigners : Type 0
 TwoDesigners =
     replies_of new_vault ((0, Join anna) ∷ (0, Join ben) ∷ (1, Make path_e None) ∷ (1, CheckOut (change path_e ∷ []))
@@ -74,26 +74,26 @@ TwoDesigners =
 abbrev pub Siblings : Type 0
 Siblings = Told ((1, CheckOut (change path_p1 ∷ [])) ∷ (2, CheckOut (change path_p2 ∷ [])) ∷ []) (Held (Long 1) ∷ Held (Long 2) ∷ [])
 
--- one who looks at an assembly and changes one of its parts leaves the other part to look at
+-- a claim to look at an assembly and to change one of its parts leaves the other part for others to look at
 abbrev pub LookAndChange : Type 0
 LookAndChange =
     Told ((1, CheckOut (look path_b ∷ change path_p1 ∷ [])) ∷ (2, CheckOut (look path_p2 ∷ [])) ∷ (2, CheckOut (look path_p1 ∷ [])) ∷ [])
     (Held (Long 1) ∷ Held (Long 2) ∷ Queued (Long 3) (Long 1) ∷ [])
 
--- a newcomer doesn't overtake one who waits; the line moves up when a claim is given up
+-- a new claim doesn't overtake a waiting one; the queue moves up when a claim is given up
 abbrev pub LineMovesUp : Type 0
 LineMovesUp =
     Told ((1, CheckOut (look path_e ∷ [])) ∷ (2, CheckOut (change path_b ∷ [])) ∷ (1, CheckOut (look path_b ∷ [])) ∷ (1, Abandon 1)
     ∷ (1, State (Long 2)) ∷ (1, State (Long 3)) ∷ [])
     (Held (Long 1) ∷ Queued (Long 2) (Long 1) ∷ Queued (Long 3) (Long 2) ∷ Abandoned ∷ Held (Long 2) ∷ Queued (Long 3) (Long 2) ∷ [])
 
--- no place is made under a place that a held claim covers
+-- no place is made under a place that a granted claim covers
 abbrev pub CoveredParent : Type 0
 CoveredParent =
     Told ((1, CheckOut (look path_e ∷ [])) ∷ (2, Make (codes "e" ∷ codes "c" ∷ []) None) ∷ (2, Make (codes "f" ∷ []) None) ∷ [])
     (Held (Long 1) ∷ Refused (Covered (Long 1)) ∷ Place 5 ∷ [])
 
--- each refusal but the limits, where two apply the first
+-- each refusal but the limits; where two apply, the first one
 abbrev pub Refusals : Type 0
 Refusals =
     Told ((0, Make [] None) ∷ (7, Join anna) ∷ (1, Join ben) ∷ (1, Make [] None) ∷ (1, Make (codes "x" ∷ codes "y" ∷ []) None)
@@ -112,14 +112,14 @@ ClaimRefusals =
     ∷ Refused NotYours ∷ Refused NoClaim ∷ Refused NoClaim ∷ Refused NoClaim
     ∷ Held (Long 1) ∷ [])
 
--- an extension is refused by the first held claim in its way, and nothing moves
+-- an extension is refused by the first granted claim in its way, and nothing moves
 abbrev pub RefusedExtension : Type 0
 RefusedExtension =
     Told ((1, CheckOut (look path_p1 ∷ [])) ∷ (2, CheckOut (look path_p1 ∷ [])) ∷ (1, Extend (Long 1) (change path_p1 ∷ []))
     ∷ (1, State (Long 1)) ∷ (2, State (Long 2)) ∷ [])
     (Held (Long 1) ∷ Held (Long 2) ∷ Refused (Overlaps (Long 2)) ∷ Held (Long 1) ∷ Held (Long 2) ∷ [])
 
--- one that is granted goes to the front, past those who wait
+-- an extension that is granted moves its claim to the front, past those that wait
 abbrev pub GrantedExtension : Type 0
 GrantedExtension =
     Told ((2, CheckOut (look path_p1 ∷ [])) ∷ (1, CheckOut (look path_p2 ∷ [])) ∷ (2, CheckOut (change path_b ∷ []))
@@ -186,7 +186,7 @@ DraftRefusals =
     ∷ Refused NoClaim
     ∷ Refused NotCovered ∷ Refused Limit ∷ Saved ∷ Abandoned ∷ CheckedIn 0 ∷ Versions 0 ∷ [])
 
--- who is given a check-out has it, with its note, and who gave it has it no more
+-- a check-out that is given belongs to the other designer, with its note, and no longer to the one who gave it
 abbrev pub GivenAway : Type 0
 GivenAway =
     Told
@@ -195,7 +195,7 @@ GivenAway =
     (Held (Long 1) ∷ Noted ∷ Given ∷ Refused NotYours ∷ Saved ∷ NoteIs (codes "ab") ∷ Refused Limit ∷ Refused NoClaim ∷ Refused NotYours
     ∷ NoteIs (codes "ab") ∷ CheckedIn 1 ∷ [])
 
--- the drafts of a check-out that is given stay with it, and so does its place in the line; one that waits may be given and noted, too
+-- a check-out that is given keeps its drafts and its place in the queue; one that waits may be given and noted, too
 abbrev pub DraftsAndPlaceStay : Type 0
 DraftsAndPlaceStay =
     Told
@@ -239,7 +239,7 @@ DeepestPaths =
     ∷ (1, Nest f None) ∷ (1, Nest g None) ∷ (1, Make g None) ∷ (1, Make (g ++ codes "h" ∷ []) None) ∷ [])
     ≡ Session 1 ∷ Place 1 ∷ Place 2 ∷ Place 3 ∷ Place 4 ∷ Place 5 ∷ Place 6 ∷ Refused WrongKind ∷ Place 7 ∷ Refused WrongKind ∷ []
 
--- each refusal of `nest` but the limits, where two apply the first
+-- each refusal of `nest` but the limits; where two apply, the first one
 abbrev pub NestRefusals : Type 0
 NestRefusals =
     Told

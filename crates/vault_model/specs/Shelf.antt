@@ -1,4 +1,5 @@
--- The shelf: the versions of each part. This project's own. A shelf is a list with, at position p, the contents of place p's versions from the first on; a place past its end has none.
+-- The shelf: the versions of each part. This project's own. A shelf is a list. At position p stand the contents of place p's versions,
+-- from the first on; a place past the list's end has none.
 use Rattle.std.specs.Prelude.{◌≡◌, ◌≢◌, ℕ, zero, suc, ◌+◌, ◌≤◌, Bool, ◌&&◌, nat_le, List, [], ◌∷◌, ◌++◌, length, Option, None, slice_get, slice_index_or, sum_by, All}
 use Rattle.std.specs.List.{list_all}
 use Rattle.vault_model.specs.declared.draft.Draft.{Draft as DraftOver}
@@ -48,17 +49,18 @@ weight shelf = sum_by versions_weight shelf
 abbrev pub drafts_weight : List Draft → ℕ
 drafts_weight drafts = sum_by (λ (draft : Draft). content_weight draft.content) drafts
 
--- whether these drafts may all be shelved: each content is short enough, and with all of them no part has too many versions and the shelf isn't too heavy
+-- whether these drafts may all be shelved: each content is short enough, and with all of them no part has too many versions and the
+-- shelf isn't too heavy
 unfoldable pub is_shelvable : List (List (List ℕ)) → List Draft → Bool
 is_shelvable shelf drafts =
     list_all (λ (draft : Draft). nat_le (length draft.content) longest_content) drafts
     && list_all (λ versions. nat_le (length versions) most_versions) (shelved_all shelf drafts)
     && nat_le (weight (shelved_all shelf drafts)) most_weight
 
--- What every shelf keeps.
+-- The invariant of a shelf.
 pub record IsShelf (shelf : List (List (List ℕ))) : Type 0 where
   pub short : All (λ versions. All (λ content. length content ≤ longest_content) versions) shelf
   pub few : All (λ versions. length versions ≤ most_versions) shelf
   pub light : weight shelf ≤ most_weight
-  -- the last place of the list has a version, so that a shelf is one list alone
+  -- the last place of the list has a version, so no two lists are the same shelf
   pub trimmed : (place : ℕ) → suc place ≡ length shelf → versions_of shelf place ≢ []

@@ -1,4 +1,4 @@
--- What each command does: its refusals in order, the first that applies, and else its reply, change and effect.
+-- What each command does: the first of its refusals that applies, in this order, or else its reply, change and effect.
 -- This project's own.
 use Rattle.std.specs.Prelude.{ℕ, ◌+◌, Bool, true, false, not, ◌||◌, ◌&&◌, ◌==◌, nat_le, nat_lt, if◌then◌else◌, List, [], ◌∷◌, ◌++◌, length, map, Option, None, Some, is_some, Result, Ok, Err}
 use Rattle.std.specs.Option.{option_map, option_and_then, ok_or}
@@ -31,7 +31,7 @@ use Rattle.vault_model.specs.Claims.{claim_of, is_held, is_session, in_way_of, c
 use Rattle.vault_model.specs.Vault.{Vault, weight_of, session_of, counted}
 use Rattle.vault_model.specs.Changes.{with_session, gone, with_place, with_check_out, with_hold, with_items, with_content, with_versions, without_check_out, with_owner, with_note, without_hold}
 
--- a reply, the vault after it, and what has changed for good
+-- a reply, the vault after it, and the durable change
 pub record Outcome : Type 0 where
   pub reply : Reply
   pub vault : Vault
@@ -57,7 +57,7 @@ abbrev pub refuse_by : Option ClaimId → (ClaimId → Refusal) → Result (Unit
 refuse_by None r = Ok tt
 refuse_by (Some id) r = Err (r id)
 
--- `hello`: a new session in a designer's name, at the door alone
+-- `hello`: a new session in a designer's name, only at the door
 unfoldable pub join : Vault → List ℕ → Result Outcome Refusal
 join v name = do
   _ ← refuse_if (nat_le most_sessions (length v.sessions) || (v.last_session == last_number)) Limit
@@ -73,18 +73,18 @@ abbrev pub is_designer : List ℕ → Owner → Bool
 is_designer name (owners.Designer other) = bytes_eq other name
 is_designer name (owners.Session number) = false
 
--- whether a claim is its designer's, or its own
+-- whether a claim is the session's own, or its designer's
 abbrev pub is_owned_by : Session → Owner → Bool
 is_owned_by session owner = is_designer session.name owner || is_session session.number owner
 
--- the claim of this id, held or queued, for one who owns it
+-- the claim of this id, granted or waiting, for its owner
 unfoldable pub owned : Vault → Session → ClaimId → Result Claim Refusal
 owned v session id = do
   claim ← ok_or (claim_of v.line id) NoClaim
   _ ← refuse_if (not (is_owned_by session claim.owner)) NotYours
   Ok claim
 
--- the held claim of this id, for one who owns it
+-- the granted claim of this id, for its owner
 unfoldable pub usable : Vault → Session → ClaimId → Result Claim Refusal
 usable v session id = do
   claim ← ok_or (claim_of v.line id) NoClaim
@@ -92,7 +92,7 @@ usable v session id = do
   _ ← refuse_if (not (is_held v.tree v.line claim)) NotHeld
   Ok claim
 
--- a place may be made under a parent that no held claim looks at, or in the name of a held check-out that changes it
+-- a place may be made under a parent that no granted claim looks at, or in the name of a granted check-out that changes it
 unfoldable pub permitted : Vault → Session → ℕ → Option ℕ → Result (Unit {0}) Refusal
 permitted v session parent None = refuse_by (covering v.tree v.line parent) Covered
 permitted v session parent (Some number) = do
@@ -119,7 +119,7 @@ make v session path claim = do
     effect = Some (effects.Made parent name);
   })
 
--- `nest`: as `make`, but an assembly, where `make` would make a part above the greatest depth
+-- `nest`: as `make`, but an assembly, where `make` would make a part; not at the greatest depth
 unfoldable pub nest : Vault → Session → List (List ℕ) → Option ℕ → Result Outcome Refusal
 nest v session path claim = do
   name ← ok_or (last path) Exists
@@ -139,12 +139,12 @@ placed tree (item ∷ items) =
     option_and_then (λ place. option_map (λ others. record { intent = item.intent; place = place } ∷ others) (placed tree items))
     (find_place tree item.path)
 
--- the reply to one who asks for a claim, or how it stands
+-- the reply to a request for a claim, or to a question how it stands
 abbrev pub asked : ClaimId → Standing → Reply
 asked id standings.Held = replies.Held id
 asked id (standings.Queued other) = replies.Queued id other
 
--- `checkout`: a new long claim on all the items at once, held or queued as it stands behind all others
+-- `checkout`: a new long claim on all the items at once, at the end of the queue: granted there, or waiting
 unfoldable pub check_out : Vault → List ℕ → List PathItem → Result Outcome Refusal
 check_out v designer wanted = do
   _ ← refuse_if ((length wanted == 0) || nat_lt most_items (length wanted)) ItemCount
@@ -157,12 +157,12 @@ check_out v designer wanted = do
     effect = Some (effects.Asked number designer items);
   })
 
--- an extension of a long claim is for good, one of a short claim isn't
+-- an extension of a long claim is durable, one of a short claim isn't
 abbrev pub extension : ClaimId → List Item → Option Effect
 extension (Long number) items = Some (effects.Extended number items)
 extension (Short number) items = None
 
--- `extend`: a held claim gets more items and stands first; where another held claim is in the way, nothing changes
+-- `extend`: a granted claim gets more items and goes to the front; if another granted claim is in the way, nothing changes
 unfoldable pub extend : Vault → Session → ClaimId → List PathItem → Result Outcome Refusal
 extend v session id wanted = do
   claim ← usable v session id
@@ -175,14 +175,14 @@ extend v session id wanted = do
     effect = extension id items;
   })
 
--- a draft may be saved: its content is short enough, and with it the check-out has not too many drafts, and all is not too heavy
+-- a draft may be saved: its content is short enough, and with it the check-out hasn't too many drafts and the vault isn't too heavy
 abbrev pub may_save : Vault → SavedDraft → Bool
 may_save v new =
     nat_le (length new.draft.content) longest_content
     && nat_le (length (drafts_of (with_draft v.drafts new) new.claim)) most_drafts
     && nat_le (weight_of (record v { drafts = with_draft v.drafts new })) most_weight
 
--- `save`: a draft of a part that a held check-out changes, in place of an earlier one of the same part
+-- `save`: a draft of a part that a granted check-out changes, in place of an earlier one of the same part
 unfoldable pub save : Vault → Session → ℕ → List (List ℕ) → List ℕ → Result Outcome Refusal
 save v session number path content = do
   claim ← usable v session (Long number)
@@ -196,7 +196,7 @@ save v session number path content = do
     effect = Some (effects.Saved number place content);
   })
 
--- `checkin`: all drafts of a held check-out become versions, and it is gone; or none does, and it stands
+-- `checkin`: all drafts of a granted check-out become versions, and it is given up; or none does, and it stays
 unfoldable pub check_in : Vault → Session → ℕ → Result Outcome Refusal
 check_in v session number = do
   claim ← usable v session (Long number)
@@ -231,7 +231,7 @@ count v path = do
     effect = None;
   })
 
--- `abandon`: a check-out of the designer is given up, held or queued, with its drafts
+-- `abandon`: a check-out of the designer is given up, granted or waiting, with its drafts
 unfoldable pub abandon : Vault → List ℕ → ℕ → Result Outcome Refusal
 abandon v designer number = do
   claim ← ok_or (claim_of v.line (Long number)) NoClaim
@@ -242,8 +242,8 @@ abandon v designer number = do
     effect = Some (effects.Abandoned number);
   })
 
--- `give`: a check-out of the session's designer, held or queued, is another designer's from now on; its place in the line, its drafts and
--- its note stay
+-- `give`: a check-out of the session's designer, granted or waiting, now belongs to another designer. It keeps its place in the queue,
+-- its drafts and its note
 unfoldable pub give : Vault → Session → ℕ → List ℕ → Result Outcome Refusal
 give v session number designer = do
   _ ← owned v session (Long number)
@@ -253,7 +253,7 @@ give v session number designer = do
     effect = Some (effects.Given number designer);
   })
 
--- `note` with a text: the note of a check-out of the session's designer, held or queued, in place of the one that it had
+-- `note` with a text: the note of a check-out of the session's designer, granted or waiting, in place of the one that it had
 unfoldable pub note : Vault → Session → ℕ → List ℕ → Result Outcome Refusal
 note v session number text = do
   _ ← owned v session (Long number)
@@ -274,7 +274,7 @@ read_note v number = do
     effect = None;
   })
 
--- `hold`: a new short claim of the session on all the items at once, held or queued as it stands behind all others
+-- `hold`: a new short claim of the session on all the items at once, at the end of the queue: granted there, or waiting
 unfoldable pub hold : Vault → Session → List PathItem → Result Outcome Refusal
 hold v session wanted = do
   _ ← refuse_if ((length wanted == 0) || nat_lt most_items (length wanted)) ItemCount
@@ -287,7 +287,7 @@ hold v session wanted = do
     effect = None;
   })
 
--- `release`: a short claim of the session is given up, held or queued
+-- `release`: a short claim of the session is given up, granted or waiting
 unfoldable pub release : Vault → Session → ℕ → Result Outcome Refusal
 release v session number = do
   claim ← ok_or (claim_of v.line (Short number)) NoClaim
@@ -298,7 +298,7 @@ release v session number = do
     effect = None;
   })
 
--- `state`, and `wait`: whether a claim is held, or behind which one it is queued; anybody may ask
+-- `state`, and `wait`: whether a claim is granted, or behind which one it waits; anybody may ask
 unfoldable pub state : Vault → ClaimId → Result Outcome Refusal
 state v id = do
   standing ← ok_or (standing_of v.tree v.line id) NoClaim
@@ -318,7 +318,7 @@ list v path = do
     effect = None;
   })
 
--- whose a claim is: a designer's, or that of its session's designer
+-- whose a claim is: its designer's, or for a short claim its session's designer's
 abbrev pub designer_of : List Session → Owner → Option (List ℕ)
 designer_of sessions (owners.Designer name) = Some name
 designer_of sessions (owners.Session number) = option_map (λ (s : Session). s.name) (session_of sessions number)
@@ -327,7 +327,7 @@ designer_of sessions (owners.Session number) = option_map (λ (s : Session). s.n
 abbrev pub at_path : List Place → Item → PathItem
 at_path tree item = record { intent = item.intent; path = path_of tree item.place }
 
--- `show`: whose a claim is, how it stands and what it has; anybody may ask
+-- `show`: whose a claim is, how it stands and what its items are; anybody may ask
 unfoldable pub show : Vault → ClaimId → Result Outcome Refusal
 show v id = do
   claim ← ok_or (claim_of v.line id) NoClaim
@@ -339,7 +339,7 @@ show v id = do
     effect = None;
   })
 
--- `claims`: which claims, held or queued, look at a place or at one under it; anybody may ask
+-- `claims`: which claims, granted or waiting, look at a place or at one under it; anybody may ask
 unfoldable pub claims : Vault → List (List ℕ) → Result Outcome Refusal
 claims v path = do
   place ← ok_or (find_place v.tree path) NoPlace
@@ -372,7 +372,7 @@ draft v session number path = do
     effect = None;
   })
 
--- `quit`: the session goes, and its short claims with it
+-- `quit`: the session ends, and its short claims with it
 abbrev pub leave : Vault → Session → Outcome
 leave v session = record {
   reply = replies.Left;
@@ -380,18 +380,18 @@ leave v session = record {
   effect = None;
 }
 
--- the name that one joins by
+-- the name in a command that joins
 abbrev pub joining : Command → Option (List ℕ)
 joining (commands.Join name) = Some name
 joining command = None
 
--- at the door, session 0, one may only join
+-- at the door, which is session 0, the only command is to join
 abbrev pub at_door : Vault → Command → Result Outcome Refusal
 at_door v command = do
   name ← ok_or (joining command) NoSession
   join v name
 
--- a command of a session that stands
+-- a command of an open session
 abbrev pub in_session : Vault → Session → Command → Result Outcome Refusal
 in_session v session (commands.Join name) = Err Joined
 in_session v session (commands.Make path claim) = make v session path claim
@@ -417,16 +417,16 @@ in_session v session (commands.Draft number path) = draft v session number path
 in_session v session (commands.Await id) = state v id
 in_session v session commands.Leave = Ok (leave v session)
 
--- what a command does, before it is counted; a number without a standing session is no session
+-- what a command does, before it is counted; a number of no open session is refused
 unfoldable pub decide : Vault → ℕ → Command → Result Outcome Refusal
 decide v number command =
     if number == 0 then at_door v command else (ok_or (session_of v.sessions number) NoSession >>= λ session. in_session v session command)
 
--- what a session is answered, with its command counted: a refusal changes nothing else
+-- the outcome with the command counted; a refusal changes nothing else
 abbrev pub outcome_of : ℕ → Vault → Result Outcome Refusal → Outcome
 outcome_of number v (Ok outcome) = record outcome { vault = counted number outcome.vault }
 outcome_of number v (Err refusal) = record { reply = replies.Refused refusal; vault = counted number v; effect = None }
 
--- The step of the vault at a session's command.
+-- The step of the vault for one command of a session.
 unfoldable pub step : Vault → ℕ → Command → Outcome
 step v number command = outcome_of number v (decide v number command)

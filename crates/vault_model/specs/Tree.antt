@@ -1,4 +1,5 @@
--- The tree of places. This project's own, after the hierarchies of Gray, Lorie, Putzolu and Traiger (1976). Place 0 is the library; the list has the others, by number from 1 on.
+-- The tree of places. This project's own, after the hierarchies of Gray, Lorie, Putzolu and Traiger (1976). Place 0 is the library; the
+-- list has the others, by number from 1 on.
 use Rattle.std.specs.Prelude.{◌≡◌, ℕ, zero, suc, ◌+◌, ◌<◌, ◌≤◌, Bool, true, false, not, ◌||◌, ◌&&◌, ◌==◌, nat_le, nat_lt, if◌then◌else◌, List, [], ◌∷◌, length, ◌++◌, Option, None, Some, slice_get, count_by, position, filter}
 use Rattle.std.specs.List.{range_with_len, filter_map}
 use Rattle.std.specs.Option.{option_map, option_map_or, option_and_then}
@@ -12,7 +13,7 @@ use Rattle.vault_model.specs.Limits.{greatest_depth, part_depth, most_places, mo
 abbrev pub new_place : ℕ → List ℕ → Kind → Place
 new_place parent name kind = record { parent = parent; name = name; kind = kind }
 
--- what stands for a place where a list of places is asked beyond its end
+-- the place that stands for any position beyond the end of a list of places
 abbrev pub no_place : Place
 no_place = new_place 0 [] Library
 
@@ -48,7 +49,7 @@ abbrev pub kind_of : List Place → ℕ → Kind
 kind_of tree zero = Library
 kind_of tree (suc n) = option_map_or (λ (place : Place). place.kind) (slice_get tree n) Library
 
--- whether a kind is that of parts
+-- whether a kind is the kind of parts
 abbrev pub is_part_kind : Kind → Bool
 is_part_kind Library = false
 is_part_kind Project = false
@@ -59,12 +60,12 @@ is_part_kind Part = true
 abbrev pub is_part : List Place → ℕ → Bool
 is_part tree p = is_part_kind (kind_of tree p)
 
--- whether an assembly may stand at a depth where parts may stand, too: from the least depth of parts on, but not at the greatest
+-- whether assemblies and parts may both stand at a depth: from the least depth of parts on, but not at the greatest depth
 abbrev pub is_between : ℕ → Bool
 is_between d = nat_le part_depth d && nat_lt d greatest_depth
 
--- whether a place of a kind may stand at a depth: the library at 0, projects at 1, assemblies at 2 and between, parts between and at the
--- greatest depth
+-- whether a place of a kind may stand at a depth: the library at 0, projects at 1, assemblies at 2 and where both may stand, parts where
+-- both may stand and at the greatest depth
 abbrev pub may_stand : Kind → ℕ → Bool
 may_stand Library d = d == 0
 may_stand Project d = d == 1
@@ -75,18 +76,18 @@ may_stand Part d = is_between d || (d == greatest_depth)
 abbrev pub may_have : List Place → ℕ → Kind → Bool
 may_have tree parent kind = not (is_part tree parent) && may_stand kind (suc (depth tree parent))
 
--- what is made at a depth where nothing else is asked for: a project, under it an assembly, and else a part
+-- the kind that is made at a depth by default: a project, under it an assembly, and below that a part
 abbrev pub kind_at : ℕ → Kind
 kind_at d =
     if d == 1 then Project
     else if d == 2 then Assembly
     else Part
 
--- what is made under a place where nothing else is asked for
+-- the kind that is made under a place by default
 abbrev pub kind_under : List Place → ℕ → Kind
 kind_under tree parent = kind_at (suc (depth tree parent))
 
--- whether an assembly may be asked for under a place: where a part would be made else, but not at the greatest depth
+-- whether an assembly may be asked for under a place: where a part is the default, but not at the greatest depth
 abbrev pub may_nest_under : List Place → ℕ → Bool
 may_nest_under tree parent = is_between (suc (depth tree parent))
 
@@ -103,7 +104,7 @@ find_below tree at (name ∷ names) = option_and_then (λ next. find_below tree 
 abbrev pub find_place : List Place → List (List ℕ) → Option ℕ
 find_place tree path = find_below tree 0 path
 
--- how many places a parent has under it, not counting those further down
+-- how many places a parent has right under it
 abbrev pub children_count : List Place → ℕ → ℕ
 children_count tree parent = count_by (λ (place : Place). place.parent == parent) tree
 
@@ -135,7 +136,7 @@ names_under tree parent = filter_map (name_of tree) (children_of tree parent)
 abbrev pub is_full : List Place → ℕ → Bool
 is_full tree parent = nat_le most_places (length tree + 1) || nat_le most_children (children_count tree parent)
 
--- What every tree keeps.
+-- The invariant of a tree.
 pub record IsTree (tree : List Place) : Type 0 where
   -- the library is a place, too
   pub few : length tree < most_places

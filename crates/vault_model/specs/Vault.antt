@@ -17,8 +17,8 @@ use Rattle.vault_model.specs.declared.claims.Standing.TheVariants.{Held}
 use Rattle.vault_model.specs.declared.claims.Owner.{Owner}
 use Rattle.vault_model.specs.declared.claims.Owner.TheVariants as owners
 
--- the tree, the line, the sessions that stand by rising number, the last number given to a session, to a long claim and to
--- a short one, and how many commands were given at the door, which is session 0
+-- the tree, the shelf, the queue of claims, the drafts, the open sessions by rising number, the last number given to a session,
+-- to a long claim and to a short one, and how many commands were given at the door, which is session 0
 pub record Vault : Type 0 where
   pub tree : List Place
   pub shelf : List (List (List ℕ))
@@ -35,19 +35,19 @@ abbrev pub new_vault : Vault
 new_vault =
     record { tree = []; shelf = []; line = []; drafts = []; sessions = []; last_session = 0; last_long = 0; last_short = 0; door_count = 0 }
 
--- the standing session of this number
+-- the open session of this number
 abbrev pub session_of : List Session → ℕ → Option Session
 session_of sessions number = find (λ s. s.number == number) sessions
 
--- a session with one more command counted, where it is the one of this number
+-- a session, with one more command counted if it has this number
 abbrev pub one_more : ℕ → Session → Session
 one_more number s = if s.number == number then record s { count = s.count + 1 } else s
 
--- the sessions, and the vault, with one more command of a session, or of the door, counted
+-- the sessions, with one more command counted for the one of this number
 abbrev pub counted_in : ℕ → List Session → List Session
 counted_in number sessions = map (one_more number) sessions
 
--- a vault with one more command counted: at the door, or of a session that stands
+-- a vault with one more command counted: at the door, or of an open session
 abbrev pub counted : ℕ → Vault → Vault
 counted number v = if number == 0 then record v { door_count = v.door_count + 1 } else record v { sessions = counted_in number v.sessions }
 
@@ -64,12 +64,12 @@ pub record CountsBelow (bound : ℕ) (v : Vault) : Type 0 where
 abbrev pub AreThere : List Place → List Item → Type 0
 AreThere tree items = All (λ (item : Item). item.place ≤ length tree) items
 
--- the number of a claim is 1 to the last one of its kind
+-- the number of a claim is from 1 to the last number given to its kind
 abbrev pub IsGiven : ℕ → ℕ → ClaimId → Type 0
 IsGiven last_long last_short (Long n) = (0 < n) × (n ≤ last_long)
 IsGiven last_long last_short (Short n) = (0 < n) × (n ≤ last_short)
 
--- a long claim is a designer's, a short one a session's that stands
+-- a designer owns a long claim, an open session a short one
 abbrev pub Owns : List Session → Owner → ClaimId → Type 0
 Owns sessions (owners.Designer name) (Long n) = Unit {0}
 Owns sessions (owners.Session number) (Short n) = is_some (session_of sessions number) ≡ true
@@ -81,7 +81,7 @@ abbrev pub IsNoteOf : ClaimId → List ℕ → Type 0
 IsNoteOf (Long n) note = IsNote note
 IsNoteOf (Short n) note = note ≡ []
 
--- what every claim of a vault keeps
+-- the invariant of each claim of a vault
 pub record IsClaim (tree : List Place) (sessions : List Session) (last_long last_short : ℕ) (c : Claim) : Type 0 where
   pub given : IsGiven last_long last_short c.id
   pub owned : Owns sessions c.owner c.id
@@ -90,13 +90,13 @@ pub record IsClaim (tree : List Place) (sessions : List Session) (last_long last
   pub there : AreThere tree c.items
   pub noted : IsNoteOf c.id c.note
 
--- what the sessions that stand keep
+-- the invariant of the open sessions
 pub record AreSessions (last_session : ℕ) (sessions : List Session) : Type 0 where
   pub few : length sessions ≤ most_sessions
   pub numbers : All (λ (s : Session). (0 < s.number) × (s.number ≤ last_session)) sessions
   pub distinct : IsDistinct nat_eq (map (λ (s : Session). s.number) sessions)
 
--- what every draft keeps: its check-out is held and changes its place, which is a part; its content is short
+-- the invariant of each draft: its check-out is granted and changes its place, which is a part; its content is short
 pub record IsDraft (tree : List Place) (line : List Claim) (x : SavedDraft) : Type 0 where
   pub held : standing_of tree line (Long x.claim) ≡ Some Held
   pub changed : (c : Claim) → claim_of line (Long x.claim) ≡ Some c → change_set tree c.items x.draft.place ≡ true
@@ -104,24 +104,24 @@ pub record IsDraft (tree : List Place) (line : List Claim) (x : SavedDraft) : Ty
   pub part : is_part tree x.draft.place ≡ true
   pub short : length x.draft.content ≤ longest_content
 
--- what all drafts keep
+-- the invariant of all drafts together
 pub record AreDrafts (tree : List Place) (line : List Claim) (drafts : List SavedDraft) : Type 0 where
   pub each : All (IsDraft tree line) drafts
   pub few : (number : ℕ) → length (drafts_of drafts number) ≤ most_drafts
   pub ordered : IsOrdered drafts
 
--- what the versions keep: they are of parts
+-- the invariant of the versions: they are of parts
 pub record AreVersions (tree : List Place) (shelf : List (List (List ℕ))) : Type 0 where
   pub shelf_is : IsShelf shelf
   pub parts : (place : ℕ) → versions_of shelf place ≢ [] → (place ≤ length tree) × (is_part tree place ≡ true)
 
--- each of the last numbers given is one that may be given
+-- each of the last numbers given is within the limit
 pub record AreLastNumbers (last_session last_long last_short : ℕ) : Type 0 where
   pub session : last_session ≤ last_number
   pub long : last_long ≤ last_number
   pub short : last_short ≤ last_number
 
--- What every vault keeps.
+-- The invariant of a vault: it is well formed.
 pub record IsVault (v : Vault) : Type 0 where
   pub tree : IsTree v.tree
   pub few_claims : length v.line ≤ most_claims
@@ -133,6 +133,6 @@ pub record IsVault (v : Vault) : Type 0 where
   pub drafts : AreDrafts v.tree v.line v.drafts
   pub light : weight_of v ≤ most_weight
 
--- The durable vault: without sessions and short claims, and with nothing counted. A restart leaves it.
+-- The durable vault: without sessions and short claims, and with nothing counted. This is what a restart leaves.
 abbrev pub durable : Vault → Vault
 durable v = record v { line = without_short v.line; sessions = []; last_session = 0; last_short = 0; door_count = 0 }

@@ -15,21 +15,21 @@ pub struct PathItem {
     pub path: Path,
 }
 
-/// Whom a claim belongs to: a long one to a designer, in any session, a short one to one session.
+/// The owner of a claim: a designer owns a long one, in any session; one session owns a short one.
 #[derive(Clone, Copy, Debug, PartialEq, Eq)]
 pub enum Owner {
     Designer(Name),
     Session(u32),
 }
 
-/// Whether a claim is held, or queued behind another.
+/// Whether a claim is granted (held), or waits behind another (queued).
 #[derive(Clone, Copy, Debug, PartialEq, Eq)]
 pub enum Standing {
     Held,
     Queued(ClaimId),
 }
 
-/// A claim in the line. A hold has no note.
+/// A claim in the queue. A hold has no note.
 #[derive(Clone, Copy, Debug, PartialEq, Eq)]
 pub struct Claim {
     pub id: ClaimId,

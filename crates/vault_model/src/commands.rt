@@ -4,7 +4,7 @@ ghost use Rattle.std.specs.Prelude.{◌≡◌, IfOk};
 use crate::{ClaimId, Listing, Name, NoMemory, Path, PathItem};
 use std::alloc::{Allocator, Global};
 
-/// A command of a session, over how its lists of items are kept.
+/// A command of a session. The parameters are the types of its list of items and of its bytes.
 #[derive(Debug, PartialEq, Eq, Drop)]
 pub enum Command<Wanted = Listing<PathItem, Global>, Content = Listing<u8, Global>> {
     /// Opens a session in a designer's name.
@@ -15,7 +15,7 @@ pub enum Command<Wanted = Listing<PathItem, Global>, Content = Listing<u8, Globa
     Nest(Path, Option<u32>),
     /// Asks for a long claim on these items.
     CheckOut(Wanted),
-    /// Asks for more items for a held claim.
+    /// Asks for more items for a granted claim.
     Extend(ClaimId, Wanted),
     /// Saves a draft of a part for the long claim of this number.
     Save(u32, Path, Content),
@@ -41,15 +41,15 @@ pub enum Command<Wanted = Listing<PathItem, Global>, Content = Listing<u8, Globa
     Note(u32, Content),
     /// Asks for the note of the long claim of this number.
     ReadNote(u32),
-    /// Asks for all that is said of a claim.
+    /// Asks whose a claim is, how it stands and what its items are.
     Show(ClaimId),
     /// Asks which claims look at a place, or at one under it.
     Claims(Path),
-    /// Asks of which parts the long claim of this number has drafts.
+    /// Asks for the parts of which the long claim of this number has drafts.
     Drafts(u32),
     /// Asks for the content of the draft of a part that the long claim of this number has.
     Draft(u32, Path),
-    /// Asks how a claim stands, once it is held or gone.
+    /// Asks how a claim stands, once it is granted or gone.
     Await(ClaimId),
     /// Closes the session.
     Leave,
@@ -59,7 +59,7 @@ pub enum Command<Wanted = Listing<PathItem, Global>, Content = Listing<u8, Globa
 pub type CommandIn<A> = Command<Listing<PathItem, A>, Listing<u8, A>>;
 
 impl<A: Allocator> CommandIn<A> {
-    /// The same command in memory of this or another kind.
+    /// A copy of the command in the memory of any allocator.
     pub fn copy<B: Allocator>(&self, alloc: B) -> Result<CommandIn<B>, NoMemory>
         ensures { IfOk result (λ copy. copy ≡ self.now) }
     {

@@ -1,8 +1,8 @@
-//! Contents on their way to a shelf.
+//! Drafts: new contents that a check-in puts on the shelf.
 use crate::{Listing, PlaceId};
 use std::alloc::Global;
 
-/// A new content of a place, over how the content is kept.
+/// A new content of a place. The parameter is the type of the content.
 #[derive(Debug, PartialEq, Eq, Drop)]
 pub struct Draft<Content = Listing<u8, Global>> {
     pub place: PlaceId,

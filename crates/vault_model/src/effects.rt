@@ -4,7 +4,7 @@ ghost use Rattle.std.specs.Prelude.{◌≡◌, IfOk};
 use crate::{Items, Listing, Name, NoMemory, Note, PlaceId};
 use std::alloc::{Allocator, Global};
 
-/// The change that a command made, as the journal keeps it, over how its content is kept.
+/// The change that a command made, as the journal keeps it. The parameter is the type of a saved content.
 #[derive(Debug, PartialEq, Eq, Drop)]
 pub enum Effect<Content = Listing<u8, Global>> {
     /// A place was made under this parent, by this name.
@@ -13,11 +13,11 @@ pub enum Effect<Content = Listing<u8, Global>> {
     Nested(PlaceId, Name),
     /// The long claim of this number was asked for by a designer.
     Asked(u32, Name, Items),
-    /// The long claim of this number got these items, and went to the front of the line.
+    /// The long claim of this number got these items as well, and went to the front of the queue.
     Extended(u32, Items),
     /// The long claim of this number saved a draft of a part.
     Saved(u32, PlaceId, Content),
-    /// The drafts of the long claim of this number became versions, and the claim went.
+    /// The drafts of the long claim of this number became versions, and the claim was given up.
     CheckedIn(u32),
     /// The long claim of this number was given up.
     Abandoned(u32),
@@ -31,7 +31,7 @@ pub enum Effect<Content = Listing<u8, Global>> {
 pub type EffectIn<A> = Effect<Listing<u8, A>>;
 
 impl<A: Allocator> EffectIn<A> {
-    /// The same effect in memory of this or another kind.
+    /// A copy of the effect in the memory of any allocator.
     pub fn copy<B: Allocator>(&self, alloc: B) -> Result<EffectIn<B>, NoMemory>
         ensures { IfOk result (λ copy. copy ≡ self.now) }
     {

@@ -8,7 +8,7 @@ ghost use Rattle.vault_model.specs.Limits.{most_items};
 use crate::{Intent, Item, MAX_ITEMS, PlaceId};
 use std::marker::Model;
 
-/// Up to `MAX_ITEMS` items, in room of their own.
+/// Up to `MAX_ITEMS` items, stored inline.
 #[derive(Clone, Copy, Debug)]
 pub struct Items {
     room: [Item; MAX_ITEMS],

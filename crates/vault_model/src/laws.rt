@@ -32,22 +32,22 @@ pub fn counts_rise()
     ensures { CountsRise }
 {}
 
-/// A claim that is held, and still stands after a step, is held there.
+/// A granted claim that is still there after a step is still granted.
 pub fn held_stays()
     ensures { HeldStays }
 {}
 
-/// A long claim that is held is held in the durable vault.
+/// A granted long claim is granted in the durable vault, too.
 pub fn held_is_durable()
     ensures { HeldIsDurable }
 {}
 
-/// Two held claims don't overlap.
+/// Two granted claims don't overlap.
 pub fn held_are_apart()
     ensures { HeldAreApart }
 {}
 
-/// What a step changed for good is its effect, made on the durable vault.
+/// A step changes the durable vault as its effect does, and not at all where it has none.
 pub fn effect_is_the_durable_change()
     ensures { EffectIsTheDurableChange }
 {}
@@ -62,17 +62,17 @@ pub fn path_leads_back()
     ensures { PathLeadsBack }
 {}
 
-/// A check-in leaves the weight as it is: what were drafts are versions, or it was refused.
+/// A check-in leaves the weight as it is: the drafts become versions, or it is refused.
 pub fn check_in_keeps_the_weight()
     ensures { CheckInKeepsTheWeight }
 {}
 
-/// A check-in by who may use the check-out is refused by a limit exactly where a drafted part has 65,535 versions.
+/// A limit refuses the check-in of a check-out that may be used exactly where a part of which it has a draft has 65,535 versions.
 pub fn check_in_is_refused_for_full_parts()
     ensures { CheckInIsRefusedForFullParts }
 {}
 
-/// A second save of a place replaces the first: it answers and leaves what it would without it.
+/// A second save of a place replaces the first: its reply and the vault after it are as without the first.
 pub fn second_save_replaces()
     ensures { SecondSaveReplaces }
 {}

@@ -1,11 +1,12 @@
 //! The vault's types, as its commands and replies name them, and the definitions of everything that other crates promise.
 //!
 //! Promises: names and paths are read exactly from their spelling (`Name::read`, `Path::read`), and a note is any bytes that are
-//! few enough (`Note::read`). The definitions have the laws
-//! of `laws`: a well-formed vault stays so, held stays held, held claims are apart, an effect is the durable change of its
-//! step, overlap and "under" are the sentences that they stand for, a path leads back to its place, a check-in leaves the
-//! weight and is refused for full parts alone, a second save replaces the first. A copy of a command, a reply or an effect
-//! equals its source (`copy`). Conversations worked out by hand hold of the step, by proof.
+//! few enough (`Note::read`). The definitions have the laws of `laws`. A well-formed vault stays well formed. A granted claim
+//! stays granted as long as it is there, and granted claims don't overlap. An effect is the durable change of its step. Two
+//! claims overlap where one changes a place that the other looks at or changes, and "under" follows the parents. A path leads
+//! back to its place. A check-in leaves the weight as it is, and no limit but full parts refuses it. A second save replaces the
+//! first. A copy of a command, a reply or an effect equals its source (`copy`). The step gives the replies of conversations
+//! that were worked out by hand, by proof.
 //! Stands on: no crate of this repository. Must not know: an allocator in a definition, a device, a line of text, how a tree
 //! is indexed.
 //!
@@ -16,8 +17,8 @@
 //! 4. `Note`: at most 64 bytes, and zeros behind them.
 //!
 //! Neither proved nor tested: the `Display` texts of refusals.
-//! Start at: specs/Vault.antt (what a vault is), specs/Step.antt (what each command does), specs/Claims.antt (the line). Then
-//! specs/Laws.antt.
+//! Start at: specs/Vault.antt (what a vault is), specs/Step.antt (what each command does), specs/Claims.antt (the queue of
+//! claims). Then specs/Laws.antt.
 #![tactic(auto)]
 
 mod claims;
@@ -58,7 +59,7 @@ pub use session::Session;
 use std::alloc::AllocError;
 use thiserror::Error;
 
-/// Memory was wanted and refused.
+/// An allocation was refused.
 #[derive(Clone, Copy, Debug, PartialEq, Eq, Error)]
 #[error("want of memory")]
 pub struct NoMemory;

@@ -1,6 +1,6 @@
 //! The vault's limits. The definitions take them from here, by `specs/Limits.antt`.
 
-/// How many places above it a place has at most.
+/// The most places above a place.
 pub const GREATEST_DEPTH: usize = 7;
 
 /// The most names of a path: one for each step down.
@@ -21,7 +21,7 @@ pub const MAX_CHILDREN: usize = 64;
 /// The most items of a claim.
 pub const MAX_ITEMS: usize = 8;
 
-/// The most claims that stand, of both kinds.
+/// The most claims at once, of both kinds.
 pub const MAX_CLAIMS: usize = 256;
 
 /// The most sessions at once, the door not counted.
@@ -45,5 +45,5 @@ pub const LONGEST_NOTE: usize = 64;
 /// The most that all contents weigh together.
 pub const MAX_WEIGHT: usize = 16_777_216;
 
-/// What a content weighs beside its bytes.
+/// What a content weighs in addition to its bytes.
 pub const EXTRA_WEIGHT: usize = 8;

@@ -11,7 +11,7 @@ ghost use Rattle.vault_model.specs.Path.{blank};
 use crate::LONGEST_NAME;
 use std::marker::Model;
 
-/// A name, in room of its own: 1 to 32 bytes of `a-z`, `0-9`, `_` and `-`.
+/// A name, stored inline: 1 to 32 bytes of `a-z`, `0-9`, `_` and `-`.
 #[derive(Clone, Copy, Debug)]
 pub struct Name {
     bytes: [u8; LONGEST_NAME],
@@ -82,7 +82,7 @@ impl Name {
         })
     }
 
-    /// What stands in room that no name has.
+    /// The name that fills spare room in a path.
     pub(crate) fn blank() -> Name
         ensures { result ≡ blank }
     {

@@ -9,7 +9,7 @@ ghost use Rattle.vault_model.specs.Note.{note_in, padded};
 use crate::LONGEST_NOTE;
 use std::marker::Model;
 
-/// A note, in room of its own: at most 64 bytes, whatever they are.
+/// A note, stored inline: at most 64 bytes, whatever they are.
 #[derive(Clone, Copy, Debug)]
 pub struct Note {
     bytes: [u8; LONGEST_NOTE],

@@ -107,7 +107,7 @@ impl Path {
         Some((names[names.len() - 1], &names[..names.len() - 1]))
     }
 
-    /// The path of what has this name under this path's place.
+    /// This path with one more name at the end.
     pub fn joined(&self, name: Name) -> Path
         requires { length self.now < most_names }
         ensures { result ≡ self.now ++ name ∷ [] }
@@ -120,7 +120,7 @@ impl Path {
         }
     }
 
-    /// Goes on to what has this name.
+    /// Puts one more name at the end.
     fn push(&mut self, name: Name)
         requires { length self.old < most_names }
         ensures { self.new ≡ self.old ++ name ∷ [] }

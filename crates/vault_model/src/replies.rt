@@ -1,11 +1,11 @@
-//! What a session is told.
+//! What a session gets as a reply.
 ghost use Rattle.std.specs.Prelude.{◌≡◌, IfOk};
 
 use crate::{ClaimId, Listing, Name, NoMemory, Note, Path, PathItem, Standing};
 use std::alloc::{Allocator, Global};
 use thiserror::Error;
 
-/// Why a command was refused. Its number is what a reply's line says.
+/// Why a command was refused. The line of a reply gives the refusal's number.
 #[derive(Clone, Copy, Debug, PartialEq, Eq, Error)]
 pub enum Refusal {
     #[error("no session")]
@@ -51,11 +51,11 @@ pub enum Outside {
     Broken,
 }
 
-/// All that is said of a claim, over how its list of items is kept.
+/// The reply to `Show`: what is said of a claim. The parameter is the type of its list of items.
 #[derive(Debug, PartialEq, Eq, Drop)]
 pub struct ShownClaim<Items = Listing<PathItem, Global>> {
     pub id: ClaimId,
-    /// Whose it is; of a hold, the designer of its session.
+    /// Its owner; for a hold, the designer of its session.
     pub designer: Name,
     pub standing: Standing,
     /// Its items in their order, each with the path that its place has now.
@@ -63,7 +63,7 @@ pub struct ShownClaim<Items = Listing<PathItem, Global>> {
 }
 
 impl<A: Allocator> ShownClaim<Listing<PathItem, A>> {
-    /// The same claim in memory of this or another kind.
+    /// A copy of it in the memory of any allocator.
     fn copy<B: Allocator>(&self, alloc: B) -> Result<ShownClaim<Listing<PathItem, B>>, NoMemory>
         ensures { IfOk result (λ copy. copy ≡ self.now) }
     {
@@ -76,7 +76,7 @@ impl<A: Allocator> ShownClaim<Listing<PathItem, A>> {
     }
 }
 
-/// The reply to a command, over how its lists are kept.
+/// The reply to a command. The parameters are the types of its lists.
 #[derive(Debug, PartialEq, Eq, Drop)]
 pub enum Reply<
     Names = Listing<Name, Global>,
@@ -89,39 +89,39 @@ pub enum Reply<
     Session(u32),
     /// The place of this number was made.
     Place(u32),
-    /// The claim is held.
+    /// The claim is granted.
     Held(ClaimId),
-    /// The first claim is queued behind the second.
+    /// The first claim waits behind the second.
     Queued(ClaimId, ClaimId),
     /// The draft was saved.
     Saved,
-    /// So many drafts became versions, and the claim was given up.
+    /// This number of drafts became versions, and the claim was given up.
     CheckedIn(u32),
     /// The claim was given up.
     Abandoned,
     /// The short claim was given up.
     Released,
-    /// The names of the places right under one, by their numbers.
+    /// The names of the places right under one, ordered by the places' numbers.
     Children(Names),
     /// The content of a version, or of a draft.
     Content(Content),
     /// How many versions a part has.
     Versions(u32),
-    /// The claim is another designer's.
+    /// The claim was given to a designer.
     Given,
-    /// The claim has another note.
+    /// The claim got its new note.
     Noted,
     /// The note of a claim.
     NoteIs(Note),
-    /// All that is said of a claim.
+    /// What is said of a claim.
     Shown(ShownClaim<Items>),
-    /// The claims that look at a place or at one under it, in the order of the line.
+    /// The claims that look at a place or at one under it, in the order of the queue.
     ClaimsAt(Claims),
-    /// The paths of the parts of which a claim has drafts, by the parts' numbers.
+    /// The paths of the parts of which a claim has drafts, ordered by the parts' numbers.
     DraftsOf(Paths),
     /// The session was closed.
     Left,
-    /// The command was refused, and changed nothing but the count of its session.
+    /// The command was refused. It changed nothing but its session's command count.
     Refused(Refusal),
 }
 
@@ -135,7 +135,7 @@ pub type ReplyIn<A> = Reply<
 >;
 
 impl<A: Allocator> ReplyIn<A> {
-    /// The same reply in memory of this or another kind.
+    /// A copy of the reply in the memory of any allocator.
     pub fn copy<B: Allocator>(&self, alloc: B) -> Result<ReplyIn<B>, NoMemory>
         ensures { IfOk result (λ copy. copy ≡ self.now) }
     {

@@ -1,4 +1,4 @@
--- The pumps of a commit settle all.
+-- The pumps of a commit make all entries durable.
 use Rattle.std.proofs.Common.{◌≡◌, ℕ, zero, suc, ◌+◌, ◌-◌, ◌*◌, ◌<◌, ◌≤◌, Bool, true, false, cond, List, [], ◌∷◌, length, drop, refl, sym, ap, ◌∙◌, subst, arith, length-drop}
 use Rattle.std.specs.Prelude.{◌/◌, ◌↔◌, IsTrue, nat_le, nat_lt}
 use Rattle.std.proofs.Math.Nat.{add-div_right}
@@ -34,7 +34,7 @@ abbrev pumps_on : ℕ → View → View
 pumps_on zero v = v
 pumps_on (suc n) v = pumps_on n (pump v)
 
--- all is settled, and nothing is under way
+-- all entries are durable, and nothing is under way
 abbrev pub all_settled : View → ℕ → View
 all_settled v sealed = record v { settled = length_of v; sealed = sealed; phase = Idle }
 
@@ -53,7 +53,7 @@ pieces_more n h =
     let one : (n - most_piece - 1) / most_piece + 1 ≡ suc ((n - most_piece - 1) / most_piece) = omega arith in
     ap (λ x. suc (x / most_piece)) same ∙ ap suc (next ∙ one)
 
--- Each pump leaves one less to make.
+-- Each pump leaves one pump fewer to make.
 
 abbrev waits : View → Waiting
 waits v = waits_behind v v.settled
@@ -84,7 +84,7 @@ idle_falls v k Effects w e =
     let none : pumps_for (waits_behind v (length_of v)) ≡ 0 = ap pumps_for (none_wait v (length_of v) (all_behind v)) in
     none_more 3 (pumps_for (waits_behind v (length_of v))) k none e
 
--- behind a piece
+-- after a piece
 piece_falls : (v : View) (left x k : ℕ) → 3 + pieces left + x ≡ suc k → x ≡ pumps_for (waits_behind v v.sealed) → pumps_needed (record v { phase = behind_piece left }) ≡ k
 piece_falls v left x k e same = by_test (nat_le left most_piece) refl
   where
@@ -114,13 +114,13 @@ falls_in SnapOpening v k e = one_less 1 0 (pumps_for (waits_behind v v.sealed)) 
 pub needed_falls : (v : View) (k : ℕ) → pumps_needed v ≡ suc k → pumps_needed (pump v) ≡ k
 needed_falls v k e = falls_in v.phase v k e
 
--- Where none is left to make, all is settled, and nothing is under way.
+-- If no pump is left to make, all entries are durable, and nothing is under way.
 
 some_waits : (x : Kept) (xs : List Kept) (effects : List Effect) → waiting (x ∷ xs) effects ≡ Nothing → ⊥
 some_waits x xs [] h = cc h
 some_waits x xs (effect ∷ effects) h = cc h
 
--- where nothing waits, all is settled
+-- if nothing waits, all entries are durable
 all_was_settled : (v : View) → waits v ≡ Nothing → v.retired ≤ v.settled → v.settled ≤ length_of v → v.settled ≡ length_of v
 all_was_settled v h kept within =
     let none : length (drop (v.settled - v.retired) v.kept) ≡ 0 = ap length (by_entries (drop (v.settled - v.retired) v.kept) h) in
@@ -162,7 +162,7 @@ rest_needs_none v rest =
     ap (λ (p : Phase). pumps_needed (record v { phase = p })) rest.0
     ∙ ap (λ w. 0 + pumps_for w) (none_wait v v.settled (let all : v.settled ≡ length_of v = rest.1 in omega arith))
 
--- So many pumps settle all.
+-- That number of pumps makes all entries durable.
 
 orders : (v : View) → InOrder (length_of v) v.retired v.settled v.sealed v.phase → InOrder (length_of (pump v)) (pump v).retired (pump v).settled (pump v).sealed (pump v).phase
 orders v o = order_row (length_of v) v.retired v.settled v.sealed v.phase _ _ o
@@ -171,12 +171,12 @@ pumps_settle : (n : ℕ) (v : View) → InOrder (length_of v) v.retired v.settle
 pumps_settle zero v o e = let rest = at_rest v o e in (v.sealed, λ i. record v { settled = rest.1 i; phase = rest.0 i })
 pumps_settle (suc n) v o e = let more = pumps_settle n (pump v) (orders v o) (needed_falls v n e) in (more.0, more.1)
 
--- where it isn't so that none is needed
+-- if it isn't true that no pump is needed
 pub some_needed : (b : Bool) (v : View) → (IsTrue b ↔ (pumps_needed v ≡ 0)) → b ≡ false → pumps_needed v ≡ 0 → ⊥
 some_needed true v is goes e = cc goes
 some_needed false v is goes e = let none : false ≡ true = is.1 e in cc none
 
--- one of the pumps that are needed was made
+-- one of the needed pumps was made
 module _ (talk next : Talk) (some : pumps_needed talk.view ≡ 0 → ⊥) (same : next ≡ pumped talk) where
   needed_next : (k : ℕ) → pumps_needed talk.view ≡ suc k → pumps_needed next.view ≡ k
   unfolding pumped
@@ -196,7 +196,7 @@ module _ (talk next : Talk) (some : pumps_needed talk.view ≡ 0 → ⊥) (same 
       by_count zero e = absurd (some e)
       by_count (suc k) e = let next_needs : pumps_needed next.view ≡ k = needed_next k e in omega (arith, next_needs, e)
 
--- none is needed any more
+-- no pump is needed any more
 pub no_pump : (talk all : Talk) → pumps_needed talk.view ≡ 0 → pumps (pumps_needed talk.view) talk ≡ all → talk ≡ all
 no_pump talk all e is = sym (ap (λ n. pumps n talk) e) ∙ is
 
@@ -217,14 +217,14 @@ in_order view r =
     subst (λ (v : View). InOrder (length_of v) v.retired v.settled v.sealed v.phase) r.reaches
     (subst (λ n. InOrder n w.retired w.settled w.sealed w.phase) (sym (len_is w sound)) sound.order)
 
--- all is settled by a commit, and nothing else of the view changes but the number sealed
+-- a commit makes all entries durable, and changes nothing else of the view but the number of sealed entries
 pub commit_settles : (talk : Talk) → IsSoundTalk (IsReachable snapshot_length) talk → (committed talk).view ≡ all_settled talk.view (committed talk).view.sealed
 commit_settles talk s =
     let all = pumps_settle (pumps_needed talk.view) talk.view (in_order talk.view s.vault.holds) refl in
     let whole = committed_view talk ∙ all.1 in
     whole ∙ ap (all_settled talk.view) (sym (ap (λ (v : View). v.sealed) whole))
 
--- What is printed once all is settled.
+-- What is printed once all entries are durable.
 
 none_waits : (talk : Talk) (lines : List Line) → AreBelow talk.view.settled lines → (said_of talk lines).talk.lines ≡ []
 none_waits talk [] b = refl
@@ -232,7 +232,7 @@ none_waits talk (Known text ∷ lines) b = none_waits talk lines b
 none_waits talk (Awaited connection position ∷ lines) b =
     ap (λ (s : Said). s.talk.lines) (cond-true (nat_lt position talk.view.settled) _ _ (lt-ltb _ _ b.0)) ∙ none_waits (told talk connection position) lines b.1
 
--- behind a commit no line is left waiting
+-- after a commit no line is left waiting
 pub commit_tells : (talk : Talk) → IsSoundTalk (IsReachable snapshot_length) talk → IsSoundTalk (IsReachable snapshot_length) (committed talk) → (said (committed talk)).talk.lines ≡ []
 commit_tells talk before behind =
     let whole = commit_settles talk before in

@@ -1,4 +1,4 @@
--- A stop of both devices, and what is printed at it.
+-- A crash of both devices, and what is printed then.
 use Rattle.std.proofs.Common.{◌≡◌, ℕ, ◌+◌, ◌&&◌, Bool, cond, List, [], length, sym, ap, ◌∙◌, subst}
 use Rattle.std.specs.Prelude.{Ok}
 use Rattle.vault_model.specs.Vault.{durable}
@@ -18,7 +18,7 @@ use Rattle.vault_protocol.proofs.Lost.{view_at_same, effects_between_same}
 use Rattle.vault_protocol.proofs.Saying.{known_said}
 use Rattle.vault_protocol.proofs.Staging.{talk_of}
 
--- whether a stop with this pick finds a gate of this view open
+-- whether a crash with this pick leaves a gate of this view open
 abbrev pub found_open : Pick → View → Bool
 found_open pick v = gives_one pick && is_opening v.phase
 

@@ -25,7 +25,7 @@ pub known_first : {A : Type 0} (first : Waiting A) (rest : List (Waiting A))
 known_first (waiting.Known text) rest = ap (λ front. front ++ known_texts (lines_of rest)) (sym (append-nil text))
 known_first (waiting.Awaited connection ticket) rest = refl
 
--- where no line is left, all known texts are printed
+-- when no line is left, all known texts are printed
 pub all_known : {A : Type 0} (items : List (Waiting A)) (out all : List ℕ) (n : ℕ) → length items ≡ n → n ≡ 0 → out ++ known_texts (lines_of items) ≡ all → out ≡ all
 all_known [] out all n many none is = sym (append-nil out) ∙ is
 all_known (x ∷ rest) out all n many none is = absurd (omega arith)

@@ -16,11 +16,11 @@ use Rattle.vault_device.specs.Picks.{gives_one}
 use Rattle.vault_protocol.specs.ScriptLaws.{IsRunTo, GoesOnTo, ActsOnTo, gate_of}
 use Rattle.vault_protocol.proofs.ScriptRuns.{KeepsActs, KeepsOpenings}
 
--- the world behind these events
+-- the world after these events
 abbrev world_after : List Event → World
 world_after events = run snapshot_length new_world events
 
--- one more event behind a run
+-- one more event after a run
 one_longer : (w : World) (events : List Event) (event : Event) → IsRun snapshot_length w events → AllowsEvent snapshot_length (run snapshot_length w events) event → IsRun snapshot_length w (events ++ event ∷ [])
 one_longer w [] event r a = (a, tt)
 one_longer w (x ∷ xs) event r a = (r.0, one_longer (happened snapshot_length w x) xs event r.1 a)
@@ -80,9 +80,9 @@ stops_on events = record { opens = one_stop }
 pub no_events : (events : List Event) (view : View) → IsRunTo events view → GoesOnTo events view
 no_events events view r = ([], subst (λ all. IsRunTo all view) (sym (append-nil events)) r)
 
--- One stop.
+-- One crash.
 
--- the vault behind a stop that finds a gate open or closed
+-- the vault after a crash that leaves a gate open or closed
 abbrev left_by : Bool → View → Vault
 left_by finds_open view = durable (view_at view (cond (finds_open && is_opening view.phase) view.sealed view.settled))
 

@@ -1,4 +1,4 @@
--- What is printed for a line that isn't a stop.
+-- What is printed for a line other than `!crash`.
 use Rattle.std.proofs.Common.{◌≡◌, ℕ, List, ◌++◌, Option, None, ap, ◌∙◌, subst}
 use Rattle.std.specs.Prelude.{codes, Result, OnOk}
 use Rattle.vault_model.specs.Said.{Command}
@@ -7,7 +7,7 @@ use Rattle.vault_protocol.specs.Talk.{Talk, Said, said, with_text}
 use Rattle.vault_protocol.specs.Script.{answered, ready, heard, heard_of}
 use Rattle.vault_protocol.proofs.Written.{on_ok_then}
 
--- what is said of a conversation is said of the same one
+-- what holds of a conversation holds of an equal one
 said_as : {T E V : Type 0} (result : Result T E) (f : Talk → V) (now : V) (a b : Talk) → a ≡ b → OnOk result (now ≡ f a) → OnOk result (now ≡ f b)
 said_as result f now a b same = on_ok_then result (λ e. e ∙ ap f same)
 
@@ -23,7 +23,7 @@ pub heard_talk : {T E : Type 0} (result : Result T E) (talk before answer now : 
     → OnOk result (now ≡ (said answer).talk) → OnOk result (now ≡ (heard talk connection line).talk)
 heard_talk result talk before answer now connection line = answered_talk result (ready talk connection) before answer now connection (command_of line)
 
--- for one that is none of a script's
+-- for a line that isn't valid in a script
 module _ {T E : Type 0} (result : Result T E) (talk answer : Talk) (text : List ℕ) (line : Option (ℕ × List ℕ))
     (is_answered : answer ≡ with_text talk text) (is_text : text ≡ codes "! ERR 10\n") (none : None ≡ line) where
   pub no_line_talk : (now : Talk) → OnOk result (now ≡ (said answer).talk) → OnOk result (now ≡ (heard_of talk line).talk)

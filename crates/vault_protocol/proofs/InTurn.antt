@@ -1,4 +1,4 @@
--- The entries of a life are told in their turn, and those that were told are let go.
+-- The entries of a life are acknowledged in their order, and then they are dropped.
 use Rattle.std.proofs.Common.{◌≡◌, ℕ, zero, suc, ◌+◌, ◌-◌, ◌≤◌, ◌<◌, Bool, true, false, cond, List, [], ◌∷◌, ◌++◌, length, drop, Option, Some, None, refl, sym, ap, ◌∙◌, subst, arith, length-append, length-drop}
 use Rattle.std.specs.Prelude.{codes, filter, nat_lt, slice_index}
 use Rattle.std.specs.Str.{bytes_eq}
@@ -33,19 +33,19 @@ reaches_acts = record { acts = (reachable_goes_on snapshot_length).acts }
 pub reaches_openings : KeepsOpenings Reached
 reaches_openings = record { opens = (reachable_goes_on snapshot_length).opens }
 
--- Each entry that isn't told yet has its line, in their order.
+-- Each entry that isn't acknowledged yet has its line, in their order.
 
 abbrev pub AreNext : ℕ → ℕ → List Line → Type 0
 AreNext from to [] = from ≡ to
 AreNext from to (Known text ∷ lines) = AreNext from to lines
 AreNext from to (Awaited connection position ∷ lines) = (position ≡ from) × AreNext (from + 1) to lines
 
--- in this conversation they have, and those that were told are let go
+-- this is so in this conversation, and the acknowledged entries are dropped
 pub record IsInTurn (talk : Talk) : Type 0 where
   pub gone : talk.view.retired ≡ talk.view.told
   pub turns : AreNext talk.view.told (length_of talk.view) talk.lines
 
--- and all are told that are settled
+-- and all durable entries are acknowledged
 pub record IsToldWhole (talk : Talk) : Type 0 where
   pub turn : IsInTurn talk
   pub whole : talk.view.told ≡ talk.view.settled
@@ -65,16 +65,16 @@ next_none [] = refl
 next_none (Known text ∷ lines) = next_none lines
 next_none (Awaited connection position ∷ lines) = next_none lines
 
--- What telling leaves.
+-- What an acknowledgement leaves.
 
--- the numbers of what was told, as they have to be before and behind each telling
+-- the numbers of acknowledged entries, as they have to be before and after each acknowledgement
 pub record InBounds (v : View) : Type 0 where
   pub gone_told : v.retired ≤ v.told
   pub told_settled : v.told ≤ v.settled
   pub settled_all : v.settled ≤ length_of v
   pub closed : AreClosed (v.told - v.retired) v.kept
 
--- all that is settled was told, and is closed
+-- all durable entries are acknowledged, and closed
 pub record IsSaid (old new : Talk) : Type 0 where
   pub retired : new.view.retired ≡ old.view.retired
   pub settled : new.view.settled ≡ old.view.settled
@@ -83,7 +83,7 @@ pub record IsSaid (old new : Talk) : Type 0 where
   pub closed : AreClosed (new.view.settled - new.view.retired) new.view.kept
   pub turns : AreNext new.view.told (length_of new.view) new.lines
 
--- nothing more is told
+-- no more entries are acknowledged
 said_none : (talk : Talk) (lines : List Line) → InBounds talk.view → talk.view.settled ≤ talk.view.told → AreNext talk.view.told (length_of talk.view) lines
     → IsSaid talk (record talk { lines = lines })
 said_none talk lines b none turns =
@@ -98,7 +98,7 @@ said_none talk lines b none turns =
       turns = turns;
     }
 
--- the entry whose turn it is was told
+-- the entry whose turn it is was acknowledged
 told_bounds : (talk : Talk) (connection position : ℕ) (lines : List Line) → InBounds talk.view → position ≡ talk.view.told → position < talk.view.settled
     → AreOpen talk.view.kept talk.view.retired talk.view.retired (Awaited connection position ∷ lines) → InBounds (told talk connection position).view
 told_bounds talk connection position lines b turn settled o =
@@ -159,7 +159,7 @@ said_of_is talk (Awaited connection position ∷ lines) b o n = by_test (λ next
         let none : v.settled ≤ position = ltb-false _ _ e in
         said_none talk (Awaited connection position ∷ lines) b (omega (arith, turn, none)) n
 
--- behind each telling
+-- after each acknowledgement
 pub bounds : (talk : Talk) → IsSoundTalk Reached talk → IsInTurn talk → InBounds talk.view
 bounds talk s t =
     let order = in_order talk.view s.vault.holds in
@@ -176,7 +176,7 @@ bounds talk s t =
 pub said_is : (talk : Talk) → IsSoundTalk Reached talk → IsInTurn talk → IsSaid talk (said_now talk).talk
 said_is talk s t = said_of_is talk talk.lines (bounds talk s t) s.awaited t.turns
 
--- the view behind it, with no entry that was told
+-- the view after it, without the acknowledged entries
 abbrev GoneTo : List Line → View → Type 0
 GoneTo lines v = (v.retired ≡ v.told) × (v.told ≡ v.settled) × AreNext v.told (length_of v) lines
 

@@ -1,4 +1,4 @@
--- Entries are let go, the oldest first.
+-- Entries are dropped, the oldest first.
 use Rattle.std.proofs.Common.{◌≡◌, ℕ, zero, suc, ◌+◌, ◌-◌, ◌≤◌, ◌<◌, Bool, true, false, cond, List, [], ◌∷◌, length, drop, Some, refl, sym, ap, ◌∙◌, arith, length-drop}
 use Rattle.std.proofs.lemmas.Option.{same_Some}
 use Rattle.std.proofs.lemmas.Bool.{cond-true}
@@ -12,7 +12,7 @@ use Rattle.group_commit.specs.declared.answers.Retired.TheVariants as answers
 use Rattle.group_commit.specs.Calls.{IsRetired}
 use Rattle.vault_protocol.specs.Talk.{is_closed, free_in, retirings, all_gone}
 
--- the view behind one entry that was let go
+-- the view after one entry was dropped
 abbrev pub behind_one : View → View
 behind_one v = view_acted snapshot_length v Retire
 
@@ -23,7 +23,7 @@ open_is Open e = refl
 open_is Told e = cc e
 open_is Forgotten e = cc e
 
--- the oldest entry, which is settled and closed
+-- the oldest entry, which is durable and closed
 may_go : (v : View) (x : Kept) (rest : List Kept) (n : ℕ) → v.kept ≡ x ∷ rest → v.settled - v.retired ≡ suc n → is_closed x.mark ≡ true → ViewAllows snapshot_length v Retire
 may_go v x rest n kept left closed =
     let settled : v.retired < v.settled = omega (arith, left) in
@@ -32,7 +32,7 @@ may_go v x rest n kept left closed =
 one_more : (v : View) (n : ℕ) → v.settled - v.retired ≡ suc n → v.settled - (v.retired + 1) ≡ n
 one_more v n left = omega (arith, left)
 
--- What each retiring keeps, letting go keeps.
+-- What dropping one entry (`Retire`) keeps, dropping all of them keeps.
 
 module _ (Q : View → Type 0) (step : (v : View) → Q v → ViewAllows snapshot_length v Retire → Q (behind_one v)) where
   retirings_keep : (kept : List Kept) (n : ℕ) (v : View) → v.kept ≡ kept → v.settled - v.retired ≡ n → Q v → Q (retirings (free_in n kept) v)
@@ -83,14 +83,14 @@ closed_few zero kept c = omega arith
 closed_few (suc n) [] c = absurd c
 closed_few (suc n) (x ∷ rest) c = let fewer : n ≤ length rest = closed_few n rest c.1 in omega (arith, fewer)
 
--- one more is closed, once it was told
+-- one more is closed, once it is acknowledged
 pub closed_more : (n : ℕ) (kept : List Kept) → AreClosed n kept → mark_at kept n ≡ Some Open → AreClosed (suc n) (with_mark Told kept n)
 closed_more zero [] c unclosed = cc unclosed
 closed_more zero (x ∷ rest) c unclosed = (refl, tt)
 closed_more (suc n) [] c unclosed = absurd c
 closed_more (suc n) (x ∷ rest) c unclosed = (c.0, closed_more n rest c.1 unclosed)
 
--- where all that is settled is closed, all of it is let go
+-- if all durable entries are closed, all of them are dropped
 pub settled_gone : (v : View) → AreClosed (v.settled - v.retired) v.kept → let n = v.settled - v.retired in
     all_gone v ≡ record v { base = (all_gone v).base; kept = drop n v.kept; retired = v.retired + n }
 unfolding all_gone
@@ -100,7 +100,7 @@ settled_gone v c = by_count (free_in (v.settled - v.retired) v.kept) (all_free (
         retirings free v ≡ record v { base = (retirings free v).base; kept = drop n v.kept; retired = v.retired + n }
     by_count free is = went free v ∙ (λ i. record v { base = (retirings free v).base; kept = drop (is i) v.kept; retired = v.retired + is i })
 
--- how many entries the life has, and how many were told, stays
+-- the number of entries of the life stays, and the number of acknowledged ones
 pub same_length : (v : View) → v.retired ≤ v.settled → AreClosed (v.settled - v.retired) v.kept → length_of (all_gone v) ≡ length_of v
 same_length v order c =
     let few : v.settled - v.retired ≤ length v.kept = closed_few (v.settled - v.retired) v.kept c in
@@ -109,7 +109,7 @@ same_length v order c =
 
 -- One call.
 
--- the oldest entry was let go, so all others that may be are those that might have been
+-- after the oldest entry was dropped, the same entries as before may still be dropped
 goes_on : (kept : List Kept) (n : ℕ) (v : View) → v.kept ≡ kept → v.settled - v.retired ≡ n → v.settled ≤ length_of v → ViewAllows snapshot_length v Retire
     → retirings (free_in (v.settled - (v.retired + 1)) (drop 1 v.kept)) (behind_one v) ≡ retirings (free_in n kept) v
 goes_on kept zero v e left within may = let settled : v.retired < v.settled = may.0 in absurd (omega (arith, left, settled))
@@ -125,7 +125,7 @@ goes_on (x ∷ rest) (suc n) v e left within may = by_mark (is_closed x.mark) re
     by_mark true c = let fewer = one_more v n left in let others = ap (drop 1) e in λ i. retirings (free_in (fewer i) (others i)) (behind_one v)
     by_mark false c = absurd (may.1 (ap (λ (entries : List Kept). mark_at entries 0) e ∙ ap Some (open_is x.mark c)))
 
--- none may be let go
+-- none may be dropped
 stays : (kept : List Kept) (n : ℕ) (v : View) → v.kept ≡ kept → v.settled - v.retired ≡ n → (ViewAllows snapshot_length v Retire → ⊥) → retirings (free_in n kept) v ≡ v
 stays kept zero v e left may_not = refl
 stays [] (suc n) v e left may_not = refl

@@ -33,12 +33,12 @@ pub written_end : (a b : Option (List ℕ)) (all text : List ℕ) (talk : Talk) 
     → Written a b all (text ++ [])
 written_end a b all text talk lines w none is = (w.0, w.1, w.2 ∙ ap (λ more. w.0 ++ more) (ap (printed talk) none ∙ rw (append-nil text, ← is) refl))
 
--- fewer bytes are left behind a line
+-- fewer bytes are left after a line
 pub fewer_left : (rest behind : Option (Bor (List ℕ))) (bytes : Bor (List ℕ)) → rest ≡ Some bytes → IfSome behind (λ more. length more.now < length bytes.now)
     → suc (bytes_left (option_copied behind)) ≤ bytes_left (option_copied rest)
 fewer_left rest None bytes is h = rw is (omega arith)
 fewer_left rest (Some more) bytes is h = rw is (omega (arith, h))
 
--- a text behind none
+-- a text after no other
 pub no_front : (old text new : List ℕ) → old ≡ [] → new ≡ old ++ text → new ≡ text
 no_front old text new none is = is ∙ ap (λ front. front ++ text) none

@@ -1,4 +1,4 @@
--- What a stop leaves doesn't depend on marks.
+-- What a crash leaves doesn't depend on marks.
 use Rattle.std.proofs.Common.{◌≡◌, ℕ, zero, suc, ◌-◌, List, [], ◌∷◌, ◌++◌, map, take, drop, refl, sym, ap, subst, ◌∙◌}
 use Rattle.std.specs.Prelude.{option_to_list}
 use Rattle.vault_model.specs.Vault.{Vault}

@@ -12,13 +12,13 @@ pub record IsOpenAt (kept : List Kept) (retired from position : ℕ) : Type 0 wh
   pub reached : from ≤ position
   pub is_open : mark_at kept (position - retired) ≡ Some Open
 
--- the lines that wait do so for open entries, from a position on, each behind the one before
+-- the waiting lines wait for open entries, from a position on, each later than the one before
 abbrev pub AreOpen : List Kept → ℕ → ℕ → List Line → Type 0
 AreOpen kept retired from [] = Unit {0}
 AreOpen kept retired from (Known text ∷ lines) = AreOpen kept retired from lines
 AreOpen kept retired from (Awaited connection position ∷ lines) = IsOpenAt kept retired from position × AreOpen kept retired (position + 1) lines
 
--- the lines that wait do so for entries below this position
+-- the waiting lines wait for entries below this position
 abbrev pub AreBelow : ℕ → List Line → Type 0
 AreBelow bound [] = Unit {0}
 AreBelow bound (Known text ∷ lines) = AreBelow bound lines
@@ -77,7 +77,7 @@ mark_behind : (kept : List Kept) (place : ℕ) → mark_at (drop 1 kept) place �
 mark_behind [] place = refl
 mark_behind (x ∷ rest) place = refl
 
--- no line waits for the oldest entry where that isn't open
+-- no line waits for the oldest entry if that isn't open
 later_open : (kept : List Kept) (retired : ℕ) (lines : List Line) → mark_at kept 0 ≢ Some Open → AreOpen kept retired retired lines → AreOpen kept retired (retired + 1) lines
 later_open kept retired [] closed o = tt
 later_open kept retired (Known text ∷ lines) closed o = later_open kept retired lines closed o
@@ -96,7 +96,7 @@ shifted_open kept retired from (Awaited connection position ∷ lines) h o =
       shifted_open kept retired (position + 1) lines (omega (arith, h, here)) o.1,
     )
 
--- the oldest entry was let go, which isn't open
+-- the oldest entry, which isn't open, was dropped
 pub open_behind : (kept : List Kept) (retired : ℕ) (lines : List Line) → mark_at kept 0 ≢ Some Open → AreOpen kept retired retired lines
     → AreOpen (drop 1 kept) (retired + 1) (retired + 1) lines
 open_behind kept retired lines closed o = shifted_open kept retired (retired + 1) lines (omega arith) (later_open kept retired lines closed o)

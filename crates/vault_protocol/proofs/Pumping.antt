@@ -1,4 +1,4 @@
--- Pumps, one after the other.
+-- Pumps, one after another.
 use Rattle.std.proofs.Common.{◌≡◌, ◌≢◌, ℕ, ◌+◌, ◌^◌, ◌&&◌, Bool, true, false, not, cond, List, [], length, refl, sym, ap, ◌∙◌, subst}
 use Rattle.std.specs.Prelude.{nat_lt, Result, Ok}
 use Rattle.std.proofs.lemmas.Bool.{and_from, and_parts, lt-ltb, ltb-true}
@@ -26,7 +26,7 @@ emptied : (idle : Bool) (buffer : List ℕ) → length (cond (idle && true) [] b
 emptied true buffer = refl
 emptied false buffer = refl
 
--- a pump that was answered, by a vault that no device call had failed of
+-- a pump that was answered, by a vault none of whose device calls had failed
 pub pumped_talk : {D : Type 0} (old new : VaultSeen D) (answer : Pumped) (sessions asked : List ℕ) (lines : List Line) (now : Talk)
     → talk_of old sessions asked lines ≡ now
     → answer ≢ answers.Broken

@@ -25,7 +25,7 @@ read_too_much a b c bytes more n len taken last given is_len above =
     let size = length-append bytes (take n more) in
     has_more a c _ longest_script (Consumes-trans a b c bytes (take n more) taken last) (omega (arith, size, given, is_len, above))
 
--- a read gave more, which a buffer took up and from which it is put behind the bytes before
+-- a read gave more bytes into a buffer, and they are appended to those before
 module _ (bytes more items now new : List ℕ) (n len : ℕ) (is_now : now ≡ take len (more ++ drop (length more) items)) (is_len : length more ≡ len)
     (is_new : new ≡ bytes ++ take n now) where
   extended : new ≡ bytes ++ take n more

@@ -1,4 +1,4 @@
--- What a vault in memory is read as once its devices stopped with a pick.
+-- What a vault in memory is read as after its devices crashed with a pick.
 use Rattle.std.proofs.Common.{◌≡◌, ℕ, ◌+◌, ◌&&◌, IsTrue, Bool, true, false, cond, List, [], length, refl, sym, ap, ◌∙◌, subst, arith}
 use Rattle.std.specs.Prelude.{◌↔◌, slice_index, Ok}
 use Rattle.vault_model.specs.Vault.{Vault, durable}
@@ -22,19 +22,19 @@ use Rattle.group_commit.specs.Promises.{ImagesStand}
 use Rattle.vault_device.specs.Picks.{gives_one}
 use Rattle.vault_device.proofs.Picks.{picks_decide}
 
--- what a stop leaves, where the gate that is being opened is found open, and where it isn't
+-- what a crash leaves, if the gate that is being opened is found open, and if it isn't
 pub record IsReopened (seen : VaultSeen MemDisk) (opened : Bool) (base : Vault) (generation tail : ℕ) : Type 0 where
   pub base_is : base ≡ durable (view_at seen.view (cond opened seen.view.sealed seen.view.settled))
   pub generation_is : generation ≡ cond opened (generation_after seen.view (Ok Settled) seen.store.generation) seen.store.generation
   pub tail_is : tail ≡ cond opened (tail_after seen.view (Ok Settled) seen.store.tail) seen.store.tail
 
--- what one pick leaves of the active file, in whichever place
+-- what one pick leaves of the active file, whether it is the first or the second
 picked_active : (pick : Pick) (which : File) (active spare : MemDisk) (x y : List ℕ) → x ≡ picked pick (content_of (of_file which active spare).history) → y ≡ picked pick (content_of (of_file which spare active).history)
     → of_file which x y ≡ picked pick (content_of active.history)
 picked_active pick First active spare x y is also = is
 picked_active pick Second active spare x y is also = also
 
--- of the one of two files
+-- what it leaves of one of two files
 picked_one : (pick : Pick) (b : Bool) (active spare : MemDisk) (x y : List ℕ) → x ≡ picked pick (content_of active.history) → y ≡ picked pick (content_of spare.history) → cond b y x ≡ picked pick (content_of (cond b spare active).history)
 picked_one pick true active spare x y is also = also
 picked_one pick false active spare x y is also = is
@@ -47,7 +47,7 @@ module _ (seen : VaultSeen MemDisk) (pick : Pick) (x y : List ℕ) (base : Vault
   honest : AreHonest disk_of seen.store
   honest = record { first = refl; second = refl }
 
-  -- what the stop left of the file whose gate is being opened
+  -- what the crash left of the file whose gate is being opened
   abbrev left_active : List ℕ
   left_active = of_file seen.store.which x y
 

@@ -1,4 +1,4 @@
--- What is printed is outside the history, or the reply of a told entry.
+-- What is printed is an outside text, or the reply of an acknowledged entry.
 use Rattle.std.proofs.Common.{◌≡◌, ℕ, zero, suc, ◌+◌, ◌-◌, ◌≤◌, Bool, true, false, cond, inl, inr, List, [], ◌∷◌, ◌++◌, length, map, Option, Some, None, refl, sym, ap, ◌∙◌, subst, arith, append_assoc}
 use Rattle.std.specs.Prelude.{codes, filter, nat_lt, slice_get}
 use Rattle.std.specs.Option.{option_map}
@@ -24,7 +24,7 @@ use Rattle.vault_protocol.proofs.Commits.{in_order, commit_settles}
 use Rattle.vault_protocol.proofs.OpenLines.{AreOpen, open_from, still_open}
 use Rattle.vault_protocol.proofs.ScriptRuns.{IsSoundTalk, either, commit_sound, pump_sound, start_sound, text_sound, ready_sound, answer_sound}
 
--- The known texts of lines are outside the history.
+-- The known texts of lines are outside texts.
 
 abbrev pub AreOutside : List Line → Type 0
 AreOutside [] = Unit {0}
@@ -102,7 +102,7 @@ pub after_outside : (talk : Talk) (lines : List (List ℕ)) → AreOutside talk.
 after_outside talk [] o = o
 after_outside talk (line ∷ lines) o = after_outside (said_for talk line).talk lines (with_outside talk line (crash_line line) o)
 
--- Texts that are made of told ones.
+-- Texts that are made of replies and outside texts.
 
 told_both : (entries : List Entry) (from middle to : ℕ) (texts more : List (List ℕ)) → AreTold entries from middle texts → AreTold entries middle to more
     → AreTold entries from to (texts ++ more)
@@ -197,7 +197,7 @@ said_made talk (Awaited connection position ∷ lines) open_lines o gone n =
         subst (λ (all : List Entry). IsMadeOfTold all (from + 1) (rest.talk.view.told - v.retired) rest.text) same
         (subst (λ k. IsMadeOfTold (entries_in next.view) k (rest.talk.view.told - v.retired) rest.text) one made)
 
--- how many were told is how many were before entries were let go
+-- the number of acknowledged entries stays when entries are dropped
 told_as_said : (old new : Talk) → IsSaid old new → (all_gone new.view).told ≡ new.view.told
 told_as_said old new is = ap (λ (v : View). v.told) (settled_gone new.view is.closed)
 
@@ -217,7 +217,7 @@ now_made talk s o t =
           (said_made talk talk.lines s.awaited o (omega (arith, gone)) t.turns);
     }
 
--- Where all that is settled was told, nothing more is.
+-- If all durable entries are acknowledged, no more are.
 
 none_made : (talk : Talk) (lines : List Line) (entries : List Entry) (place : ℕ) → AreOutside lines → talk.view.settled ≤ talk.view.told
     → AreNext talk.view.told (length_of talk.view) lines → IsMadeOfTold entries place place (said_of talk lines).text × ((said_of talk lines).talk.view ≡ talk.view)
@@ -239,7 +239,7 @@ none_made talk (Awaited connection position ∷ lines) entries place o settled n
         absurd (omega (arith, below, turn, settled))
     by_test false e = (made_of_none entries place, refl)
 
--- nothing but texts outside the history is printed, and nothing more counts as told
+-- only outside texts are printed, and no more entries count as acknowledged
 pub outside_made : (old : View) (count : ℕ) (talk : Talk) → IsSoundTalk Reached talk → AreOutside talk.lines → IsInTurn talk → talk.view.settled ≤ talk.view.told
     → talk.view.told ≡ old.told + count → IsMadeOfTold (entries_in old) count count (said talk).text × ((said talk).talk.view.told ≡ old.told + count)
 outside_made old count talk s o t settled counted =
@@ -327,7 +327,7 @@ by_made talk line s o t =
     (either Q (bytes_eq line (codes "!pump")) (pump_made talk s o t.turn)
     (either Q (bytes_eq line (codes "!snapshot")) (start_made talk s o t) (line_made talk (connection_line line) s o t))))
 
--- A stop prints what is known.
+-- A crash prints the known texts.
 
 lost_made : (lines : List Line) → AreOutside lines → IsMadeOfTold [] 0 0 (known_texts lines)
 lost_made [] o = made_of_none [] 0
@@ -344,14 +344,14 @@ none_left : (kept : List Kept) → length kept ≡ 0 → kept ≡ []
 none_left [] e = refl
 none_left (x ∷ rest) e = absurd (omega (arith, e))
 
--- a conversation without lines that wait keeps nothing
+-- a conversation without waiting lines keeps no entries
 pub none_kept : (talk : Talk) → IsInTurn talk → talk.lines ≡ [] → talk.view.kept ≡ []
 none_kept talk t none =
     let gone : talk.view.retired ≡ talk.view.told = t.gone in
     let all : talk.view.told ≡ talk.view.retired + length talk.view.kept = subst (λ (lines : List Line). AreNext talk.view.told (length_of talk.view) lines) none t.turns in
     none_left talk.view.kept (omega (arith, gone, all))
 
--- all that were kept are told at the end
+-- all kept entries are acknowledged at the end
 pub end_made : (talk : Talk) → IsSoundTalk Reached talk → AreOutside talk.lines → IsInTurn talk → IsMadeOfTold (entries_in talk.view) 0 (length talk.view.kept) (said (committed talk)).text
 end_made talk s o t =
     let made = commit_made talk s o t in

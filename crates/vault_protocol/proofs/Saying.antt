@@ -5,7 +5,7 @@ use Rattle.std.proofs.lemmas.Bool.{cond-true, cond-false}
 use Rattle.vault_protocol.specs.Talk.{Line, Known, Awaited, Talk, Said, told, told_text, reply_at, behind, said_of, said_now, is_known}
 use Rattle.vault_protocol.specs.Saying.{may_be_said, is_sayable, said_in_front, said_first, known_texts}
 
--- the lines that a conversation has don't matter where others are printed
+-- the lines of a conversation don't matter if other lines are printed
 said_over : (talk : Talk) (others lines : List Line) → said_of (record talk { lines = others }) lines ≡ said_of talk lines
 said_over talk others [] = refl
 said_over talk others (Known text ∷ lines) = ap (behind text) (said_over talk others lines)
@@ -45,7 +45,7 @@ fewer_in_front talk (Awaited connection position ∷ lines) h = omega arith
 pub fewer : (talk : Talk) → is_sayable talk ≡ true → length (said_first talk).talk.lines < length talk.lines
 fewer talk h = fewer_in_front talk talk.lines h
 
--- the known lines that a stop leaves are all printed
+-- the known lines that a crash leaves are all printed
 pub known_said : (talk : Talk) (lines : List Line)
     → said_of talk (filter is_known lines) ≡ record { text = known_texts lines; talk = record talk { lines = [] } }
 known_said talk [] = refl

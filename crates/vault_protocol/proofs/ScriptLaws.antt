@@ -66,7 +66,7 @@ others_are_acts lines events r =
       (end_sound P (acts_on events) talk now).vault.holds,
     )
 
--- What its commits settle.
+-- What its commits make durable.
 
 pub commits_settle : CommitsSettle
 commits_settle lines = commit_settles (reached_by lines) (reached_sound lines)

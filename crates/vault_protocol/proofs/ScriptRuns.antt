@@ -26,7 +26,7 @@ use Rattle.vault_protocol.proofs.LettingGo.{behind_one, all_gone_keeps}
 pub record KeepsActs (P : View → Type 0) : Type 0 where
   pub acts : (view : View) (act : Act) → P view → ViewAllows snapshot_length view act → P (view_acted snapshot_length view act)
 
--- each opening of what a stop may leave keeps it
+-- each opening of what a crash may leave keeps it
 pub record KeepsOpenings (P : View → Type 0) : Type 0 where
   pub opens : (view : View) (left : Vault) → P view → MayLeave view left → P (opened_view left)
 
@@ -128,7 +128,7 @@ stage_sound P k talk connection command s =
       awaited = with_awaited talk.view.kept (entry_of (book_of talk.view) session command) talk.view.retired talk.view.retired connection talk.lines (omega arith) (omega arith) s.awaited;
     }
 
--- a stop leaves what a crash may leave
+-- a `!crash` line leaves what a crash may leave
 may_be_left : (pick : Pick) (view : View) → MayLeave view (durable (view_at view (cond (gives_one pick && is_opening view.phase) view.sealed view.settled)))
 may_be_left pick view = by_test (gives_one pick && is_opening view.phase) refl
   where
@@ -180,7 +180,7 @@ pub with_sound : (P : View → Type 0) (k : KeepsActs P) (o : KeepsOpenings P) (
 with_sound P k o talk line None s = by_sound P k talk line s
 with_sound P k o talk line (Some pick) s = now_said P k (crashed pick talk) (crash_sound P o pick talk s)
 
--- behind any lines
+-- after any lines
 pub after_sound : (P : View → Type 0) (k : KeepsActs P) (o : KeepsOpenings P) (talk : Talk) (lines : List (List ℕ)) → IsSoundTalk P talk → IsSoundTalk P (talk_after talk lines)
 after_sound P k o talk [] s = s
 after_sound P k o talk (line ∷ lines) s = after_sound P k o (said_for talk line).talk lines (with_sound P k o talk line (crash_line line) s)

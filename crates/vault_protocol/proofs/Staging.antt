@@ -102,7 +102,7 @@ staged_talk old new sessions asked lines more now refused connection session pla
       lines = is_more i;
     }
 
--- a command that a busy vault refused leaves all as it was, and its line is answered so
+-- a command that a busy vault refused leaves all as it was, and its line is answered by the refusal
 pub refused_talk : {D : Type 0} (old new : VaultSeen D) (sessions asked : List ℕ) (lines : List Line) (now : Talk) (connection : ℕ) (command : Command)
     → talk_of new sessions asked lines ≡ now
     → new ≡ old

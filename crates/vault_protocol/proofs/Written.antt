@@ -6,7 +6,7 @@ use Rattle.std.proofs.KnownBytes.{Appends-nil, Appends-trans}
 use Rattle.std.proofs.lemmas.List.{append-nil, take-append-le}
 use Rattle.std.proofs.Math.Seq.{take-append_seam, take-append-add}
 
--- a writer that held a holds b now, and of all the text the rest is still to come
+-- a writer that held a holds b now, and the rest of the whole text is still to come
 abbrev pub Written : Option (List ℕ) → Option (List ℕ) → List ℕ → List ℕ → Type 0
 Written a b all rest = (done : List ℕ) × Appends a b done × (all ≡ done ++ rest)
 
@@ -26,7 +26,7 @@ pub written_prefix : (a b : Option (List ℕ)) (all rest : List ℕ)
     → Written a b all rest → (n : ℕ) × Appends a b (take n all)
 written_prefix a b all rest w = (length w.0, rw (w.2, take-append_seam w.0 rest) w.1)
 
--- the same where the next text was cut
+-- the same if only part of the next text was written
 pub written_cut : (a b c : Option (List ℕ)) (all text rest : List ℕ) (n : ℕ) → n ≤ length text
     → Written a b all (text ++ rest) → Appends b c (take n text) → (m : ℕ) × Appends a c (take m all)
 written_cut a b c all text rest n within w more = (

@@ -4,7 +4,7 @@ use Rattle.group_commit.specs.Entries.{Kept}
 use Rattle.group_commit.specs.Seen.{VaultSeen}
 use Rattle.vault_protocol.specs.Talk.{Line, Known, Awaited, Talk, Said, told, told_text, reply_at}
 
--- whether the first of these lines may be printed: its text is known, or its entry is settled
+-- whether the first of these lines may be printed: its text is known, or its entry is durable
 abbrev pub may_be_said : ℕ → List Line → Bool
 may_be_said settled [] = false
 may_be_said settled (Known text ∷ lines) = true
@@ -23,13 +23,13 @@ said_in_front talk (Awaited connection position ∷ lines) =
 abbrev pub said_first : Talk → Said
 said_first talk = said_in_front talk talk.lines
 
--- the texts of those that are known
+-- the texts of the lines whose text is known
 abbrev pub known_texts : List Line → List ℕ
 known_texts [] = []
 known_texts (Known text ∷ lines) = text ++ known_texts lines
 known_texts (Awaited connection position ∷ lines) = known_texts lines
 
--- tickets were given up: the same vault, but for the marks of entries
+-- tickets were given up: the vault is the same, except the marks of entries
 pub record AreLost {D : Type 0} (old new : VaultSeen D) : Type 0 where
   pub store : new.store ≡ old.store
   pub view : new.view ≡ record old.view { kept = new.view.kept }

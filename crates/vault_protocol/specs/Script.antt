@@ -1,4 +1,4 @@
--- Scripts: what the lines of several connections to one vault are told, in order. This project's own.
+-- Scripts: what is printed for the lines of several connections to one vault, in order. This project's own.
 use Rattle.std.specs.Prelude.{ℕ, ◌+◌, ◌-◌, ◌*◌, ◌==◌, ◌&&◌, nat_le, Bool, true, List, [], ◌∷◌, ◌++◌, codes, take, drop, position, Option, Some, None, if◌then◌else◌}
 use Rattle.std.specs.List.{slice_split}
 use Rattle.std.specs.Str.{bytes_eq}
@@ -50,7 +50,7 @@ pick_in word =
     if bytes_eq word (codes "old") then Some Old
     else if bytes_eq word (codes "new") then Some New else byte_pick word
 
--- how many bytes stand before the pick
+-- how many bytes of a `!crash` line stand before the pick
 abbrev pub crash_length : ℕ
 crash_length = 7
 
@@ -63,18 +63,18 @@ abbrev pub is_skipped : List ℕ → Bool
 is_skipped [] = true
 is_skipped (first ∷ rest) = first == 35
 
--- a line for a connection, outside the history
+-- a refusal for a connection, which is no entry of the history
 abbrev pub with_refusal : Talk → ℕ → List ℕ → Talk
 with_refusal talk connection text = with_text talk (connection_text connection text)
 
--- the conversation once a connection gave a command, or a line that spells none
+-- the conversation after a connection's line, which is a command or spells none
 abbrev pub answered : Talk → ℕ → Option Command → Talk
 answered talk connection None = with_refusal talk connection (outside_text BadLine)
 answered talk connection (Some command) =
     if is_full talk then with_refusal talk connection (outside_text Busy)
     else staged talk connection command
 
--- a connection has one command under way: where its earlier one isn't told, all is committed first
+-- a connection has one command under way: if its earlier one isn't durable yet, all is committed first
 abbrev pub ready : Talk → ℕ → Said
 ready talk connection = if is_awaited talk connection then said (committed talk) else record { text = []; talk = talk }
 
@@ -84,12 +84,12 @@ heard talk connection line =
     let before = ready talk connection in
     behind before.text (said (answered before.talk connection (command_of line)))
 
--- the same, and for a line that is none of a script's
+-- the same, and for a line that isn't valid in a script
 abbrev pub heard_of : Talk → Option (ℕ × List ℕ) → Said
 heard_of talk None = said (with_text talk (codes "! ERR 10\n"))
 heard_of talk (Some line) = heard talk line.0 line.1
 
--- what is printed for a line that isn't a stop
+-- what is printed for a line other than `!crash`
 abbrev pub said_by : Talk → List ℕ → Said
 said_by talk line =
     if is_skipped line then record { text = []; talk = talk }
@@ -98,7 +98,7 @@ said_by talk line =
     else if bytes_eq line (codes "!snapshot") then said (started talk)
     else heard_of talk (connection_line line)
 
--- what is printed for a stop, or for another line
+-- what is printed for a `!crash` line with a pick, or for another line
 abbrev pub said_with : Talk → List ℕ → Option Pick → Said
 said_with talk line None = said_by talk line
 said_with talk line (Some pick) = said (crashed pick talk)

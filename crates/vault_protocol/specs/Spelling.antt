@@ -1,4 +1,4 @@
--- How a line of a script is spelled, in the subject's words: what the reading of it must give back. This project's own.
+-- How a line of a script is spelled, in the domain's terms: what reading it must give back. This project's own.
 use Rattle.std.specs.Prelude.{ℕ, ◌≡◌, ◌≤◌, ◌↔◌, List, ◌++◌, codes, decimal, Some}
 use Rattle.vault_protocol.specs.Limits.{last_connection}
 use Rattle.vault_protocol.specs.Script.{connection_line}
@@ -8,7 +8,7 @@ abbrev pub ConnectionSpells : List ℕ → ℕ → List ℕ → Type 0
 ConnectionSpells line connection said =
     (1 ≤ connection) × (connection ≤ last_connection) × (line ≡ codes "@" ++ (decimal connection ++ (codes " " ++ said)))
 
--- a line of a script is read as the connection's that spells it
+-- a line of a script is read as a connection's exactly if it is spelled as one
 abbrev pub ConnectionAsSpelled : Type 0
 ConnectionAsSpelled = (line : List ℕ) (connection : ℕ) (said : List ℕ)
     → (connection_line line ≡ Some (connection, said)) ↔ ConnectionSpells line connection said

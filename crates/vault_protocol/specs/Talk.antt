@@ -1,4 +1,4 @@
--- A conversation of several connections with one vault: what is told, and what each order to the vault does. This project's own.
+-- A conversation of several connections with one vault: what is printed, and what each order to the vault does. This project's own.
 use Rattle.std.specs.Prelude.{ℕ, zero, suc, ◌+◌, ◌-◌, ◌/◌, ◌^◌, ◌==◌, ◌&&◌, ◌||◌, nat_le, nat_lt, Bool, true, false, List, [], ◌∷◌, ◌++◌, codes, decimal, length, drop, filter, replicate, slice_get, slice_index, slice_set, Option, Some, None, Ok, if◌then◌else◌}
 use Rattle.std.specs.Option.{option_map}
 use Rattle.vault_model.specs.Said.{Command, Reply, Effect}
@@ -31,9 +31,9 @@ pub data Line : Type 0 where
   Known : List ℕ → Line
   Awaited : ℕ → ℕ → Line
 
--- what contracts see of the vault; how many bytes of records are in no frame yet; of the active file its generation, and where its
--- tail gate stands; the session that each connection speaks for; how many entries this life had with each connection's last command,
--- 0 for none; the lines that aren't printed yet, in order
+-- what contracts see of the vault; how many bytes of records are in no frame yet; the active file's generation, and the offset of
+-- its tail gate; the session that each connection speaks for; how many entries this life had up to and with each connection's last
+-- command, 0 for none; the lines that aren't printed yet, in order
 pub record Talk : Type 0 where
   pub view : View
   pub buffer : ℕ
@@ -43,7 +43,7 @@ pub record Talk : Type 0 where
   pub asked : List ℕ
   pub lines : List Line
 
--- what is printed, and the conversation behind it
+-- what is printed, and the conversation after it
 pub record Said : Type 0 where
   pub text : List ℕ
   pub talk : Talk
@@ -52,7 +52,7 @@ pub record Said : Type 0 where
 abbrev pub first_tail : ℕ
 first_tail = 34
 
--- for each connection none
+-- 0 for each connection
 abbrev pub none_each : List ℕ
 none_each = replicate last_connection 0
 
@@ -68,13 +68,13 @@ new_talk = record {
   lines = [];
 }
 
--- a connection speaks for the session that it was told last, and for the door again once it left
+-- a connection speaks for the session that it opened last, and for the door again once it left
 abbrev pub sessions_after : List ℕ → ℕ → Reply → List ℕ
 sessions_after sessions connection (replies.Session number) = slice_set sessions (connection - 1) number
 sessions_after sessions connection replies.Left = slice_set sessions (connection - 1) 0
 sessions_after sessions connection reply = sessions
 
--- a text for a connection
+-- a text for a connection, with its number before it
 abbrev pub connection_text : ℕ → List ℕ → List ℕ
 connection_text connection text = codes "@" ++ decimal connection ++ codes " " ++ text
 
@@ -82,17 +82,17 @@ connection_text connection text = codes "@" ++ decimal connection ++ codes " " +
 abbrev pub reply_at : View → ℕ → Option Reply
 reply_at view position = option_map (λ (kept : Kept). kept.entry.reply) (slice_get view.kept (position - view.retired))
 
--- the text of it for a connection
+-- the text of a reply for a connection
 abbrev pub told_text : ℕ → Option Reply → List ℕ
 told_text connection None = []
 told_text connection (Some reply) = connection_text connection (reply_text reply)
 
--- the sessions once it was told
+-- the sessions after a connection got a reply
 abbrev pub sessions_told : List ℕ → ℕ → Option Reply → List ℕ
 sessions_told sessions connection None = sessions
 sessions_told sessions connection (Some reply) = sessions_after sessions connection reply
 
--- a connection was told the reply at a position
+-- a connection got the reply of the entry at a position, which counts as acknowledged
 abbrev pub told : Talk → ℕ → ℕ → Talk
 told talk connection position = record talk {
   view = view_acted snapshot_length talk.view (Tell position);
@@ -103,8 +103,8 @@ told talk connection position = record talk {
 abbrev pub behind : List ℕ → Said → Said
 behind text said = record { text = text ++ said.text; talk = said.talk }
 
--- what is printed of these lines: the texts of those in front, each line told once its entry is settled, up to the first line whose
--- entry isn't
+-- what is printed of these lines: the texts of those in front, up to the first line whose entry isn't durable; the entries whose
+-- replies are printed count as acknowledged
 abbrev pub said_of : Talk → List Line → Said
 said_of talk [] = record { text = []; talk = record talk { lines = [] } }
 said_of talk (Known text ∷ lines) = behind text (said_of talk lines)
@@ -113,7 +113,7 @@ said_of talk (Awaited connection position ∷ lines) =
     then behind (told_text connection (reply_at talk.view position)) (said_of (told talk connection position) lines)
     else record { text = []; talk = record talk { lines = Awaited connection position ∷ lines } }
 
--- what is printed now, before any entry is let go
+-- what is printed now, before any entry is dropped
 abbrev pub said_now : Talk → Said
 said_now talk = said_of talk talk.lines
 
@@ -123,26 +123,26 @@ is_closed Open = false
 is_closed Told = true
 is_closed Forgotten = true
 
--- how many of these entries may be let go, of which so many are settled: those in front whose tickets aren't out any more
+-- how many of these entries may be dropped, if the first `settled` are durable: those in front whose tickets aren't out any more
 abbrev pub free_in : ℕ → List Kept → ℕ
 free_in zero kept = 0
 free_in (suc settled) [] = 0
 free_in (suc settled) (kept ∷ rest) = if is_closed kept.mark then suc (free_in settled rest) else 0
 
--- what is seen once so many of the oldest entries were let go
+-- what is seen after this number of the oldest entries were dropped
 abbrev pub retirings : ℕ → View → View
 retirings zero view = view
 retirings (suc n) view = retirings n (view_acted snapshot_length view Retire)
 
--- what is seen once all entries were let go that may be
+-- what is seen after all entries were dropped that may be
 unfoldable pub all_gone : View → View
 all_gone view = retirings (free_in (view.settled - view.retired) view.kept) view
 
--- what is printed now; the entries that were told are let go then
+-- what is printed now; then the acknowledged entries are dropped
 abbrev pub said : Talk → Said
 said talk = let now = said_now talk in record { text = now.text; talk = record now.talk { view = all_gone now.talk.view } }
 
--- one more line, of this text
+-- one more waiting line, with this text
 abbrev pub with_text : Talk → List ℕ → Talk
 with_text talk text = record talk { lines = talk.lines ++ Known text ∷ [] }
 
@@ -157,16 +157,16 @@ pumped talk =
       tail = tail_after talk.view answered talk.tail;
     }
 
--- so many pumps
+-- this number of pumps
 abbrev pub pumps : ℕ → Talk → Talk
 pumps zero talk = talk
 pumps (suc n) talk = pumps n (pumped talk)
 
--- in how many pieces so many bytes are written
+-- the number of pieces in which this number of bytes is written
 abbrev pub pieces : ℕ → ℕ
 pieces bytes = suc ((bytes - 1) / most_piece)
 
--- how many pumps the commit or the snapshot under way has left, where the snapshot's vault has so many bytes
+-- the number of pumps left in the commit or the snapshot under way; `length` is the size of the snapshot's vault in bytes
 abbrev pub pumps_left : Phase → ℕ → ℕ
 pumps_left Idle length = 0
 pumps_left Written length = 3
@@ -179,7 +179,7 @@ pumps_left Filled length = 3
 pumps_left Ready length = 2
 pumps_left SnapOpening length = 1
 
--- how many pumps settle what waits, once nothing is under way
+-- the number of pumps that make durable what waits, once nothing is under way
 abbrev pub pumps_for : Waiting → ℕ
 pumps_for Nothing = 0
 pumps_for NoEffects = 1
@@ -191,11 +191,11 @@ waits_behind v position =
     let entries = drop (position - v.retired) v.kept in
     waiting entries (effects (view_at v position) entries)
 
--- how many pumps settle all
+-- the number of pumps that make all entries durable, and end what is under way
 abbrev pub pumps_needed : View → ℕ
 pumps_needed v = pumps_left v.phase (snapshot_length (durable (view_at v v.sealed))) + pumps_for (waits_behind v (framed v))
 
--- pumps until all is settled, and neither a commit nor a snapshot is under way
+-- pumps until all entries are durable, and neither a commit nor a snapshot is under way
 unfoldable pub committed : Talk → Talk
 committed talk = pumps (pumps_needed talk.view) talk
 
@@ -203,11 +203,11 @@ committed talk = pumps (pumps_needed talk.view) talk
 abbrev pub may_start : Talk → Bool
 may_start talk = is_idle talk.view.phase && nat_lt (talk.generation + 1) (2 ^ 64)
 
--- a snapshot is begun, where one may be
+-- a snapshot is begun, if one may be
 unfoldable pub started : Talk → Talk
 started talk = if may_start talk then record talk { view = view_acted snapshot_length talk.view StartSnapshot; buffer = 0 } else talk
 
--- no more commands get a place in the history: the most entries are kept, or there is no room for their records
+-- no more commands get a place in the history: there are as many entries as may be, or there is no room for more records
 abbrev pub is_full : Talk → Bool
 is_full talk =
     nat_le most_kept (length talk.view.kept) || length_of talk.view == 2 ^ 64 - 1
@@ -229,7 +229,7 @@ staged talk connection command =
       lines = talk.lines ++ Awaited connection (length_of talk.view) ∷ [];
     }
 
--- a connection's earlier command isn't told yet
+-- a connection's earlier command isn't durable yet, so it isn't acknowledged
 abbrev pub is_awaited : Talk → ℕ → Bool
 is_awaited talk connection = nat_lt talk.view.settled (slice_index talk.asked (connection - 1))
 
@@ -238,13 +238,13 @@ abbrev pub is_known : Line → Bool
 is_known (Known text) = true
 is_known (Awaited connection position) = false
 
--- whether a stop with this pick finds the gate open that is being opened
+-- whether a crash with this pick leaves the gate open that is being opened
 abbrev pub opens : Pick → Talk → Bool
 opens pick talk = gives_one pick && is_opening talk.view.phase
 
--- Both devices stop, and the vault is opened again: after the settled entries or, where the gate that was being opened is found open,
--- after the sealed ones, with the numbers that the settling pump gives. No connection has a session, and the lines whose replies
--- weren't told are lost.
+-- Both devices crash, and the vault is opened again, as it was after the durable entries. If the gate that was being opened is found
+-- open, it is the vault after the sealed ones, with the generation and the tail that the last sync would have given. No connection
+-- has a session, and the lines whose replies weren't printed are lost.
 abbrev pub crashed : Pick → Talk → Talk
 crashed pick talk = record {
   view = opened_view (durable (view_at talk.view (if opens pick talk then talk.view.sealed else talk.view.settled)));

@@ -9,6 +9,6 @@ abbrev pub line_of : {A : Type 0} → Waiting A → Line
 line_of (waiting.Known text) = Known text
 line_of (waiting.Awaited connection ticket) = Awaited connection ticket.position
 
--- such lines
+-- the lines that aren't printed yet
 abbrev pub lines_of : {A : Type 0} → List (Waiting A) → List Line
 lines_of lines = map line_of lines

@@ -9,16 +9,16 @@ use thiserror::Error;
 /// Why a script stops.
 #[derive(Clone, Copy, Debug, PartialEq, Eq, Error)]
 pub enum ScriptError {
-    /// The reader failed, or gave nothing in too many calls. Nothing is written.
+    /// The reader failed, or didn't come to its end in `MAX_READS` calls. Nothing is written.
     #[error("read fault")]
     Read,
-    /// The writer failed, or took nothing.
+    /// The writer failed, or took no byte.
     #[error("write fault")]
     Write,
     /// The script has more bytes than a script may have. Nothing is written.
     #[error("script too long")]
     TooLong,
-    /// Memory was wanted and refused.
+    /// Out of memory: an allocation was refused.
     #[error("want of memory")]
     NoMemory,
 }

@@ -10,14 +10,14 @@ use std::alloc::{AllocError, Allocator};
 use std::io::Read;
 use vault_lines::MAX_READS;
 
-/// Room for one read.
+/// A buffer for one read.
 fn room<A: Allocator>(alloc: A) -> Result<Vec<u8, A>, AllocError>
     ensures { IfOk result (λ buffer. 0 < vec_len buffer) }
 {
     vec![in alloc; 0u8; 65536]
 }
 
-/// All that the reader has.
+/// Reads all bytes that the reader has.
 pub(crate) fn read_script<A: Allocator + Copy, R: Read>(
     alloc: A,
     reader: &mut R,

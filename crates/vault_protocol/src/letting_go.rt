@@ -1,4 +1,4 @@
-//! Entries that were told are let go.
+//! Acknowledged entries are dropped.
 
 ghost use Rattle.std.specs.Prelude.{◌≡◌, ◌<◌, length, true, false};
 ghost use Rattle.vault_protocol.specs.Talk.{all_gone};
@@ -8,7 +8,7 @@ use group_commit::{Retired, Vault};
 use std::alloc::Allocator;
 use vault_device::Device;
 
-// Lets the oldest entry go, where it may be. Whether it did.
+// Drops the oldest entry, if it may be dropped. Whether it did.
 fn let_one_go<D: Device, A: Allocator + Copy>(vault: &mut Vault<D, A>) -> bool
     ensures goes_on { result ≡ true → all_gone vault.new.view ≡ all_gone vault.old.view }
     ensures fewer { result ≡ true → length vault.new.view.kept < length vault.old.view.kept }
@@ -22,7 +22,7 @@ fn let_one_go<D: Device, A: Allocator + Copy>(vault: &mut Vault<D, A>) -> bool
     }
 }
 
-/// Lets all entries go that are settled and whose tickets aren't out, up to the first that isn't so.
+/// Drops all entries that are durable and whose tickets aren't out, up to the first that isn't so.
 pub(crate) fn let_go<D: Device, A: Allocator + Copy>(vault: &mut Vault<D, A>)
     ensures { vault.new ≡ record vault.old { view = all_gone vault.old.view } }
 {

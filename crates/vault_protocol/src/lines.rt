@@ -65,7 +65,7 @@ fn read_connection(word: &[u8]) -> Option<Connection>
     }
 }
 
-/// The number before the space, and the line behind it.
+/// The connection whose number stands before the space, and the line behind the space.
 fn cut_number(rest: &[u8]) -> Option<(Connection, &[u8])>
     ensures { option_map (λ found. (found.0, found.1.now)) result ≡ numbered_line rest.now }
 {
@@ -76,7 +76,7 @@ fn cut_number(rest: &[u8]) -> Option<(Connection, &[u8])>
     Some((connection, line))
 }
 
-/// A connection and its line.
+/// The connection of a line, and what it says.
 pub(crate) fn connection_of(line: &[u8]) -> Option<(Connection, &[u8])>
     ensures { option_map (λ found. (found.0, found.1.now)) result ≡ connection_line line.now }
 {
@@ -98,7 +98,7 @@ fn read_digit(byte: u8) -> Option<u8>
     }
 }
 
-/// The pick of a byte, which two digits give.
+/// The pick of one byte, by its two digits.
 fn read_byte_pick(word: &[u8]) -> Option<Pick>
     ensures { result ≡ byte_pick word.now }
 {
@@ -123,7 +123,7 @@ fn read_pick(word: &[u8]) -> Option<Pick>
     read_byte_pick(word)
 }
 
-/// The pick of a line that has the devices stop.
+/// The pick of a `!crash` line.
 pub(crate) fn crash_of(line: &[u8]) -> Option<Pick>
     ensures { result ≡ crash_line line.now }
 {

@@ -1,4 +1,4 @@
-//! Lines whose replies weren't told are lost.
+//! A crash loses the lines whose replies weren't printed.
 
 ghost use Rattle.std.specs.Prelude.{◌≡◌, ◌++◌, ◌∷◌, OnOk, []};
 ghost use Rattle.vault_protocol.specs.Saying.{known_texts, AreLost};
@@ -26,7 +26,7 @@ pub(crate) fn give_up<A: Allocator + Copy>(
     lines.destroy_empty();
 }
 
-// Gives up a line's ticket, or prints its text.
+// Gives up a line's ticket, or prints its text if that is known.
 fn lose_one<A: Allocator + Copy>(
     vault: &mut Vault<MemDevice<A>, A>,
     line: Waiting<A>,
@@ -44,7 +44,7 @@ fn lose_one<A: Allocator + Copy>(
     }
 }
 
-/// Gives up the tickets of lines, and prints the texts of the others.
+/// Gives up the tickets of lines, and prints the known texts of the others.
 pub(crate) fn lose<A: Allocator + Copy>(
     vault: &mut Vault<MemDevice<A>, A>,
     mut lines: VecDeque<Waiting<A>, A>,

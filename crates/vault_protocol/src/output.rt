@@ -6,7 +6,7 @@ ghost use Rattle.std.specs.Io.KnownBytes.{Appends};
 use crate::error::ScriptError;
 use std::io::Write;
 
-/// Writes the whole text. A writer that takes none of some bytes has failed.
+/// Writes the whole text. A write that takes no byte counts as failed.
 pub(crate) fn write_text<W: Write>(writer: &mut W, text: &[u8]) -> Result<(), ScriptError>
     ensures ok { OnOk result (Appends (W.contents writer.old) (W.contents writer.new) text.now) }
     ensures err { OnErr result

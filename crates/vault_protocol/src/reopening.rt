@@ -1,4 +1,4 @@
-//! The devices of a vault stop, and it is opened again.
+//! The devices of a vault crash, and the vault is opened again.
 
 ghost use Rattle.std.specs.Prelude.{◌≡◌, ◌+◌, ◌%◌, ◌^◌, ◌&&◌, IfOk, IfErr, Ok, [], if◌then◌else◌};
 ghost use Rattle.vault_model.specs.Vault.{durable};
@@ -15,7 +15,7 @@ use std::alloc::Allocator;
 use vault_device::{MemDevice, Pick};
 use vault_store::laws::files_stand_for_one_vault;
 
-/// Both devices stop with this pick, and the vault is opened again in the life of the next number.
+/// Both devices crash with this pick, and the vault is opened again in the life with the next number.
 pub(crate) fn reopened<A: Allocator + Copy>(
     alloc: A,
     vault: Vault<MemDevice<A>, A>,

@@ -25,8 +25,9 @@ use vault_device::{Device, MemDevice, Pick};
 use vault_lines::{LineError, outside_text, read_line_of, text_of};
 use vault_model::{CommandIn, Listing, Outside, Reply, ReplyIn};
 
-/// A vault over two devices in memory, the session that each connection speaks for, how many entries this life had with each
-/// connection's last command, and the lines that aren't printed yet. As these may hold tickets, it ends by `finish` or `close`.
+/// A vault over two devices in memory, the session that each connection speaks for, how many entries this life had up to and
+/// with each connection's last command, and the lines that aren't printed yet. Lines may hold tickets, so a runner ends by
+/// `finish` or `close`.
 pub(crate) struct Runner<A: Allocator + Copy> {
     vault: Vault<MemDevice<A>, A>,
     sessions: [u32; LAST_CONNECTION as usize],
@@ -52,7 +53,7 @@ impl<A: Allocator + Copy> Model for Runner<A> {
     } };
 }
 
-/// A connection speaks for the session that it was told last, and for session 0 again once it left.
+/// A connection speaks for the session that it opened last, and for session 0 again once it left.
 fn speak_for<A: Allocator>(
     sessions: &mut [u32; LAST_CONNECTION as usize],
     connection: Connection,
@@ -67,7 +68,7 @@ fn speak_for<A: Allocator>(
     }
 }
 
-/// The text for a connection.
+/// The text, with the connection's number before it.
 fn prefixed<A: Allocator>(
     alloc: A,
     connection: Connection,
@@ -81,7 +82,7 @@ fn prefixed<A: Allocator>(
     Ok(whole)
 }
 
-/// Appends the line that tells a connection a reply.
+/// Appends the line with a connection's reply.
 fn put_reply<A: Allocator + Copy>(
     alloc: A,
     connection: Connection,
@@ -97,7 +98,7 @@ fn put_reply<A: Allocator + Copy>(
     out.extend_from_slice(&text)
 }
 
-/// Whether all is settled, and neither a commit nor a snapshot is under way.
+/// Whether all entries are durable, and neither a commit nor a snapshot is under way.
 fn is_at_rest<D: Device, A: Allocator + Copy>(vault: &Vault<D, A>) -> bool
     ensures { IsTrue result ↔ (pumps_needed vault.now.view ≡ 0) }
 {
@@ -127,7 +128,7 @@ impl<A: Allocator + Copy> Runner<A> {
         }
     }
 
-    /// Ends, whatever is still waiting.
+    /// Ends, even if lines are still waiting.
     pub(crate) fn close(self) {
         let Runner {
             mut vault,
@@ -139,7 +140,7 @@ impl<A: Allocator + Copy> Runner<A> {
         drop(vault);
     }
 
-    // One more line of this text.
+    // Adds a waiting line with this text.
     fn push_text(&mut self, text: Vec<u8, A>) -> Result<(), AllocError>
         ensures { OnOk result (self.new ≡ with_text self.old text.items) }
     {
@@ -149,7 +150,7 @@ impl<A: Allocator + Copy> Runner<A> {
         Ok(())
     }
 
-    // Answers a connection outside the history.
+    // Answers a connection by a refusal that is no entry of the history.
     fn refuse(
         &mut self,
         alloc: A,
@@ -231,7 +232,7 @@ impl<A: Allocator + Copy> Runner<A> {
         Ok(())
     }
 
-    // Begins a snapshot, where one may be begun.
+    // Begins a snapshot, if one may be begun.
     fn snapshot(&mut self) -> Result<(), ScriptError>
         ensures state { OnOk result (self.new ≡ started self.old) }
         ensures cause { IfErr result (λ e. e ≡ ScriptError.NoMemory) }
@@ -242,7 +243,7 @@ impl<A: Allocator + Copy> Runner<A> {
         Ok(())
     }
 
-    // Tells a connection the reply that its ticket stands for.
+    // Redeems a connection's ticket, and prints the reply.
     fn tell(
         &mut self,
         alloc: A,
@@ -297,7 +298,7 @@ impl<A: Allocator + Copy> Runner<A> {
         }
     }
 
-    // Prints the lines in front whose texts are known or whose entries are settled.
+    // Prints waiting lines in order, as long as the first one's text is known or its entry durable.
     fn say_now(&mut self, alloc: A, out: &mut Vec<u8, A>) -> Result<(), ScriptError>
         ensures state { OnOk result (self.new ≡ (said_now self.old).talk) }
         ensures text { OnOk result (out.new.items ≡ out.old.items ++ (said_now self.old).text) }
@@ -309,7 +310,7 @@ impl<A: Allocator + Copy> Runner<A> {
         Ok(())
     }
 
-    // The same, and lets the entries go that were told.
+    // The same, and drops the acknowledged entries.
     fn say(&mut self, alloc: A, out: &mut Vec<u8, A>) -> Result<(), ScriptError>
         ensures state { OnOk result (self.new ≡ (said self.old).talk) }
         ensures text { OnOk result (out.new.items ≡ out.old.items ++ (said self.old).text) }
@@ -320,7 +321,7 @@ impl<A: Allocator + Copy> Runner<A> {
         Ok(())
     }
 
-    // Commits all, where the connection's earlier command isn't told.
+    // Commits all, if the connection's earlier command isn't durable yet.
     fn prepare(
         &mut self,
         alloc: A,
@@ -337,7 +338,7 @@ impl<A: Allocator + Copy> Runner<A> {
         Ok(())
     }
 
-    // Answers a line of a connection, and prints what is known.
+    // Answers a line of a connection, and prints what may be printed.
     fn answer_connection(
         &mut self,
         alloc: A,
@@ -354,7 +355,7 @@ impl<A: Allocator + Copy> Runner<A> {
         self.say(alloc, out)
     }
 
-    // Answers a line of a connection, or one that is none of a script's.
+    // Answers a line of a connection, or one that isn't valid in a script.
     fn answer_line(
         &mut self,
         alloc: A,
@@ -374,7 +375,7 @@ impl<A: Allocator + Copy> Runner<A> {
         }
     }
 
-    // Commits, and prints what is known.
+    // Commits, and prints what may be printed.
     fn commit_and_say(&mut self, alloc: A, out: &mut Vec<u8, A>) -> Result<(), ScriptError>
         ensures state { OnOk result (self.new ≡ (said (committed self.old)).talk) }
         ensures text { OnOk result (out.new.items ≡ out.old.items ++ (said (committed self.old)).text) }
@@ -384,7 +385,7 @@ impl<A: Allocator + Copy> Runner<A> {
         self.say(alloc, out)
     }
 
-    // Answers a line that isn't a stop.
+    // Answers a line other than `!crash`.
     fn answer(&mut self, alloc: A, line: &[u8], out: &mut Vec<u8, A>) -> Result<(), ScriptError>
         ensures state { OnOk result (self.new ≡ (said_by self.old line.now).talk) }
         ensures text { OnOk result (out.new.items ≡ out.old.items ++ (said_by self.old line.now).text) }
@@ -407,7 +408,7 @@ impl<A: Allocator + Copy> Runner<A> {
         self.answer_line(alloc, line, out)
     }
 
-    // Both devices stop, and the vault is opened again.
+    // Both devices crash, and the vault is opened again.
     fn crash(self, alloc: A, pick: Pick, out: &mut Vec<u8, A>) -> Result<Runner<A>, ScriptError>
         ensures state { IfOk result (λ next. next ≡ (said (crashed pick self)).talk) }
         ensures text { OnOk result (out.new.items ≡ out.old.items ++ (said (crashed pick self)).text) }

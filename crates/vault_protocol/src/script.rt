@@ -41,18 +41,17 @@ fn run_lines<A: Allocator + Copy, W: Write>(
     write_text(writer, &text)
 }
 
-/// Reads a script whole, runs it over a new vault, and writes what its lines are told.
-/// An interrupted read or write counts as a fault. Takes time proportional to the script's length, beside what its
-/// commands take.
+/// Reads a whole script, runs it over a new vault, and writes its output. An interrupted read or write counts as a
+/// fault. Takes time proportional to the script's length, beside what its commands take.
 pub fn run_script<A: Allocator + Copy, R: Read, W: Write>(
     alloc: A,
     reader: &mut R,
     writer: &mut W,
 ) -> Result<(), ScriptError>
-    // At the end the output of the script is written.
+    // If it succeeds, the whole output of the script is written.
     ensures ok { OnOk result (IfSome (R.remaining reader.old) (λ script.
         (length script ≤ longest_script) × Appends (W.contents writer.old) (W.contents writer.new) (output script))) }
-    // Else a prefix of it is.
+    // If it fails, a prefix of the output is.
     ensures err { OnErr result (IfSome (R.remaining reader.old) (λ script.
         (n : ℕ) × Appends (W.contents writer.old) (W.contents writer.new) (take n (output script)))) }
     // Nothing is written for a script that is not read whole.

@@ -9,6 +9,6 @@ use vault_model::Listing;
 pub(crate) enum Waiting<A: Allocator> {
     /// Its text is known.
     Known(Listing<u8, A>),
-    /// The command of a connection, which its ticket stands for.
+    /// A connection's command, by its ticket.
     Awaited(Connection, Ticket<A>),
 }

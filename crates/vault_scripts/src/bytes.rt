@@ -16,7 +16,7 @@ pub(crate) struct Names<'a> {
 }
 
 impl<'a> Names<'a> {
-    /// None yet.
+    /// No names yet.
     pub(crate) fn new(alloc: Global) -> Names<'a> {
         Names {
             all: Vec::new(alloc),
@@ -45,7 +45,7 @@ impl<'a> Names<'a> {
         Some(bytes)
     }
 
-    // Adds what a word spells: `-` nothing, `+WORD` the length of what WORD spells, in four bytes, and then that; `WORD*N` that N times.
+    // Adds what a word spells: `-` nothing; `+NAME` the length of NAME's bytes, in four bytes, and then these; `WORD*N` N times WORD.
     fn put_word(&self, alloc: Global, word: &str, out: &mut Vec<u8>) -> bool {
         if word == "-" {
             return true;
@@ -73,7 +73,7 @@ impl<'a> Names<'a> {
         Some(())
     }
 
-    // Adds a text in quotes, what has a name, or what digits spell.
+    // Adds what one word spells: a text in quotes, a name or a part of one, or hexadecimal digits.
     fn put_one(&self, alloc: Global, word: &str, out: &mut Vec<u8>) -> Option<()> {
         if let Some(text) = word.strip_prefix('\'') {
             return out
@@ -109,7 +109,7 @@ impl<'a> Names<'a> {
     }
 }
 
-// A place in a string of bytes; another one where none stands there.
+// An offset into a string of bytes. For an empty word: `otherwise`.
 fn place(word: &str, otherwise: usize) -> Option<usize> {
     if word.is_empty() {
         Some(otherwise)

@@ -1,8 +1,8 @@
-//! The choices of a row: `{old/new}` is one of these words, `{1-12}` one of these numbers.
+//! The choices of a row: `{old/new}` stands for one of these words, `{1-12}` for one of these numbers.
 
 use crate::text::Text;
 
-/// Adds a row with its nth choice at each such place, and says how many runs it has in all.
+/// Adds a row as its run of this number has it, with one choice at each such place, and says how many runs it has in all.
 pub(crate) fn put_chosen(row: &str, run: u64, out: &mut Text) -> Option<u64> {
     let (mut left, mut runs) = (run, 1u64);
     for part in row.split('{') {
@@ -19,7 +19,7 @@ pub(crate) fn put_chosen(row: &str, run: u64, out: &mut Text) -> Option<u64> {
     Some(runs)
 }
 
-/// Adds the choice of this number, counted round and round, and says how many there are.
+/// Adds the choice of this number, modulo the number of choices, and says how many there are.
 fn put_choice(choices: &str, number: u64, out: &mut Text) -> Option<u64> {
     match range_of(choices) {
         Some((low, high)) => {

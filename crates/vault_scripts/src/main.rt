@@ -1,12 +1,12 @@
-//! Runs the scripts and the rows of the folder that it is started in, and says how many of them are told what they should be.
+//! Runs the scripts and the rows of the folder that it is started in, and says how many of them get the answers that they should.
 //!
 //! A script worked out by hand is two files: `NAME.script` and what it prints, `NAME.expected`. Rows worked out by hand are lines of a
-//! file `NAME.rows`: what is done to the two files of a store, step by step, and what each step answers (steps.rt). Another script and
-//! another row cost no proof.
+//! file `NAME.rows`: what is done to the two files of a store, step by step, and what each step answers (steps.rt). Adding a script or
+//! a row costs no proof.
 //!
 //! Promises: nothing; it is safe. Stands on: vault_protocol; for rows vault_model, vault_device, vault_journal, design_tree,
 //! part_versions, long_locks, vault_checkout, vault_store, vault_inspector.
-//! Only tested: what the scripts and the rows of data/ are told.
+//! Only tested: what the scripts and the rows of data/ get as answers.
 //! Start at: data/, steps.rt for what a row may say, then docs/CONTRIBUTING.md for how to add one.
 #![tactic(auto)]
 
@@ -24,7 +24,7 @@ use crate::pair::agrees;
 use crate::rows::run_rows;
 use std::{fs, io};
 
-/// How many scripts or rows there are, and how many of them are told what they should be.
+/// How many scripts or rows there are, and how many of them get the answers that they should.
 #[derive(Clone, Copy)]
 pub(crate) struct Tally {
     agreeing: u32,
@@ -32,7 +32,7 @@ pub(crate) struct Tally {
 }
 
 impl Tally {
-    /// Counts one.
+    /// Counts one script or row.
     pub(crate) fn count(&mut self, agrees: bool) {
         self.agreeing = self.agreeing.saturating_add(u32::from(agrees));
         self.all = self.all.saturating_add(1);

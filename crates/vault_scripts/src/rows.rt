@@ -11,7 +11,7 @@ use std::{fs, io};
 /// The most runs of one row.
 const MAX_RUNS: u64 = 1000;
 
-/// Runs the rows of a file, and prints those that answer something else.
+/// Runs the rows of a file, and prints those that answer something other than they must.
 pub(crate) fn run_rows(rt: &HostRuntime, file: &str, tally: &mut Tally) -> io::Result<()> {
     let text = fs::read_to_string(rt, file)?;
     run_lines(rt, file, text.as_str(), tally)
@@ -37,7 +37,7 @@ fn run_lines(rt: &HostRuntime, file: &str, text: &str, tally: &mut Tally) -> io:
     Ok(())
 }
 
-/// Whether each run of a row behind what it begins with agrees; else tells what didn't.
+/// Makes each run of a row, after the file's `start`. Whether all agree; if not, `told` says what doesn't.
 fn runs_agree(alloc: Global, names: &Names, row: (&str, &str), told: &mut Text) -> bool {
     for run in 0..MAX_RUNS {
         match runs_with(alloc, names, row, run, told) {
@@ -49,7 +49,7 @@ fn runs_agree(alloc: Global, names: &Names, row: (&str, &str), told: &mut Text) 
     false
 }
 
-/// How many runs a row has, where the one of this number agrees.
+/// Makes the run of this number. If it agrees: how many runs the row has.
 fn runs_with(
     alloc: Global,
     names: &Names,
@@ -72,7 +72,7 @@ fn runs_with(
     }
 }
 
-/// Whether steps over two empty files answer what stands in them; else tells what the first other one answers.
+/// Makes steps over two empty files. Whether each answers what it must; if not, `told` says what the first wrong one answers.
 fn steps_agree(alloc: Global, names: &Names, steps: &str, told: &mut Text) -> bool {
     let Some(mut stage) = Stage::new(alloc) else {
         return false;

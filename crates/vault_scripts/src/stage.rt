@@ -23,7 +23,7 @@ impl Stage {
         Some(Stage::Files(first, second))
     }
 
-    /// Makes a step, tells what it answers, and says whether it could be made, and answers what stands in it.
+    /// Makes a step, and puts its answer into `told`. Says whether it could be made, and answers what it must.
     pub(crate) fn step(
         self,
         alloc: Global,

@@ -7,35 +7,38 @@
 //! | `start: STEP; STEP; ..` | what each row below begins with |
 //! | `STEP; STEP; ..` | a row, over two empty files |
 //!
-//! A step may end in ` = ANSWER`, and then has to answer just that; without it, it may answer anything. Steps over two files:
+//! A step may end in ` = ANSWER`. Then it must answer just that; without it, it may answer anything. Steps over two files:
 //!
 //! | Step | What it does | What it answers |
 //! |---|---|---|
-//! | `first BYTES`, `second BYTES` | a file holds these bytes, settled | |
+//! | `first BYTES`, `second BYTES` | writes these bytes to a file, and syncs it | |
 //! | `first = BYTES`, `second = BYTES` | | the bytes of a file |
-//! | `fail N M` | the Nth call of the first file from now fails, and the Mth of the second; 0 for none | |
-//! | `calls` | | how many device calls each file has seen |
-//! | `head`, `body` | the first file's head is read, or what stands behind it | what it is, or `damaged at N` |
-//! | `inspect` | both are inspected | the report, its lines parted by ` / `, or `Device` |
-//! | `vaults` | both are read | `two` where they are of two vaults, else `one`, or `Device` |
-//! | `create` | a new vault is made in them | `Made`, or `Exists`, `Device` |
-//! | `open` | the vault in them is opened | what it is, or `NoVault`, `Device`, `First damaged at N` |
-//! | `snapshot` | it is opened, and a snapshot of it begun | `Yes`, or as `open` |
-//! | `crash PICK PICK` | the machine stops; of a file's unsettled bytes are left the `old`, the `new`, or this byte everywhere | |
+//! | `fail N M` | makes the Nth call of the first file from now fail, and the Mth of the second; 0 for none | |
+//! | `calls` | | how many device calls each file has had |
+//! | `head`, `body` | reads the first file's head, or what comes after it | what it is, or `damaged at N` |
+//! | `inspect` | inspects both | the report, with ` / ` between its lines, or `Device` |
+//! | `vaults` | reads both | `two` if they are of two vaults, else `one`, or `Device` |
+//! | `create` | makes a new vault in them | `Made`, or `Exists`, `Device` |
+//! | `open` | opens the vault in them | what it is, or `NoVault`, `Device`, `First damaged at N` |
+//! | `snapshot` | opens it, and begins a snapshot of it | `Yes`, or as `open` |
+//! | `crash PICK PICK` | crashes the machine; of a file's unsynced bytes it leaves the `old`, the `new`, or this byte everywhere | |
 //!
-//! And where a vault was made or opened:
+//! Once a vault was made or opened:
 //!
 //! | Step | What it does | What it answers |
 //! |---|---|---|
-//! | `note RECORD`, `note N times RECORD` | the effect of this record is noted, once or N times | nothing, or `no room` |
-//! | `advance N` | N steps of a commit or a snapshot are made | of each `Moved`, `Settled`, `Idle`, `Broken` or `Fault` |
-//! | `phase`, `frames`, `version`, `room`, `wanted` | | the phase; how many bytes of frames there are; the version; whether there is room for an effect, and whether a snapshot is wanted |
+//! | `note RECORD`, `note N times RECORD` | notes the effect of this record, once or N times | nothing, or `no room` |
+//! | `advance N` | makes N steps of a commit or a snapshot | for each `Moved`, `Settled`, `Idle`, `Broken` or `Fault` |
+//! | `phase` | | the phase |
+//! | `frames` | | how many bytes of frames there are |
+//! | `version` | | the version of the active file |
+//! | `room`, `wanted` | | whether there is room for an effect; whether a snapshot is wanted |
 //! | `close` | the store gives its files back | |
-//! | `crash PICK PICK` | the same, and the machine stops | |
+//! | `crash PICK PICK` | the same, and then the crash | |
 //!
 //! BYTES are words: hexadecimal digits, `'text'`, a NAME, or a part of one as `NAME[3..34]` and `NAME[20..]`. `WORD*N` is N times WORD,
-//! `+NAME` its length in four bytes and then it, and `-` nothing. A row with `{old/new}` or `{1-12}` in it is run once with each of these,
-//! and with each choice at every other such place.
+//! `+NAME` the length of NAME's bytes in four bytes and then these, and `-` nothing. A row with `{old/new}` or `{1-12}` in it is run
+//! once with each of these, and with each choice at every other such place.
 
 ghost use Rattle.std.specs.Prelude.{IfSome, All};
 ghost use Rattle.vault_journal.specs.Spelling.{HasRecord};
@@ -49,7 +52,7 @@ use vault_journal::read_effects;
 use vault_model::EffectIn;
 use vault_store::{Store, are_of_two_vaults, read_head};
 
-/// A step: its first word, the rest of its words, and what it has to answer.
+/// A step: its first word, the rest of its words, and what it must answer, if it must.
 #[derive(Clone, Copy)]
 pub(crate) struct Step<'a> {
     pub(crate) verb: &'a str,
@@ -68,7 +71,7 @@ impl<'a> Step<'a> {
         Step { verb, rest, answer }
     }
 
-    /// Whether this is what it has to answer.
+    /// Whether this is what it must answer. Without an answer, anything is.
     pub(crate) fn is_answered(&self, told: &Text) -> bool {
         match self.answer {
             Some(answer) => told.as_str() == answer,
@@ -80,7 +83,7 @@ impl<'a> Step<'a> {
 /// Longer than any file of a row.
 const LONG: usize = 1 << 30;
 
-/// Makes a step over two files, and says whether there is such a step, and it could be made.
+/// Makes a step over two files. Says whether there is such a step, and it could be made.
 pub(crate) fn at_files(
     alloc: Global,
     names: &Names,
@@ -109,7 +112,7 @@ pub(crate) fn at_files(
     }
 }
 
-// Has a file hold these bytes, or tells what it holds.
+// Writes these bytes to a file. If the step has an answer, tells what the file holds instead.
 fn hold_or_tell(
     alloc: Global,
     names: &Names,
@@ -151,7 +154,7 @@ fn picks(words: &str) -> Option<(Pick, Pick)> {
     Some((pick(one)?, pick(other)?))
 }
 
-/// Has the machine of two files stop, and start again with no call that is to fail; says whether two picks stand there.
+/// Crashes the machine of two files. No call is set to fail afterwards. Says whether the words are two picks.
 pub(crate) fn both_crash(first: &mut MemDevice, second: &mut MemDevice, words: &str) -> bool {
     let Some((one, other)) = picks(words) else {
         return false;
@@ -163,7 +166,7 @@ pub(crate) fn both_crash(first: &mut MemDevice, second: &mut MemDevice, words: &
     true
 }
 
-/// Makes a step over an open store, and says whether there is such a step, and it could be made.
+/// Makes a step over an open store. Says whether there is such a step, and it could be made.
 pub(crate) fn at_store(
     alloc: Global,
     names: &Names,
@@ -196,7 +199,7 @@ fn advance(store: &mut Store<MemDevice>, words: &str, told: &mut Text) {
     }
 }
 
-// The effects that these words spell the records of.
+// The effects whose records these words spell.
 fn effects(alloc: Global, names: &Names, words: &str) -> Option<Vec<EffectIn<Global>>>
     ensures { IfSome result (λ effects. All HasRecord effects.items) }
 {
@@ -204,7 +207,7 @@ fn effects(alloc: Global, names: &Names, words: &str) -> Option<Vec<EffectIn<Glo
     read_effects(alloc, &records).ok()
 }
 
-// Notes the effect of a record, once or so many times, and says whether there is one.
+// Notes the effect of a record, once or a number of times. Says whether the words spell just one record.
 fn note(
     alloc: Global,
     names: &Names,

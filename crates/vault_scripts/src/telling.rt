@@ -1,4 +1,4 @@
-//! What steps answer.
+//! The answers of steps, in words.
 
 use crate::text::Text;
 use std::alloc::Global;
@@ -9,7 +9,7 @@ use vault_inspector::{Report, inspect, print};
 use vault_model::{Claim, ClaimId, Owner, PlaceId};
 use vault_store::{Body, BodyError, Head, OpenError, Store, read_body};
 
-/// Tells the answer, where a file holds these bytes, and else what it holds; says whether it could be read.
+/// Tells the answer if a file holds these bytes, else what it holds. Says whether it could be read.
 pub(crate) fn tell_bytes(
     told: &mut Text,
     alloc: Global,
@@ -37,7 +37,7 @@ fn tell_damage(told: &mut Text, offset: u64) {
     told.put_value(&offset, "");
 }
 
-/// Tells what the head of a file is, where it was read.
+/// Tells what the head of a file is, if it was read.
 pub(crate) fn tell_head(told: &mut Text, head: Result<Head, Fault>) -> bool {
     match head {
         Ok(Head::Closed) => told.put("closed"),
@@ -79,7 +79,7 @@ pub(crate) fn tell_opened(told: &mut Text, store: &Store<MemDevice>, book: &Book
     tell_book(told, book);
 }
 
-/// Tells what the first file holds behind its head, where it was read.
+/// Tells what the first file holds after its head, if it was read.
 pub(crate) fn tell_body(told: &mut Text, alloc: Global, device: &mut MemDevice) -> bool {
     match read_body(alloc, device) {
         Ok(Body::Whole(book, frames, end)) => {
@@ -187,7 +187,7 @@ pub(crate) fn tell_vaults(told: &mut Text, are_two: Result<bool, BodyError>) {
     }
 }
 
-/// Tells a report on two files, its lines parted by ` / `, or why there is none.
+/// Tells a report on two files, with ` / ` between its lines, or why there is none.
 pub(crate) fn tell_inspection(
     told: &mut Text,
     alloc: Global,

@@ -3,7 +3,7 @@
 use std::alloc::Global;
 use std::fmt::{Debug, Write};
 
-/// A text. Where memory for a piece is wanted it lacks that piece, and so is no answer that a row wants.
+/// A text. If there is no memory for a piece, it lacks that piece, and so isn't the answer that a row must get.
 #[derive(Drop)]
 pub(crate) struct Text {
     text: String,
@@ -21,29 +21,29 @@ impl Text {
         self.text.as_str()
     }
 
-    /// Begins again.
+    /// Empties it.
     pub(crate) fn clear(&mut self) {
         self.text.clear();
     }
 
-    /// A piece more.
+    /// Adds a piece.
     pub(crate) fn put(&mut self, piece: &str) {
         let _ = self.text.push_str(piece);
     }
 
-    /// A value more, and then a piece.
+    /// Adds a value, and then a piece.
     pub(crate) fn put_value<T: Debug>(&mut self, value: &T, piece: &str) {
         let _ = write!(self.text, "{value:?}{piece}");
     }
 
-    /// The digits of these bytes more.
+    /// Adds the hexadecimal digits of these bytes.
     pub(crate) fn put_digits(&mut self, bytes: &[u8]) {
         for byte in bytes {
             let _ = write!(self.text, "{byte:02x}");
         }
     }
 
-    /// A name more.
+    /// Adds a name.
     pub(crate) fn put_name(&mut self, name: &[u8]) {
         match std::str::from_utf8(name) {
             Ok(name) => self.put(name),
@@ -51,7 +51,7 @@ impl Text {
         }
     }
 
-    /// Contents or a note more: the digits, or how many bytes there are.
+    /// Adds contents or a note: the digits of up to 16 bytes, else how many bytes there are.
     pub(crate) fn put_content(&mut self, bytes: &[u8]) {
         if bytes.len() > 16 {
             self.put_value(&bytes.len(), " bytes");

@@ -30,12 +30,12 @@ impl Bell {
         token == TOKEN
     }
 
-    /// Wakes the thread. Where a wake can't be added to those that are pending, one of them does.
+    /// Wakes the thread. If a wake can't be added to those that are pending, a pending one wakes it.
     pub fn ring(&self) {
         let _ = self.waker.wake();
     }
 
-    /// Keeps whether the thread has connections, before it takes a step of theirs.
+    /// Notes whether the thread has connections. To be called before it takes a step of theirs.
     pub fn attend(&self, has_connections: bool) {
         self.has_connections
             .store(has_connections, Ordering::SeqCst);

@@ -1,6 +1,7 @@
-//! Committing, by the threads that serve connections: whichever finds that it is due, and that no other commits.
+//! Committing, by the threads that serve connections: a thread commits if it finds that a commit is due, and that no other thread
+//! commits.
 //!
-//! Each thread asks once in each of its rounds, whatever else it has to do. What is due when, a commit or a snapshot, is `Desk::due`'s to say.
+//! Each thread asks once in each of its rounds, whatever else it has to do. `Desk::due` says whether a commit or a snapshot is due.
 
 use flusher_pace::{Gathering, Silence};
 use std::alloc::Allocator;
@@ -9,11 +10,11 @@ use std::time::{Clock, Duration};
 use vault_device::Device;
 use vault_sessions::{Due, Flusher, Gate, Tally};
 
-/// Who has it commits. Nobody sleeps until he gets it.
+/// The thread that has it commits. No other thread sleeps to get it.
 #[derive(Debug, Clone, Copy, PartialEq, Eq)]
 pub(crate) struct CommitToken;
 
-/// One thread's part in it.
+/// One thread's part in committing.
 #[derive(Drop)]
 pub(crate) struct Committer<'a, D: Device, S: Tally, T: Tally, A: Allocator, G: Gate, H> {
     flusher: Flusher<'a, D, S, T, A, G, H>,
@@ -27,18 +28,18 @@ pub(crate) struct Committer<'a, D: Device, S: Tally, T: Tally, A: Allocator, G: 
 pub(crate) enum CommitTry {
     /// There is nothing to commit, or another thread commits.
     NotNow,
-    /// It is better to wait, for so long at most.
+    /// It is better to wait, for this long at most.
     Early(Duration),
-    /// Nothing was settled.
+    /// Nothing became durable.
     InVain,
-    /// There is room again, questions are settled, a snapshot is done, or the vault is broken now.
+    /// There is room again, questions became durable without a device call, a snapshot is done, or the vault is broken now.
     Settled,
     /// A commit.
     Committed,
 }
 
 impl CommitTry {
-    /// Whether somebody's entry may be settled now, or a token is free that another found taken.
+    /// Whether an entry may be durable now, or the token is free again that another thread found taken.
     pub fn may_settle(self) -> bool {
         matches!(
             self,
@@ -69,7 +70,7 @@ impl<'a, D: Device, S: Tally, T: Tally, A: Allocator + Copy, G: Gate, H: Wait + 
         }
     }
 
-    /// Does what is due, unless another thread is at it. One that it finds at that rings this thread's bell once it is done.
+    /// Does what is due, unless another thread is doing so. That thread rings this one's bell once it is done.
     pub fn commit(&mut self) -> CommitTry {
         let due = self.flusher.due(&mut self.gathering, &mut self.silence);
         match due {
@@ -90,7 +91,7 @@ impl<'a, D: Device, S: Tally, T: Tally, A: Allocator + Copy, G: Gate, H: Wait + 
         tried
     }
 
-    // Commits what is staged, behind so many entries that are settled.
+    // Commits what is staged. `settled` is the number of entries that are durable already.
     fn commit_behind(&self, settled: u64) -> CommitTry {
         let has_room = self.flusher.retire();
         if self.flusher.commit(settled) {
@@ -103,7 +104,8 @@ impl<'a, D: Device, S: Tally, T: Tally, A: Allocator + Copy, G: Gate, H: Wait + 
         }
     }
 
-    /// So many lines came while it committed, and aren't heard yet: for those the next commit waits, too, beside whom this one tells.
+    /// Lets the next commit wait for `coming` lines, too, beside the clients that this one answers: lines that came while it committed,
+    /// and aren't heard yet.
     pub fn expect(&self, coming: u64) {
         self.flusher.expects_more(coming);
     }

@@ -1,4 +1,4 @@
-//! Who comes is accepted, and waits for a place.
+//! Accepts connections, which wait here for a place.
 
 use crate::bells::Bell;
 use crate::server::{Connection, ServerError, ServerOptions};
@@ -16,46 +16,46 @@ use std::sync::atomic::{AtomicBool, Ordering};
 use std::time::{Clock, Duration, Instant};
 use vault_sessions::Gate;
 
-// How many connections wait for a place at most. The kernel keeps some more behind these.
+// How many connections wait for a place at most. The kernel keeps some more that aren't accepted yet.
 const MAX_WAITING: usize = 64;
 
-// How many connections are waited for, or served, at most.
+// How many connections wait, or are served, at most.
 const MAX_HERE: usize = 128;
 
-// How many accepts may fail in a row, and for how many milliseconds nobody is accepted behind each.
+// How many accepts may fail in a row, and for how many milliseconds nobody is accepted after each.
 const MAX_FAULTS: u32 = 20;
 
 const REST: u64 = 50;
 
-// The system's numbers of a want of memory, of descriptors of all programs, of descriptors of this one, and of buffers.
+// The system's error numbers: out of memory, out of descriptors for all programs, out of descriptors for this one, out of buffers.
 const WANTS: [i32; 4] = [libc::ENOMEM, 23, libc::EMFILE, 105];
 
-// What the kernel's news are of: the listener, or the crowd's bell.
+// The listener's token in the kernel's events. The crowd's bell has another.
 const LISTENER: Token = Token(0);
 
 const MAX_EVENTS: usize = 4;
 
-/// What a thread that serves says to the door.
+/// What a serving thread says to the door.
 #[derive(Debug, Clone, Copy, PartialEq, Eq)]
 pub(crate) enum News {
     /// This thread has one place more.
     Place(usize),
     /// This thread has one place more, since the connection of this number is over.
     Over(usize, u32),
-    /// A thread can't serve for want of memory.
+    /// A thread can't serve, since memory was refused.
     Lacks,
 }
 
-/// Those who wait for a place, as the threads see them that serve.
+/// Those who wait for a place, as the serving threads see them.
 #[derive(Drop)]
 pub(crate) struct Crowd {
     bell: Bell,
-    // Whether somebody waits for whom another connection may be ended.
+    // Whether somebody waits for a place, and another connection may be ended for that.
     presses: AtomicBool,
 }
 
 impl Crowd {
-    /// Nobody. The door waits by this poll.
+    /// Nobody waits. The door waits by this poll.
     pub fn new(poll: &Poll) -> io::Result<Crowd> {
         Ok(Crowd {
             bell: Bell::new(poll)?,
@@ -63,7 +63,7 @@ impl Crowd {
         })
     }
 
-    /// Whether somebody waits for whom another connection may be ended.
+    /// Whether somebody waits for a place, and another connection may be ended for that.
     pub fn presses(&self) -> bool {
         self.presses.load(Ordering::SeqCst)
     }
@@ -85,16 +85,16 @@ struct Waiting {
 #[derive(Drop)]
 struct Queue<A: Allocator> {
     waiting: Vec<Waiting, A>,
-    // The threads of the places that are free, in the order in which they were told.
+    // The threads of the free places, in the order in which these were reported.
     places: Vec<usize, A>,
-    // Who waits, or is served, and from where.
+    // The number and the address of each connection that waits or is served.
     here: Vec<(u32, IpAddr), A>,
     // The number of the last connection that came.
     number: u32,
     faults: u32,
-    // Whether more may be there by now than was accepted.
+    // Whether more connections may be there by now than were accepted.
     may_more: bool,
-    // Whether nobody is accepted any more: enough were, or none can be for good.
+    // Whether nobody is accepted any more: enough were, or accepting failed for good.
     closed: Option<Result<(), ServerError>>,
 }
 
@@ -114,8 +114,8 @@ pub(crate) struct Door<'a, A: Allocator, H> {
 }
 
 impl<A: Allocator + Copy, H: Wait + Clock> Door<'_, A, H> {
-    /// Hands connections out until there were enough, or no more can be accepted. Who came by then is served, or is told that there is no
-    /// place.
+    /// Hands connections out until there were enough, or no more can be accepted. A connection that came by then is served, or told
+    /// that there is no place.
     pub fn keep<G: Gate>(&self, poll: Poll, gate: &G) -> Result<(), ServerError> {
         let mut poll = poll;
         let mut queue = self.queue()?;
@@ -148,7 +148,7 @@ impl<A: Allocator + Copy, H: Wait + Clock> Door<'_, A, H> {
         Err(ServerError::NoMemory)
     }
 
-    // Nobody has come.
+    // An empty queue.
     fn queue(&self) -> Result<Queue<A>, ServerError> {
         let mut queue = Queue {
             waiting: Vec::new(self.alloc),
@@ -174,7 +174,7 @@ impl<A: Allocator + Copy, H: Wait + Clock> Door<'_, A, H> {
         }
     }
 
-    // Accepts who is there, while there is room to wait. Whether an accept failed.
+    // Accepts the connections that are there, while there is room to wait. Says whether an accept failed.
     fn accept<G: Gate>(&self, queue: &mut Queue<A>, now: Option<Instant>, gate: &G) -> bool {
         for _ in 0..MAX_WAITING {
             if !queue.may_more || queue.closed.is_some() || queue.waiting.len() >= MAX_WAITING {
@@ -193,8 +193,8 @@ impl<A: Allocator + Copy, H: Wait + Clock> Door<'_, A, H> {
         false
     }
 
-    // An accept failed. It fails for good behind so many in a row. Descriptors and memory, where these are short, come free with other
-    // connections, so that is waited for as long as it takes.
+    // Notes a failed accept. Accepting fails for good after more than `MAX_FAULTS` in a row. But where descriptors or memory are short,
+    // they come free when other connections end: that is waited for as long as it takes.
     fn fail<G: Gate>(&self, queue: &mut Queue<A>, error: io::Error, gate: &G) {
         queue.faults = queue.faults.saturating_add(1);
         let is_want = error
@@ -206,7 +206,7 @@ impl<A: Allocator + Copy, H: Wait + Clock> Door<'_, A, H> {
         }
     }
 
-    // Lets a connection wait, unless as many are here from where it comes as may be.
+    // Lets a connection wait, unless its address already has as many here as it may have.
     fn admit(
         &self,
         queue: &mut Queue<A>,
@@ -236,7 +236,7 @@ impl<A: Allocator + Copy, H: Wait + Clock> Door<'_, A, H> {
         }
     }
 
-    // Whether as many are here from this address as may be. Of this host itself there may be any number.
+    // Whether this address has as many connections here as it may have. This host itself may have any number.
     fn are_enough(&self, queue: &Queue<A>, from: IpAddr) -> bool {
         let Some(most) = self.options.per_address else {
             return false;
@@ -286,7 +286,7 @@ impl<A: Allocator + Copy, H: Wait + Clock> Door<'_, A, H> {
         Ok(())
     }
 
-    // Tells those who waited for too long that there is no place. They came in this order.
+    // Tells those who waited for too long that there is no place. The queue is in order of arrival.
     fn turn_late_away(&self, queue: &mut Queue<A>, now: Option<Instant>) {
         for _ in 0..MAX_WAITING {
             let is_late = match (queue.waiting.first(), now) {
@@ -306,7 +306,7 @@ impl<A: Allocator + Copy, H: Wait + Clock> Door<'_, A, H> {
         }
     }
 
-    // Says whether somebody waits for whom another connection may be ended. The threads are woken where that is new.
+    // Says whether somebody waits for a place, and another connection may be ended for that. If this is new, it wakes the threads.
     fn press(&self, queue: &Queue<A>) {
         let presses = self.options.full.is_some() && !queue.waiting.is_empty();
         let did = self.crowd.presses.swap(presses, Ordering::SeqCst);

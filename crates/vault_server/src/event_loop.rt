@@ -19,14 +19,14 @@ use vault_sessions::{Flusher, Gate, Share, Tally, Worker};
 // How many events one look at the kernel gives at most.
 const MAX_EVENTS: usize = 65;
 
-// The kernel waits for whole milliseconds. For less than so many microseconds a thread looks again and again.
+// The kernel waits for whole milliseconds. For less than this, in microseconds, a thread polls again and again.
 const SHORTEST_WAIT: u64 = 200;
 
 /// A thread's part of a server.
 #[derive(Drop)]
 pub(crate) struct EventLoop<'a, D: Device, S: Tally, T: Tally, A: Allocator, G: Gate, H: Wait> {
     pub worker: Worker<'a, D, S, T, A, G, H>,
-    /// Who has it commits.
+    /// The thread that has it commits.
     pub token: &'a Mutex<CommitToken>,
     /// What wakes it.
     pub bell: &'a Bell,
@@ -36,7 +36,7 @@ pub(crate) struct EventLoop<'a, D: Device, S: Tally, T: Tally, A: Allocator, G: 
     pub number: usize,
     /// The connections that come to it.
     pub coming: Receiver<Connection, A>,
-    /// Where it says that a place is free, or that it can't serve for want of memory.
+    /// Where it says that a place is free, or that it can't serve since memory was refused.
     pub says: Sender<News, A>,
     /// Those who wait for a place.
     pub crowd: &'a Crowd,
@@ -44,7 +44,7 @@ pub(crate) struct EventLoop<'a, D: Device, S: Tally, T: Tally, A: Allocator, G: 
     pub patience: Patience,
     /// Whether another protocol's first line ends a connection.
     pub refuses_foreign: bool,
-    /// How long a connection has to be silent that is ended for one who waits for a place. None: none is.
+    /// How long a connection has to be silent before it may be ended for one that waits for a place. None: none is ended.
     pub silence: Option<Duration>,
 }
 
@@ -53,16 +53,16 @@ pub(crate) struct EventLoop<'a, D: Device, S: Tally, T: Tally, A: Allocator, G: 
 enum Pause {
     // There is more to do.
     Nothing,
-    // Others may come in so little time that the kernel can't wait for it. A client may be waiting for the processor, too.
+    // Others may come so soon that the kernel can't wait for so short a time. A client may be waiting for the processor, too.
     Blink,
-    // Until something happens, but so long at most.
+    // Until something happens, but this long at most.
     AtMost(Duration),
     // Until something happens.
     Long,
 }
 
 impl Pause {
-    // Behind such a turn of all connections and such a try to commit.
+    // The pause after such a turn of all connections and such a try to commit.
     fn behind(progress: Progress, tried: CommitTry) -> Pause {
         if progress == Progress::On {
             return Pause::Nothing;
@@ -71,7 +71,7 @@ impl Pause {
             CommitTry::NotNow => Pause::Long,
             CommitTry::Early(left) if left < Duration::from_micros(SHORTEST_WAIT) => Pause::Blink,
             CommitTry::Early(left) => Pause::AtMost(left),
-            // Who wants room tries again soon: another's ticket is still out.
+            // If room is wanted, it tries again soon: another connection's ticket is still out.
             CommitTry::InVain => Pause::AtMost(Duration::from_millis(1)),
             CommitTry::Settled | CommitTry::Committed => Pause::Nothing,
         }
@@ -124,7 +124,7 @@ impl<D: Device, S: Tally, T: Tally, A: Allocator + Copy, G: Gate, H: Wait + Cloc
         Instant::now(self.worker.rt).ok()
     }
 
-    // Serves connections until no more come. In each round it looks at the kernel, lets each connection take its steps, and commits where
+    // Serves connections until no more come. In each round it polls the kernel, lets each connection take its steps, and commits if
     // that is due, whatever else there is to do.
     fn serve(
         &self,
@@ -160,8 +160,8 @@ impl<D: Device, S: Tally, T: Tally, A: Allocator + Copy, G: Gate, H: Wait + Cloc
         }
     }
 
-    // Whether a connection waits for a claim, and the line may have moved since it was asked last. Then each that waits has something to do: its
-    // `wait` goes with the commit of what moved the line.
+    // Whether a connection waits for a claim, and the queue of claims may have moved since this was asked last. Then each one that
+    // waits has something to do, so that its `wait` joins the commit of the command that moved the queue.
     fn line_moved(&self, slots: &mut Vec<Slot<S, T, A>, A>, seen: &mut u64) -> bool {
         if !slots.iter().any(|slot| slot.waits_for_claim()) {
             return false;
@@ -177,8 +177,8 @@ impl<D: Device, S: Tally, T: Tally, A: Allocator + Copy, G: Gate, H: Wait + Cloc
         true
     }
 
-    // Behind a commit, before anybody is told or heard: what came meanwhile is counted, since who is told comes back, and would be counted
-    // twice; and the other threads are woken, since who hears a line may be held up.
+    // To be called after a commit, before any client is answered or heard. What came meanwhile is counted: a client that is answered
+    // comes back, and would be counted twice. The other threads are woken: hearing a line may hold this thread up.
     fn announce(
         &self,
         committer: &Committer<'_, D, S, T, A, G, H>,
@@ -193,8 +193,8 @@ impl<D: Device, S: Tally, T: Tally, A: Allocator + Copy, G: Gate, H: Wait + Cloc
         }
     }
 
-    // Waits until something happens where there is nothing to do, and notes what did. The kernel isn't asked where there is something to do,
-    // and each connection waits for that alone.
+    // If there is nothing to do, waits until something happens. Notes what happened. The kernel isn't asked if there is something to
+    // do, and no connection waits for its client or the kernel (`Slot::is_outside`).
     fn look(
         &self,
         poll: &mut Poll,
@@ -228,7 +228,7 @@ impl<D: Device, S: Tally, T: Tally, A: Allocator + Copy, G: Gate, H: Wait + Cloc
         }
     }
 
-    // How long it may wait where nothing happens. None: for ever.
+    // How long it may wait if nothing happens. None: for ever.
     fn wait_for(&self, slots: &Vec<Slot<S, T, A>, A>) -> Option<Duration> {
         let mut first = None;
         for slot in slots {
@@ -245,7 +245,7 @@ impl<D: Device, S: Tally, T: Tally, A: Allocator + Copy, G: Gate, H: Wait + Cloc
         Some(first?.saturating_duration_since(self.now()?))
     }
 
-    // Behind how long a silence a connection is ended now, since somebody waits for a place, and none is free.
+    // How long a silence ends a connection now, if somebody waits for a place and none is free. None: no connection is ended.
     fn pressing_silence(&self, slots: &Vec<Slot<S, T, A>, A>) -> Option<Duration> {
         let silence = self.silence?;
         if self.crowd.presses() && !slots.iter().any(|slot| slot.is_free()) {
@@ -255,7 +255,7 @@ impl<D: Device, S: Tally, T: Tally, A: Allocator + Copy, G: Gate, H: Wait + Cloc
         }
     }
 
-    // Ends the connection that has been silent longest, where somebody waits for its place, and it was silent for long enough.
+    // Ends the connection that has been silent longest, if somebody waits for its place, and it was silent for long enough.
     fn make_room(&self, slots: &mut Vec<Slot<S, T, A>, A>, now: Option<Instant>) {
         let Some(silence) = self.pressing_silence(slots) else {
             return;
@@ -276,7 +276,7 @@ impl<D: Device, S: Tally, T: Tally, A: Allocator + Copy, G: Gate, H: Wait + Cloc
         }
     }
 
-    // Puts connections that came into free places. Whether more may come.
+    // Puts the connections that have come into free places. Says whether more may come.
     fn take(
         &self,
         registry: &Registry,
@@ -294,7 +294,7 @@ impl<D: Device, S: Tally, T: Tally, A: Allocator + Copy, G: Gate, H: Wait + Cloc
         true
     }
 
-    // Serves a connection in a place, unless the kernel can't tell of it.
+    // Serves a connection in a place, unless the kernel can't watch it.
     fn begin(
         &self,
         registry: &Registry,
@@ -321,7 +321,8 @@ impl<D: Device, S: Tally, T: Tally, A: Allocator + Copy, G: Gate, H: Wait + Cloc
         }
     }
 
-    // Lets each connection do what it has to do. Whether there is more to do, also where a place is free now, or any connection.
+    // Lets each connection do what it has to do. `On`: there is more to do, or a place became free. `Rests`: there is a connection at
+    // least. `Over`: there is none.
     fn turn(&self, slots: &mut Vec<Slot<S, T, A>, A>, now: Option<Instant>) -> Progress {
         let mut all = Progress::Over;
         for slot in slots.as_mut_slice() {
@@ -342,14 +343,14 @@ impl<D: Device, S: Tally, T: Tally, A: Allocator + Copy, G: Gate, H: Wait + Cloc
     }
 }
 
-// Entries may be settled for which connections wait.
+// Entries that connections wait for may be durable.
 fn look_again<S: Tally, T: Tally, A: Allocator + Copy>(slots: &mut Vec<Slot<S, T, A>, A>) {
     for slot in slots.as_mut_slice() {
         slot.look_again();
     }
 }
 
-// How many connections have something that isn't heard.
+// How many connections have sent something that isn't heard yet.
 fn lines_of<S: Tally, T: Tally, A: Allocator + Copy>(slots: &Vec<Slot<S, T, A>, A>) -> u64 {
     slots.iter().filter(|slot| slot.has_news()).count() as u64
 }

@@ -24,51 +24,50 @@ use thiserror::Error;
 use vault_device::Device;
 use vault_sessions::{Gate, Share, Shared, Tally, Totals, Worker, gather, run_flusher};
 
-// By how many threads a server serves at most, where it isn't told.
+// By how many threads a server serves at most, if no options say it.
 const MAX_THREADS: usize = 2;
-
-// The system's numbers of a want of memory, of descriptors of all programs, of descriptors of this one, and of buffers.
-const WANTS: [i32; 4] = [libc::ENOMEM, 23, libc::EMFILE, 105];
 
 /// Why a server stopped.
 #[derive(Debug, Clone, Copy, PartialEq, Eq, Error)]
 pub enum ServerError {
-    /// Connections can't be accepted for good.
+    /// Accepting connections failed for good.
     #[error("read fault")]
     Accept,
-    /// Memory was wanted and refused, a thread can't be started, or the system gives it nothing to wait by.
+    /// An allocation was refused, a thread can't be started, or the system gives it nothing to wait by.
     #[error("want of memory")]
     NoMemory,
 }
 
-/// What a server keeps to.
+/// The options of a server.
 #[derive(Debug, Clone, Copy, PartialEq, Eq)]
 pub struct ServerOptions {
     /// How many connections are served at a time: 1 to 64.
     pub workers: usize,
-    /// By how many threads at most, each with a like part of the places: one at least, and no more than `workers`. The first has
-    /// connections until its places are full.
+    /// By how many threads at most, each with an equal part of the places: one at least, and no more than `workers`. Connections go to
+    /// free places in the order in which the threads reported these.
     pub threads: usize,
-    /// After how many connections it ends, those counted that were turned away. None: it serves on.
+    /// After how many connections it ends, including those that were turned away. None: it serves on.
     pub connections: Option<u32>,
-    /// For how long clients may take. Then a connection is ended, as by a reader's or a writer's fault.
+    /// For how long clients may take. After that a connection is ended, as if its reader or writer had failed.
     pub patience: Patience,
-    /// How many connections may wait at once, by `wait`, until their claim is held or gone. Each further `wait` is answered as `state`.
+    /// How many connections may wait at once, by `wait`, until their claim is granted or gone. Each further `wait` is answered at once,
+    /// like `state`.
     pub waits: usize,
-    /// Whether a connection whose first line is another protocol's is ended, as if none had come of that line.
+    /// Whether a connection whose first line is another protocol's is ended, as if nothing of that line had come.
     pub refuses_foreign: bool,
     /// What becomes of those for whom there is no place. None: they wait as long as it takes.
     pub full: Option<Full>,
-    /// How many connections there may be at once from one address, but for this host's own. None: any number.
+    /// How many connections there may be at once from one address, except from this host's own. None: any number.
     pub per_address: Option<u32>,
 }
 
 /// What becomes of those for whom there is no place.
 #[derive(Debug, Clone, Copy, PartialEq, Eq)]
 pub struct Full {
-    /// For how long one waits. Then he is told `Busy`, and ended.
+    /// For how long one waits. Then it is answered `Busy`, and ended.
     pub wait: Duration,
-    /// How long the connection has to have been silent, and longer than any other of its thread, that is ended for him.
+    /// How long a connection must have been silent before it is ended for one that waits. It is the one of its thread that was silent
+    /// longest.
     pub silence: Duration,
 }
 
@@ -79,10 +78,10 @@ pub(crate) struct Connection {
     pub stream: TcpStream,
 }
 
-/// Serves so many connections at a time by one thread or, for two workers and more, by two, each of which commits what was staged. They
-/// have ended when it returns. Where a number of connections is given, it ends once these were served, with the vault and what was counted.
-/// Connections count from 1, and wrap. At an error the connections that were handed to the threads are served to their end first. With a
-/// broken vault it goes on, and every command is answered `Broken`.
+/// Serves `workers` connections at a time, by one thread or, for two workers and more, by two. Each of them commits what was staged.
+/// They have ended when it returns. If a number of connections is given, it ends once these were served, and gives the vault and what
+/// was counted. Connections are numbered from 1, and the number wraps. At an error the connections that were handed to the threads are
+/// served to their end first. With a broken vault it goes on, and every command is answered `Broken`.
 pub fn run_server<
     D: Device + Drop + Send,
     A: Allocator + Copy + Send + Sync,
@@ -119,8 +118,8 @@ pub fn run_server<
     run_server_on(rt, alloc, listener, vault, &options, gate)
 }
 
-/// The same, on these options. Of several threads one commits at a time, for all. The gate is told at once where no more connections can
-/// be accepted.
+/// The same, with these options. If there are several threads, one at a time commits, for all. If no more connections can be accepted,
+/// that is reported to the gate at once.
 pub fn run_server_on<
     D: Device + Drop + Send,
     A: Allocator + Copy + Send + Sync,
@@ -258,7 +257,7 @@ struct Polls<A: Allocator> {
     crowd: Crowd,
 }
 
-// So many polls of threads, each with a bell, and the door's.
+// A poll and a bell for each of `count` threads, and the door's.
 fn polls_of<A: Allocator + Copy, H: Net>(
     rt: &H,
     alloc: A,
@@ -292,7 +291,7 @@ struct Server<'a, D: Device, A: Allocator, G: Gate, H, S: Tally, T: Tally> {
     gate: &'a G,
     bells: &'a Vec<Bell, A>,
     crowd: &'a Crowd,
-    // Who has it commits.
+    // The thread that has it commits.
     token: &'a Mutex<CommitToken>,
     options: ServerOptions,
 }
@@ -430,7 +429,7 @@ impl<
         door.keep(poll, self.gate)
     }
 
-    // Starts a thread for each poll, with a like part of the shares, unless there is no memory for one.
+    // Starts a thread for each poll, with an equal part of the shares, unless there is no memory for one.
     fn start_all<'s, E>(
         &'s self,
         scope: &'s Scope<'s, E>,
@@ -489,7 +488,7 @@ impl<
         scope.spawn(move || event_loop.run(poll, shares)).ok()
     }
 
-    // What a thread serves by that has so many places.
+    // The event loop of a thread that has this number of places.
     fn event_loop_of<'s>(
         &'s self,
         number: usize,
@@ -529,7 +528,7 @@ impl<
     }
 }
 
-// A like part of the shares, where they go to so many threads.
+// An equal part of the shares, if they go to this number of threads.
 fn part_of<S: Tally, T: Tally, A: Allocator>(
     alloc: A,
     shares: &mut Vec<Share<S, T>, A>,

@@ -10,7 +10,7 @@ use std::time::{Duration, Instant};
 use vault_device::Device;
 use vault_sessions::{Awaits, Dialogue, Ended, Finished, Gate, Share, Step, Tally, Worker};
 
-// How many steps a connection takes in a round at most. A line that spells nothing takes two, and any other takes three.
+// How many steps a connection takes in a round at most. A line that spells no command takes two, and any other takes three.
 const STEPS_A_ROUND: u32 = 4;
 
 /// For how long a client may take. None: for ever.
@@ -22,7 +22,7 @@ pub struct Patience {
     pub hello: Option<Duration>,
     /// From the first byte of a line to its end.
     pub line: Option<Duration>,
-    /// From a `wait` to its answer, where its claim is queued that long.
+    /// From a `wait` to its answer, if its claim waits that long.
     pub wait: Option<Duration>,
 }
 
@@ -33,7 +33,7 @@ pub(crate) struct Served<S: Tally, T: Tally, A: Allocator> {
     dialogue: Dialogue<Wire, S, T, A>,
     // Whether the next step may come to something.
     is_ready: bool,
-    // Whether its client sends no more than what is there.
+    // Whether its client sends no more than what has arrived.
     is_ending: bool,
     // When it began, when the last step was taken, and when a line began that isn't whole.
     began: Option<Instant>,
@@ -61,7 +61,7 @@ pub(crate) enum Progress {
     Over,
 }
 
-// What holds a connection that is to be served.
+// The slot of a connection that is to be served.
 fn serve<S: Tally, T: Tally, A: Allocator + Copy>(
     alloc: A,
     connection: Connection,
@@ -119,7 +119,7 @@ impl<S: Tally, T: Tally, A: Allocator + Copy> Slot<S, T, A> {
         }
     }
 
-    /// Serves a connection from now on, where it is free. Else that is given up.
+    /// Serves a connection from now on, if it is free. Else the connection is dropped.
     pub fn serve<D: Device, G: Gate, H: Wait>(
         &mut self,
         worker: &Worker<'_, D, S, T, A, G, H>,
@@ -137,7 +137,7 @@ impl<S: Tally, T: Tally, A: Allocator + Copy> Slot<S, T, A> {
         self.put(worker, served);
     }
 
-    // Keeps what it holds from now on.
+    // Puts in what it holds from now on.
     fn put<D: Device, G: Gate, H: Wait>(
         &mut self,
         worker: &Worker<'_, D, S, T, A, G, H>,
@@ -175,7 +175,7 @@ impl<S: Tally, T: Tally, A: Allocator + Copy> Slot<S, T, A> {
         }
     }
 
-    /// Entries are settled.
+    /// Entries may be durable now: if it waits for a reply or for room for a last leave, its next step looks again.
     pub fn look_again(&mut self) {
         if let Slot::Served(served) = self {
             let awaits = served.dialogue.awaits();
@@ -191,7 +191,7 @@ impl<S: Tally, T: Tally, A: Allocator + Copy> Slot<S, T, A> {
         }
     }
 
-    /// The line may have moved.
+    /// The queue of claims may have moved: if it waits for a claim, its next step looks again.
     pub fn look_for_claim(&mut self) {
         if let Slot::Served(served) = self {
             let awaits = served.dialogue.awaits();
@@ -246,7 +246,7 @@ impl<S: Tally, T: Tally, A: Allocator + Copy> Slot<S, T, A> {
         }
     }
 
-    // Progress on with a connection that is over. Stands by itself, since it takes room on the stack for a whole slot.
+    // Goes on with a connection that is over. It is a function of its own, since it takes room on the stack for a whole slot.
     #[cold]
     #[inline(never)]
     fn end<D: Device, G: Gate, H: Wait>(
@@ -326,7 +326,7 @@ impl<S: Tally, T: Tally, A: Allocator + Copy> Served<S, T, A> {
         }
     }
 
-    // Takes steps where one may come to something. Where its client took too long, it is given up.
+    // Takes steps if one may come to something. If its client took too long, it loses patience.
     fn turn<D: Device, G: Gate, H: Wait>(
         &mut self,
         worker: &Worker<'_, D, S, T, A, G, H>,
@@ -346,7 +346,7 @@ impl<S: Tally, T: Tally, A: Allocator + Copy> Served<S, T, A> {
         progress
     }
 
-    // Its time is over: a `wait` is staged, and a client that took too long is given up.
+    // Its time is over: if it keeps a `wait`, that is staged next. Else its client took too long, and it is given up.
     fn lose_patience<D: Device, G: Gate, H: Wait>(
         &mut self,
         worker: &Worker<'_, D, S, T, A, G, H>,
@@ -359,7 +359,7 @@ impl<S: Tally, T: Tally, A: Allocator + Copy> Served<S, T, A> {
         }
     }
 
-    // Hears and tells nothing more. What is left is done in the next round.
+    // Reads and writes nothing more. What is left is done in the next round.
     fn give_up<D: Device, G: Gate, H: Wait>(&mut self, worker: &Worker<'_, D, S, T, A, G, H>) {
         self.dialogue.give_up(worker);
         self.is_ready = true;
@@ -375,7 +375,7 @@ impl<S: Tally, T: Tally, A: Allocator + Copy> Served<S, T, A> {
         self.dialogue.begin_round();
         for _ in 0..STEPS_A_ROUND {
             if self.is_ending {
-                // Who sends no more may be gone, and keeps nobody else from waiting.
+                // A client that sends no more may be gone. It must not keep others from waiting.
                 self.dialogue.let_go();
             }
             match self.dialogue.step(worker) {
@@ -386,7 +386,7 @@ impl<S: Tally, T: Tally, A: Allocator + Copy> Served<S, T, A> {
                         self.lose_patience(worker);
                     }
                     if self.dialogue.awaits() == Awaits::Reply {
-                        // What was staged just now isn't settled yet.
+                        // What was staged just now isn't durable yet.
                         return Progress::Rests;
                     }
                 }
@@ -466,7 +466,7 @@ fn parts_of<S: Tally, T: Tally, A: Allocator + Copy>(
     (wire, share, ended)
 }
 
-// So long behind a moment.
+// This time after a moment.
 fn behind(moment: Option<Instant>, time: Option<Duration>) -> Option<Instant> {
     moment?.checked_add(time?)
 }

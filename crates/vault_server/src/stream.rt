@@ -1,4 +1,4 @@
-//! What the kernel is told of a connection, how its bytes are read, and how it is given up.
+//! How a connection is set up at the kernel, how its bytes are read, and how it is given up.
 
 ghost use Rattle.libc.specs.Net.{SockOption};
 
@@ -14,8 +14,8 @@ use vault_lines::outside_text;
 use vault_model::Outside;
 use vault_sessions::{Connection, Ended};
 
-// The kernel asks after a client that said nothing for a minute, six times with ten seconds between, and then ends the connection. One that
-// doesn't take what was sent it is ended behind as long, in milliseconds.
+// Keep-alive, in seconds: the kernel probes a client that said nothing for a minute, six times, ten seconds apart, and then ends the
+// connection. It also ends one that takes nothing of what was sent for as long: the last number, in milliseconds.
 const FIRST_ASKED: u32 = 60;
 
 const ASKED_AGAIN: u32 = 10;
@@ -24,8 +24,8 @@ const ASKED: u32 = 6;
 
 const LONGEST_UNTAKEN: u32 = 120_000;
 
-// How many milliseconds are waited for a client's further bytes once no more is answered, and how many reads there are, of which so many
-// are made in a round.
+// Once no more is answered: for how many milliseconds a client's further bytes are awaited, how many reads there are at most, and how
+// many of them in a round.
 const LONGEST_WAIT: u64 = 5000;
 
 const MAX_CHUNKS: u32 = 4096;
@@ -35,7 +35,8 @@ const CHUNKS_A_ROUND: u32 = 4;
 // How many bytes of a connection are heard in a round.
 const BYTES_A_ROUND: usize = 8_192;
 
-// For how many milliseconds nothing may come: from a client that may be about to send more, and from one that has quit and sent nothing since.
+// How many milliseconds of silence are allowed: to a client that may be about to send more, and to one that has quit and sent nothing
+// since.
 const WAIT: u64 = 1000;
 
 const WAIT_BEHIND_QUIT: u64 = 100;
@@ -66,8 +67,8 @@ pub(crate) fn prepare(stream: &TcpStream) -> io::Result<()> {
     stream.set_nonblocking(true)
 }
 
-/// Tells a connection that there is no place for it, and ends it. What it sent by now is read before: a connection that is dropped with bytes
-/// unread is reset, and then the client may lose what it was told.
+/// Tells a connection that there is no place for it, and ends it. What it sent by now is read first: a connection that is dropped with
+/// bytes unread is reset, and then the client may lose the answer.
 pub(crate) fn turn_away<A: Allocator + Copy>(alloc: A, stream: TcpStream) {
     let mut both = &stream;
     let mut chunk = [0; 4096];
@@ -84,24 +85,24 @@ pub(crate) fn turn_away<A: Allocator + Copy>(alloc: A, stream: TcpStream) {
     drop(stream);
 }
 
-/// A connection that is served. It is read until it gives less than was asked for. Then nothing is there, and the kernel says when more is.
-/// In one round it gives so many bytes, and then says that it has none for now. Where its first line is another protocol's, it gives its end in
-/// the place of the bytes by which that is known, and of all behind them.
+/// A served connection. It is read until it gives less than was asked for. Then nothing is there, and the kernel says when more is. In
+/// one round it gives bytes until there are `BYTES_A_ROUND`, and then says that it has none for now. If its first line is another
+/// protocol's, it gives its end in place of the bytes that show this, and of all after them.
 #[derive(Drop)]
 pub(crate) struct Wire {
     stream: TcpStream,
     // Whether nothing is there.
     is_dry: bool,
-    // Whether the end may stand behind what is there, of which the kernel says nothing more.
+    // Whether the end may follow what is there: the kernel doesn't say so again.
     is_ending: bool,
     // How many bytes may still be read in this round.
     left: usize,
-    // What came of its first line.
+    // What is known of its first line.
     first: FirstLine,
 }
 
 impl Wire {
-    /// Nothing was read yet. Another protocol's first line is the end where it is refused, and else a line as any other.
+    /// Nothing was read yet. If `refuses_foreign` is set, another protocol's first line is the end. Else it is a line like any other.
     pub fn new(stream: TcpStream, refuses_foreign: bool) -> Wire {
         Wire {
             stream,
@@ -121,7 +122,7 @@ impl Wire {
         self.stream
     }
 
-    // These bytes came. Whether the conversation may hear them.
+    // Notes that these bytes came. Says whether the conversation may hear them.
     fn may_be_heard(&mut self, bytes: &[u8]) -> bool {
         if self.first.is_open() {
             self.first = self.first.hear(bytes);
@@ -187,8 +188,9 @@ impl Connection for Wire {
     }
 }
 
-/// A connection that is over. What its client still sends is thrown away, for some seconds at most and 16 MiB, and until nothing has come
-/// for a while. A connection that is dropped with bytes unread is reset, and then a client that reads late loses replies that were written.
+/// A connection that is over. What its client still sends is thrown away until nothing has come for a while, but for 5 seconds and 16
+/// MiB at most. A connection that is dropped with bytes unread is reset, and then a client that reads late loses replies that were
+/// written.
 #[derive(Drop)]
 pub(crate) struct Drain {
     /// The number of its connection.
@@ -202,7 +204,8 @@ pub(crate) struct Drain {
 }
 
 impl Drain {
-    /// Says that no more comes on a connection that ended so. None where there is nothing unread, or nobody who reads.
+    /// Lets the client know that no more comes on a connection that ended so. None if nothing is unread, nobody reads, or the time
+    /// isn't known.
     pub fn begin(
         number: u32,
         stream: TcpStream,

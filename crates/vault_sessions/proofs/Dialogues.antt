@@ -20,7 +20,7 @@ use Rattle.vault_sessions.proofs.Heard.{hears_nothing, hears_end}
 use Rattle.vault_sessions.proofs.Told.{not_ended_left}
 use Rattle.vault_sessions.proofs.Talks.{part_end, ends_so, readers, told_on}
 
--- its session is the one that the answers leave standing
+-- its session is the one that the answers leave open
 pub stands_for : {A : Type 0} (next : Next A) (r0 r w0 w : Option (List ℕ)) (s0 : Totals) (inflow : Inflow) (kept : List ℕ) (is_long : Bool)
     (outs : List (Out A)) (session : ℕ) (share : Totals) → StandsIn next r0 r w0 w s0 inflow kept is_long outs session share → session ≡ session_of 0 outs
 stands_for (Takes turn) r0 r w0 w s0 inflow kept is_long outs session share h = h.session_is
@@ -39,7 +39,7 @@ done_ended Open e = refl
 counts_less : {A : Type 0} (old new : Totals) (outs : List (Out A)) (lost more : ℕ) → CountsWith old outs lost new → CountsWith old outs (lost + more) new
 counts_less old new outs lost more h = record { told = h.told; least = h.least; most = omega (arith, h.most) }
 
--- a session that stands is left behind
+-- a session that is still open is left behind
 left_one : {A : Type 0} (outs : List (Out A)) → session_of 0 outs ≢ 0 → left_behind outs ≡ 1
 left_one outs stands =
     let no : (session_of 0 outs == 0) ≡ false = grind (arith, nat_tests) in
@@ -68,7 +68,7 @@ done_so ended r0 r w0 w s0 inflow kept is_long outs session share h = record {
   counted = counts_less s0 share outs (lost_by ended) (left_behind outs) h.counted;
 }
 
--- and with one of the session that stands
+-- and with one of the session that is open
 pub done_left : {A : Type 0} (ended : Ended) (r0 r w0 w : Option (List ℕ)) (s0 : Totals) (inflow : Inflow) (kept : List ℕ) (is_long : Bool)
     (outs : List (Out A)) (session : ℕ) (share new : Totals)
     → Stands (Over ended) r0 r w0 w s0 inflow kept is_long outs session share → session ≢ 0 → Counts share 0 1 new
@@ -91,7 +91,7 @@ stops_hearing r0 r w0 w s0 inflow kept is_long outs session share h =
     ends_so ends.Read r0 r r w0 w s0 inflow inflow kept kept is_long is_long outs session share
     (part_end r0 r inflow kept is_long outs ends.Read h.heard (λ given left. tt)) (readers ends.Read tt) h
 
--- one that has bytes of an answer to tell ends as a writer that fails
+-- one that has bytes of an answer to write ends as a writer that fails
 pub stops_telling : {A : Type 0} (telling : Telling A) (r0 r w0 w : Option (List ℕ)) (s0 : Totals) (inflow : Inflow) (kept : List ℕ) (is_long : Bool)
     (outs : List (Out A)) (session : ℕ) (share : Totals) → telling.written < length telling.text.items
     → Stands (Tell telling) r0 r w0 w s0 inflow kept is_long outs session share → Stands (Over ends.Write) r0 r w0 w s0 inflow kept is_long outs session share

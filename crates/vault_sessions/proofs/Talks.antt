@@ -39,7 +39,7 @@ hears_between old new inflow kept is_long outs heard between =
     let keeps : KeepsLine [] kept is_long = subst (λ b. KeepsLine [] kept b) (sym between.1) (between.0, omega arith) in
     ([], inflow, heard, refl, omega arith, within, All-nil (λ b. b ≢ 10), keeps)
 
--- a piece with a line feed behind it ends the line whose part was taken before
+-- a piece with a line feed after it ends the line whose part was taken before
 pub cuts_part : (before old next : Inflow) (part more piece : List ℕ) → before.pending ≡ part ++ old.pending → old.taken ≡ before.taken + length part
     → IsOneLine part → CutsLine old more piece next → CutsLine before more (part ++ piece) next
 cuts_part before old next part more piece pending taken one cut = record {
@@ -125,7 +125,7 @@ whole_line start mid new before next outs more line (lines.Refused outside) kept
 whole_line start mid new before next outs more line lines.NotYet kept is_long fits short so_far consumes cut between = absurd fits
 whole_line start mid new before next outs more line (lines.Ended ended) kept is_long fits short so_far consumes cut between = absurd fits
 
--- a want of memory
+-- memory was refused
 abbrev IsWanting : Ended → Type 0
 IsWanting ends.NoMemory = Unit {0}
 IsWanting ends.EndOfInput = ⊥
@@ -167,7 +167,7 @@ told_whole a b c outs telling tells rest =
     let whole = joined ∙ (sym (texts_more before last) ∙ ap texts_of (sym split)) in
     subst (Appends a c) whole all
 
--- where some bytes more of it are written, so many are
+-- where some bytes more of it are written, that many more are
 told_part : {A : Type 0} (a b c : Option (List ℕ)) (before : List (Out A)) (text items : List ℕ) (written count : ℕ)
     → items ≡ text → Appends a b (texts_of before ++ take written text) → Appends b c (take count (drop written items))
     → Appends a c (texts_of before ++ take (written + count) text)
@@ -177,14 +177,14 @@ told_part a b c before text items written count same old new =
     let joined = append_assoc (texts_of before) (take written text) (take count (drop written text)) ∙ ap (λ l. texts_of before ++ l) (sym (take-add written count text)) in
     subst (Appends a c) joined all
 
--- a telling that was told whole, and tells of no leave, leaves no leave among the answers
+-- an answer that was written whole, and says nothing of a leave, leaves no leave among the answers
 told_none : {A : Type 0} (a b : Option (List ℕ)) (outs : List (Out A)) (telling : Telling A) → TellsLast a b outs telling → telling.is_left ≡ false → NoneLeft outs
 told_none a b outs telling tells stays =
     let (before, last, split, none, text, written, left) = tells in
     let here : IsLeft last → ⊥ = subst (λ t. MatchBool t (IsLeft last) (IsLeft last → ⊥)) stays left in
     subst NoneLeft (sym split) (none_left_more before last none here)
 
--- a conversation goes on behind the telling of an answer
+-- a conversation goes on after an answer was written
 pub told_on : {A : Type 0} (telling : Telling A) (turn : Turn A) (r0 r w0 w1 w2 : Option (List ℕ)) (s0 : Totals) (inflow : Inflow) (kept : List ℕ)
     (is_long : Bool) (outs : List (Out A)) (session : ℕ) (share : Totals)
     → TellsOn telling turn w1 w2 → Stands (Tell telling) r0 r w0 w1 s0 inflow kept is_long outs session share
@@ -242,7 +242,7 @@ told_on telling (Over ends.NoMemory) r0 r w0 w1 w2 s0 inflow kept is_long outs s
 told_on telling (Keep kept_wait) r0 r w0 w1 w2 s0 inflow kept is_long outs session share told h = absurd told
 told_on telling (Wait ticket) r0 r w0 w1 w2 s0 inflow kept is_long outs session share told h = absurd told
 
--- a telling that stops may be given up
+-- an answer that isn't written whole may be given up
 pub told_up : {A : Type 0} (telling more : Telling A) (w1 w2 : Option (List ℕ)) → TellsOn telling (Tell more) w1 w2 → TellsOn telling (Over ends.Write) w1 w2
 told_up telling more w1 w2 told =
     let (count, text_is, left_is, written_is, less, part) = told in
@@ -252,7 +252,7 @@ told_up telling more w1 w2 told =
 counts_lost : {A : Type 0} (old new : Totals) (outs : List (Out A)) (lost : ℕ) → CountsWith old outs 0 new → CountsWith old outs lost new
 counts_lost old new outs lost h = record { told = h.told; least = h.least; most = omega (arith, h.most) }
 
--- an answer is to be told behind the others
+-- an answer is to be written after the others
 pub answers : {A : Type 0} (out : Out A) (turn : Turn A) (r0 r w0 w : Option (List ℕ)) (s0 : Totals) (inflow : Inflow) (kept : List ℕ) (is_long : Bool)
     (outs : List (Out A)) (session : ℕ) (share : Totals)
     → IsAnswered out turn → HeardSoFar r0 r inflow (outs ++ out ∷ []) → IsBetween kept is_long → length outs < most_lines → SpeaksFor 0 outs
@@ -304,11 +304,11 @@ ends_so ended r0 r new w0 w s0 inflow next kept behind is_long was_long outs ses
 pub readers : (ended : Ended) → IsReaders ended → (ended ≢ ends.Quit) × (ended ≢ ends.Write)
 readers ended h = (λ e. subst IsReaders e h, λ e. subst IsReaders e h)
 
--- nor is a want of memory
+-- nor is a refused allocation
 pub wants : (ends.NoMemory ≢ ends.Quit) × (ends.NoMemory ≢ ends.Write)
 wants = (λ e. subst IsWanting e tt, λ e. subst IsWanting e tt)
 
--- the reply that was waited for is to be told
+-- the reply that was waited for is to be written
 pub replies : {A : Type 0} (ticket : TicketSeen) (out : Out A) (turn : Turn A) (r0 r w0 w : Option (List ℕ)) (s0 : Totals) (inflow : Inflow) (kept : List ℕ)
     (is_long : Bool) (outs : List (Out A)) (session after : ℕ) (share counted : Totals)
     → Stands (Wait ticket) r0 r w0 w s0 inflow kept is_long outs session share → FitsCommand ticket.command out
@@ -400,7 +400,7 @@ stages_kept {A} wait ticket r0 r w0 w s0 inflow kept is_long outs session share 
   counted = (share, h.counted, one);
 }
 
--- its answer is to be told, where it isn't staged
+-- its answer is to be written, where it isn't staged
 pub refuses_kept : {A : Type 0} (wait : PendingWait) (outside : Outside) (turn : Turn A) (r0 r w0 w : Option (List ℕ)) (s0 : Totals) (inflow : Inflow)
     (kept : List ℕ) (is_long : Bool) (outs : List (Out A)) (session after : ℕ) (share : Totals) → outside ≢ outsides.BadLine
     → after ≡ session_after {A = A} session (Refused outside) → IsAnswered (Refused outside) turn

@@ -1,4 +1,4 @@
--- Answers are told, written and counted one by one.
+-- Answers are given, written and counted one by one.
 use Rattle.std.proofs.Common.{◌≡◌, ◌≢◌, ℕ, ◌+◌, List, [], ◌∷◌, ◌++◌, ap, ◌∙◌, refl, subst, arith, append-nil, Option, sum_by, inl}
 use Rattle.std.specs.Io.KnownBytes.{Appends}
 use Rattle.std.proofs.lemmas.Grind.{flat_map-append}
@@ -14,7 +14,7 @@ pub speaks_more : {A : Type 0} (session : ℕ) (outs : List (Out A)) (out : Out 
 speaks_more session [] out all here = (here, tt)
 speaks_more session (o ∷ outs) out all here = (all.0, speaks_more (session_after session o) outs out all.1 here)
 
--- the session behind it
+-- the session after it
 pub session_more : {A : Type 0} (session : ℕ) (outs : List (Out A)) (out : Out A) → session_of session (outs ++ out ∷ []) ≡ session_after (session_of session outs) out
 session_more session [] out = refl
 session_more session (o ∷ outs) out = session_more (session_after session o) outs out

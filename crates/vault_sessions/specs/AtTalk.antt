@@ -2,8 +2,8 @@
 use Rattle.std.specs.Prelude.{ℕ, Bool, List, Option}
 use Rattle.vault_sessions.specs.declared.tally.Totals.{Totals}
 
--- what a dialogue began with: the bytes that its connection had to give, those that it held, what the share counted; and the references
--- that the connection holds, and whether the values of answers are kept
+-- what a dialogue began with: the bytes that its connection had to give, the bytes written to it, and what the share counted; also the
+-- references that the connection holds, and whether the values of answers are kept
 pub record Beginning : Type 0 where
   pub remaining : Option (List ℕ)
   pub contents : Option (List ℕ)
@@ -11,8 +11,8 @@ pub record Beginning : Type 0 where
   pub names : ℕ × ℕ
   pub keeps : Bool
 
--- what it began with, the bytes that its connection has to give now, and those that it holds, whether no step is left, and whether it may be
--- finished: no step is left, or it was given up
+-- what it began with, the bytes that its connection has to give now, the bytes written to it, whether no step is left, and whether it
+-- may be finished: no step is left, or it was given up
 pub record AtTalk : Type 0 where
   pub began : Beginning
   pub remaining : Option (List ℕ)

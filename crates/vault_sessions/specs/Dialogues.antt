@@ -34,7 +34,7 @@ StandsIn (Done ended) reader_old reader_new writer_old writer_new counts inflow 
     IsDone ended reader_old reader_new writer_old writer_new counts outs session share
 StandsIn Open reader_old reader_new writer_old writer_new counts inflow kept is_long outs session share = ⊥
 
--- the same of a conversation
+-- the same for a conversation
 abbrev pub TalksOn : {S T A : Type 0} {s : TallyGhosts S} {t : TallyGhosts T} → Next A → (reader_old reader_new writer_old writer_new : Option (List ℕ))
     → Totals → Conversation S T A s t → Type 0
 TalksOn next reader_old reader_new writer_old writer_new counts talk =

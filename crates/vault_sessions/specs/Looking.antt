@@ -9,14 +9,14 @@ use Rattle.vault_sessions.specs.declared.looked.Looked.{Looked}
 use Rattle.vault_sessions.specs.declared.looked.Looked.TheVariants as looked
 use Rattle.vault_sessions.specs.declared.tally.Totals.{Totals}
 
--- the receipt is for the ticket, or the ticket came back; what it is answered where its reply is lost, is that the vault is broken
+-- the receipt is for the ticket, or the ticket came back; if the reply is lost, the answer is that the vault is broken
 abbrev pub IsFor : {A : Type 0} → TicketSeen → Looked A → Type 0
 IsFor claim (looked.Told receipt) = IsReceiptFor claim receipt
 IsFor claim (looked.NotYet back) = back ≡ claim
 IsFor claim (looked.Lost back cause) = (back ≡ claim) × (cause ≡ Broken)
 IsFor claim (looked.NoMemory back) = back ≡ claim
 
--- when each comes, at a vault: while its entry isn't settled, the reply is still waited for where the vault isn't broken
+-- when each comes, for a vault: while the entry isn't durable and the vault isn't broken, the reply is still waited for
 abbrev pub IsLooked : {D A : Type 0} → VaultSeen D → TicketSeen → Looked A → Type 0
 IsLooked seen claim (looked.Told receipt) = claim.position < seen.view.settled
 IsLooked seen claim (looked.NotYet back) = (seen.view.settled ≤ claim.position) × (seen.view.broken ≡ false)

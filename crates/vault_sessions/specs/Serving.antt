@@ -1,4 +1,4 @@
--- What the lines of a connection are answered, what is written for them, and what a worker counts. This project's own.
+-- What answers the lines of a connection get, what is written for them, and what a worker counts. This project's own.
 use Rattle.std.specs.Prelude.{◌≡◌, ◌≢◌, ℕ, ◌+◌, ◌<◌, ◌≤◌, ◌==◌, if◌then◌else◌, List, [], ◌∷◌, ◌++◌, length, take, Option, Some, None, IsSome, ◌⊎◌, sum_by}
 use Rattle.std.specs.List.{flat_map, AllZip}
 use Rattle.std.specs.Io.KnownBytes.{Consumes, Appends, IsAtEnd}
@@ -21,8 +21,8 @@ use Rattle.vault_sessions.specs.declared.worker.TheConstants.{MAX_LINES}
 abbrev pub most_lines : ℕ
 most_lines = MAX_LINES
 
--- The answer fits the line: a receipt shows the command that the line spells, and the line is answered as bad exactly where it
--- spells none; but memory for reading it may have been refused, where it isn't too long to be read.
+-- The answer fits the line: a receipt shows the command that the line spells, and the line is answered as bad exactly if it spells
+-- none. But if it isn't too long to be read, memory for reading it may have been refused.
 abbrev pub Fits : {A : Type 0} → List ℕ → Out A → Type 0
 Fits line (Told receipt) = command_of line ≡ Some receipt.command
 Fits line (Refused outsides.BadLine) = command_of line ≡ None
@@ -51,8 +51,8 @@ HeardSoFar old new inflow outs =
     (given : List ℕ) × (lines : List (List ℕ)) × Hears old new given lines outs inflow.pending
     × (inflow.taken ≡ length (flat_map with_feed lines)) × (inflow.taken ≤ most_bytes)
 
--- Where a conversation may end so: the reader ended, and no whole line is left; or the most lines were answered, or the reader gave
--- more than the most bytes.
+-- When a conversation may end so: the reader ended, and no whole line is left; or the most lines were answered, or the reader gave more
+-- than the most bytes.
 abbrev pub EndsBy : {A : Type 0} → Ended → Option (List ℕ) → List ℕ → List (Out A) → List ℕ → Type 0
 EndsBy ends.EndOfInput new given outs left = IsAtEnd new × IsOneLine left
 EndsBy ends.Limit new given outs left = (length outs ≡ most_lines) ⊎ (most_bytes < length given)
@@ -67,13 +67,13 @@ HeardAll old new outs ended =
     (given : List ℕ) × (lines : List (List ℕ)) × (left : List ℕ) × Hears old new given lines outs left
     × (length (flat_map with_feed lines) ≤ most_bytes) × EndsBy ended new given outs left
 
--- the session that a connection speaks for behind a reply; session 0 is the door
+-- the session that a connection speaks for after a reply; session 0 is the door
 abbrev pub session_by : ℕ → Reply → ℕ
 session_by session (replies.Session number) = number
 session_by session replies.Left = 0
 session_by session reply = session
 
--- the same behind an answer
+-- the same after an answer
 abbrev pub session_after : {A : Type 0} → ℕ → Out A → ℕ
 session_after session (Told receipt) = session_by session receipt.reply
 session_after session (Refused outside) = session
@@ -93,12 +93,12 @@ abbrev pub session_of : {A : Type 0} → ℕ → List (Out A) → ℕ
 session_of session [] = session
 session_of session (out ∷ outs) = session_of (session_after session out) outs
 
--- the line that an answer is told as
+-- the line that an answer is written as
 abbrev pub text_of : {A : Type 0} → Out A → List ℕ
 text_of (Told receipt) = reply_text receipt.reply
 text_of (Refused outside) = outside_text outside
 
--- the lines of several answers, one behind another
+-- the lines of several answers, one after another
 abbrev pub texts_of : {A : Type 0} → List (Out A) → List ℕ
 texts_of outs = flat_map text_of outs
 
@@ -126,8 +126,8 @@ CutsLast {A} old new outs =
 abbrev pub LacksLast : {A : Type 0} → Option (List ℕ) → Option (List ℕ) → List (Out A) → Type 0
 LacksLast {A} old new outs = (before : List (Out A)) × (last : Out A) × (outs ≡ before ++ last ∷ []) × Appends old new (texts_of before)
 
--- What was written: the texts of the answers in order, where the writer failed with the last one cut, and where memory was refused
--- perhaps without the last one.
+-- What was written: the texts of the answers in order. If the writer failed, the last one is cut. If memory was refused, the last one
+-- may be missing.
 abbrev pub WritesAll : {A : Type 0} → Ended → Option (List ℕ) → Option (List ℕ) → List (Out A) → Type 0
 WritesAll ends.Write old new outs = CutsLast old new outs
 WritesAll ends.NoMemory old new outs = (Appends old new (texts_of outs) × (EndsWithLeft outs → ⊥)) ⊎ LacksLast old new outs
@@ -136,8 +136,8 @@ WritesAll ends.EndOfInput old new outs = Appends old new (texts_of outs)
 WritesAll ends.Read old new outs = Appends old new (texts_of outs)
 WritesAll ends.Limit old new outs = Appends old new (texts_of outs)
 
--- It quits exactly where the last answer is a receipt of a leave whose text was written whole: the two ends that aren't decided here
--- leave such a text cut or out.
+-- It quits exactly if the last answer is a receipt of a leave and its text was written whole. The two ends that aren't decided here
+-- (`Write`, `NoMemory`) leave such a text cut or out.
 abbrev pub QuitsBy : {A : Type 0} → Ended → List (Out A) → Type 0
 QuitsBy ends.Quit outs = EndsWithLeft outs
 QuitsBy ends.Write outs = Unit {0}
@@ -146,12 +146,12 @@ QuitsBy ends.EndOfInput outs = EndsWithLeft outs → ⊥
 QuitsBy ends.Read outs = EndsWithLeft outs → ⊥
 QuitsBy ends.Limit outs = EndsWithLeft outs → ⊥
 
--- one for a receipt
+-- 1 for a receipt
 abbrev pub is_told : {A : Type 0} → Out A → ℕ
 is_told (Told receipt) = 1
 is_told (Refused outside) = 0
 
--- one for an answer of a broken vault, whose command may have been staged
+-- 1 for the answer that the vault is broken: its command may have been staged
 abbrev pub is_broken : {A : Type 0} → Out A → ℕ
 is_broken (Told receipt) = 0
 is_broken (Refused outsides.BadLine) = 0
@@ -159,7 +159,7 @@ is_broken (Refused outsides.Busy) = 0
 is_broken (Refused outsides.NoMemory) = 0
 is_broken (Refused outsides.Broken) = 1
 
--- one where a command may have been staged whose reply was refused memory
+-- 1 if memory was refused at the end: a command may have been staged, and its reply lost
 abbrev pub lost_by : Ended → ℕ
 lost_by ends.NoMemory = 1
 lost_by ends.Quit = 0
@@ -168,11 +168,11 @@ lost_by ends.Read = 0
 lost_by ends.Write = 0
 lost_by ends.Limit = 0
 
--- one where a session stands at the end, so that a leave may have been staged for it
+-- 1 if a session is open at the end: a leave may have been staged for it
 abbrev pub left_behind : {A : Type 0} → List (Out A) → ℕ
 left_behind outs = if session_of 0 outs == 0 then 0 else 1
 
--- a share counted so many receipts, each staged and told once, and at most so many commands beyond them
+-- a share counted this number of receipts, each staged and acknowledged once, and at most `more` commands beyond them
 pub record Counts (old : Totals) (receipts more : ℕ) (new : Totals) : Type 0 where
   pub told : new.told ≡ old.told + receipts
   pub least : old.staged + receipts ≤ new.staged
@@ -182,12 +182,12 @@ pub record Counts (old : Totals) (receipts more : ℕ) (new : Totals) : Type 0 w
 abbrev pub CountsOne : {A : Type 0} → Totals → Out A → Totals → Type 0
 CountsOne old out new = Counts old (is_told out) (is_broken out) new
 
--- what it counted with these answers, and at most so many lost commands
+-- what it counted with these answers, and at most this number of lost commands
 abbrev pub CountsWith : {A : Type 0} → Totals → List (Out A) → ℕ → Totals → Type 0
 CountsWith old outs lost new = Counts old (sum_by is_told outs) (sum_by is_broken outs + lost) new
 
--- What it counted in all: the receipts among the answers, and at most the commands of answers of a broken vault, one whose reply was
--- refused memory, and one last leave.
+-- What it counted in all: the receipts among the answers, and beyond them at most the commands that a broken vault didn't answer, one
+-- whose reply was refused memory, and one last leave.
 abbrev pub CountsAll : {A : Type 0} → Totals → List (Out A) → Ended → Totals → Type 0
 CountsAll old outs ended new = CountsWith old outs (lost_by ended + left_behind outs) new
 

@@ -24,7 +24,7 @@ use Rattle.vault_sessions.specs.declared.turn.Turn.TheVariants.{Hear, Keep, Wait
 use Rattle.vault_sessions.specs.declared.worker.Heard.{Heard}
 use Rattle.vault_sessions.specs.declared.worker.Heard.TheVariants as heard
 
--- The lines so far were answered, and behind them a part of the next one was taken: it is kept, unless it is too long.
+-- The lines so far were answered, and after them a part of the next one was taken: it is kept, unless it is too long.
 abbrev pub HeardPart : {A : Type 0} → Option (List ℕ) → Option (List ℕ) → Inflow → List ℕ → Bool → List (Out A) → Type 0
 HeardPart old new inflow kept is_long outs =
     (part : List ℕ) × (before : Inflow) × HeardSoFar old new before outs × (before.pending ≡ part ++ inflow.pending)
@@ -34,7 +34,7 @@ HeardPart old new inflow kept is_long outs =
 abbrev pub IsBetween : List ℕ → Bool → Type 0
 IsBetween kept is_long = (kept ≡ []) × (is_long ≡ false)
 
--- a line more was heard, whose answer is one that fits this command, or none where the conversation ends before
+-- one more line was heard: its answer fits this command, or it has none if memory is refused and the conversation ends
 abbrev pub HeardCommand : {A : Type 0} → Command → Option (List ℕ) → Option (List ℕ) → Inflow → List (Out A) → Type 0
 HeardCommand {A} command old new inflow outs =
     ((out : Out A) → FitsCommand command out → HeardSoFar old new inflow (outs ++ out ∷ [])) × HeardAll old new outs ends.NoMemory
@@ -43,7 +43,7 @@ HeardCommand {A} command old new inflow outs =
 abbrev pub HeardAsked : {A : Type 0} → TicketSeen → Option (List ℕ) → Option (List ℕ) → Inflow → List (Out A) → Type 0
 HeardAsked ticket old new inflow outs = HeardCommand ticket.command old new inflow outs
 
--- what was heard, where these answers are kept: the one that is told next among them, and not the one that is waited for
+-- what was heard, where these are the answers so far: the one that is written next is among them, the one that is waited for isn't
 abbrev pub HearsBy : {A : Type 0} → Turn A → Option (List ℕ) → Option (List ℕ) → Inflow → List ℕ → Bool → List (Out A) → Type 0
 HearsBy Hear old new inflow kept is_long outs = HeardPart old new inflow kept is_long outs
 HearsBy (Keep kept_wait) old new inflow kept is_long outs = HeardCommand (commands.Await kept_wait.claim) old new inflow outs × IsBetween kept is_long
@@ -51,7 +51,7 @@ HearsBy (Wait ticket) old new inflow kept is_long outs = HeardAsked ticket old n
 HearsBy (Tell telling) old new inflow kept is_long outs = HeardSoFar old new inflow outs × IsBetween kept is_long
 HearsBy (Over ended) old new inflow kept is_long outs = HeardAll old new outs ended
 
--- the texts of all answers but the last one were written, and of that one so many bytes
+-- the texts of all answers but the last one were written, and of that one the first `telling.written` bytes
 abbrev pub TellsLast : {A : Type 0} → Option (List ℕ) → Option (List ℕ) → List (Out A) → Telling A → Type 0
 TellsLast {A} old new outs telling =
     (before : List (Out A)) × (last : Out A) × (outs ≡ before ++ last ∷ []) × NoneLeft before × (telling.text.items ≡ text_of last)
@@ -65,7 +65,7 @@ WritesBy (Wait ticket) old new outs = Appends old new (texts_of outs) × NoneLef
 WritesBy (Tell telling) old new outs = TellsLast old new outs telling
 WritesBy (Over ended) old new outs = WritesAll ended old new outs × QuitsBy ended outs
 
--- what was counted: the command that is waited for is staged, and not told yet
+-- what was counted: the command that is waited for is staged, and not answered yet
 abbrev pub CountsBy : {A : Type 0} → Turn A → Totals → List (Out A) → Totals → Type 0
 CountsBy Hear old outs new = CountsWith old outs 0 new
 CountsBy (Keep kept) old outs new = CountsWith old outs 0 new
@@ -78,7 +78,7 @@ abbrev pub AsksAs : {A : Type 0} → Turn A → ℕ → Type 0
 AsksAs (Wait ticket) session = ticket.session ≡ session
 AsksAs turn session = Unit {0}
 
--- one where an answer is waited for
+-- 1 if an answer is waited for, else 0
 abbrev pub waits_for : {A : Type 0} → Turn A → ℕ
 waits_for (Keep kept) = 1
 waits_for (Wait ticket) = 1
@@ -96,13 +96,13 @@ pub record Stands {A : Type 0} (turn : Turn A) (reader_old reader_new writer_old
   pub written : WritesBy turn writer_old writer_new outs
   pub counted : CountsBy turn counts outs share
 
--- the same of a conversation
+-- the same for a conversation
 abbrev pub StandsAt : {S T A : Type 0} {s : TallyGhosts S} {t : TallyGhosts T} → Turn A → (reader_old reader_new writer_old writer_new : Option (List ℕ))
     → Totals → Conversation S T A s t → Type 0
 StandsAt turn reader_old reader_new writer_old writer_new counts talk =
     Stands turn reader_old reader_new writer_old writer_new counts talk.inlet talk.line.items talk.is_long talk.answers.outs talk.session talk.share
 
--- how a conversation may end whose reader gives no more
+-- how a conversation may end if its reader gives no more
 abbrev pub IsReaders : Ended → Type 0
 IsReaders ends.EndOfInput = Unit {0}
 IsReaders ends.Read = Unit {0}
@@ -135,8 +135,8 @@ FitsLine line (heard.Kept kept) = command_of line ≡ Option.Some (commands.Awai
 FitsLine line heard.NotYet = ⊥
 FitsLine line (heard.Ended ended) = ⊥
 
--- What telling came to: all that was left of the text was written, or so many bytes of it, behind which the writer failed or takes no more
--- for now.
+-- What writing an answer came to: all that was left of the text was written, or only some bytes of it, and then the writer failed or
+-- takes no more for now.
 abbrev pub TellsOn : {A : Type 0} → Telling A → Turn A → Option (List ℕ) → Option (List ℕ) → Type 0
 TellsOn telling Hear old new = Appends old new (drop telling.written telling.text.items) × (telling.is_left ≡ false)
 TellsOn telling (Tell more) old new =
@@ -147,14 +147,14 @@ TellsOn telling (Over ends.Write) old new =
     (count : ℕ) × (telling.written + count < length telling.text.items) × Appends old new (take count (drop telling.written telling.text.items))
 TellsOn telling turn old new = ⊥
 
--- what stopped the telling: it goes on later only where the writer would block, and a writer that fails ends it
+-- what stopped the writing: it goes on later only if the writer would block, and any other error ends it
 abbrev pub StoppedBy : {A : Type 0} → Turn A → Option Error → Type 0
 StoppedBy (Tell more) (Some error) = error_kind error ≡ WouldBlock
 StoppedBy (Tell more) None = ⊥
 StoppedBy (Over ends.Write) (Some error) = error_kind error ≢ WouldBlock
 StoppedBy turn why = why ≡ None
 
--- an answer is to be told whole, unless its line was refused memory
+-- an answer is to be written whole, unless memory for its text was refused
 abbrev pub IsAnswered : {A : Type 0} → Out A → Turn A → Type 0
 IsAnswered out (Tell telling) = (telling.text.items ≡ text_of out) × (telling.written ≡ 0) × MatchBool telling.is_left (IsLeft out) (IsLeft out → ⊥)
 IsAnswered out (Over ended) = ended ≡ ends.NoMemory

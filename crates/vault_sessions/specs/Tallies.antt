@@ -6,7 +6,7 @@ use Rattle.group_commit.specs.Ticket.{TicketSeen, Told}
 use Rattle.group_commit.specs.View.{View, length_of}
 use Rattle.vault_sessions.specs.declared.tally.Totals.{Totals}
 
--- a receipt is of the entry that a ticket names
+-- a receipt is for the entry that a ticket names
 pub record IsReceiptFor (claim : TicketSeen) (told : Told) : Type 0 where
   pub position : told.position ≡ claim.position
   pub session : told.session ≡ claim.session
@@ -29,6 +29,6 @@ CountsRedeem old (redeemed.Stranger back) new = new ≡ old
 CountsRedeem old (redeemed.Unknown back) new = new ≡ old
 CountsRedeem old (redeemed.NoMemory back) new = new ≡ old
 
--- the history and the number of its told entries have grown by what was counted
+-- the history and the number of its acknowledged entries have grown by what was counted
 abbrev pub HasGrown : View → View → Totals → Type 0
 HasGrown old new counted = (length_of new ≡ length_of old + counted.staged) × (new.told ≡ old.told + counted.told)

@@ -1,4 +1,4 @@
--- Which claims wait in the line, in the vault after all entries. This project's own.
+-- Which claims wait in the queue of claims, in the vault after all entries. This project's own.
 use Rattle.std.specs.Prelude.{Option, Some, None}
 use Rattle.vault_model.specs.Claims.{standing_of}
 use Rattle.vault_model.specs.declared.ids.ClaimId.{ClaimId}
@@ -12,6 +12,6 @@ IsStandingQueued None = ⊥
 IsStandingQueued (Some Held) = ⊥
 IsStandingQueued (Some (Queued other)) = Unit {0}
 
--- the same of a claim
+-- the same for a claim
 abbrev pub IsQueued : View → ClaimId → Type 0
 IsQueued v claim = IsStandingQueued (standing_of (book_of v).tree (book_of v).line claim)

@@ -1,4 +1,4 @@
-//! The answers of a conversation: their values where these are kept, and of all others what clauses see.
+//! The answers of a conversation: what contracts see of all of them, and their values where these are kept.
 ghost use Rattle.std.specs.Prelude.{◌≡◌, ◌<◌, ◌++◌, ◌∷◌, [], List, true, false, length, IfOk, IfSome, MatchOption, vec_len, vec_capacity};
 ghost use Rattle.vault_sessions.specs.Answered.{has_value};
 ghost use Rattle.vault_sessions.specs.declared.report.Out.{Out};
@@ -9,16 +9,16 @@ use std::marker::Model;
 use std::snapshot::Snapshot;
 use vault_model::NoMemory;
 
-// Answers as clauses see them. It has no bytes but those that tell its variants apart.
+// Answers as contracts see them. It takes no bytes but those that tell its variants apart.
 #[derive(Drop)]
 pub(crate) enum Log<A: Allocator> {
     Empty,
-    // All but the last one, and that.
+    // All but the last one, and the last one.
     More(Snapshot<Log<A>>, Snapshot<Out<A>>),
 }
 
-/// The answers to the lines of a connection, in order. Contracts see all of them, and a program how many there are and, where it keeps
-/// them, their values. Each kept one takes memory until the end.
+/// The answers to the lines of a connection, in order. Contracts see all of them. A program sees how many there are and, if they are
+/// kept, their values. Each kept one takes memory until the end.
 #[derive(Drop)]
 pub struct Answers<A: Allocator> {
     log: Log<A>,
@@ -42,7 +42,7 @@ impl<A: Allocator> Model for Answers<A> {
 }
 
 impl<A: Allocator + Copy> Answers<A> {
-    /// None yet. Their values are kept or not.
+    /// No answers yet. `keeps` says whether their values are kept.
     pub fn new(alloc: A, keeps: bool) -> Answers<A>
         ensures { result ≡ record { outs = []; is_kept = keeps; has_room = false } }
     {

@@ -1,4 +1,4 @@
-//! Why a line got no reply, of whoever said so.
+//! Why a line got no reply, as the vault or the reading of the line said it.
 ghost use Rattle.std.specs.Prelude.{◌≡◌};
 ghost use Rattle.group_commit.specs.Calls.{IsReason};
 ghost use Rattle.vault_model.specs.declared.replies.Outside.TheVariants.{BadLine, Broken, NoMemory};
@@ -10,8 +10,8 @@ use std::marker::Model;
 use vault_device::Device;
 use vault_model::Outside;
 
-/// Why a line got no reply. One that speaks of the vault is made beside a vault that is so, and nowhere else: none says that a vault is
-/// broken or has no room, where the vault didn't say it.
+/// Why a line got no reply. A cause that speaks of the vault can only be made from a vault in that state: none says that a vault is
+/// broken or has no room unless the vault said so.
 #[derive(Drop)]
 pub struct Cause {
     outside: Outside,
@@ -26,7 +26,7 @@ impl Model for Cause {
 }
 
 impl Cause {
-    /// As it is told.
+    /// The cause, as the client gets it.
     pub fn outside(&self) -> Outside
         ensures { result ≡ self.now }
     {
@@ -60,7 +60,7 @@ impl Cause {
         Cause { outside }
     }
 
-    // What became of the command of this ticket isn't known at this vault.
+    // This vault doesn't know what became of this ticket's command.
     pub(crate) fn of_ticket<D: Device, A: Allocator>(
         vault: &Vault<D, A>,
         ticket: &Ticket<A>,

@@ -9,8 +9,8 @@ use line_inlet::{Inlet, NextByte, NextLine};
 use std::alloc::Allocator;
 use std::io::{self, Read, Write};
 
-/// What a conversation is held over: lines come by it, and their answers go. To hear changes nothing of what was written, and to write
-/// nothing of what is left to hear: std's `Read` and `Write` of one type don't say so.
+/// What a conversation is held over: lines come in by it, and their answers go out. Reading doesn't change what was written, and
+/// writing doesn't change what is left to read. If one type has both of std's `Read` and `Write`, these don't say so.
 pub trait Connection {
     /// The bytes that are still to come, where they are known.
     ghost remaining: { Self → Option (List ℕ) } = { λ _. None };
@@ -47,7 +47,7 @@ pub trait Connection {
         ensures bytes { WriteAppends (contents self.old) (contents self.new) result buf.now }
         ensures same { (remaining self.new ≡ remaining self.old) × (names self.new ≡ names self.old) };
 
-    /// There is news of it, and whether its client sends no more than what is there.
+    /// It has news. `_is_ending` says that its client sends no more than what has arrived.
     fn wake(&mut self, _is_ending: bool)
         ensures same { (remaining self.new ≡ remaining self.old) × (contents self.new ≡ contents self.old) × (names self.new ≡ names self.old) }
     {}
@@ -63,12 +63,12 @@ pub trait Connection {
     }
 }
 
-/// A reader, as what is heard of a connection.
+/// A reader, as the half of a connection that is heard.
 pub(crate) struct Ear<'a, R> {
     pub reader: &'a mut R,
 }
 
-/// A reader and a writer apart, as one connection.
+/// A separate reader and writer, as one connection.
 pub(crate) struct Joined<'a, 'b, R, W> {
     pub ear: Ear<'a, R>,
     pub writer: &'b mut W,

@@ -13,11 +13,11 @@ use vault_lines::LONGEST_LINE;
 pub struct Conversation<S: Tally, T: Tally, A: Allocator> {
     /// The number of its connection.
     pub connection: u32,
-    /// What lies between the reader and the line.
+    /// The bytes that were read, and not taken into a line yet.
     pub inlet: Inlet,
     /// The bytes of the line that is being heard.
     pub line: Vec<u8, A>,
-    /// Whether these were too many, and some of them are left out.
+    /// Whether the line is too long, so that some of its bytes are left out.
     pub is_long: bool,
     /// The answers, in order.
     pub answers: Answers<A>,
@@ -29,7 +29,7 @@ pub struct Conversation<S: Tally, T: Tally, A: Allocator> {
 }
 
 impl<S: Tally, T: Tally, A: Allocator + Copy> Conversation<S, T, A> {
-    /// Nothing was heard. Where memory is refused, the share comes back.
+    /// A new conversation, which has heard nothing. Where memory is refused, the share comes back.
     pub fn new(
         alloc: A,
         connection: u32,
@@ -55,7 +55,7 @@ impl<S: Tally, T: Tally, A: Allocator + Copy> Conversation<S, T, A> {
         })
     }
 
-    // The line that was heard is used, and no byte of the next one was taken.
+    // Begins the next line: the one that was heard is done with, and no byte of the next one was taken.
     pub(crate) fn begin_line(&mut self)
         ensures begun { (self.new.line.items ≡ []) × (self.new.is_long ≡ false) }
         ensures same { (self.new.inlet ≡ self.old.inlet) × (self.new.answers ≡ self.old.answers) × (self.new.session ≡ self.old.session)

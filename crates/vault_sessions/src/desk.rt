@@ -34,33 +34,33 @@ use vault_model::{ClaimId, CommandIn, NoMemory, Outside, Standing};
 pub enum Due {
     /// Nothing, until something is staged.
     Nothing,
-    /// Something, in so long at the latest: others may come by then.
+    /// Something, after this time at the latest. More commands may come until then.
     In(Duration),
     /// A snapshot is to be made.
     Snapshot,
-    /// What is staged is to be committed, behind so many entries that are settled.
+    /// What is staged is to be committed. The number of entries that are durable already.
     Commit(u64),
 }
 
-/// A vault and the books of both tallies, of what was counted before, and whether it is closed: the flusher is to end then.
-/// Contracts see the vault, and whether it is closed, but not when the flusher sleeps.
+/// A vault, the books of both tallies, the share of what was counted before, and whether the desk is closed: the flusher is to end
+/// then. Contracts see the vault, and whether the desk is closed, but not when the flusher sleeps.
 #[derive(Drop)]
 pub struct Desk<D: Device, S: Tally, T: Tally, A: Allocator = Global> {
     /// The vault that all workers share.
     pub(crate) vault: Vault<D, A>,
     /// The book of the tally of staged commands.
     pub(crate) staged: LedgerBook<S>,
-    /// The book of the tally of told entries.
+    /// The book of the tally of acknowledged entries.
     pub(crate) told: LedgerBook<T>,
     /// The share that counts what there was when the desk was opened.
     pub(crate) opening: Share<S, T>,
-    /// Whether the flusher is to end once all is settled.
+    /// Whether the flusher is to end once all is durable.
     pub(crate) closed: bool,
-    /// When the flusher sleeps, and for how many it waits. Contracts don't see it.
+    /// When the flusher sleeps, and how many entries it waits for. Contracts don't see it.
     pub(crate) pace: Pace,
     /// The last commit. Contracts don't see it.
     pub(crate) last: Commit,
-    /// Who waits for a claim. Contracts don't see it.
+    /// How many wait for a claim. Contracts don't see it.
     pub(crate) waits: Waits,
 }
 
@@ -73,7 +73,7 @@ impl<D: Device, S: Tally, T: Tally, A: Allocator> Model for Desk<D, S, T, A> {
 
     ghost view = { λ d. record { vault = d.vault; closed = d.closed } };
 
-    // Invariants 1 to 3 of lib.rt, in this order; the third takes two.
+    // Invariants 1 to 3 of lib.rt, in this order; the third takes two clauses.
     ghost invariant = { λ d. (d.staged.total ≡ length_of d.vault.view) × (d.told.total ≡ d.vault.view.told) × (d.opening.staged ≡ S.opening)
         × (d.opening.told ≡ T.opening) };
 }
@@ -112,7 +112,8 @@ impl<D: Device, S: Tally, T: Tally, A: Allocator + Copy> Desk<D, S, T, A> {
         }
     }
 
-    /// The reply of the entry that a ticket names, once that is settled, counted in the share. Else the ticket comes back.
+    /// Gives the reply of the entry that a ticket names once the entry is durable, and counts it in the share. Else the ticket comes
+    /// back.
     pub fn redeem(&mut self, ticket: Ticket<A>, share: &mut Share<S, T>) -> Redeemed<A>
         ensures redeemed { IsRedeemed self.old.vault self.new.vault ticket result }
         ensures of_ticket { IsOfTicket ticket result }
@@ -171,7 +172,7 @@ impl<D: Device, S: Tally, T: Tally, A: Allocator + Copy> Desk<D, S, T, A> {
         self.vault.start_snapshot()
     }
 
-    /// Lets the oldest kept entry go, where it is settled and its ticket isn't out any more. No tally changes.
+    /// Discards the oldest kept entry, if it is durable and its ticket isn't out any more. No tally changes.
     pub fn retire(&mut self) -> Retired
         ensures retired { IsRetired self.old.vault self.new.vault result }
         ensures same { (length_of self.new.vault.view ≡ length_of self.old.vault.view)
@@ -184,7 +185,7 @@ impl<D: Device, S: Tally, T: Tally, A: Allocator + Copy> Desk<D, S, T, A> {
 }
 
 impl<D: Device, S: Tally, T: Tally, A: Allocator + Copy> Desk<D, S, T, A> {
-    // A desk of this vault, which is open.
+    // An open desk of this vault.
     pub(crate) fn new(
         vault: Vault<D, A>,
         staged: LedgerBook<S>,
@@ -207,7 +208,7 @@ impl<D: Device, S: Tally, T: Tally, A: Allocator + Copy> Desk<D, S, T, A> {
         }
     }
 
-    // Begins a snapshot, and keeps that it is no commit.
+    // Begins a snapshot, and notes in `pace` that it is under way or put off.
     pub(crate) fn start_on(&mut self) -> Result<Started, NoMemory>
         ensures started { result ≡ Ok Started.Yes → self.new.vault.view ≡ view_acted snapshot_length self.old.vault.view StartSnapshot }
         ensures refused { OnErr result (self.new ≡ self.old) }
@@ -219,7 +220,7 @@ impl<D: Device, S: Tally, T: Tally, A: Allocator + Copy> Desk<D, S, T, A> {
         started
     }
 
-    // Stages a command. One that is refused is dropped, and the cause is the vault's.
+    // Stages a command. One that is refused is dropped, and the vault gives the cause.
     pub(crate) fn stage_on(
         &mut self,
         session: u32,
@@ -247,7 +248,7 @@ impl<D: Device, S: Tally, T: Tally, A: Allocator + Copy> Desk<D, S, T, A> {
         }
     }
 
-    // Looks for the reply to the command that a ticket is for. Where it is lost, the cause is the vault's.
+    // Looks for the reply to the command that a ticket is for. If it is lost, the vault gives the cause.
     pub(crate) fn look(&mut self, ticket: Ticket<A>, share: &mut Share<S, T>) -> Looked<A>
         ensures looked { IsLooked self.old.vault ticket result }
         ensures of_ticket { IsFor ticket result }
@@ -268,14 +269,14 @@ impl<D: Device, S: Tally, T: Tally, A: Allocator + Copy> Desk<D, S, T, A> {
         }
     }
 
-    // Whether a claim waits for others in the line.
+    // Whether a claim waits for others in the queue of claims.
     fn is_queued(&self, claim: ClaimId) -> bool
         ensures { IsTrue result ↔ IsQueued self.now.vault.view claim }
     {
         is_queued(self.vault.standing(claim))
     }
 
-    // Keeps the `wait` of a session for a claim that is queued, where the vault isn't broken, and fewer than so many wait.
+    // Keeps the `wait` of a session for a claim that isn't granted yet, if the vault isn't broken, and fewer than `most` are kept.
     pub(crate) fn keep(&mut self, session: u32, claim: ClaimId, most: usize) -> Option<PendingWait>
         ensures same { self.new ≡ self.old }
         ensures kept { IfSome result (λ kept. (kept.claim ≡ claim) × (session ≢ 0) × (self.old.vault.view.broken ≡ false)
@@ -293,8 +294,8 @@ impl<D: Device, S: Tally, T: Tally, A: Allocator + Copy> Desk<D, S, T, A> {
         None
     }
 
-    // Whether a kept `wait` is to be staged: it was let go, or its claim isn't queued any more, or the vault is broken. Then one waits less.
-    // The line is looked at where it may have moved since then.
+    // Whether a kept `wait` is to be staged: it was released, or its claim doesn't wait any more, or the vault is broken. Then one
+    // fewer is kept. It looks at the queue of claims only if that may have moved since the last look.
     pub(crate) fn lets_go(&mut self, kept: &mut PendingWait) -> bool
         ensures same { self.new ≡ self.old }
         ensures claim { kept.new.claim ≡ kept.old.claim }
@@ -309,19 +310,19 @@ impl<D: Device, S: Tally, T: Tally, A: Allocator + Copy> Desk<D, S, T, A> {
         !is_kept
     }
 
-    // One that waits for a claim waits no longer.
+    // A conversation that waits for a claim waits no longer.
     pub(crate) fn stops_waiting(&mut self)
         ensures { self.new ≡ self.old }
     {
         self.waits.leave();
     }
 
-    // How many entries aren't settled.
+    // The number of entries that aren't durable yet.
     pub(crate) fn waiting(&self) -> u64 {
         self.vault.len().saturating_sub(self.vault.durable())
     }
 
-    // A command was staged that may change the vault, or doesn't. Whether the flusher sleeps and has to be woken.
+    // Notes that a command was staged, and whether it may change the vault. Says whether the flusher sleeps and has to be woken.
     pub(crate) fn wakes_flusher(&mut self, may_change: bool) -> bool
         ensures { self.new ≡ self.old }
     {
@@ -329,16 +330,16 @@ impl<D: Device, S: Tally, T: Tally, A: Allocator + Copy> Desk<D, S, T, A> {
         self.pace.staged(waiting, may_change)
     }
 
-    // A worker waits for room in the history.
+    // Notes that a worker waits for room in the history.
     pub(crate) fn asks_for_room(&mut self)
         ensures { self.new ≡ self.old }
     {
         self.pace.asks_for_room();
     }
 
-    // What is to be done at the files: the one rule of all who do it. A snapshot comes first, where one is wanted, and nobody asks just then
-    // or the journal is long (`begins_snapshot`). Else what is staged is committed, once nobody is waited for any more (`others_in`), and
-    // entries are let go where somebody waits for room.
+    // What is to be done at the files: one rule for all threads that do it. A snapshot comes first, if one is wanted, and no command
+    // came for a while or the journal is long (`begins_snapshot`). Else what is staged is committed, once there is nobody left to wait
+    // for (`others_in`). A commit is due as well if a worker waits for room: entries are discarded before it.
     pub(crate) fn due<C: Clock>(
         &mut self,
         clock: &C,
@@ -362,7 +363,8 @@ impl<D: Device, S: Tally, T: Tally, A: Allocator + Copy> Desk<D, S, T, A> {
         Due::Commit(self.vault.durable())
     }
 
-    // How long it is until a snapshot is begun, if nobody asks for anything until then. None: none is wanted, or it is put off.
+    // How long it is until a snapshot is begun, if no command comes until then. None: none is wanted, it is put off, or the desk is
+    // closed.
     fn snapshot_in<C: Clock>(&self, clock: &C, silence: &mut Silence) -> Option<Duration> {
         if self.pace.is_put_off || !self.vault.wants_snapshot() {
             return None;
@@ -375,7 +377,7 @@ impl<D: Device, S: Tally, T: Tally, A: Allocator + Copy> Desk<D, S, T, A> {
         if self.closed { None } else { left }
     }
 
-    // For how long others are waited for at most, before what is staged is committed.
+    // How long to wait for other clients, at most, before what is staged is committed.
     fn others_in<C: Clock>(&self, clock: &C, gathering: &mut Gathering) -> Option<Duration> {
         if self.closed || !self.waits_for_others() {
             return None;
@@ -386,14 +388,16 @@ impl<D: Device, S: Tally, T: Tally, A: Allocator + Copy> Desk<D, S, T, A> {
         gathering.left(clock, &self.last, moved, is_owed)
     }
 
-    // Whether others may still come whom the last commit told, or who came meanwhile.
+    // Whether the next commit still waits for other clients. It does while a durable entry isn't acknowledged yet (`Pace::owes`), or
+    // while fewer entries wait than clients are expected (`Pace::lacks`): those whom the last commit answered, and those who came
+    // during it.
     fn waits_for_others(&self) -> bool {
         let (settled, told) = (self.vault.durable(), self.vault.told());
         self.pace.owes(settled, told) || self.pace.lacks(self.waiting())
     }
 
-    // Whether a flusher sleeps on that found nothing due yet. Where nothing was staged then: until anything is, or somebody asks for room.
-    // Else, for a while, until all are back who are waited for.
+    // Whether a flusher that found nothing due yet sleeps on. If nothing was staged then, it sleeps until something is, or a worker
+    // asks for room. Else it sleeps for a while, until all clients that it waits for are back.
     pub(crate) fn sleeps(&mut self, was_quiet: bool) -> bool
         ensures { self.new ≡ self.old }
     {
@@ -406,7 +410,7 @@ impl<D: Device, S: Tally, T: Tally, A: Allocator + Copy> Desk<D, S, T, A> {
         self.pace.sleeps(is_early, group)
     }
 
-    // How many entries are settled. None where the vault is broken.
+    // The number of durable entries. None if the vault is broken.
     pub(crate) fn settled(&self) -> Option<u64> {
         if self.vault.is_broken() {
             None
@@ -415,8 +419,8 @@ impl<D: Device, S: Tally, T: Tally, A: Allocator + Copy> Desk<D, S, T, A> {
         }
     }
 
-    // A commit ended so, before which so many entries were settled. The next one waits for as many as there are now behind those: whom it
-    // settled, and who came since it began.
+    // Notes how a commit ended, and the number of entries that were durable before it. The next one waits for as many entries as came
+    // after those: the ones that this commit made durable, and the ones staged since it began.
     pub(crate) fn committed(&mut self, settled: u64, commit: Commit)
         ensures { self.new ≡ self.old }
     {
@@ -425,7 +429,7 @@ impl<D: Device, S: Tally, T: Tally, A: Allocator + Copy> Desk<D, S, T, A> {
         self.pace.expects(group);
     }
 
-    // The next commit waits for so many more.
+    // The next commit waits for this many entries more.
     pub(crate) fn expects_more(&mut self, coming: u64)
         ensures { self.new ≡ self.old }
     {
@@ -433,7 +437,7 @@ impl<D: Device, S: Tally, T: Tally, A: Allocator + Copy> Desk<D, S, T, A> {
         self.pace.expects(group);
     }
 
-    // Does the next step of a commit or of a snapshot, and keeps what it came to.
+    // Does the next step of a commit or of a snapshot, and notes in `pace` what it came to.
     pub(crate) fn pump_on(&mut self) -> Result<Pumped, Fault>
         ensures pumped { IsPumped self.old.vault result self.new.vault }
         ensures open { self.new.closed ≡ self.old.closed }
@@ -468,14 +472,14 @@ impl<D: Device, S: Tally, T: Tally, A: Allocator + Copy> Desk<D, S, T, A> {
         None
     }
 
-    /// Lets the flusher end once all is settled.
+    /// Lets the flusher end once all is durable.
     pub(crate) fn close(&mut self)
         ensures { self.new ≡ record self.old { closed = true } }
     {
         self.closed = true;
     }
 
-    // Whether every entry is settled, and no snapshot is under way.
+    // Whether every entry is durable, and no snapshot is under way.
     fn is_settled(&self) -> bool
         ensures { IsTrue result ↔ IsAtRest self.now.vault.view }
     {
@@ -483,7 +487,7 @@ impl<D: Device, S: Tally, T: Tally, A: Allocator + Copy> Desk<D, S, T, A> {
     }
 }
 
-// Whether one that stands so waits for others.
+// Whether a claim of this standing waits for others.
 fn is_queued(standing: Option<Standing>) -> bool
     ensures { IsTrue result ↔ IsStandingQueued standing }
 {

@@ -1,4 +1,4 @@
-//! One connection's conversation, from its first byte to its report: what serves is what is proved.
+//! One connection's conversation, from its first byte to its report: the code that serves is the code that is proved.
 ghost use Rattle.std.specs.Prelude.{◌≡◌, ◌≤◌, ◌↔◌, ℕ, Bool, true, false, List, Option, IfOk, IfErr, length};
 ghost use Rattle.line_inlet.specs.Inflow.{Inflow};
 ghost use Rattle.vault_sessions.specs.Serving.{most_lines, HeardAll, SpeaksFor, session_of, CountsAll, WritesAll, QuitsBy};
@@ -33,7 +33,7 @@ use vault_model::Outside;
 pub enum Step {
     /// It was taken, and there may be a next one.
     Went,
-    /// A reply isn't known yet, a claim is still queued, or there is no room for a last leave.
+    /// A reply isn't known yet, a claim still waits, or there is no room for a last leave.
     Waits,
     /// There is no whole line for now.
     Dry,
@@ -48,25 +48,25 @@ pub enum Step {
 pub enum Awaits {
     /// To hear a line.
     Line,
-    /// To stage a `wait` that is kept, once its claim isn't queued any more.
+    /// To stage a `wait` that is kept, once its claim doesn't wait any more.
     Claim,
     /// To look for the reply to a command.
     Reply,
-    /// To tell an answer.
+    /// To write an answer.
     Telling,
-    /// To stage a last leave, if a session stands.
+    /// To stage a last leave, if a session is open.
     Leave,
     /// There is none.
     Nothing,
 }
 
-/// One connection's conversation. It owns the connection, and nobody else hears or tells a byte over it. Contracts see what it began with,
-/// and what its connection has to give and holds.
+/// One connection's conversation. It owns the connection, and nobody else reads or writes a byte over it. Contracts see what it began
+/// with, the bytes that its connection has still to give, and the bytes written to it.
 pub struct Dialogue<C: Connection, S: Tally, T: Tally, A: Allocator> {
     connection: C,
     talk: Conversation<S, T, A>,
     next: Next<A>,
-    // Of no bytes: the connection and the share as they were at the beginning.
+    // The connection and the share as they were at the beginning. These take no bytes.
     began: Snapshot<C>,
     counted: Snapshot<Share<S, T>>,
 }
@@ -98,8 +98,8 @@ impl<C: Connection, S: Tally, T: Tally, A: Allocator> Model for Dialogue<C, S, T
 }
 
 impl<C: Connection, S: Tally, T: Tally, A: Allocator + Copy> Dialogue<C, S, T, A> {
-    /// Nothing was heard. The values of its answers are kept for the report or not: kept ones take memory until the end. Where memory is
-    /// refused, the connection and the share come back.
+    /// A new dialogue, which has heard nothing. `keeps` says whether the values of its answers are kept for the report: kept ones take
+    /// memory until the end. Where memory is refused, the connection and the share come back.
     pub fn new(
         alloc: A,
         number: u32,
@@ -148,7 +148,7 @@ impl<C: Connection, S: Tally, T: Tally, A: Allocator + Copy> Dialogue<C, S, T, A
         self.step_on(worker, false)
     }
 
-    // Takes the next step. Waits for a reply and for room for a last leave, or looks once.
+    // Takes the next step. With `waits` it waits for a reply, and for room for a last leave. Else it looks once.
     #[tactic(auto, using(crate::proofs::Dialogues::done_ended))]
     pub(crate) fn step_on<D: Device, G: Gate, H: Wait>(
         &mut self,
@@ -165,7 +165,7 @@ impl<C: Connection, S: Tally, T: Tally, A: Allocator + Copy> Dialogue<C, S, T, A
         step
     }
 
-    /// Hears and tells nothing more. A reply that is waited for is lost. A session that stands still gets its last leave, by a further step.
+    /// Reads and writes nothing more. A reply that it waits for is lost. If a session is open, a further step stages its last leave.
     pub fn give_up<D: Device, G: Gate, H: Wait>(&mut self, worker: &Worker<'_, D, S, T, A, G, H>)
         ensures same { (self.new.began ≡ self.old.began) × (self.new.is_over ≡ self.old.is_over) }
         ensures ended { self.new.has_ended ≡ true }
@@ -175,7 +175,7 @@ impl<C: Connection, S: Tally, T: Tally, A: Allocator + Copy> Dialogue<C, S, T, A
         put_back(&mut self.next, next);
     }
 
-    /// Stages its `wait` by the next step, however the claim stands, where it keeps one.
+    /// If it keeps a `wait`, the next step stages it, however the claim stands.
     pub fn let_go(&mut self)
         ensures { self.new ≡ self.old }
     {
@@ -184,7 +184,7 @@ impl<C: Connection, S: Tally, T: Tally, A: Allocator + Copy> Dialogue<C, S, T, A
         put_back(&mut self.next, next);
     }
 
-    /// There is news of its connection, and whether its client sends no more than what is there.
+    /// Its connection has news. `is_ending` says that its client sends no more than what has arrived.
     pub fn wake(&mut self, is_ending: bool)
         ensures { self.new ≡ self.old }
     {
@@ -208,7 +208,7 @@ impl<C: Connection, S: Tally, T: Tally, A: Allocator + Copy> Dialogue<C, S, T, A
         self.talk.session != 0
     }
 
-    /// Whether a line has begun that isn't whole yet, as far as it was heard.
+    /// Whether it has heard a part of a line, and not its end.
     pub fn is_within_line(&self) -> bool {
         self.talk.is_long || !self.talk.line.is_empty()
     }
@@ -228,7 +228,8 @@ impl<C: Connection, S: Tally, T: Tally, A: Allocator + Copy> Dialogue<C, S, T, A
         }
     }
 
-    /// What it came to, and its connection. It is over, or was given up: then a session that stands gets no last leave any more.
+    /// What it came to, and its connection. It must be over or given up. If it was given up and isn't over, an open session gets no
+    /// last leave any more.
     pub fn finish(self) -> (C, Finished<S, T, A>)
         requires { self.has_ended ≡ true }
         ensures connection { (C.remaining result.0 ≡ self.remaining) × (C.contents result.0 ≡ self.contents) × (C.names result.0 ≡ self.began.names) }
@@ -326,7 +327,7 @@ fn hear<D: Device, S: Tally, T: Tally, A: Allocator + Copy, G: Gate, H: Wait, C:
     }
 }
 
-// Stages a kept `wait`, once it is to be.
+// Stages a kept `wait`, once it is time.
 fn stage_kept<D: Device, S: Tally, T: Tally, A: Allocator + Copy, G: Gate, H: Wait>(
     worker: &Worker<'_, D, S, T, A, G, H>,
     waits: bool,
@@ -364,7 +365,7 @@ fn settle<D: Device, S: Tally, T: Tally, A: Allocator + Copy, G: Gate, H: Wait>(
     }
 }
 
-// Tells an answer.
+// Writes an answer.
 fn tell_on<A: Allocator, C: Connection>(connection: &mut C, telling: Telling<A>) -> (Next<A>, Step)
     ensures stands { (reader_old writer_old : Option (List ℕ)) (counts : Totals) (inflow : Inflow) (kept : List ℕ) (is_long : Bool)
         (outs : List (Out A)) (session : ℕ) (share : Totals)
@@ -380,7 +381,7 @@ fn tell_on<A: Allocator, C: Connection>(connection: &mut C, telling: Telling<A>)
     }
 }
 
-// Stages a last leave of the session that stands, if one does.
+// Stages a last leave of the open session, if there is one.
 fn leave<D: Device, S: Tally, T: Tally, A: Allocator + Copy, G: Gate, H: Wait>(
     worker: &Worker<'_, D, S, T, A, G, H>,
     waits: bool,
@@ -412,7 +413,7 @@ fn leave<D: Device, S: Tally, T: Tally, A: Allocator + Copy, G: Gate, H: Wait>(
     (Next::Done(ended), Step::Over)
 }
 
-// How a conversation ends that is given up at this turn.
+// How a conversation ends if it is given up at this turn.
 fn end_turn<D: Device, S: Tally, T: Tally, A: Allocator + Copy, G: Gate, H: Wait>(
     worker: &Worker<'_, D, S, T, A, G, H>,
     turn: Turn<A>,
@@ -437,7 +438,7 @@ fn end_turn<D: Device, S: Tally, T: Tally, A: Allocator + Copy, G: Gate, H: Wait
     }
 }
 
-// The same where an answer is being told: one that is told whole is told.
+// The same while an answer is being written. If it was written whole, it counts as answered.
 fn end_telling<A: Allocator>(telling: &Telling<A>) -> Ended
     ensures { (reader_old reader_new writer_old writer_new : Option (List ℕ)) (counts : Totals) (inflow : Inflow) (kept : List ℕ) (is_long : Bool)
         (outs : List (Out A)) (session : ℕ) (share : Totals)
@@ -453,7 +454,7 @@ fn end_telling<A: Allocator>(telling: &Telling<A>) -> Ended
     Ended::Read
 }
 
-// What comes next where a `wait` that it keeps is let go.
+// What comes next once a kept `wait` is released.
 fn let_go<A: Allocator>(next: Next<A>) -> Next<A>
     ensures stands { (reader_old reader_new writer_old writer_new : Option (List ℕ)) (counts : Totals) (inflow : Inflow) (kept : List ℕ) (is_long : Bool)
         (outs : List (Out A)) (session : ℕ) (share : Totals)
@@ -470,7 +471,7 @@ fn let_go<A: Allocator>(next: Next<A>) -> Next<A>
     }
 }
 
-// What comes next where it is given up.
+// What comes next once it is given up.
 fn give_up<D: Device, S: Tally, T: Tally, A: Allocator + Copy, G: Gate, H: Wait>(
     worker: &Worker<'_, D, S, T, A, G, H>,
     next: Next<A>,

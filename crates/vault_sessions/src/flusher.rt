@@ -14,16 +14,17 @@ use vault_device::Device;
 /// Why a flusher ended.
 #[derive(Debug, Clone, Copy, PartialEq, Eq)]
 pub enum Flushed {
-    /// `Shared::close` was called, every entry is settled, and no snapshot is under way.
+    /// `Shared::close` was called, every entry is durable, and no snapshot is under way.
     Closed,
     /// A device call failed.
     Broken,
 }
 
-/// Commits while something is unsettled and sleeps else, until the desk is closed or the vault is broken. What is due when, `Desk` says. The
-/// lock is held for one pump at a time, which makes at most one device call, and workers are woken only where a pump settled entries or
-/// failed. A snapshot is begun under one more holding, and pumped to its end; where the memory for it is refused, it is begun behind the
-/// next commit. Before each commit the entries are let go that are settled and whose tickets aren't out, one at a time.
+/// Commits while something isn't durable and sleeps otherwise, until the desk is closed or the vault is broken. `Desk` says what is due
+/// when. The lock is held for one pump at a time, which makes at most one device call. Workers are woken only after a pump that made
+/// entries durable or failed. A snapshot is begun in a lock acquisition of its own, and pumped to its end. If the memory for it is
+/// refused, it is begun after the next commit. Before each commit, the durable entries whose tickets aren't out are discarded, one per
+/// lock acquisition.
 pub fn run_flusher<D: Device, S: Tally, T: Tally, A: Allocator + Copy, G: Gate, H: Wait + Clock>(
     rt: &H,
     shared: &Shared<D, S, T, A>,
@@ -101,8 +102,8 @@ impl<'a, D: Device, S: Tally, T: Tally, A: Allocator + Copy, G: Gate, H: Wait + 
         Ok(Due::Nothing)
     }
 
-    /// Lets the entries go that are settled and whose tickets aren't out, the oldest first. Whether there were any. Whoever was told by
-    /// the last commit waits for the next one by now, and not for the lock.
+    /// Discards the durable entries whose tickets aren't out, the oldest first. Says whether there were any. By now the clients that
+    /// the last commit answered wait for the next one, and not for the lock.
     pub fn retire(&self) -> bool {
         let shared = self.shared;
         let mut had_one = false;
@@ -116,7 +117,7 @@ impl<'a, D: Device, S: Tally, T: Tally, A: Allocator + Copy, G: Gate, H: Wait + 
         had_one
     }
 
-    /// Makes a snapshot, unless it can't be begun. Whether it was.
+    /// Makes a snapshot, unless it can't be begun. Says whether it was begun.
     pub fn renew(&self) -> bool {
         let shared = self.shared;
         let started = shared.desk.lock(self.rt).start_on();
@@ -127,7 +128,7 @@ impl<'a, D: Device, S: Tally, T: Tally, A: Allocator + Copy, G: Gate, H: Wait + 
         has_begun
     }
 
-    /// Commits what is staged, behind so many entries that are settled. Whether it called the device.
+    /// Commits what is staged. `settled` is the number of entries that are durable already. Says whether it called the device.
     pub fn commit(&self, settled: u64) -> bool {
         let shared = self.shared;
         let Some(commit) = self.settle() else {
@@ -137,7 +138,7 @@ impl<'a, D: Device, S: Tally, T: Tally, A: Allocator + Copy, G: Gate, H: Wait + 
         true
     }
 
-    // Pumps until entries are settled, or a device call failed, and wakes the workers that wait at the desk. What it made, where it
+    // Pumps until entries are durable, or a device call failed, and wakes the workers that wait at the desk. Gives the commit, if it
     // called the device.
     fn settle(&self) -> Option<Commit> {
         let shared = self.shared;
@@ -159,20 +160,21 @@ impl<'a, D: Device, S: Tally, T: Tally, A: Allocator + Copy, G: Gate, H: Wait + 
         }
     }
 
-    /// What is to be done at the files, for threads that do it in between.
+    /// What is to be done at the files, for threads that do it between steps of connections.
     pub fn due(&self, gathering: &mut Gathering, silence: &mut Silence) -> Due {
         let shared = self.shared;
         shared.desk.lock(self.rt).due(self.rt, gathering, silence)
     }
 
-    /// How many entries are settled. None where the vault is broken.
+    /// The number of durable entries. None if the vault is broken.
     pub fn settled(&self) -> Option<u64> {
         let shared = self.shared;
         shared.desk.lock(self.rt).settled()
     }
 
-    /// The next commit waits for so many more than those whom the last one settled, and who came since it began: whose lines are there, and
-    /// aren't heard yet. Is called before anybody is told, who then comes back, and would be counted twice.
+    /// Lets the next commit wait for `coming` more entries, beyond those that the last one made durable and those staged since it
+    /// began. These are the lines that have come and aren't heard yet. To be called before any client is answered: an answered one
+    /// comes back, and would be counted twice.
     pub fn expects_more(&self, coming: u64) {
         let shared = self.shared;
         shared.desk.lock(self.rt).expects_more(coming);

@@ -1,4 +1,4 @@
-//! Points at which a test can hold a thread, and what a server tells at once.
+//! Points at which a test can hold a thread, and what a server reports at once.
 
 use std::io;
 
@@ -22,7 +22,7 @@ pub trait Gate {
     /// Returns once the thread may go on.
     fn at(&self, point: Point);
 
-    /// A server can accept no more connections, and ends with those that it has. The system said why.
+    /// A server can accept no more connections, and ends with those that it has. `_why` is the system's error.
     fn accepts_no_more(&self, _why: io::Error) {}
 }
 

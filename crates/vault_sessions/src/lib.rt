@@ -1,31 +1,31 @@
 //! One vault under one lock: conversations over connections, by steps, and a flusher that commits what they staged.
 //!
-//! Promises: whenever the lock is free the vault keeps its laws, and the tallies count what was staged and told. Each line of
-//! a connection has its answer at its place, a receipt shows the line's command, and what is written is the texts of the
-//! answers (`serve_one`). A conversation is a `Dialogue`, which owns its connection and goes by steps: whoever takes them, each keeps that,
-//! and `finish` gives it, with no premise on the caller. `serve_one` is a loop over these steps. An answer that speaks of the vault
-//! is what a vault was (`Cause`). The shares of all workers sum to what the history grew by (`gather`). A pump, the start of a snapshot
-//! and the retiring of an entry are one act of the vault each, and count nothing (`Desk`). Of `run_flusher`, `Flusher`, `Shared::close`
-//! and `Worker::forget` safety alone is proved.
+//! Promises: whenever the lock is free the vault keeps its laws, and the tallies count what was staged and acknowledged. Each line of a
+//! connection has its answer at its place, a receipt shows the line's command, and what is written is the texts of the answers
+//! (`serve_one`). A conversation is a `Dialogue`, which owns its connection and goes by steps. Each step keeps this, whoever takes it,
+//! with no premise on the caller, and `finish` gives it once the dialogue has ended. `serve_one` is a loop over these steps. An answer
+//! that speaks of the vault's state was made from a vault in that state (`Cause`). The shares of all workers sum to what the history
+//! grew by (`gather`). A pump, the start of a snapshot and the retiring of an entry are one act of the vault each, and change no tally
+//! (`Desk`). For `run_flusher`, `Flusher`, `Shared::close` and `Worker::forget` only safety is proved.
 //! Stands on: group_commit, flusher_pace, vault_lines, line_inlet, and what they stand on. Must not know: what a command does, what a
 //! file holds, what a socket is.
 //!
 //! Invariants:
 //! 1. `Desk`: the staged tally is the length of the history.
-//! 2. `Desk`: the told tally is the number of told entries.
-//! 3. `Desk`: the opening share counts what there was before, and never changes.
+//! 2. `Desk`: the told tally is the number of acknowledged entries.
+//! 3. `Desk`: the opening share counts what was there when the desk was opened, and never changes.
 //! 4. `Shared`: each ledger has one part for each worker, and one for the opening.
-//! 5. `Share`: it has one part of each ledger, which counts what the share says.
+//! 5. `Share`: it has one part of each ledger, whose amount is the share's count.
 //! 6. `Conversation`: the buffer has room for the longest line.
-//! 7. `Dialogue`: what it heard, whom it speaks for, what it wrote and what it counted since it began, by what it does next.
+//! 7. `Dialogue`: what it heard, the session it speaks for, what it wrote and what it counted since it began, by what it does next.
 //!
-//! Only tested: two sessions share a frame; a second one is answered while the first waits; the flusher waits for a client
-//! that comes back, goes on without one that doesn't, and stays until it is closed; it begins a snapshot where one is wanted,
-//! and, refused its memory, commits and begins it then; one pump a holding; that
-//! a `wait` is staged once its claim is held or gone; each request of `Shared::new` and `serve_one` for memory, refused.
+//! Only tested: two sessions share a frame; a second one is answered while the first waits; the flusher waits for a client that comes
+//! back, goes on without one that doesn't, and runs until the desk is closed; it begins a snapshot where one is wanted; if memory for
+//! that is refused, it commits and begins the snapshot then; it makes one pump per lock acquisition; a `wait` is staged once its claim
+//! is granted or gone; `Shared::new` and `serve_one` with each of their allocations refused.
 //! Neither: that anybody is served or woken; fairness, time; whom a name belongs to.
-//! Start at: desk.rt (what is done under the lock), worker.rt (what a step does), dialogue.rt (its steps), serve.rt (one connection), flusher.rt
-//! (when, by `flusher_pace`).
+//! Start at: desk.rt (what is done under the lock), worker.rt (what a step does), dialogue.rt (its steps), serve.rt (one connection),
+//! flusher.rt (when, by `flusher_pace`).
 #![tactic(auto)]
 
 mod answers;

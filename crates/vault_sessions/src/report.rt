@@ -26,9 +26,9 @@ pub enum Ended {
     Read,
     /// The writer failed, or took nothing.
     Write,
-    /// There is a byte behind the most lines or the most bytes.
+    /// A byte came after the most lines or the most bytes.
     Limit,
-    /// Memory was wanted and refused.
+    /// An allocation was refused.
     NoMemory,
 }
 

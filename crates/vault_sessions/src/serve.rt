@@ -14,8 +14,8 @@ use std::io::{Read, Write};
 use std::sync::Wait;
 use vault_device::Device;
 
-/// Answers the lines of one connection, one at a time, until it ends. A session that stands then gets a last `Leave`.
-/// Waits for the lock, and for each reply until it is settled.
+/// Answers the lines of one connection, one at a time, until it ends. If a session is open then, it gets a last `Leave`. Waits for the
+/// lock, and for each reply until it is durable.
 pub fn serve_one<
     D: Device,
     S: Tally,
@@ -52,7 +52,7 @@ pub fn serve_one<
     let ear = Ear { reader };
     let (ear, report) = serve_heard(&worker, connection, ear, writer, share);
     let Ear { reader } = ear;
-    // A proof reads here what it holds. Of two in one function it would know only the last one.
+    // This lets the proof know what the reader holds. With two such lines in one function, it would know that of the last one only.
     let _ = &*reader;
     report
 }
@@ -107,7 +107,7 @@ fn serve_heard<
     (ear, report)
 }
 
-// What a conversation came to whose answers are kept.
+// The report of a conversation whose answers are kept.
 fn report_of<S: Tally, T: Tally, A: Allocator + Copy>(
     finished: Finished<S, T, A>,
 ) -> Report<S, T, A>
@@ -125,7 +125,8 @@ fn report_of<S: Tally, T: Tally, A: Allocator + Copy>(
     }
 }
 
-// Takes steps until it is over. A reader that has no whole line for now has failed, and so has a writer that takes no more for now.
+// Takes steps until it is over. A reader that has no whole line for now counts as failed, and so does a writer that takes no more for
+// now.
 fn converse<D: Device, S: Tally, T: Tally, A: Allocator + Copy, G: Gate, H: Wait, C: Connection>(
     worker: &Worker<'_, D, S, T, A, G, H>,
     dialogue: &mut Dialogue<C, S, T, A>,

@@ -15,9 +15,9 @@ use vault_device::Device;
 #[derive(Drop)]
 pub struct Shared<D: Device, S: Tally, T: Tally, A: Allocator = Global> {
     pub(crate) desk: Mutex<Desk<D, S, T, A>>,
-    // The flusher waits for it: something was staged, or the flusher is to end.
+    // The flusher waits on it: something was staged, or the flusher is to end.
     pub(crate) work: Condvar,
-    // Workers wait for it: something was settled, or the vault is broken.
+    // Workers wait on it: something became durable, or the vault is broken.
     pub(crate) settled: Condvar,
     workers: usize,
 }
@@ -90,8 +90,8 @@ impl<D: Device, S: Tally, T: Tally, A: Allocator + Copy> Shared<D, S, T, A> {
         }
     }
 
-    /// Lets the flusher end once all is settled. Is called once no worker stages any more; a second call changes nothing. Waits
-    /// for the lock.
+    /// Lets the flusher end once all is durable. To be called once no worker stages any more; a second call changes nothing. Waits for
+    /// the lock.
     pub fn close<H: Wait>(&self, rt: &H) {
         self.desk.lock(rt).close();
         self.work.notify_all();
@@ -123,7 +123,7 @@ pub fn gather<D: Device, S: Tally, T: Tally, A: Allocator + Copy>(
     Ok(merge(desk.into_inner(), shares))
 }
 
-// An empty share for each worker, and a part of each tally that is left.
+// An empty share for each worker, and the part of each tally that is left over.
 fn cut<S: Tally, T: Tally, A: Allocator>(
     alloc: A,
     mut staged: Part<S>,
@@ -175,7 +175,7 @@ fn merge<D: Device, S: Tally, T: Tally, A: Allocator + Copy>(
     (vault, totals)
 }
 
-// What all shares count. With the opening share they have all that the books have.
+// The sum of what all shares count. Together with the opening share it is the total of each book.
 fn add_up<S: Tally, T: Tally, A: Allocator>(
     mut staged: LedgerBook<S>,
     mut told: LedgerBook<T>,

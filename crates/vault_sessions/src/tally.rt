@@ -1,4 +1,4 @@
-//! Two tallies: how many commands were staged, and how many replies were told.
+//! Two tallies: how many commands were staged, and how many replies were handed out.
 ghost use Rattle.std.specs.Prelude.{◌≡◌, ℕ, ◌+◌, ◌≤◌};
 
 use std::marker::{Brand, Model};
@@ -6,7 +6,7 @@ use std::sync::ledger::{Book as LedgerBook, Ledger, Share as Part};
 
 /// A ledger that counts for one `Shared`.
 pub trait Tally: Ledger {
-    /// What was counted before it was made.
+    /// What was counted before that was made.
     ghost opening: { ℕ };
 
     /// All its parts: one for each worker, and one for what was counted before.
@@ -19,7 +19,7 @@ impl Tally for Brand {
     ghost all = { 0 };
 }
 
-/// How many commands were staged, and how many replies were told.
+/// How many commands were staged, and how many replies were handed out.
 #[derive(Debug, Clone, Copy, PartialEq, Eq)]
 pub struct Totals {
     /// Commands that got a ticket.
@@ -58,7 +58,7 @@ impl<S: Tally, T: Tally> Share<S, T> {
         self.counts
     }
 
-    /// What this share and another count lies within the books.
+    /// What this share and another one count is at most the total of each book.
     pub(crate) fn audit_beside(
         &mut self,
         other: &mut Share<S, T>,
@@ -80,7 +80,7 @@ impl<S: Tally, T: Tally> Share<S, T> {
     }
 }
 
-// What two parts have lies within the book.
+// What two parts have is at most the book's total.
 fn audit_both<L: Ledger>(
     book: &mut LedgerBook<L>,
     mine: &mut Part<L>,

@@ -1,4 +1,4 @@
-//! What a conversation does next, and the telling of an answer.
+//! What a conversation does next, and how an answer is written.
 ghost use Rattle.std.specs.Prelude.{◌≡◌, IfOk, MatchBool};
 ghost use Rattle.vault_sessions.specs.Serving.{session_after as session_after_out, text_of as text_of_answer, IsLeft};
 ghost use Rattle.vault_sessions.specs.Talking.{TellsOn, StoppedBy};
@@ -12,14 +12,14 @@ use std::io::{self, ErrorKind};
 use vault_lines::{outside_text, text_of};
 use vault_model::{NoMemory, Reply};
 
-/// The line that an answer is told as.
+/// The line that an answer is written as.
 #[derive(Drop)]
 pub struct Telling<A: Allocator> {
     /// All bytes of the line.
     pub text: Vec<u8, A>,
     /// How many of them are written.
     pub written: usize,
-    /// Whether it tells that the session has left.
+    /// Whether it says that the session has left.
     pub is_left: bool,
 }
 
@@ -31,17 +31,17 @@ pub enum Turn<A: Allocator> {
     Keep(PendingWait),
     /// It waits for the reply to its command.
     Wait(Ticket<A>),
-    /// It tells an answer.
+    /// It writes an answer.
     Tell(Telling<A>),
-    /// It ended, and hears and tells nothing more.
+    /// It ended, and reads and writes nothing more.
     Over(Ended),
 }
 
 // What a dialogue does next.
 pub(crate) enum Next<A: Allocator> {
-    // This turn. Where it is over, a session that stands gets a last leave.
+    // This turn. If the conversation is over, an open session gets a last leave.
     Takes(Turn<A>),
-    // It was given up, and ended so. A session that stands gets a last leave, if there is a further step.
+    // It was given up, and ended so. If there is a further step, an open session gets a last leave.
     GivenUp(Ended),
     // Nothing.
     Done(Ended),
@@ -49,7 +49,8 @@ pub(crate) enum Next<A: Allocator> {
     Open,
 }
 
-/// Tells more of an answer. It is still to be told where the connection takes no more for now. With the error that stopped it, if one did.
+/// Writes more of an answer. If the connection takes no more for now, the rest is still to be written. Gives the error that stopped it,
+/// if there was one.
 pub(crate) fn tell<A: Allocator, C: Connection>(
     connection: &mut C,
     telling: Telling<A>,
@@ -76,7 +77,7 @@ pub(crate) fn tell<A: Allocator, C: Connection>(
     }
 }
 
-/// The line that an answer is told as.
+/// The line that an answer is written as.
 pub(crate) fn text_of_out<A: Allocator + Copy>(
     alloc: A,
     out: &Out<A>,
@@ -99,7 +100,7 @@ pub(crate) fn is_left<A: Allocator>(out: &Out<A>) -> bool
     }
 }
 
-/// The session that the connection speaks for behind an answer.
+/// The session that the connection speaks for after an answer.
 pub(crate) fn session_after<A: Allocator>(session: u32, out: &Out<A>) -> u32
     ensures { result ≡ session_after_out session out.now }
 {

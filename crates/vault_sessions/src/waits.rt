@@ -7,28 +7,28 @@ use vault_model::{ClaimId, Command};
 pub struct PendingWait {
     /// The claim that it waits for.
     pub claim: ClaimId,
-    /// How many commands that may move the line were staged when that was looked at last.
+    /// The number of commands staged that may move the queue of claims, when the queue was looked at last.
     pub moves: u64,
     /// Whether it is staged next, however the claim stands.
     pub is_let_go: bool,
 }
 
-/// How many wait, and when it is worth while to look at the line again.
+/// How many wait, and when it is worth while to look at the queue of claims again.
 #[derive(Debug, Clone, Copy, PartialEq, Eq)]
 pub(crate) struct Waits {
-    // How many commands were staged that may have moved the line, and whether the vault broke, as one more.
+    // The number of commands staged that may have moved the queue of claims. A failed device call counts as one more.
     pub moves: u64,
     // How many wait.
     pub count: usize,
 }
 
 impl Waits {
-    /// Nobody.
+    /// Nobody waits.
     pub fn new() -> Waits {
         Waits { moves: 0, count: 0 }
     }
 
-    /// What waits may have come.
+    /// The queue of claims may have moved, or the vault broke: those who wait look again.
     pub fn moved(&mut self) {
         self.moves = self.moves.wrapping_add(1);
     }
@@ -44,7 +44,7 @@ impl Waits {
     }
 }
 
-/// Whether a command may end a claim, so that others are held. A wrong answer would cost those who wait time alone.
+/// Whether a command may end a claim, so that others are granted. A wrong answer would only cost time for those who wait.
 pub(crate) fn may_move<W, C>(command: &Command<W, C>) -> bool {
     matches!(
         command,

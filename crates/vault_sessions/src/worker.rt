@@ -1,4 +1,4 @@
-//! The steps of a conversation: it hears a line, waits for the reply, and tells it.
+//! The steps of a conversation: it hears a line, waits for the reply, and writes it.
 ghost use Rattle.std.specs.Prelude.{◌≡◌, ◌≢◌, ◌+◌, ◌≤◌, ◌<◌, ℕ, List, Option, false, [], ◌∷◌, ◌++◌, IfOk, IfErr, OnOk, OnErr, IfSome, length, true};
 ghost use Rattle.vault_lines.specs.Limits.{longest_line};
 ghost use Rattle.vault_sessions.specs.Serving.{Counts, session_of, session_after as session_after_out};
@@ -30,13 +30,13 @@ use vault_device::Device;
 use vault_lines::{LineError, read_line_of};
 use vault_model::{Command, CommandIn, NoMemory, Outside};
 
-// The most lines of a connection that are answered. It ends at the first byte behind them.
+// The most lines of a connection that are answered. The conversation ends at the first byte after them.
 const MAX_LINES: usize = 4096;
 
 /// Takes the steps of conversations over one vault.
 #[derive(Drop)]
 pub struct Worker<'a, D: Device, S: Tally, T: Tally, A: Allocator, G: Gate, H: Wait> {
-    /// What it waits by.
+    /// What it locks and waits by.
     pub rt: &'a H,
     /// Where its memory is from.
     pub alloc: A,
@@ -70,7 +70,7 @@ impl<D: Device, S: Tally, T: Tally, A: Allocator + Copy, G: Gate, H: Wait> Worke
     G,
     H,
 > {
-    /// Hears a line, and stages its command or answers it. A line is still to be heard where the reader has no whole one for now.
+    /// Hears a line, and stages its command or answers it. If the reader has no whole line for now, a line is still to be heard.
     pub(crate) fn hear<C: Connection>(
         &self,
         talk: &mut Conversation<S, T, A>,
@@ -109,7 +109,7 @@ impl<D: Device, S: Tally, T: Tally, A: Allocator + Copy, G: Gate, H: Wait> Worke
         }
     }
 
-    // Keeps an answer, which is to be told next.
+    // Keeps an answer, which is to be written next.
     fn answer(&self, talk: &mut Conversation<S, T, A>, out: Out<A>) -> Turn<A>
         requires { talk.old.answers.has_room ≡ true }
         ensures kept { (talk.new.answers.outs ≡ talk.old.answers.outs ++ out ∷ []) × (talk.new.session ≡ session_after_out talk.old.session out) }
@@ -185,7 +185,7 @@ impl<D: Device, S: Tally, T: Tally, A: Allocator + Copy, G: Gate, H: Wait> Worke
         }
     }
 
-    // Keeps a `wait` for a claim that is queued, unless as many wait as may.
+    // Keeps a `wait` for a claim that isn't granted yet, unless `most_waits` are kept already.
     fn keep(&self, session: u32, command: &CommandIn<A>) -> Option<PendingWait>
         ensures { IfSome result (λ kept. command.now ≡ Await kept.claim) }
     {
@@ -210,19 +210,20 @@ impl<D: Device, S: Tally, T: Tally, A: Allocator + Copy, G: Gate, H: Wait> Worke
         shared.desk.lock(self.rt).lets_go(kept)
     }
 
-    /// One that waits for a claim waits no longer, and stages nothing.
+    /// A conversation that waits for a claim waits no longer, and stages nothing.
     pub(crate) fn stops_waiting(&self) {
         let shared = self.shared;
         shared.desk.lock(self.rt).stops_waiting();
     }
 
-    /// How many commands were staged by now that may have moved the line. Who waits for a claim needs no step before that is more.
+    /// The number of commands staged by now that may have moved the queue of claims. A conversation that waits for a claim needs no
+    /// step until this number changes.
     pub fn moves(&self) -> u64 {
         let shared = self.shared;
         shared.desk.lock(self.rt).waits.moves
     }
 
-    /// Stages a kept `wait` once its claim isn't queued any more. One that is let go, and each where steps wait, is staged at once.
+    /// Stages a kept `wait` once its claim doesn't wait any more. If it was released, or if steps wait (`waits`), it is staged at once.
     pub(crate) fn stage_kept(
         &self,
         talk: &mut Conversation<S, T, A>,
@@ -251,7 +252,7 @@ impl<D: Device, S: Tally, T: Tally, A: Allocator + Copy, G: Gate, H: Wait> Worke
         }
     }
 
-    // Stages a command, and wakes the flusher where it sleeps, also where there is no room.
+    // Stages a command, and wakes the flusher if it is to be woken. If there is no room, it wakes the flusher too.
     fn stage(
         &self,
         session: u32,
@@ -284,8 +285,8 @@ impl<D: Device, S: Tally, T: Tally, A: Allocator + Copy, G: Gate, H: Wait> Worke
         }
     }
 
-    /// Answers the command that a ticket is for, once its fate is known. Waits for that, or looks once: the reply is still waited for
-    /// where it isn't known yet.
+    /// Answers the command that a ticket is for, once its fate is known. With `waits` it waits for that. Else it looks once, and a
+    /// reply that isn't known yet is still waited for.
     pub(crate) fn settle(
         &self,
         talk: &mut Conversation<S, T, A>,
@@ -373,8 +374,8 @@ impl<D: Device, S: Tally, T: Tally, A: Allocator + Copy, G: Gate, H: Wait> Worke
         let _ = shared.desk.lock(self.rt).forget(ticket);
     }
 
-    /// Stages a last leave of the session that the answers leave standing, and forgets its ticket. Else it says why none is staged: where
-    /// there is no room for it yet, it may be tried again, and else the session stands.
+    /// Stages a last leave of the session that the answers leave open, and forgets its ticket. Else it says why none is staged. If
+    /// there is no room for it yet, it may be tried again; for any other reason, the session stays open.
     pub(crate) fn try_leave(
         &self,
         answers: &Answers<A>,
@@ -395,8 +396,8 @@ impl<D: Device, S: Tally, T: Tally, A: Allocator + Copy, G: Gate, H: Wait> Worke
         }
     }
 
-    // Stages a leave of the session that the answers leave standing, and waits for room where there is none. Else it says for which other
-    // reason none is staged.
+    // Stages a leave of the session that the answers leave open, and waits while there is no room. If none is staged for another
+    // reason, it says which.
     fn stage_leave(
         &self,
         answers: &Answers<A>,
@@ -431,7 +432,7 @@ impl<D: Device, S: Tally, T: Tally, A: Allocator + Copy, G: Gate, H: Wait> Worke
         unreachable!()
     }
 
-    // Stages a last leave, and forgets its ticket. Waits for room. Where it is refused for another reason, the session stands.
+    // Stages a last leave, and forgets its ticket. Waits for room. If it is refused for another reason, the session stays open.
     pub(crate) fn leave(&self, answers: &Answers<A>, session: u32, share: &mut Share<S, T>)
         requires { session ≡ session_of 0 answers.now.outs }
         ensures { Counts share.old 0 1 share.new }

@@ -30,7 +30,7 @@ const PLACES: [&str; 18] = [
     "make /e/b/n/o/q/r/z",
 ];
 
-// Claims of each kind, held and queued, with drafts and notes: who says what.
+// Claims of each kind, granted and waiting, with drafts and notes: who says what.
 const CLAIMS: [(u32, &str); 13] = [
     (1, "checkout w:/e/b"),
     (1, "save c1 /e/b/p 6162"),
@@ -50,7 +50,7 @@ const CLAIMS: [(u32, &str); 13] = [
 // What the files of version 1 hold.
 const WRITTEN: [&str; 2] = ["make /e", "checkout w:/e"];
 
-// As a program of version 1 wrote them: the first file has generation 1 and one frame, the second one a snapshot of generation 2.
+// The files as a program of version 1 wrote them: the first has generation 1 and one frame, the second a snapshot of generation 2.
 const FIRST_FILE: [u8; 47] = [
     1, b'L', b'L', b'V', b'A', b'U', b'L', b'T', 0, 0, 0, 1, 0, 0, 0, 0, 0, 0, 0, 1, 0, 0, 0, 10,
     0, 0, 0, 0, 0, 0, 0, 1, 0, 0, 1, 0, 0, 0, 7, 1, 0, 0, 0, 0, 1, b'e', 0,
@@ -62,10 +62,10 @@ const SECOND_FILE: [u8; 57] = [
     0, 0, 0, 1, 0, 0,
 ];
 
-// How many versions of seven parts are more than one piece of a snapshot.
+// A number of versions of seven parts that don't fit into one piece of a snapshot.
 const VERSIONS: u32 = 10;
 
-// How many drafts of the greatest length are more than a buffer has room for, and how many make a long journal.
+// A number of drafts of the greatest length that a buffer has no room for, and one that makes a long journal.
 const BUFFER: u32 = 256;
 
 const JOURNAL: u32 = 1030;
@@ -101,7 +101,7 @@ pub(crate) fn make_places(judge: &mut Judge, vault: &mut Vault<MemDevice>) {
 }
 
 impl Run {
-    // Session 1 saves a draft of the greatest length, so many times. Where it commits, no save is refused.
+    // Session 1 saves a draft of the greatest length, this number of times. If it commits, no save is refused.
     fn save_often(&mut self, vault: &mut Vault<MemDevice>, times: u32, commits: bool) {
         self.tell(vault, 1, "checkout w:/e/b/p");
         let claim = self.judge.history.book().line().last_long();
@@ -114,7 +114,7 @@ impl Run {
         }
     }
 
-    // The sessions make claims, and in every second run a snapshot of them is begun.
+    // The sessions make claims. In about every second run a snapshot of them is begun.
     fn make_claims(&mut self, vault: &mut Vault<MemDevice>) {
         for (session, line) in &CLAIMS {
             self.tell(vault, *session, line);
@@ -125,7 +125,7 @@ impl Run {
         }
     }
 
-    // The door asks so many questions, and the tickets are given up.
+    // A connection without a session asks this number of questions, and the tickets are given up.
     fn ask_often(&mut self, vault: &mut Vault<MemDevice>, times: u32) {
         for _ in 0..times {
             self.tell(vault, 0, "state c1");
@@ -133,7 +133,7 @@ impl Run {
         }
     }
 
-    // In the place of the files of a new vault there are those of version 1, and the vault that they hold is opened.
+    // Replaces the files of a new vault by those of version 1, which hold the same, and opens them.
     fn opened_first_version(&mut self, vault: Vault<MemDevice>) -> Option<Vault<MemDevice>> {
         let mut vault = vault;
         self.tell(&mut vault, 0, "hello anna");
@@ -153,7 +153,7 @@ impl Run {
         self.must_open(files)
     }
 
-    /// The vault that the mood has the run begin with, and two sessions. None where a difference is found, or memory is wanted.
+    /// The vault that the run begins with, by its mood, and two sessions. None if a difference is found, or out of memory.
     pub(crate) fn begun(&mut self) -> Option<Vault<MemDevice>> {
         let mut vault = new_vault(self.judge.alloc, 1)?;
         if self.mood.beginning == Beginning::FirstVersion {
@@ -163,7 +163,7 @@ impl Run {
         Some(vault)
     }
 
-    // Two sessions, and what the mood has the run begin with.
+    // Makes two sessions, and what the run begins with, by its mood.
     fn furnish(&mut self, vault: &mut Vault<MemDevice>) {
         self.tell(vault, 0, "hello anna");
         self.tell(vault, 0, "hello ben");

@@ -27,7 +27,7 @@ impl Dice {
         }
     }
 
-    /// Whether the one case of so many is met.
+    /// True in one case of `count`, on average.
     pub(crate) fn one_in(&mut self, count: u32) -> bool {
         self.below(count) == 0
     }
@@ -45,7 +45,7 @@ impl Dice {
         }
     }
 
-    /// A place in a list of so many, and 0 for an empty one.
+    /// An index into a list of this length, and 0 for an empty one.
     pub(crate) fn place(&mut self, len: usize) -> usize {
         match len {
             0 => 0,
@@ -53,17 +53,17 @@ impl Dice {
         }
     }
 
-    /// One of these words, and none where there are none.
+    /// One of these words; empty if there are none.
     pub(crate) fn word(&mut self, all: &[&'static str]) -> &'static str {
         all.get(self.place(all.len())).copied().unwrap_or("")
     }
 
-    /// One of these numbers, and 0 where there are none.
+    /// One of these numbers; 0 if there are none.
     pub(crate) fn number(&mut self, all: &[u32]) -> u32 {
         all.get(self.place(all.len())).copied().unwrap_or(0)
     }
 
-    /// What a crash leaves of a device.
+    /// What a crash leaves of a device's bytes.
     pub(crate) fn pick(&mut self) -> Pick {
         match self.below(10) {
             0..3 => Pick::Old,

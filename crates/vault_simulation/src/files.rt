@@ -1,4 +1,4 @@
-//! Files that are cut or changed in one field: why they don't open, by hand, in the place of either file.
+//! Files that are cut or changed in one field, in the place of either file of a vault. Why they don't open was worked out by hand.
 
 use group_commit::{File, OpenError};
 use std::alloc::Global;
@@ -18,8 +18,8 @@ enum Wrong {
     At(u64),
 }
 
-// Places, bytes and what is wrong then: the head gate, the mark, the version, the generation, the snapshot's length, a frame's
-// length, a record's first byte, and the tail gate.
+// Offsets, bytes to put there, and what is wrong then. The fields: the head gate, the mark, the version, the generation, the snapshot's
+// length, a frame's length, a record's first byte, and the tail gate.
 const CHANGED: [(usize, u8, Wrong); 8] = [
     (0, 2, Wrong::Closed),
     (1, 0, Wrong::At(1)),
@@ -31,7 +31,7 @@ const CHANGED: [(usize, u8, Wrong); 8] = [
     (46, 7, Wrong::Nothing),
 ];
 
-// What is wrong with the file where it is cut to so many bytes.
+// What is wrong with the file if it is cut to this length.
 fn wrong_at(len: usize) -> Wrong {
     match len {
         0..24 => Wrong::Closed,
@@ -41,7 +41,7 @@ fn wrong_at(len: usize) -> Wrong {
     }
 }
 
-// What opening answers, where this is wrong with one file and the other is empty.
+// What opening answers, if this is wrong with one file and the other is empty.
 fn answer(file: File, wrong: Wrong) -> Option<OpenError> {
     match wrong {
         Wrong::Nothing => None,
@@ -50,7 +50,7 @@ fn answer(file: File, wrong: Wrong) -> Option<OpenError> {
     }
 }
 
-// Opening and inspecting say what is wrong with a file in either place, beside an empty one.
+// Opening and inspecting must report what is wrong with a file, in either place, beside an empty one.
 fn judge_file(verdict: &mut Verdict, alloc: Global, bytes: &[u8], wrong: Wrong) {
     let first = agree(verdict, alloc, bytes, &[]);
     let second = agree(verdict, alloc, &[], bytes);
@@ -58,7 +58,7 @@ fn judge_file(verdict: &mut Verdict, alloc: Global, bytes: &[u8], wrong: Wrong) 
     verdict.sure(told, "a file's fault is told otherwise");
 }
 
-// The file with another byte at a place.
+// The file with another byte at an offset.
 fn with_byte(at: usize, byte: u8) -> [u8; 47] {
     let mut file = FILE;
     if let Some(old) = file.get_mut(at) {
@@ -67,7 +67,7 @@ fn with_byte(at: usize, byte: u8) -> [u8; 47] {
     file
 }
 
-/// The file, cut to each length.
+/// Judges the file, cut to each length.
 pub(crate) fn judge_cuts(verdict: &mut Verdict, alloc: Global) {
     for len in 0..=FILE.len() {
         let cut = FILE.get(..len).unwrap_or(&[]);
@@ -75,21 +75,21 @@ pub(crate) fn judge_cuts(verdict: &mut Verdict, alloc: Global) {
     }
 }
 
-/// The file, with one field changed.
+/// Judges the file, with one field changed.
 pub(crate) fn judge_changes(verdict: &mut Verdict, alloc: Global) {
     for (at, byte, wrong) in CHANGED {
         judge_file(verdict, alloc, &with_byte(at, byte), wrong);
     }
 }
 
-// Each value of the byte at a place.
+// Tries each value of the byte at an offset.
 fn judge_bytes_at(verdict: &mut Verdict, alloc: Global, at: usize) {
     for byte in 0..=255u8 {
         let _ = agree(verdict, alloc, &with_byte(at, byte), &[]);
     }
 }
 
-/// The file, with each byte set to each value: opening and inspecting agree.
+/// Sets each byte of the file to each value: opening and inspecting must agree.
 pub(crate) fn judge_bytes(verdict: &mut Verdict, alloc: Global) {
     for at in 0..FILE.len() {
         judge_bytes_at(verdict, alloc, at);

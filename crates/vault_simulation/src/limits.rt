@@ -1,4 +1,4 @@
-//! Limits, reached by calls: what is one too many is refused, and changes nothing.
+//! Limits, reached by calls: one more is refused, and changes nothing.
 
 use crate::line::Line;
 use design_tree::Tree;
@@ -9,7 +9,7 @@ use vault_checkout::Book;
 use vault_lines::read_line_of;
 use vault_model::{ClaimId, Command, LAST_NUMBER, Refusal, Reply};
 
-/// A limit that calls reach.
+/// A limit that calls can reach.
 #[derive(Clone, Copy)]
 pub(crate) enum Limit {
     Places,
@@ -32,7 +32,7 @@ pub(crate) const LIMITS: [Limit; 4] = [
 /// Those that take hours.
 pub(crate) const NUMBERS: [Limit; 3] = [Limit::EachSession, Limit::EachHold, Limit::EachCheckOut];
 
-/// A book that is asked, and the line that it is asked next.
+/// A book that is given commands, and its next line.
 #[derive(Drop)]
 struct Asking {
     alloc: Global,
@@ -41,7 +41,7 @@ struct Asking {
     verdict: Verdict,
 }
 
-// Whether a command was done, or refused by a limit where it has to be.
+// Whether this reply is right: past the limit it must be refused by it, else done.
 fn is_as_wanted(reply: &Reply, is_past: bool) -> bool {
     match reply {
         Reply::Refused(refusal) => is_past && *refusal == Refusal::Limit,
@@ -49,7 +49,7 @@ fn is_as_wanted(reply: &Reply, is_past: bool) -> bool {
     }
 }
 
-// Whether a command is done, or refused by a limit where it has to be.
+// Gives a command. Whether its reply is right: past the limit it must be refused by it, else done.
 fn is_told(talk: &mut Talk, session: u32, command: &Command, is_past: bool) -> bool {
     match talk.tell(session, command) {
         Some((reply, effect)) => {
@@ -62,7 +62,7 @@ fn is_told(talk: &mut Talk, session: u32, command: &Command, is_past: bool) -> b
     }
 }
 
-// Whether a command is refused by a limit, and changes nothing.
+// Gives a command. Whether it is refused by a limit, and changes nothing.
 fn is_refused(talk: &mut Talk, session: u32, command: &Command) -> bool {
     let Ok(before) = talk.book().copy() else {
         return false;
@@ -73,7 +73,7 @@ fn is_refused(talk: &mut Talk, session: u32, command: &Command) -> bool {
     told && same
 }
 
-// Who gives up what a reply gave, and how.
+// Which session gives up what a reply gave, and by which command.
 fn given_up(reply: &Reply) -> Option<(u32, Command)> {
     match reply {
         Reply::Session(number) => Some((*number, Command::Leave)),
@@ -83,7 +83,7 @@ fn given_up(reply: &Reply) -> Option<(u32, Command)> {
     }
 }
 
-// Gives up what a reply gave: whether it gave something, and that could be.
+// Gives up what a reply gave. Whether it gave something, and that could be given up.
 fn gives_up(talk: &mut Talk, reply: &Reply) -> bool {
     match given_up(reply) {
         Some((session, command)) => {
@@ -95,7 +95,7 @@ fn gives_up(talk: &mut Talk, reply: &Reply) -> bool {
     }
 }
 
-// Whether a command gives something that can be given up.
+// Gives a command, and gives up what its reply gives. Whether it gave something that could be given up.
 fn is_spent(talk: &mut Talk, session: u32, command: &Command) -> bool {
     match talk.tell(session, command) {
         Some((reply, effect)) => {
@@ -108,7 +108,7 @@ fn is_spent(talk: &mut Talk, session: u32, command: &Command) -> bool {
     }
 }
 
-// How many numbers a command gives, one after another, each of them given up.
+// Gives a command again and again, and gives up each number that it gives. How many there were.
 fn spend(talk: &mut Talk, session: u32, command: &Command) -> u32 {
     for spent in 0..LAST_NUMBER {
         if !is_spent(talk, session, command) {
@@ -118,7 +118,7 @@ fn spend(talk: &mut Talk, session: u32, command: &Command) -> u32 {
     LAST_NUMBER
 }
 
-// A book whose check-outs have had all numbers up to this one.
+// A book in which check-outs have used all numbers up to this one.
 fn spent_up_to(alloc: Global, last_long: u32) -> Option<Talk> {
     let tree = Tree::new(alloc).ok()?;
     let shelf = Shelf::new(alloc);
@@ -129,7 +129,7 @@ fn spent_up_to(alloc: Global, last_long: u32) -> Option<Talk> {
 }
 
 impl Asking {
-    // The line is done, or refused by a limit where it has to be, and changes nothing then.
+    // Says the line. Past the limit it must be refused by it, and change nothing; else it must be done.
     fn ask(&mut self, session: u32, is_past: bool) {
         let sound = match read_line_of(self.alloc, self.line.as_slice()) {
             Ok(command) => {
@@ -146,19 +146,19 @@ impl Asking {
         self.verdict.sure(sound, "a limit lies elsewhere");
     }
 
-    // A line that is done.
+    // Says a line that must be done.
     fn does(&mut self, session: u32, line: &str) {
         self.line.begin(line);
         self.ask(session, false);
     }
 
-    // A line that is refused by a limit.
+    // Says a line that a limit must refuse.
     fn is_past(&mut self, session: u32, line: &str) {
         self.line.begin(line);
         self.ask(session, true);
     }
 
-    // Session 1, and the part /e/b/p.
+    // Makes session 1 and the part /e/b/p.
     fn start(&mut self) {
         self.does(0, "hello anna");
         self.does(1, "make /e");
@@ -177,7 +177,7 @@ impl Asking {
         self.ask(1, is_past);
     }
 
-    // With the library there are 4,096. The longest list of names is told then, too.
+    // With the library there are 4,096 places. Then the longest list of names must be answered, too.
     fn reach_places(&mut self) {
         self.does(0, "hello anna");
         for number in 0..4095 {
@@ -225,7 +225,7 @@ impl Asking {
         self.is_past(1, "save c16258 /e/b/p -");
     }
 
-    // The last number of a check-out, in a book that is made of its parts.
+    // Reaches the last number of a check-out, in a book that was made from parts.
     fn reach_check_out(&mut self) {
         self.does(0, "hello anna");
         self.does(1, "checkout r:/");
@@ -235,7 +235,7 @@ impl Asking {
         self.is_past(1, "checkout r:/");
     }
 
-    // All numbers that a line gives, one after another.
+    // Uses up all numbers that a line gives, one after another.
     fn reach_each(&mut self, session: u32, line: &str, numbers: u32) {
         self.does(0, "hello anna");
         let spent = match read_line_of(self.alloc, line.as_bytes()) {
@@ -255,7 +255,7 @@ impl Asking {
 }
 
 impl Limit {
-    /// What it says.
+    /// Its name in the report.
     pub(crate) fn words(self) -> &'static str {
         match self {
             Limit::Places => "4096 places",
@@ -268,7 +268,7 @@ impl Limit {
         }
     }
 
-    // What it is reached from.
+    // The book that it is reached from.
     fn talk(self, alloc: Global) -> Option<Talk> {
         match self {
             Limit::CheckOut => spent_up_to(alloc, LAST_NUMBER - 1),
@@ -288,7 +288,7 @@ impl Limit {
         }
     }
 
-    /// It is reached, and what passes it is refused.
+    /// Reaches it: what passes it must be refused.
     pub(crate) fn judge(self, verdict: &mut Verdict, alloc: Global) {
         let Some(talk) = self.talk(alloc) else {
             return;

@@ -3,7 +3,7 @@
 use itoa::Buffer;
 use std::alloc::Global;
 
-/// A line. Where memory for it is wanted it is cut short.
+/// A line. If memory for it runs out, it is cut short.
 #[derive(Drop)]
 pub(crate) struct Line {
     bytes: Vec<u8>,
@@ -35,23 +35,23 @@ impl Line {
         self.put(word);
     }
 
-    /// A word more.
+    /// Adds a word.
     pub(crate) fn put(&mut self, word: &str) {
         let _ = self.bytes.extend_from_slice(word.as_bytes());
     }
 
-    /// A byte more.
+    /// Adds a byte.
     pub(crate) fn put_byte(&mut self, byte: u8) {
         let _ = self.bytes.push(byte);
     }
 
-    /// A number more.
+    /// Adds a number.
     pub(crate) fn put_number(&mut self, number: u32) {
         let mut buffer = Buffer::new();
         self.put(buffer.format(number));
     }
 
-    /// So many bytes more, all alike, in hexadecimal digits.
+    /// Adds the hexadecimal digits of `len` bytes, all alike; `-` for none.
     pub(crate) fn put_content(&mut self, len: u32, byte: u8) {
         if len == 0 {
             self.put("-");
@@ -62,7 +62,7 @@ impl Line {
         }
     }
 
-    /// Spells a save of so many bytes, all alike, of a part in a check-out's name.
+    /// Spells a save: a draft of a part, in a check-out, of `len` bytes that are all alike.
     pub(crate) fn save(&mut self, claim: u32, part: &str, len: u32, byte: u8) {
         self.begin("save c");
         self.put_number(claim);
@@ -72,7 +72,7 @@ impl Line {
         self.put_content(len, byte);
     }
 
-    /// Spells what is said of a check-out.
+    /// Spells a command on a check-out: this word and its number.
     pub(crate) fn of_check_out(&mut self, word: &str, claim: u32) {
         self.begin(word);
         self.put(" c");

@@ -16,11 +16,11 @@ pub(crate) enum Step {
     Snapshot,
     /// Each ticket is redeemed.
     Redeem,
-    /// All that may go is let go.
+    /// All entries that may be trimmed are trimmed.
     Retire,
 }
 
-// A snapshot whose file's gate is written open, and not settled.
+// A snapshot whose file's gate is written open, and not yet durable.
 const UNSETTLED: [Step; 7] = [
     Step::Snapshot,
     Step::Pump,
@@ -119,11 +119,11 @@ pub(crate) const LONG_RUN: [Step; 78] = [
 pub(crate) enum Start {
     /// An empty spare file.
     EmptySpare,
-    /// A spare file that is closed over a newer header.
+    /// A closed spare file with a newer header.
     ClosedSpare,
 }
 
-/// One step, and what the definitions say of it.
+/// Makes a step, and compares it with the definitions.
 pub(crate) fn play(judge: &mut Judge, vault: &mut Vault<MemDevice>, step: Step) {
     match step {
         Step::Say(session, line) => judge.say(vault, session, line.as_bytes()),
@@ -135,7 +135,7 @@ pub(crate) fn play(judge: &mut Judge, vault: &mut Vault<MemDevice>, step: Step) 
     judge.count(vault);
 }
 
-/// The first so many of these steps, or up to a fault.
+/// Makes these steps, up to a fault.
 pub(crate) fn play_all(judge: &mut Judge, vault: &mut Vault<MemDevice>, steps: &[Step]) {
     for step in steps {
         if judge.world.broken {
@@ -145,14 +145,14 @@ pub(crate) fn play_all(judge: &mut Judge, vault: &mut Vault<MemDevice>, steps: &
     }
 }
 
-// The next life of these files, which keep this.
+// The machine crashes, and the files keep this: the files of the next life.
 fn next_life(judge: &mut Judge, vault: Vault<MemDevice>, left: Left) -> Files {
     let mut files = Files::of(vault);
     judge.stop(&mut files, left, left);
     files
 }
 
-// The files of a vault whose spare is empty, and whose snapshot is written in two pieces.
+// The files of a vault with an empty spare file. Its snapshot takes two pieces.
 fn filled(judge: &mut Judge) -> Option<Files> {
     let mut vault = new_vault(judge.alloc, 1)?;
     let mut line = Line::new(judge.alloc);
@@ -166,7 +166,7 @@ fn filled(judge: &mut Judge) -> Option<Files> {
     Some(next_life(judge, vault, Left::Shown))
 }
 
-// The same, once a snapshot was lost whose gate was written and not settled.
+// The same files, after a crash lost a snapshot whose gate was written and not yet durable.
 fn filled_beside(judge: &mut Judge) -> Option<Files> {
     let files = filled(judge)?;
     match files.open(judge.alloc, judge.world.life) {

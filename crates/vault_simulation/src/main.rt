@@ -1,10 +1,10 @@
-//! A simulation: a vault over two devices in memory is treated badly, and compared with its definitions at each call.
+//! A simulation: it treats a vault over two devices in memory badly, and compares it with its definitions at each call.
 //!
 //! Promises: nothing; it is safe, and it ends. What it finds is tested, and not proved: it looks at the vault from outside, as a
 //! client that keeps its own list of all commands.
 //! Stands on: vault_model, vault_device, design_tree, part_versions, long_locks, vault_checkout, group_commit, vault_lines,
 //! test_oracle. Must not know: how any of these keeps what it keeps.
-//! Only tested: what stands in stdout, for the words in args.
+//! Only tested: that it prints the file stdout, for the words in the file args.
 //! Start at: docs/SIMULATION.md; run.rt, speech.rt, stopping.rt, tearing.rt and spoiling.rt (random runs); long_run.rt and
 //! stops.rt; files.rt; limits.rt.
 #![tactic(auto)]
@@ -30,10 +30,10 @@ use crate::reporting::{Runs, report_all_stops, report_files, report_limits, repo
 use std::process::ExitCode;
 use std::{env, io};
 
-/// The status where a difference is found, or nothing is asked for.
+/// The status if a difference is found, or nothing is asked for.
 const FAULT: u8 = 1;
 
-/// What the program is asked for, in its help.
+/// What the program can be asked for: its help.
 const HELP: &str = "\
 usage: vault_simulation random [SEED [RUNS [COMMANDS]]]   random runs, with the seeds from SEED on (1, 40, 300)
        vault_simulation stops     one run, stopped inside each device call
@@ -42,7 +42,7 @@ usage: vault_simulation random [SEED [RUNS [COMMANDS]]]   random runs, with the 
        vault_simulation numbers [sessions | holds | check-outs]   all 4294967295 numbers of each: hours
        vault_simulation all       all but the numbers";
 
-/// The number that a word spells; another one where there is no word, or no number.
+/// The number that a word spells. If there is no word, or it is no number: `otherwise`.
 fn number_at(words: &[String], place: usize, otherwise: u32) -> u32 {
     match words.get(place) {
         Some(word) => word.as_str().parse::<u32>().unwrap_or(otherwise),
@@ -68,7 +68,7 @@ fn report_all(rt: &HostRuntime, runs: Runs) -> io::Result<bool> {
     Ok(stops && files && limits && random)
 }
 
-/// A word of the command line; empty where there is none.
+/// A word of the command line; empty if there is none.
 fn word_at(words: &[String], place: usize) -> &str {
     match words.get(place) {
         Some(word) => word.as_str(),

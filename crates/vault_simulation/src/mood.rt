@@ -1,8 +1,8 @@
-//! How a run is inclined: what it does often, and what seldom or never.
+//! The mood of a run: what it does often, and what seldom or never.
 
 use crate::dice::Dice;
 
-// Lines, each as often as it is drawn. A capital stands for a random word (speech.rt).
+// Lines. One that stands here twice is drawn twice as often. A capital stands for a random word (speech.rt).
 const LINES: [&str; 47] = [
     "hello N",
     "make P",
@@ -56,13 +56,13 @@ const LINES: [&str; 47] = [
 /// What a run begins with.
 #[derive(Clone, Copy, PartialEq)]
 pub(crate) enum Beginning {
-    /// Two sessions.
+    /// Two sessions, nothing else.
     Bare,
-    /// Places for them.
+    /// Places, too.
     Places,
-    /// Claims, too: check-outs with drafts and notes, one of them given away, and holds; some of them queued.
+    /// Places and claims: check-outs with drafts and notes, one of them given away, and holds; some of them wait.
     Claims,
-    /// Versions, too, so many that a snapshot is written in two pieces.
+    /// Places, and so many versions that a snapshot is written in two pieces.
     Versions,
     /// More records than the open buffer has room for.
     FullBuffer,
@@ -74,27 +74,27 @@ pub(crate) enum Beginning {
     FirstVersion,
 }
 
-/// How a run is inclined.
+/// The mood of a run.
 #[derive(Clone, Copy)]
 pub(crate) struct Mood {
     pub(crate) beginning: Beginning,
-    /// The lines that it draws from, each as often as it is there.
+    /// The lines that it draws from. One that is there twice is drawn twice as often.
     lines: [&'static str; 16],
-    /// At most so many pumps follow a command.
+    /// At most this many pumps follow a command.
     pub(crate) pumps: u32,
-    /// One pump in so many is preceded by the beginning of a snapshot.
+    /// Before one pump in this many a snapshot is begun.
     pub(crate) snapshot: u32,
-    /// One command in so many is followed by a stop.
+    /// After one command in this many the machine crashes.
     pub(crate) stop: u32,
-    /// One opening in so many is told that a device call will fail.
+    /// At one opening in this many a device call is made to fail.
     pub(crate) fault: u32,
-    /// One ticket in so many is forgotten.
+    /// One ticket in this many is forgotten.
     pub(crate) forget: u32,
-    /// After one command in so many, entries are let go.
+    /// After one command in this many, entries are trimmed.
     pub(crate) retire: u32,
-    /// One path in so many is of a place that nobody made yet.
+    /// One path in this many is of a place that nobody made yet.
     pub(crate) fresh: u32,
-    /// One item in so many is for change.
+    /// One item in this many is for change.
     pub(crate) change: u32,
     /// Whether contents are long.
     pub(crate) long: bool,
@@ -125,7 +125,7 @@ fn drawn_beginning(dice: &mut Dice) -> Beginning {
 }
 
 impl Mood {
-    /// The mood that the dice give.
+    /// A random mood.
     pub(crate) fn new(dice: &mut Dice) -> Mood {
         Mood {
             beginning: drawn_beginning(dice),
@@ -142,7 +142,7 @@ impl Mood {
         }
     }
 
-    /// The words of a line.
+    /// The words of a random line.
     pub(crate) fn words(&self, dice: &mut Dice) -> &'static str {
         dice.word(&self.lines)
     }

@@ -10,7 +10,7 @@ use std::alloc::Global;
 use std::io;
 use test_oracle::{COUNTED, Counts, Verdict};
 
-/// So many random runs of so many commands each, with the seeds from this one on.
+/// A number of random runs, of a number of commands each, with the seeds from this one on.
 #[derive(Clone, Copy)]
 pub(crate) struct Runs {
     pub(crate) seed: u64,
@@ -28,7 +28,7 @@ const STOPS: [(&str, Start, File); 4] = [
     ("spare closed, file b", Start::ClosedSpare, File::Second),
 ];
 
-/// Says what was covered, or the difference: whether there is none.
+/// Prints the difference, or that there is none. Whether there is none.
 fn said(rt: &impl Print, verdict: &Verdict, words: &str) -> io::Result<bool> {
     match verdict.found {
         Some(difference) => {
@@ -52,7 +52,8 @@ fn print_counts(rt: &impl Print, counts: &Counts) -> io::Result<()> {
     Ok(())
 }
 
-/// The runs up to the first that finds a difference: what was found and covered, its seed, and how many commands were said.
+/// The outcome of runs up to the first that finds a difference: what was found and covered, the last run's seed, and how many commands it
+/// said.
 #[derive(Clone, Copy)]
 struct Outcome {
     verdict: Verdict,
@@ -60,7 +61,7 @@ struct Outcome {
     said: u32,
 }
 
-/// The run of a seed. What was found and covered goes on from here.
+/// Makes the run of a seed. The verdict goes on from this one.
 fn run_of(alloc: Global, seed: u64, commands: u32, verdict: Verdict) -> Outcome {
     match Run::new(alloc, seed, commands, verdict) {
         Some(mut run) => {
@@ -81,7 +82,7 @@ fn run_of(alloc: Global, seed: u64, commands: u32, verdict: Verdict) -> Outcome 
     }
 }
 
-/// Random runs, up to the first that finds a difference.
+/// Makes random runs, up to the first that finds a difference.
 fn outcome_of(alloc: Global, runs: Runs) -> Outcome {
     let mut outcome = Outcome {
         verdict: Verdict::new(Counts::new()),
@@ -98,7 +99,7 @@ fn outcome_of(alloc: Global, runs: Runs) -> Outcome {
     outcome
 }
 
-/// Random runs, up to the first that finds a difference: whether none does.
+/// Makes and reports random runs, up to the first that finds a difference. Whether none does.
 pub(crate) fn report_random(rt: &impl Print, alloc: Global, runs: Runs) -> io::Result<bool> {
     let Outcome {
         verdict,
@@ -137,7 +138,7 @@ fn print_covered(rt: &impl Print, words: &str, covered: &Covered) -> io::Result<
     )
 }
 
-/// The long run from one start, stopped inside each device call of one file.
+/// Reports the long run from one start, stopped inside each device call of one file.
 fn report_stops(
     rt: &impl Print,
     alloc: Global,
@@ -151,7 +152,7 @@ fn report_stops(
     said(rt, &verdict, words)
 }
 
-/// The long run from both starts, stopped inside each device call: whether there is no difference.
+/// Reports the long run from both starts, stopped inside each device call. Whether there is no difference.
 pub(crate) fn report_all_stops(rt: &impl Print, alloc: Global) -> io::Result<bool> {
     let mut sound = true;
     for (words, start, which) in STOPS {
@@ -160,7 +161,7 @@ pub(crate) fn report_all_stops(rt: &impl Print, alloc: Global) -> io::Result<boo
     Ok(sound)
 }
 
-/// Files that are cut or changed: whether each is told.
+/// Reports on files that are cut or changed. Whether each fault is reported as it must be.
 pub(crate) fn report_files(rt: &impl Print, alloc: Global) -> io::Result<bool> {
     let mut verdict = Verdict::new(Counts::new());
     judge_cuts(&mut verdict, alloc);
@@ -169,7 +170,7 @@ pub(crate) fn report_files(rt: &impl Print, alloc: Global) -> io::Result<bool> {
     said(rt, &verdict, "files cut, and changed in one field or byte")
 }
 
-/// Each limit is reached: whether what passes it is refused.
+/// Reaches each limit. Whether what passes it is refused.
 pub(crate) fn report_limits(rt: &impl Print, alloc: Global, limits: &[Limit]) -> io::Result<bool> {
     let mut sound = true;
     for limit in limits {

@@ -1,4 +1,4 @@
-//! One run: random commands, pumps, snapshots and redeems, with stops between them, from a new vault on, or from old files.
+//! One run: random commands, pumps, snapshots and redeems, with crashes between them. It begins with a new vault, or with old files.
 
 use crate::dice::Dice;
 use crate::line::Line;
@@ -11,19 +11,19 @@ use test_oracle::{Files, Judge, Met, Verdict};
 use vault_device::MemDevice;
 use vault_model::{Claim, Reply};
 
-/// What is known of a vault, and how it is treated. As it has tickets, it ends by `close`.
+/// What is known of a vault, and how it is treated. It has tickets, so it must be ended by `close`.
 pub(crate) struct Run {
     pub(crate) judge: Judge,
     pub(crate) dice: Dice,
     pub(crate) mood: Mood,
     pub(crate) line: Line,
-    /// How many commands are still to be said.
+    /// How many commands are left to say.
     left: u32,
     pub(crate) speakers: Speakers,
 }
 
 impl Run {
-    /// The run of a seed, of so many commands. The counts go on from these. None where memory is wanted.
+    /// The run of a seed, with this number of commands. The counts go on from those of the verdict. None if out of memory.
     pub(crate) fn new(alloc: Global, seed: u64, commands: u32, verdict: Verdict) -> Option<Run> {
         let mut judge = Judge::new(alloc, verdict)?;
         judge.verdict.counts.up(Met::Run);
@@ -39,7 +39,7 @@ impl Run {
         })
     }
 
-    /// Ends: what was found and covered, and how many commands were left.
+    /// Ends the run. Gives what was found and covered, and how many commands were left.
     pub(crate) fn close(self) -> (Verdict, u32) {
         let Run {
             judge,
@@ -55,7 +55,7 @@ impl Run {
         (judge.close(), left)
     }
 
-    // By the reply to the last command it is known who joined and who left.
+    // Notes who joined or left, by the reply to the last command.
     fn answered(&mut self, session: u32) {
         match self.judge.history.last_reply() {
             Some(Reply::Session(number)) => self.speakers.join(*number, self.line.as_slice()),
@@ -73,7 +73,7 @@ impl Run {
         }
     }
 
-    /// A session says this.
+    /// A session says these words.
     pub(crate) fn tell(&mut self, vault: &mut Vault<MemDevice>, session: u32, words: &str) {
         self.line.begin(words);
         self.say(vault, session);
@@ -131,7 +131,7 @@ impl Run {
         }
     }
 
-    // A few tickets, and now and then entries that may be let go.
+    // Treats a few tickets, and now and then trims entries.
     fn tend(&mut self, vault: &mut Vault<MemDevice>) {
         for _ in 0..self.dice.below(4) {
             self.treat(vault);
@@ -143,7 +143,7 @@ impl Run {
         }
     }
 
-    // Whether the machine stops now: often while a commit or a snapshot is under way, or after a fault.
+    // Whether the machine crashes now: often while a commit or a snapshot is under way, or after a fault.
     fn stops(&mut self) -> bool {
         if self.judge.world.broken || self.judge.world.phase != Phase::Idle {
             return self.dice.one_in(self.mood.stop / 4 + 1);
@@ -151,7 +151,7 @@ impl Run {
         self.dice.one_in(self.mood.stop)
     }
 
-    // Commands until the machine stops, none are left, or a difference is found.
+    // Says commands until the machine crashes, none are left, or a difference is found.
     fn live(&mut self, vault: &mut Vault<MemDevice>) {
         for _ in 0..self.left {
             self.left = self.left.saturating_sub(1);
@@ -165,7 +165,7 @@ impl Run {
         }
     }
 
-    // One life, and the vault of the next.
+    // Lives one life, and gives the vault of the next. None if a difference is found.
     fn next_life(&mut self, vault: Vault<MemDevice>) -> Option<Vault<MemDevice>> {
         let mut vault = vault;
         self.live(&mut vault);
@@ -177,7 +177,7 @@ impl Run {
         None
     }
 
-    /// All lives, until no command is left or a difference is found.
+    /// Lives all lives, until no command is left or a difference is found.
     pub(crate) fn lives(&mut self) {
         let Some(mut vault) = self.begun() else {
             return;

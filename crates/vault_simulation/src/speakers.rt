@@ -18,14 +18,14 @@ pub(crate) struct Speakers {
 }
 
 impl Speakers {
-    /// Nobody.
+    /// No sessions.
     pub(crate) fn new(alloc: Global) -> Speakers {
         Speakers {
             joined: Vec::new(alloc),
         }
     }
 
-    /// One more, who said this line.
+    /// Adds a session, whose `hello` was this line.
     pub(crate) fn join(&mut self, session: u32, line: &[u8]) {
         let name = line.get(6..).unwrap_or(&[]);
         if let Some(name) = Name::read(name) {
@@ -43,12 +43,12 @@ impl Speakers {
         self.joined.retain(|speaker| speaker.session != session);
     }
 
-    /// After a restart no connection has a session.
+    /// Forgets all: after a restart no connection has a session.
     pub(crate) fn restart(&mut self) {
         self.joined.clear();
     }
 
-    /// Any session, and now and then the door or one that never was.
+    /// Any session, and now and then 0 (a connection without a session) or one that never was.
     pub(crate) fn any(&self, dice: &mut Dice) -> u32 {
         if dice.one_in(40) {
             return dice.below(70);
@@ -59,7 +59,7 @@ impl Speakers {
         }
     }
 
-    // One of the sessions of a designer; 0 where there is none.
+    // One of the sessions of a designer; 0 if there is none.
     fn of_designer(&self, dice: &mut Dice, name: &Name) -> u32 {
         let mut session = 0;
         for speaker in &self.joined {

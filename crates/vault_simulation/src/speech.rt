@@ -1,4 +1,4 @@
-//! Random lines: what their capitals stand for.
+//! Random lines: the words that their capitals stand for.
 
 use crate::dice::Dice;
 use crate::line::Line;
@@ -44,7 +44,7 @@ pub(crate) const PARTS: [&str; 7] = [
     "/e/b/p", "/e/b/q", "/e/b/r", "/e/c/p", "/e/c/q", "/f/b/p", "/f/b/q",
 ];
 
-// Paths below which nobody made a place yet.
+// Beginnings of paths of places that nobody made yet.
 const TOPS: [&str; 9] = [
     "/",
     "/e/",
@@ -61,7 +61,7 @@ fn is_held(claims: &Claims, claim: &Claim) -> bool {
     matches!(claim.id, ClaimId::Long(_)) && claims.standing(claim.id) == Some(Standing::Held)
 }
 
-/// A claim, of a few that are drawn the first check-out that is held. Now and then none.
+/// Draws a few claims, and gives the first granted check-out among them, else the last one drawn. Now and then none.
 pub(crate) fn claim(dice: &mut Dice, claims: &Claims) -> Option<Claim> {
     let mut found = None;
     for _ in 0..dice.below(6) {
@@ -75,7 +75,7 @@ pub(crate) fn claim(dice: &mut Dice, claims: &Claims) -> Option<Claim> {
     found
 }
 
-/// The id of a claim, or of one that may not be there.
+/// The id of this claim. Without one: an id that may not be there.
 pub(crate) fn id(dice: &mut Dice, claims: &Claims, claim: &Option<Claim>) -> ClaimId {
     if let Some(claim) = claim {
         return claim.id;

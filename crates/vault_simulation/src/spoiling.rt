@@ -4,13 +4,13 @@ use crate::dice::Dice;
 use std::alloc::Global;
 use test_oracle::{Bytes, Files, Met, Verdict, agree};
 
-// Bytes that stand for something in a file, and others.
+// Bytes that mean something in a file, and others.
 const BYTES: [u32; 10] = [0, 1, 2, 7, 8, 10, 63, 127, 128, 255];
 
-// Where a header's generation ends.
+// The offset of the last byte of a header's generation.
 const GENERATION: usize = 19;
 
-// A place in a file, mostly near its beginning.
+// An offset in a file, mostly near its beginning.
 fn place(dice: &mut Dice, len: usize) -> usize {
     if dice.one_in(2) {
         return dice.place(len.min(64));
@@ -18,7 +18,7 @@ fn place(dice: &mut Dice, len: usize) -> usize {
     dice.place(len)
 }
 
-// A byte that stands for something, or any.
+// A byte that means something, or any byte.
 fn byte(dice: &mut Dice) -> u8 {
     if dice.one_in(3) {
         return dice.byte();
@@ -53,7 +53,7 @@ fn spoil_one(dice: &mut Dice, bytes: &mut Vec<u8>) {
     }
 }
 
-// Makes a file one that goes with the other, or leaves it.
+// Makes the other file a copy of the first with another generation, or leaves it.
 fn pair(dice: &mut Dice, one: &[u8], other: &mut Vec<u8>) {
     if dice.one_in(2) {
         return;
@@ -65,7 +65,7 @@ fn pair(dice: &mut Dice, one: &[u8], other: &mut Vec<u8>) {
     }
 }
 
-/// Copies of two files, spoiled here and there: opening and inspecting agree on them.
+/// Spoils copies of two files here and there: opening and inspecting must agree on them.
 pub(crate) fn spoil(verdict: &mut Verdict, dice: &mut Dice, alloc: Global, files: &mut Files) {
     verdict.counts.up(Met::Spoiled);
     let Bytes {

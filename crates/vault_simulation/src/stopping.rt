@@ -1,4 +1,4 @@
-//! The machine stops, and the vault is opened again.
+//! The machine crashes, and the vault is opened again.
 
 use crate::run::Run;
 use crate::spoiling::spoil;
@@ -16,7 +16,7 @@ fn is_book(read: &Result<Book, OpenError>, book: &Book) -> bool {
 }
 
 impl Run {
-    // What is left of each file: mostly what crashes leave, now and then what was shown.
+    // What is left of each file: mostly what a crash leaves, now and then what reads gave, without a crash.
     fn left_of_both(&mut self) -> (Left, Left) {
         if self.dice.one_in(12) {
             return (Left::Shown, Left::Shown);
@@ -25,7 +25,7 @@ impl Run {
         (Left::Crashed(one), Left::Crashed(other))
     }
 
-    // Now and then the files hold any bytes, where a crash may have left any.
+    // Now and then puts any bytes where a crash may have left any.
     fn torn(&mut self, files: Files) -> Option<Files> {
         if !self.dice.one_in(4) {
             return Some(files);
@@ -44,7 +44,7 @@ impl Run {
         files
     }
 
-    // The stop, and what is found behind it.
+    // Crashes, and judges what is found after it.
     fn stopped(&mut self, files: &mut Files, first: Left, second: Left) {
         self.judge.stop(files, first, second);
         self.speakers.restart();
@@ -55,7 +55,7 @@ impl Run {
         }
     }
 
-    // Now and then opening the store alone gives the book that is kept. The files come back.
+    // Now and then opens the store alone, which must give the book that is kept. The files come back.
     fn read(&mut self, files: Files) -> Files {
         if !self.dice.one_in(4) {
             return files;
@@ -69,7 +69,7 @@ impl Run {
         files
     }
 
-    // Now and then a device call of the opening, or a later one, is told to fail.
+    // Now and then makes a device call of the opening, or a later one, fail.
     fn arm(&mut self, files: &mut Files) {
         if !self.dice.one_in(self.mood.fault) {
             return;
@@ -87,7 +87,7 @@ impl Run {
         self.judge.armed = Some(which);
     }
 
-    /// Opens the vault of the present life, which is not refused.
+    /// Opens the vault of the present life. This must not be refused.
     pub(crate) fn must_open(&mut self, files: Files) -> Option<Vault<MemDevice>> {
         match files.open(self.judge.alloc, self.judge.world.life) {
             Ok(vault) => Some(vault),
@@ -99,7 +99,8 @@ impl Run {
         }
     }
 
-    // Opening failed at a device call: the machine stops once more, and then opening is not refused.
+    // Opening failed. Only the device call that was made to fail may be the reason. The machine crashes once more, and then opening must
+    // not be refused.
     fn opened_again(&mut self, why: OpenError, files: Files) -> Option<Vault<MemDevice>> {
         let mut files = files;
         let told_to = self.judge.armed.is_some() && why == OpenError::Device;
@@ -119,7 +120,7 @@ impl Run {
         }
     }
 
-    // The files, with what may have become of them behind a crash, are opened.
+    // Opens the files after a crash, with what else may happen to them.
     fn opened_behind_crash(&mut self, files: Files) -> Option<Vault<MemDevice>> {
         let files = self.torn(files)?;
         let mut files = self.read(files);
@@ -127,7 +128,7 @@ impl Run {
         self.opened(files)
     }
 
-    /// The machine stops, and the vault is opened in another life. None where a difference is found.
+    /// The machine crashes, and the vault is opened in another life. None if a difference is found.
     pub(crate) fn reopened(&mut self, files: Files) -> Option<Vault<MemDevice>> {
         let mut files = files;
         let (first, second) = self.left_of_both();

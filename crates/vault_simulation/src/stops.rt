@@ -1,4 +1,4 @@
-//! The long run, stopped inside each device call, with each pair of what crashes leave.
+//! The long run, stopped by a crash inside each device call. Each pair of files that the crashes can leave is opened.
 
 use crate::long_run::{LONG_RUN, Start, Step, play, play_all, prepared};
 use group_commit::{File, OpenError, Pumped, Started, Vault};
@@ -7,7 +7,7 @@ use test_oracle::{Bytes, Files, Judge, Left, Talk, Verdict, World, are_alike, ar
 use vault_checkout::Book;
 use vault_device::{MemDevice, Pick};
 
-// What a crash leaves of each device.
+// What a crash may leave of a device's unsynced bytes.
 const PICKS: [Pick; 6] = [
     Pick::Old,
     Pick::New,
@@ -23,7 +23,7 @@ const MAX_CALLS: u64 = 1000;
 // More pumps than a snapshot takes.
 const MAX_PUMPS: u32 = 100;
 
-// What is done behind a fault: the vault takes no command and makes no device call, but tells what is settled.
+// What is done after a fault: the vault takes no command and makes no device call, but still answers what is durable.
 const BROKEN: [Step; 5] = [
     Step::Say(1, "list /"),
     Step::Pump,
@@ -32,7 +32,7 @@ const BROKEN: [Step; 5] = [
     Step::Retire,
 ];
 
-/// The device call that the long run is stopped inside, its opening's counted.
+/// The device call that the long run is stopped inside. The count includes the calls of its opening.
 #[derive(Clone, Copy)]
 pub(crate) struct Cut {
     pub(crate) start: Start,
@@ -40,7 +40,7 @@ pub(crate) struct Cut {
     pub(crate) call: u64,
 }
 
-/// What a stop left, once both devices kept the same.
+/// What a crash left, if both devices keep their unsynced bytes in the same way (`pick`).
 #[derive(Drop)]
 struct Stop {
     pick: Pick,
@@ -52,14 +52,14 @@ struct Stop {
     bytes: Bytes,
 }
 
-/// What the stops of the long run covered.
+/// What the crashes of the long run covered.
 #[derive(Clone, Copy)]
 pub(crate) struct Covered {
     pub(crate) calls: u64,
-    /// How many pairs of what devices keep were opened, and how many of these gave what was sealed and not settled.
+    /// How many pairs of files were opened, and how many of these gave entries that were sealed but not durable.
     pub(crate) pairs: u64,
     pub(crate) sealed: u64,
-    /// How many told commands were found again, over all pairs.
+    /// How many acknowledged commands were found again, over all pairs.
     pub(crate) told: u64,
 }
 
@@ -86,7 +86,7 @@ fn played(judge: &mut Judge, files: Files) -> Files {
     }
 }
 
-// The durable vaults after the settled entries, and after all that a stop may keep.
+// The durable vaults after the durable entries, and after all entries that a crash may keep.
 fn prefixes(judge: &Judge) -> Option<(Talk, Talk)> {
     let settled = judge.history.prefix(judge.world.settled)?;
     match judge.history.prefix(judge.world.most_left()) {
@@ -98,7 +98,7 @@ fn prefixes(judge: &Judge) -> Option<(Talk, Talk)> {
     }
 }
 
-// What is left of these files where both devices keep the same.
+// What is left of these files, if both devices keep their unsynced bytes in the same way.
 fn left_by(judge: &mut Judge, files: Files, pick: Pick) -> Option<Stop> {
     let mut files = files;
     files.crash(Left::Crashed(pick), Left::Crashed(pick));
@@ -140,7 +140,7 @@ fn stopped(verdict: &mut Verdict, alloc: Global, cut: Cut, pick: Pick) -> Option
     stop
 }
 
-// The durable vault after so many entries, the settled or the sealed ones.
+// The durable vault after this number of entries: the durable or the sealed ones.
 fn prefix(stop: &Stop, kept: u64) -> &Book {
     if kept == stop.world.settled {
         stop.settled.book()
@@ -149,7 +149,8 @@ fn prefix(stop: &Stop, kept: u64) -> &Book {
     }
 }
 
-// Has a vault that was just opened write all that it holds: whether it begins as a new life does, and a snapshot is settled.
+// Has a vault that was just opened write a snapshot, which shows all that it holds. Whether it began as a new life does, and the
+// snapshot became durable.
 fn is_written(vault: &mut Vault<MemDevice>) -> bool {
     let is_new = (vault.len(), vault.told(), vault.is_broken()) == (0, 0, false);
     if vault.start_snapshot() != Ok(Started::Yes) {
@@ -163,7 +164,7 @@ fn is_written(vault: &mut Vault<MemDevice>) -> bool {
     false
 }
 
-// Whether the files are opened as this vault. What it holds is seen by the snapshot that it writes.
+// Whether the files open as this vault. The snapshot that it writes shows what it holds.
 fn is_opened(alloc: Global, life: u64, want: &Book, files: Files) -> bool {
     let mut vault = match files.open(alloc, life) {
         Ok(vault) => vault,
@@ -201,7 +202,7 @@ fn is_found(alloc: Global, world: &World, want: &Book, files: Files) -> bool {
     is_opened(alloc, world.life, want, files) && states
 }
 
-// The first file of one stop and the second of another open as the settled prefix, or as the sealed one where that is kept.
+// Whether the first file of one crash and the second of another open as the durable prefix, or as the sealed one if that is kept.
 fn judge_pair(alloc: Global, covered: &mut Covered, one: &Stop, other: &Stop) -> bool {
     let mut world = one.world;
     let kept = world.stop(Left::Crashed(one.pick), Left::Crashed(other.pick));
@@ -235,7 +236,7 @@ fn judge_pairs(verdict: &mut Verdict, alloc: Global, covered: &mut Covered, stop
     }
 }
 
-// What a stop inside a call left, if the call is made, is one of those.
+// Adds what a crash inside a call left, if the call is made.
 fn push_stop(verdict: &mut Verdict, alloc: Global, stops: &mut Vec<Stop>, cut: Cut, pick: Pick) {
     match stopped(verdict, alloc, cut, pick) {
         Some(stop) => {
@@ -249,7 +250,7 @@ fn push_stop(verdict: &mut Verdict, alloc: Global, stops: &mut Vec<Stop>, cut: C
     }
 }
 
-// What the stops inside a call left, one for each of what both devices keep.
+// What crashes inside a call leave: one for each pick, which both devices keep.
 fn stopped_each(verdict: &mut Verdict, alloc: Global, cut: Cut) -> Vec<Stop> {
     let mut stops = Vec::new(alloc);
     for pick in PICKS {
@@ -258,7 +259,7 @@ fn stopped_each(verdict: &mut Verdict, alloc: Global, cut: Cut) -> Vec<Stop> {
     stops
 }
 
-/// The long run, stopped inside a call, with all pairs: whether the call is made.
+/// Judges the long run, stopped inside a call, with all pairs. Whether the call is made.
 pub(crate) fn judge_cut(
     verdict: &mut Verdict,
     alloc: Global,
@@ -275,7 +276,7 @@ pub(crate) fn judge_cut(
     made
 }
 
-/// The long run from this start, stopped inside each device call of a file: what was covered.
+/// Judges the long run from this start, stopped inside each device call of a file. Gives what was covered.
 pub(crate) fn judge_calls(
     verdict: &mut Verdict,
     alloc: Global,

@@ -1,16 +1,16 @@
-//! Any bytes, where crashes may leave any: behind the tail gate of the active file, and in a spare file that is closed.
+//! Puts any bytes where crashes may leave any: behind the tail gate of the active file, and in a closed spare file.
 
 use crate::dice::Dice;
 use group_commit::File;
 use test_oracle::{Bytes, World};
 
-// How many bytes of an older file are read.
+// How many bytes are read of an older file: its header.
 const HEADER: usize = 24;
 
-// Where a header's generation begins.
+// The offset of the first byte of a header's generation.
 const GENERATION: usize = 12;
 
-// Any byte at a few places, from an offset on, and a few bytes more.
+// Puts any bytes at a few places behind an offset, and adds a few bytes at the end.
 fn scatter(dice: &mut Dice, bytes: &mut Vec<u8>, from: usize) {
     let room = bytes.len().saturating_sub(from);
     for _ in 0..dice.below(8) {
@@ -24,7 +24,7 @@ fn scatter(dice: &mut Dice, bytes: &mut Vec<u8>, from: usize) {
     }
 }
 
-// A gate, if it is there, gets this byte.
+// Sets a gate to this byte, if the gate is there.
 fn set_gate(bytes: &mut Vec<u8>, at: usize, byte: u8) {
     if let Some(gate) = bytes.get_mut(at) {
         *gate = byte;
@@ -48,7 +48,8 @@ fn tear_older(dice: &mut Dice, bytes: &mut Vec<u8>) {
     scatter(dice, bytes, HEADER);
 }
 
-// A closed file: as it is, cut, or another's bytes with a greater generation. Whether its head gate is there and no 1.
+// Tears a closed file: it stays, is cut, or gets the active file's bytes with a greater generation. Whether its head gate is then there
+// and no 1.
 fn tear_closed(dice: &mut Dice, bytes: &mut Vec<u8>, active: &[u8]) -> bool {
     match dice.below(4) {
         0 => bytes.truncate(dice.place(bytes.len())),
@@ -86,7 +87,7 @@ fn tear_both(
     world.leave_spare(shut);
 }
 
-/// Any bytes where crashes may leave any: the vault is the same.
+/// Puts any bytes where crashes may leave any. The vault must be the same.
 pub(crate) fn tear(dice: &mut Dice, world: &mut World, bytes: &mut Bytes) {
     let (which, tail) = world.tail();
     match which {

@@ -85,12 +85,12 @@ unmoved_passes disk store lawful lawful_spare s x y keeps one_vault =
     moments_placed disk store.which store.active store.spare store.active store.spare (λ v w. AreOfTwoVaults v w → ⊥) (λ v w pass two. pass (two_exchanged w v two))
     (λ v w one two may. pass_here disk store s keeps one_vault one two v w ((lawful one).only_now v may.0) ((lawful_spare two).only_now w may.1)) x y
 
--- what a stop inside a step that makes this of the active device leaves is read
+-- what a crash inside a step that makes this of the active device leaves is read
 abbrev pub AreMoments : {D : Type 0} → (D → Disk) → StoreSeen D → D → StoreState → List ℕ → List ℕ → Type 0
 AreMoments disk old active s x y =
     IsTrue (disk (first_of old)).honest → IsTrue (disk (second_of old)).honest → MayBeLeft (disk (first_of old)) (disk (second_of old)) (disk (of_file old.which active old.spare)) (disk (of_file old.which old.spare active)) x y → IsLeftInside old s x y
 
--- of files of one vault it leaves what isn't told as two
+-- of files of one vault it leaves what isn't reported as two
 abbrev pub ArePassed : {D : Type 0} → (D → Disk) → StoreSeen D → D → List ℕ → List ℕ → Type 0
 ArePassed disk old active x y =
     IsTrue (disk (first_of old)).honest → IsTrue (disk (second_of old)).honest → MayBeLeft (disk (first_of old)) (disk (second_of old)) (disk (of_file old.which active old.spare)) (disk (of_file old.which old.spare active)) x y → AreOfTwoVaults x y → ⊥
@@ -99,7 +99,7 @@ pub record IsInside {D : Type 0} (disk : D → Disk) (old : StoreSeen D) (active
   pub moments : (s : StoreState) (x y : List ℕ) → Keeps disk old s → AreMoments disk old active s x y
   pub passes : (s : StoreState) (x y : List ℕ) → Keeps disk old s → IsOfOneVault disk old → ArePassed disk old active x y
 
--- what a disk in one phase may show, whatever the front and the records, where a stop leaves the front, or the gate open or closed
+-- what a disk in one phase may show, whatever the front and the records, where a crash leaves the front, or the gate open or closed
 abbrev pub LeavesFront : Disk → Disk → ℕ → Phase → Type 0
 LeavesFront old new tail p = (front records x : List ℕ) → length front ≡ tail → IsOnDisk old p false front records → new.WasImage old.moment x → EndsBehind front x
 
@@ -118,7 +118,7 @@ module _ {D : Type 0} (disk : D → Disk) (old : StoreSeen D) (active : D) (p : 
   aside_left : (MayStand : List ℕ → Type 0) → is_snapshot p ≡ false → IsSpareOn MayStand (disk old.spare) p false old.shut old.rest → (y : List ℕ) → (disk old.spare).IsImage y → MayStand y
   aside_left MayStand commit is y image = aside_leaves MayStand (disk old.spare) old.shut old.rest (aside_of MayStand (disk old.spare) old.shut old.rest p commit is) y image
 
-  -- a stop inside a step that leaves the front, whatever it leaves behind that
+  -- a crash inside a step that leaves the front, whatever it leaves behind that
   passes_begun : is_snapshot p ≡ false → (IsTrue (disk old.active).honest → (front records x : List ℕ) → length front ≡ old.tail → IsOnDisk (disk old.active) p false front records → (disk active).WasImage (disk old.active).moment x → IsBegun front x)
       → (s : StoreState) (x y : List ℕ) → Keeps disk old s → IsOfOneVault disk old → ArePassed disk old active x y
   passes_begun commit move s x y keeps one_vault =
@@ -130,7 +130,7 @@ module _ {D : Type 0} (disk : D → Disk) (old : StoreSeen D) (active : D) (p : 
       (front_based (disk old.active) files.front (settled_reading old (record s { phase = p; broken = false })) files.is_front are.base (lawful one) (begun_on (disk old.active) p false files.front (records_of s.sealing) files.active) are.based v
       (move one files.front (records_of s.sealing) v (sym files.is_front.tail_is) files.active may.0)) (aside_left (MayPrecede old.generation are.base) commit are.beside w ((lawful_spare two).only_now w may.1))) x y
 
-  -- a stop inside a step that leaves the front
+  -- a crash inside a step that leaves the front
   pub leaves_front : is_snapshot p ≡ false → (IsTrue (disk old.active).honest → LeavesFront (disk old.active) (disk active) old.tail p) → IsInside disk old active
   leaves_front commit move = record {
     moments = λ s x y keeps.
@@ -144,7 +144,7 @@ module _ {D : Type 0} (disk : D → Disk) (old : StoreSeen D) (active : D) (p : 
     passes = passes_begun commit (λ honest front records x stands on was. begun_ends front x (move honest front records x stands on was));
   }
 
-  -- a stop inside a step that leaves the gate open or closed
+  -- a crash inside a step that leaves the gate open or closed
   pub leaves_either : is_idle p ≡ false → is_snapshot p ≡ false → may_open p ≡ true → (IsTrue (disk old.active).honest → LeavesEither (disk old.active) (disk active) old.tail p) → IsInside disk old active
   leaves_either busy commit opens move = record {
     moments = λ s x y keeps.
@@ -211,7 +211,7 @@ module _ {D : Type 0} (disk : D → Disk) (old : StoreSeen D) (active : D) (unbr
   pub body_unsettled : (fault : Fault) → IsSync (Err fault) (disk old.active) (disk active) → IsMove (disk old.active) (disk active) old.tail old.sealed Written Written true
   body_unsettled fault sync front records stands size on = λ x image. on.images x (sync.images x image)
 
-  -- the body is settled
+  -- the body is synced
   pub body_settled : old.phase ≡ Written → IsOneCall {A = Unit {0}} {E = Fault} (disk old.active) (disk active) (Ok tt) → (IsTrue (disk old.active).honest → IsSync {E = Fault} (Ok tt) (disk old.active) (disk active))
       → (IsTrue (disk old.active).honest → LeavesSince (disk old.active) (disk active) (disk old.active).IsImage) → IsAdvance disk old (record old { active = active; phase = Bodied }) (Ok answers.Moved)
   body_settled is call sync moments =
@@ -284,7 +284,7 @@ module _ {D : Type 0} (disk : D → Disk) (old : StoreSeen D) (active : D) (unbr
   pub settles_gate : IsTrue (disk old.active).honest → IsSync {E = Fault} (Ok tt) (disk old.active) (disk active) → Settles
   settles_gate honest sync front records stands on = to_idle (disk old.active) (disk active) front records on (lawful honest) sync
 
-  -- the gate is settled, and the frame belongs to the file
+  -- the gate is synced, and the frame belongs to the file
   pub gate_settled : (tail journal_length : ℕ) → tail ≡ old.tail + (old.sealed + 5) → journal_length ≡ old.journal_length + (old.sealed + 5) → old.phase ≡ Opening → IsOneCall {A = Unit {0}} {E = Fault} (disk old.active) (disk active) (Ok tt)
       → (IsTrue (disk old.active).honest → IsSync {E = Fault} (Ok tt) (disk old.active) (disk active)) → (IsTrue (disk old.active).honest → LeavesSince (disk old.active) (disk active) (disk old.active).IsImage)
       → IsAdvance disk old (record old { active = active; tail = tail; journal_length = journal_length; sealed = 0; phase = Idle }) (Ok answers.Settled)

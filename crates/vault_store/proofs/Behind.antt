@@ -24,7 +24,7 @@ and_reads old mid new first second = record {
 pub cause_behind : (old mid new : Disk) → AreReads old mid → HasCause mid new → HasCause old new
 cause_behind old mid new first cause = elim cause [ inl more ↦ inl (omega (arith, more, first.called.no_fewer_faults)) | inr last ↦ inr last ]
 
--- no fault was counted by calls one behind the other, of each of which none was
+-- no fault was counted by calls one behind the other, if each counted none
 pub quiet_then : (old mid new : Disk) → IsQuiet old mid → IsQuiet mid new → IsQuiet old new
 quiet_then old mid new first second = record { same_faults = second.same_faults ∙ first.same_faults }
 

@@ -69,7 +69,7 @@ module _ (file four : List ℕ) (n : ℕ) (there : four ≡ slice_range file 20 
       whole : header + n - header ≡ n
       whole = omega arith
 
-  -- so long is no vault's
+  -- no vault's snapshot is so long
   pub too_long : header + n < length file → most_snapshot < n → IsBaseFault file header
   too_long within more version told =
       inr (

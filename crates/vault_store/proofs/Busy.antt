@@ -21,7 +21,7 @@ idle_or_busy SnapOpening = inr refl
 pub idle_is : (p : Phase) → is_idle p ≡ true → p ≡ Idle
 idle_is p e = ⊎_elim (λ idle. idle) (λ busy. absurd (false≢true (sym busy ∙ e))) (idle_or_busy p)
 
--- what doesn't hold in Idle holds of a phase under way alone
+-- what doesn't hold in Idle holds only of a phase under way
 busy_where : (holds : Phase → Bool) → holds Idle ≡ false → (p : Phase) → holds p ≡ true → is_idle p ≡ false
 busy_where holds not_idle p e = ⊎_elim (λ idle. absurd (false≢true (sym not_idle ∙ ap holds (sym idle) ∙ e))) (λ busy. busy) (idle_or_busy p)
 

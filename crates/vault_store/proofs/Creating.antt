@@ -1,4 +1,4 @@
--- What a stop inside a creation leaves.
+-- What a crash inside a creation leaves.
 use Rattle.std.proofs.Common.{◌≡◌, inl, inr, ℕ, List, [], ◌∷◌, length, set, get_or, refl, sym, ◌∙◌, ap, subst, arith, IsTrue}
 use Rattle.std.proofs.lemmas.Bool.{cases_eq}
 use Rattle.std.specs.Prelude.{slice_index}
@@ -55,7 +55,7 @@ third_part disk only x torn =
       | inr other ↦ inl (inr other)
     ]
 
--- the three writes of a creation, each settled
+-- the three writes of a creation, each synced
 pub made_once : (a b : Disk) → LeavesOnly a [] → LeavesSince a b (IsTornImage a 0 1) → LeavesSince a b IsClosedOrNew
 made_once a b empty one = weaker a b (IsTornImage a 0 1) IsClosedOrNew (first_part a empty) one
 
@@ -97,11 +97,11 @@ stops_in_creation first second first_new second_new made left = λ honest other 
       | inr new ↦ inr (subst (λ (l : List ℕ). StandFor l y new_vault) (sym new) (new_is_read y shut))
     ]
 
--- the second one stays closed, so they aren't told as the files of two vaults
+-- the second one stays closed, so they aren't reported as the files of two vaults
 pub passes_in_creation : (first second first_new second_new : Disk) → (IsTrue second.honest → LeavesSince second second_new second.IsImage) → PassesInCreation first second first_new second_new
 passes_in_creation first second first_new second_new left = λ honest other none none_there x y was. closed_pass x y (inr (stays_closed y (none_there y ((left other).each y was.1))))
 
--- devices that no call was made of
+-- devices without a call
 pub none_made : (first second : Disk) → (IsTrue first.honest → IsLawful first) → (IsTrue second.honest → IsLawful second) → StopsInCreation first second first second
 none_made first second lawful lawful_other = λ honest other none none_there x y was.
     inl (stays_closed x (none x ((lawful honest).only_now x was.0)), stays_closed y (none_there y ((lawful_other other).only_now y was.1)))

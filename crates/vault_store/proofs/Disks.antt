@@ -7,7 +7,7 @@ use Rattle.vault_format.specs.Files.{frame_bytes, EndsBehind}
 use Rattle.vault_store.specs.OnDisk.{IsSettled, IsIdle, IsWritten, IsBodied, IsGated, IsEither}
 use Rattle.vault_store.proofs.Fronts.{ends_front, body_written, either_but}
 
--- what is settled is closed in each image
+-- what is durable is closed in each image
 pub stays_closed : (disk : Disk) (front : List ℕ) → IsSettled disk → EndsBehind front disk.shown → StaysClosed (length front) disk
 stays_closed disk front settled ends x image = subst (IsClosed (length front)) (sym (settled.only x image)) ends.closed
 

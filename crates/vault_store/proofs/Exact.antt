@@ -23,7 +23,7 @@ use Rattle.vault_format.proofs.OneReading.{same_reading, same_version, snapshots
 use Rattle.vault_format.proofs.Rights.{head_right, head_open, not_both, one_told, one_generation, spare_older, spare_right, holds_head, one_base}
 use Rattle.vault_format.proofs.Spelled.{snapshot_tells}
 
--- a frame stands here, with a byte behind it, and its effects may be made
+-- a frame stands here, with a byte behind it, and its effects are applicable
 pub record HasFrame (v : Vault) (bytes : List ℕ) : Type 0 where
   pub frame : List Effect
   pub next : Vault

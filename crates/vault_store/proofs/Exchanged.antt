@@ -184,7 +184,7 @@ module _ {D : Type 0} (disk : D → Disk) (old : StoreSeen D) (spare : D) (unbro
       renewal : IsRenewal old.generation s.sealed old.rest
       renewal = keeps.renewal refl
 
-  -- the old file, which leads to an earlier vault of the new one's snapshot's, stands beside that
+  -- the old file, which leads to an earlier state of the new one's snapshot, stands beside that
   exchanged_one : (s : StoreState) → Keeps disk old (record s { phase = SnapOpening; broken = false }) → IsOfOneVault disk (exchanged_seen false)
   exchanged_one s keeps one two =
       let files = keeps.files two (was_honest one) in
@@ -216,7 +216,7 @@ module _ {D : Type 0} (disk : D → Disk) (old : StoreSeen D) (spare : D) (unbro
       new_front : List ℕ
       new_front = current_head (old.generation + 1) ++ snapshot_bytes current_version s.sealed
 
-  -- a stop inside leaves the old file, and the new one with its head gate open or closed
+  -- a crash inside leaves the old file, and the new one with its head gate open or closed
   exchanged_inside : (IsTrue (disk old.spare).honest → LeavesSince (disk old.spare) (disk spare) (disk old.spare).IsImage) → IsInsideSpare disk old spare
   exchanged_inside moments = leaves_renewed disk old spare SnapOpening is refl unbroken lawful refl (λ honest v renewing was. renewing.images v ((moments honest).each v was))
 
@@ -227,7 +227,7 @@ module _ {D : Type 0} (disk : D → Disk) (old : StoreSeen D) (spare : D) (unbro
       subst (λ (d : D). MayBeLeft (disk (first_of old)) (disk (second_of old)) (disk d) (disk (of_file old.which spare old.active)) x y) (exchanged old.which spare old.active)
       (subst (λ (d : D). MayBeLeft (disk (first_of old)) (disk (second_of old)) (disk (of_file (other old.which) spare old.active)) (disk d) x y) (exchanged old.which old.active spare) may)
 
-  -- the open head gate is settled
+  -- the open head gate is synced
   pub head_settled : (IsTrue (disk old.spare).honest → LeavesSince (disk old.spare) (disk spare) (disk old.spare).IsImage) → IsAdvance disk old (exchanged_seen old.broken) (Ok answers.Settled)
   head_settled moments =
       subst (λ (b : Bool). IsAdvance disk old (exchanged_seen b) (Ok answers.Settled)) (sym unbroken) (record {

@@ -1,4 +1,4 @@
--- A step whose device call failed, told by the function that notes it.
+-- A step whose device call failed, as the function that records it reports it.
 use Rattle.std.proofs.Common.{◌≡◌, Bool, true, sym, subst, Result, Err}
 use Rattle.vault_device.specs.Disk.{Disk}
 use Rattle.vault_device.specs.declared.device.Fault.{Fault}

@@ -67,7 +67,7 @@ ends_opened front records file within begins one body = ends_before longer tail 
         ∙ ap (λ (l : List ℕ). front ++ 1 ∷ l) behind
         ∙ sym (append_assoc front (1 ∷ head) (0 ∷ tail))
 
--- whatever stands in the gate of a settled file, its frame counts exactly where that is 1
+-- whatever byte the gate of a durable file has, its frame counts exactly if that is 1
 pub either_but : (front records file x : List ℕ) → EndsBehind front file → HasBody (length front) records file → SameBut (length front) file x → IsEither front records x
 either_but front records file x ends body same = record {
   opened = λ one. ends_opened front records x stands begins one body_there;

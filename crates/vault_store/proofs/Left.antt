@@ -1,4 +1,4 @@
--- What a crash leaves of the two files of a store, and what a stop inside a step leaves.
+-- What a crash leaves of the two files of a store, and what a crash inside a step leaves.
 use Rattle.std.proofs.Common.{◌≡◌, inl, inr, ℕ, ◌+◌, IsTrue, Bool, true, false, cond, List, ◌∷◌, ◌++◌, length, get_or, refl, sym, ◌∙◌, ap, subst, arith}
 use Rattle.std.proofs.lemmas.Bool.{cases_eq}
 use Rattle.vault_device.specs.Disk.{Disk}
@@ -55,11 +55,11 @@ module _ {D : Type 0} (disk : D → Disk) (store : StoreSeen D) (s : StoreState)
       renewal : IsRenewal store.generation s.sealed store.rest
       renewal = keeps.renewal snapshot
 
-  -- a stop that leaves the front leaves the settled vault
+  -- a crash that leaves the front leaves the durable vault
   pub inside_front : (x y : List ℕ) → EndsBehind front x → IsSpare store.generation y → IsLeftInside store s x y
   inside_front x y ends spare = inl (reads_front front x y (settled_reading store s) is_front ends spare)
 
-  -- one that leaves the gate open or closed leaves the sealed vault or the settled one
+  -- one that leaves the gate open or closed leaves the sealed vault or the durable one
   pub inside_either : (x y : List ℕ) → is_idle s.phase ≡ false → is_snapshot s.phase ≡ false → may_open s.phase ≡ true → IsEither front (records_of s.sealing) x → IsSpare store.generation y → IsLeftInside store s x y
   inside_either x y busy commit may either spare =
       let by_gate = reads_either x y busy commit either spare in
@@ -68,7 +68,7 @@ module _ {D : Type 0} (disk : D → Disk) (store : StoreSeen D) (s : StoreState)
         | inr other ↦ inl (by_gate.shut other)
       ]
 
-  -- one that leaves the head gate of the spare open or closed leaves the sealed vault or the settled one
+  -- one that leaves the head gate of the spare open or closed leaves the sealed vault or the durable one
   pub inside_renewed : (x y : List ℕ) → is_snapshot s.phase ≡ true → may_open s.phase ≡ true → EndsBehind front x → HasFirst (length store.rest) store.rest y → IsLeftInside store s x y
   inside_renewed x y snapshot may ends has =
       let by_gate = reads_renewed x y snapshot ends has in
@@ -117,7 +117,7 @@ left disk store s keeps one two x y image other =
     left_in disk store s s.phase keeps files.front x y files.is_front (leaves_in (disk store.active) s.phase s.broken files.front (records_of s.sealing) files.active) image
     (spare_leaves (IsSpare store.generation) (disk store.spare) store.shut store.rest (closed_spare store.generation) s.phase s.broken files.spare) other
 
--- while a gate is being opened, it alone is unsettled
+-- while a gate is being opened, only that byte isn't durable
 gated_in : {D : Type 0} (disk : D → Disk) (store : StoreSeen D) (s : StoreState) (p : Phase) → is_opening p ≡ true → Keeps disk store (record s { phase = p; broken = false }) → AreHonest disk store → IsOneGate (disk (gated p store.active store.spare)) (gate_at store p)
 gated_in disk store s Opening is keeps honest =
     let both = both_honest disk store.which store.active store.spare honest.first honest.second in

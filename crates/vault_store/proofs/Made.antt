@@ -1,4 +1,4 @@
--- Why effects were not made.
+-- Why effects were not applied.
 use Rattle.std.proofs.Common.{◌≡◌, ◌+◌, ◌<◌, List, ◌∷◌, length, get_or, drop, ℕ, Option, Some, None, Result, Ok, Err, IfErr, refl, sym, ◌∙◌, ap}
 use Rattle.std.specs.Option.{option_and_then}
 use Rattle.std.specs.Result.{IsErrAnd}
@@ -21,7 +21,7 @@ none_made bytes old effects (Err NotApplicable) records none = λ others next ar
     let is_none : applied old others ≡ None = ap (λ (es : List Effect). applied old es) (sym same) ∙ none refl in cc
 none_made bytes old effects (Err NoMemory) records none = tt
 
--- effects that are made one after the other
+-- effects that are applied one after the other
 module _ (start v w : Vault) (effects : List Effect) (i : ℕ) (effect : Effect) (here : i < length effects) (is : effect ≡ get_or effects i effect) where
   next_made : applied v (drop i effects) ≡ option_and_then (λ (next : Vault). applied next (drop (i + 1) effects)) (after v effect)
   next_made = ap (λ (es : List Effect). applied v es) (drop_more effects i effect here) ∙ ap (λ (e : Effect). applied v (e ∷ drop (i + 1) effects)) (sym is)

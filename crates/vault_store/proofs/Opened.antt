@@ -174,7 +174,7 @@ module _ {D : Type 0} (disk : D → Disk) (which : File) (first second one two a
           let was = subst IsTrue handed_spare.called.same_honesty honest in
           subst (λ (d : D). IsSettled (disk d)) (sym spare_is) (placed (λ (a b : D). IsTrue (disk a).honest → IsSettled (disk b)) which second first two one settled_second settled_first was)
 
-      -- what both devices show is settled
+      -- what both devices show is durable
       pub opened_settled : AreSettled (disk (of_file which active_new spare)) (disk (of_file which spare active_new))
       opened_settled = settled_each disk which active_new spare settled_active settled_spare
 
@@ -259,7 +259,7 @@ opened_quiet disk which first second one two active spare active_new quiet activ
     (subst (λ (d : _). IsQuiet (disk (of_file which first second)) (disk d)) (sym active_is) (placed (λ (a b : _). IsQuiet (disk a) (disk b)) which first second one two quiet.0 quiet.1)) still)
     (subst (λ (d : _). IsQuiet (disk (of_file which second first)) (disk d)) (sym spare_is) (placed (λ (a b : _). IsQuiet (disk a) (disk b)) which second first two one quiet.1 quiet.0))
 
--- so it is where memory was wanted in reading on
+-- the same where an allocation was refused in reading on
 pub opened_wanted : {D : Type 0} (disk : D → Disk) (which : File) (first second one two active spare active_new first_new second_new : D) → AreQuiet (disk first) (disk second) (disk one) (disk two)
     → active ≡ of_file which one two → spare ≡ of_file which two one → (why : OpenError) (IsWrong : ℕ → Type 0) → IsWhyNot (disk active) (disk active_new) which IsWrong why
     → first_new ≡ of_file which active_new spare → second_new ≡ of_file which spare active_new → why ≡ NoMemory → AreQuiet (disk first) (disk second) (disk first_new) (disk second_new)

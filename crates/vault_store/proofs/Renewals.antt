@@ -67,7 +67,7 @@ module _ (MayStand : List ℕ → Type 0) (old new : Disk) where
   pub still_shut : IsAside MayStand old true → IsShutting MayStand old
   still_shut aside = record { images = λ x image. subst MayStand (sym (aside.settled.only x image)) aside.stands; shut = aside.closed refl }
 
-  -- it is settled
+  -- it is synced
   pub to_filling : {E : Type 0} (rest : List ℕ) → IsShutting MayStand old → IsSync {E = E} (Ok tt) old new → IsFilling new 0 rest
   to_filling rest shutting sync = record {
     closed = λ x image. subst (IsClosed 0) (sym (sync.durable x image)) shutting.shut;
@@ -121,7 +121,7 @@ module _ (old new : Disk) (n m : ℕ) (rest : List ℕ) (within : n + m ≤ leng
       same = ap (λ (l : List ℕ). take (n + m) l) behind ∙ take_at (take (n + m) rest) tail (n + m) (length-take-le (n + m) rest within)
 
 module _ (old new : Disk) (rest : List ℕ) where
-  -- all bytes are settled
+  -- all bytes are synced
   pub to_ready : {E : Type 0} → IsLawful old → IsFilling old (length rest) rest → IsSync {E = E} (Ok tt) old new → IsReady new rest
   to_ready lawful filling sync = record {
     settled = settled_by_sync old new sync;
@@ -145,7 +145,7 @@ module _ (old new : Disk) (rest : List ℕ) where
     was_shut = λ one. ready.closed.shut (ap (λ (l : List ℕ). get_or l 0 0) (sym (wrote.settled ∙ ready.settled.bytes)) ∙ one);
   }
 
-  -- the open head gate is settled: the file is whole
+  -- the open head gate is synced: the file is whole
   pub to_active : {E : Type 0} (front : List ℕ) → front ++ 0 ∷ [] ≡ 1 ∷ rest → IsLawful old → IsRenewing old rest → IsSync {E = E} (Ok tt) old new → IsIdle new front
   to_active front is lawful renewing sync = record {
     settled = settled_by_sync old new sync;

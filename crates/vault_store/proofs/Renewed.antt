@@ -112,22 +112,22 @@ module _ {D : Type 0} (disk : D → Disk) (old : StoreSeen D) (spare : D) (same 
         (subst (λ (b : Bool). IsSpareOn (λ x. Unit {0}) (disk old.spare) old.phase b old.shut old.rest) unbroken (sound.spare (was_honest honest))));
   }
 
--- what a stop inside a step that makes this of the spare's device leaves is read
+-- what a crash inside a step that makes this of the spare's device leaves is read
 abbrev pub AreSpareMoments : {D : Type 0} → (D → Disk) → StoreSeen D → D → StoreState → List ℕ → List ℕ → Type 0
 AreSpareMoments disk old spare s x y =
     IsTrue (disk (first_of old)).honest → IsTrue (disk (second_of old)).honest → MayBeLeft (disk (first_of old)) (disk (second_of old)) (disk (of_file old.which old.active spare)) (disk (of_file old.which spare old.active)) x y → IsLeftInside old s x y
 
--- of files of one vault it leaves what isn't told as two
+-- of files of one vault it leaves what isn't reported as two
 abbrev pub IsSparePassed : {D : Type 0} → (D → Disk) → StoreSeen D → D → List ℕ → List ℕ → Type 0
 IsSparePassed disk old spare x y =
     IsTrue (disk (first_of old)).honest → IsTrue (disk (second_of old)).honest → MayBeLeft (disk (first_of old)) (disk (second_of old)) (disk (of_file old.which old.active spare)) (disk (of_file old.which spare old.active)) x y → AreOfTwoVaults x y → ⊥
 
--- a stop inside such a step
+-- a crash inside such a step
 pub record IsInsideSpare {D : Type 0} (disk : D → Disk) (old : StoreSeen D) (spare : D) : Type 0 where
   pub moments : (s : StoreState) (x y : List ℕ) → Keeps disk old s → AreSpareMoments disk old spare s x y
   pub passes : (s : StoreState) (x y : List ℕ) → Keeps disk old s → IsOfOneVault disk old → IsSparePassed disk old spare x y
 
--- a stop leaves what may stand there, whatever that is
+-- a crash leaves what may stand there, whatever that is
 abbrev pub LeavesStanding : Disk → Disk → Phase → Bool → List ℕ → Type 1
 LeavesStanding old new p shut rest = (MayStand : List ℕ → Type 0) → ClosedMayStand MayStand → (y : List ℕ) → IsSpareIn MayStand old p shut rest → new.WasImage old.moment y → MayStand y
 
@@ -138,7 +138,7 @@ module _ {D : Type 0} (disk : D → Disk) (old : StoreSeen D) (spare : D) (p : P
   pub snap_keeps : (s : StoreState) → Keeps disk old s → Keeps disk old (record s { phase = p; broken = false })
   snap_keeps s keeps = subst (Keeps disk old) (sym (snap_phase s keeps)) keeps
 
-  -- a stop that leaves a spare
+  -- a crash that leaves a spare
   pub leaves_spare : (IsTrue (disk old.spare).honest → LeavesStanding (disk old.spare) (disk spare) p old.shut old.rest) → IsInsideSpare disk old spare
   leaves_spare move = record {
     moments = λ s x y keeps.
@@ -157,7 +157,7 @@ module _ {D : Type 0} (disk : D → Disk) (old : StoreSeen D) (spare : D) (p : P
         beside_pass v w old.generation are.base (are.based v ((lawful one).only_now v may.0)) (move two (MayPrecede old.generation are.base) (shut_precedes old.generation are.base) w are.beside may.1)) x y;
   }
 
-  -- a stop that leaves the head gate open or closed over the whole file
+  -- a crash that leaves the head gate open or closed over the whole file
   pub leaves_renewed : may_open p ≡ true → (IsTrue (disk old.spare).honest → (y : List ℕ) → IsSpareIn (IsSpare old.generation) (disk old.spare) p old.shut old.rest → (disk spare).WasImage (disk old.spare).moment y → HasFirst (length old.rest) old.rest y)
       → IsInsideSpare disk old spare
   leaves_renewed opens move = record {

@@ -16,7 +16,7 @@ use Rattle.vault_store.specs.State.{StoreState}
 use Rattle.vault_store.specs.Seen.{StoreSeen, Keeps, AreFiles, other, settled_reading}
 use Rattle.vault_store.specs.Step.{renews, gained, AreNumbers}
 
--- a state in which all that was sealed is settled
+-- a state in which all that was sealed is durable
 abbrev pub resting : Vault → Vault → List Effect → StoreState
 resting v noted buffer = record { settled = v; sealed = v; noted = noted; sealing = []; buffer = buffer; phase = Idle; broken = false }
 

@@ -58,7 +58,7 @@ told_have version v spelled = All-map (HasOwn version) (drafted v.drafts) v.line
 few_told : (version : FileVersion) (v : Vault) → HasSpelling version v → length (told_of v) ≤ most_claims
 few_told version v spelled = omega (arith, length-map v.line (drafted v.drafts), spelled.has.well_formed.few_claims)
 
--- claims are told by their spelling
+-- claims are determined by their spelling
 one_told : (version : FileVersion) (xs ys : List Drafted) (a b : List ℕ) → length xs ≤ most_claims → length ys ≤ most_claims → All (HasOwn version) xs → All (HasOwn version) ys → claims_bytes version xs ++ a ≡ claims_bytes version ys ++ b → (xs ≡ ys) × (a ≡ b)
 one_told version xs ys a b few_xs few_ys has_xs has_ys same =
     let split = sym (append_assoc (in_two (length xs)) (flat_map (drafted_bytes version) xs) a) ∙ same ∙ append_assoc (in_two (length ys)) (flat_map (drafted_bytes version) ys) b in

@@ -55,7 +55,7 @@ module _ (old gated : Disk) (first : AreReads old gated) (at : ℕ) (opened : Is
           bytes = λ honest. here honest ∙ ap (λ (r : List ℕ). frame_bytes r ++ drop (at + frame_extra + n) old.shown) whole ∙ ap (λ (k : ℕ). frame_of made.effects ++ drop k old.shown) (sym next_is);
         }
 
-    -- no effects of a frame that stands there may be made
+    -- no effects of a frame that stands there are applicable
     pub frame_unmade : (v : Vault) → AreNotMade records v NotApplicable → IsTrue old.honest → BeginsWithNone v (drop at old.shown)
     frame_unmade v none honest effects next behind frame leads some there =
         let rest = drop (at + frame_extra + n) old.shown in

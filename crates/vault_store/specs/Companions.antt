@@ -11,8 +11,8 @@ use Rattle.vault_store.specs.Spares.{IsSpareOn}
 use Rattle.vault_store.specs.State.{StoreState}
 use Rattle.vault_store.specs.TwoVaults.{LeadsTo, IsBasedOn, AreOfTwoVaults}
 
--- What may stand beside a file of this generation whose snapshot is of this vault. If its head is right, it is of the generation before, and
--- the vault that it leads to, if it leads to one, isn't shown to be no earlier one.
+-- What may stand beside a file of this generation whose snapshot is of this vault. If its head is right, it is of the generation
+-- before, and it leads to no vault that isn't an earlier state of this one.
 abbrev pub MayPrecede : ℕ → Vault → List ℕ → Type 0
 MayPrecede generation base file = (older : ℕ) → HasRightHead older file
     → (older + 1 ≡ generation) × ((vault : Vault) → LeadsTo older file vault → (IsEarlier vault base → ⊥) → ⊥)
@@ -28,7 +28,7 @@ abbrev pub IsOfOneVault : {D : Type 0} → (D → Disk) → StoreSeen D → Type
 IsOfOneVault disk store = IsTrue (disk store.active).honest → IsTrue (disk store.spare).honest
     → AreCompanions (disk store.active) (disk store.spare) store.generation store.phase store.broken store.shut store.rest
 
--- Law: whatever a crash leaves of them isn't told as the files of two vaults.
+-- Law: whatever a crash leaves of them isn't reported as the files of two vaults.
 abbrev pub FilesPass : {D : Type 0} → (D → Disk) → Type 0
 FilesPass {D} disk = (store : StoreSeen D) (s : StoreState) (x y : List ℕ) → Keeps disk store s → IsOfOneVault disk store
     → AreHonest disk store → (disk (first_of store)).IsImage x → (disk (second_of store)).IsImage y → AreOfTwoVaults x y → ⊥

@@ -20,11 +20,11 @@ new_front = current_head 1 ++ snapshot_bytes current_version new_vault
 abbrev pub new_file : List ℕ
 new_file = new_front ++ 0 ∷ []
 
--- a read gives what it gave
+-- a read gives what it gave before
 abbrev pub ShowTheSame : Disk → Disk → Disk → Disk → Type 0
 ShowTheSame first second first_new second_new = (first_new.shown ≡ first.shown) × (second_new.shown ≡ second.shown)
 
--- Why no vault was made: something stands in a file; a call failed; or memory was wanted. The first and the last leave the files as
+-- Why no vault was made: a file isn't empty; a call failed; or an allocation was refused. The first and the last leave the files as
 -- they were.
 abbrev pub IsNotMade : Disk → Disk → Disk → Disk → CreateError → Type 0
 IsNotMade first second first_new second_new Exists =
@@ -33,12 +33,12 @@ IsNotMade first second first_new second_new Device = HasCause first first_new �
 IsNotMade first second first_new second_new NoMemory =
     IsTrue first.honest → IsTrue second.honest → (first.shown ≡ []) × (second.shown ≡ []) × ShowTheSame first second first_new second_new
 
--- what two devices show is settled where no vault was made, but for a device's fault
+-- if no vault was made, what two devices show is durable, except after a device fault
 abbrev pub AreSettledUnmade : Disk → Disk → CreateError → Type 0
 AreSettledUnmade first second Device = Unit {0}
 AreSettledUnmade first second _ = AreSettled first second
 
--- an empty file has these bytes now, and they are settled
+-- a file that was empty has these bytes now, and they are durable
 pub record IsFilled (old new : Disk) (bytes : List ℕ) : Type 0 where
   pub was_empty : old.shown ≡ []
   pub shown : new.shown ≡ bytes
@@ -48,15 +48,15 @@ pub record IsFilled (old new : Disk) (bytes : List ℕ) : Type 0 where
 abbrev pub IsClosedOrNew : List ℕ → Type 0
 IsClosedOrNew file = IsClosedFile file ⊎ (file ≡ new_file)
 
--- What a crash at any moment of a creation leaves of two honest devices that held nothing, and of which it left nothing before: no file is
--- open, or they stand for the new vault.
+-- What a crash at any moment of a creation leaves of two honest devices that were empty and durably so: no file is open, or they stand
+-- for the new vault.
 abbrev pub StopsInCreation : Disk → Disk → Disk → Disk → Type 0
 StopsInCreation first second first_new second_new =
     IsTrue first.honest → IsTrue second.honest → LeavesOnly first [] → LeavesOnly second [] → (x y : List ℕ)
     → MayBeLeft first second first_new second_new x y
     → (IsClosedFile x × IsClosedFile y) ⊎ StandFor x y new_vault
 
--- and it isn't told as the files of two vaults
+-- and it isn't reported as the files of two vaults
 abbrev pub PassesInCreation : Disk → Disk → Disk → Disk → Type 0
 PassesInCreation first second first_new second_new =
     IsTrue first.honest → IsTrue second.honest → LeavesOnly first [] → LeavesOnly second [] → (x y : List ℕ)

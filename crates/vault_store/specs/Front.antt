@@ -16,7 +16,7 @@ pub record IsFrontRead (disk : Disk) (version : FileVersion) (from : ℕ) (tree 
   pub size : at ≡ from + length (places_bytes version (vault_with tree shelf) 1 tree)
   pub bytes : IsTrue disk.honest → slice_range disk.shown from at ≡ places_bytes version (vault_with tree shelf) 1 tree
 
--- a piece that ends before `end` was read from `at` on, and places in it, one at least, up to the next offset
+-- places were read from `at` on, at least one, up to the offset `next`, which is not behind `end`
 pub record IsReadOn (disk : Disk) (version : FileVersion) (end at : ℕ) (tree : List Place) (shelf : List (List (List ℕ)))
     (tree_new : List Place) (shelf_new : List (List (List ℕ))) (next : ℕ) : Type 0 where
   pub after : at < next
@@ -41,19 +41,19 @@ abbrev pub FitIntoPieces : Vault → Type 0
 FitIntoPieces v = (before : List Place) (place : Place) (behind : List Place) → v.tree ≡ before ++ place ∷ behind
     → length (place_bytes current_version v (suc (length before)) place) ≤ longest_piece
 
--- so many places that fit into pieces, with the library, don't stand behind these, up to an offset
+-- no list of `count` places (the library included) that fit into pieces continues these places up to an offset
 abbrev pub AreFewerInPieces : Disk → ℕ → ℕ → ℕ → List Place → List (List (List ℕ)) → Type 0
 AreFewerInPieces disk count end at tree shelf = IsTrue disk.honest → (all : List Place) (whole : List (List (List ℕ))) (rest : List ℕ)
     → length all + 1 ≡ count → ArePlaces current_version all whole → FitIntoPieces (vault_with all whole)
     → places_bytes current_version (vault_with tree shelf) 1 tree ++ slice_range disk.shown at end
     ≢ places_bytes current_version (vault_with all whole) 1 all ++ rest
 
--- no check-outs stand behind these places with which they are a vault's spelling
+-- the bytes behind these places don't complete them to a vault's spelling
 abbrev pub IsNoBackRead : Disk → ℕ → List Place → List (List (List ℕ)) → ℕ → ℕ → Type 0
 IsNoBackRead disk last_long tree shelf at end = IsTrue disk.honest → (v : Vault) → HasSpelling current_version v
     → in_four last_long ++ (places_of current_version tree shelf ++ slice_range disk.shown at end) ≢ spelling_of current_version v
 
--- the snapshot of no vault whose places fit into pieces stands behind the header, up to an offset
+-- between the header and an offset stands no snapshot of a vault whose places fit into pieces
 abbrev pub IsNoneInPieces : Disk → ℕ → Type 0
 IsNoneInPieces disk end = IsTrue disk.honest → (v : Vault) → HasSpelling current_version v → FitIntoPieces v
     → slice_range disk.shown header end ≢ spelling_of current_version v

@@ -21,7 +21,7 @@ abbrev pub CrashLeavesWhatIsKept : {D : Type 0} → (D → Disk) → Type 0
 CrashLeavesWhatIsKept {D} disk = (store : StoreSeen D) (s : StoreState) (x y : List ℕ) → Keeps disk store s → AreHonest disk store
     → (disk (first_of store)).IsImage x → (disk (second_of store)).IsImage y → IsLeft store s x y
 
--- one byte of a file may differ from what a read gives; a read gives 1 there, and what was settled isn't 1
+-- a crash may change only this byte of a file; a read gives 1 there, and the durable byte isn't 1
 pub record IsOneGate (disk : Disk) (gate : ℕ) : Type 0 where
   pub same : (x : List ℕ) → disk.IsImage x → SameBut gate disk.shown x
   pub opened : slice_index disk.shown gate ≡ 1
@@ -32,7 +32,7 @@ abbrev pub OneGateIsOpened : {D : Type 0} → (D → Disk) → Type 0
 OneGateIsOpened {D} disk = (store : StoreSeen D) (s : StoreState) → Keeps disk store s → AreHonest disk store → is_opening s.phase ≡ true
     → s.broken ≡ false → IsOneGate (disk (gated s.phase store.active store.spare)) (gate_at store s.phase)
 
--- what is noted has a spelling
+-- the vault after all noted effects has a spelling
 abbrev pub NotedIsSpelled : {D : Type 0} → (D → Disk) → Type 0
 NotedIsSpelled {D} disk = (store : StoreSeen D) (s : StoreState) → Keeps disk store s → HasSnapshot s.noted
 
@@ -40,7 +40,7 @@ NotedIsSpelled {D} disk = (store : StoreSeen D) (s : StoreState) → Keeps disk 
 abbrev pub OneReading : Type 0
 OneReading = (first second : List ℕ) (r q : Reading) → AreRead first second r → AreRead first second q → r ≡ q
 
--- and the same way in whichever order they are taken
+-- and the same way in either order
 abbrev pub EitherWay : Type 0
 EitherWay = (first second : List ℕ) (r : Reading) → AreRead first second r → AreRead second first r
 
@@ -53,7 +53,7 @@ abbrev pub NothingIsWrong : Type 0
 NothingIsWrong =
     (first second : List ℕ) (why : OpenError) → IsFound why → IsNotOpened first second why → (v : Vault) → StandFor first second v → ⊥
 
--- at most one thing is wrong with two files first
+-- at most one thing is the first that is wrong with two files
 abbrev pub OneFault : Type 0
 OneFault = (first second : List ℕ) (why other : OpenError) → IsFound why → IsFound other → IsNotOpened first second why
     → IsNotOpened first second other → why ≡ other

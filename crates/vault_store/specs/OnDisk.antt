@@ -6,7 +6,7 @@ use Rattle.vault_store.specs.declared.phase.Phase.{Phase}
 use Rattle.vault_store.specs.declared.phase.Phase.TheVariants.{Written, Bodied, Opening}
 use Rattle.vault_format.specs.Files.{frame_bytes, EndsBehind}
 
--- what a read gives is settled
+-- what a read gives is durable
 pub record IsSettled (disk : Disk) : Type 0 where
   pub only : LeavesOnly disk disk.shown
   pub bytes : disk.settled ≡ disk.shown
@@ -15,7 +15,7 @@ pub record IsSettled (disk : Disk) : Type 0 where
 abbrev pub HasBody : ℕ → List ℕ → List ℕ → Type 0
 HasBody gate records file = take (length (body_of records)) (drop (gate + 1) file) ≡ body_of records
 
--- the front is settled, and its tail gate closed
+-- the front is durable, and its tail gate closed
 pub record IsIdle (disk : Disk) (front : List ℕ) : Type 0 where
   pub settled : IsSettled disk
   pub ends : EndsBehind front disk.shown
@@ -25,7 +25,7 @@ pub record IsWritten (disk : Disk) (front records : List ℕ) : Type 0 where
   pub images : (x : List ℕ) → disk.IsImage x → EndsBehind front x
   pub body : HasBody (length front) records disk.shown
 
--- the body is settled, too
+-- the body is durable, too
 pub record IsBodied (disk : Disk) (front records : List ℕ) : Type 0 where
   pub settled : IsSettled disk
   pub ends : EndsBehind front disk.shown
@@ -36,7 +36,7 @@ pub record IsEither (front records file : List ℕ) : Type 0 where
   pub opened : slice_index file (length front) ≡ 1 → EndsBehind (front ++ frame_bytes records) file
   pub shut : slice_index file (length front) ≢ 1 → EndsBehind front file
 
--- only the gate is unsettled: a read gives 1 there, and what was settled isn't 1
+-- only the gate isn't durable yet: a read gives 1 there, and the durable byte isn't 1
 pub record IsGated (disk : Disk) (front records : List ℕ) : Type 0 where
   pub images : (x : List ℕ) → disk.IsImage x → IsEither front records x
   pub same : (x : List ℕ) → disk.IsImage x → SameBut (length front) disk.shown x

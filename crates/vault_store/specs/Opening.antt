@@ -18,7 +18,7 @@ HasNoHeadFault file = IsClosedFile file ⊎ ((generation : ℕ) × HasRightHead 
 abbrev pub IsNewer : ℕ → List ℕ → List ℕ → Type 0
 IsNewer generation first second = HasRightHead generation first × IsSpare generation second
 
--- there is a fault in the body of the first, which is the active one
+-- the first file is the active one, and its body has a fault there
 pub record IsActiveFault (first second : List ℕ) (at : ℕ) : Type 0 where
   pub version : FileVersion
   pub generation : ℕ
@@ -52,17 +52,17 @@ IsFound Device = ⊥
 IsFound NoMemory = ⊥
 IsFound _ = Unit {0}
 
--- A device that opening hands on: it shows what it showed, and a crash at any moment of it left what it might have left before.
+-- A device that opening hands on: it shows what it showed, and a crash at any moment of it leaves only what it might have left before.
 pub record IsHandedOn (old new : Disk) : Type 0 where
   pub called : IsCalled old new
   pub shown : IsTrue old.honest → new.shown ≡ old.shown
   pub moments : IsTrue old.honest → LeavesSince old new old.IsImage
 
--- what two honest devices show is settled
+-- what two honest devices show is durable
 abbrev pub AreSettled : Disk → Disk → Type 0
 AreSettled first second = IsTrue first.honest → IsTrue second.honest → IsSettled first × IsSettled second
 
--- so it is where an opening was refused, but for a device's fault
+-- the same after a refused opening, except after a device fault
 abbrev pub AreLeftSettled : Disk → Disk → OpenError → Type 0
 AreLeftSettled first second Device = Unit {0}
 AreLeftSettled first second _ = AreSettled first second

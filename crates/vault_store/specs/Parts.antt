@@ -19,8 +19,8 @@ IsHead file Closed = IsClosedFile file
 IsHead file (Open version generation) = HasHead version generation file
 IsHead file (Damaged at) = IsDamagedHead file at
 
--- A file of this version and generation is whole: behind its head stand the snapshot of some vault and so many frames, which lead to it;
--- the tail gate stands behind them and is closed.
+-- A file of this version and generation is whole: behind its head stand the snapshot of some vault and this many frames, which lead
+-- from that to this vault; the tail gate stands behind them and is closed.
 pub record IsWhole (version : FileVersion) (generation : ℕ) (file : List ℕ) (vault : Vault) (frames tail : ℕ) : Type 0 where
   pub base : Vault
   pub list : List (List Effect)

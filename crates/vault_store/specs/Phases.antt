@@ -10,15 +10,15 @@ use Rattle.vault_format.specs.Files.{header}
 abbrev pub most_piece : ℕ
 most_piece = 65536
 
--- how many bytes the next piece has, where so many are left
+-- how many bytes the next piece has, where this many are still to write
 abbrev pub piece_size : ℕ → ℕ
 piece_size left = if nat_le left most_piece then left else most_piece
 
--- the phase behind that piece
+-- the phase after that piece
 abbrev pub behind_piece : ℕ → Phase
 behind_piece left = if nat_le left most_piece then Filled else Writing (left - most_piece)
 
--- what waits behind the settled entries: nothing, entries without an effect, or some with one
+-- what waits behind the durable entries: nothing, entries without an effect, or some with one
 pub data Waiting : Type 0 where
   Nothing : Waiting
   NoEffects : Waiting
@@ -30,13 +30,13 @@ pub data DeviceCall : Type 0 where
   Write : DeviceCall
   Sync : DeviceCall
 
--- what a step settles: no more than before, what is sealed, or all
+-- what a step makes durable: no more than before, what is sealed, or all
 pub data Settles : Type 0 where
   NoMore : Settles
   TheSealed : Settles
   All : Settles
 
--- a row of the table: the device call, the next phase, whether all so far is sealed, what is settled, and the answer
+-- a row of the table: the device call, the next phase, whether all so far is sealed, what becomes durable, and the answer
 pub record Row : Type 0 where
   pub call : DeviceCall
   pub next : Phase
@@ -44,7 +44,7 @@ pub record Row : Type 0 where
   pub settles : Settles
   pub answer : Advanced
 
--- a step that settles nothing
+-- a step that makes nothing durable
 abbrev pub moves : DeviceCall → Phase → Row
 moves call next = record { call = call; next = next; seals = false; settles = NoMore; answer = Moved }
 
@@ -56,7 +56,7 @@ seals call next = record { call = call; next = next; seals = true; settles = NoM
 abbrev pub ends : DeviceCall → Settles → Row
 ends call settles = record { call = call; next = Idle; seals = false; settles = settles; answer = Settled }
 
--- the step of one who has nothing to do
+-- the step when there is nothing to do
 abbrev pub rests : Row
 rests = record { call = NoCall; next = Idle; seals = false; settles = NoMore; answer = AnswersIdle }
 
@@ -104,13 +104,13 @@ abbrev pub is_idle : Phase → Bool
 is_idle Idle = true
 is_idle _ = false
 
--- what is settled, of what was, what is sealed and all
+-- what is durable afterwards: what was, what is sealed, or all
 abbrev pub settled_by : {A : Type 0} → Settles → A → A → A → A
 settled_by NoMore settled sealed all = settled
 settled_by TheSealed settled sealed all = sealed
 settled_by All settled sealed all = all
 
--- what stands after a fault, of the old and what the row says: a failed write counts as made, a failed sync as not made
+-- what stands after a fault, the old or what the row says: a failed write counts as made, a failed sync as not made
 abbrev pub after_fault : {A : Type 0} → DeviceCall → A → A → A
 after_fault NoCall old new = old
 after_fault Write old new = new

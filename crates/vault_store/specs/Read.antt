@@ -1,4 +1,4 @@
--- What the functions that read a file answer, part by part. This project's own.
+-- What the functions that read a file return, part by part. This project's own.
 use Rattle.std.specs.Prelude.{◌≡◌, ◌≢◌, ℕ, ◌+◌, ◌<◌, ◌≤◌, IsTrue, List, [], ◌++◌, length, take, drop, slice_index, slice_range, Option, Some, None}
 use Rattle.std.specs.List.{AllByRecursion}
 use Rattle.vault_model.specs.Said.{Effect}
@@ -27,8 +27,8 @@ pub record AreReads (old new : Disk) : Type 0 where
   pub called : IsCalled old new
   pub read : IsTrue old.honest → IsRead old new
 
--- Why a part of a file was not read: a call failed; memory was wanted and no call failed; or of an honest device there is this fault at
--- the offset.
+-- Why a part of a file was not read: a call failed; an allocation was refused and no call failed; or, if the device is honest, there is
+-- this fault at the offset.
 abbrev pub IsWhy : Disk → Disk → (ℕ → Type 0) → ReadError → Type 0
 IsWhy old new IsWrong (errors.Damaged at) = IsTrue old.honest → IsWrong at
 IsWhy old new IsWrong errors.Device = HasCause old new
@@ -42,11 +42,11 @@ pub record IsBaseRead (disk : Disk) (len : ℕ) (version : FileVersion) (base : 
   pub within : end < len
   pub bytes : IsTrue disk.honest → take end disk.shown ≡ take head_length disk.shown ++ snapshot_bytes version base
 
--- what is wrong with the snapshot of a file, whichever version it tells
+-- what is wrong with the snapshot of a file, whichever version its head gives
 abbrev pub IsBaseFault : List ℕ → ℕ → Type 0
 IsBaseFault file at = (version : FileVersion) → IsVersion version (version_in file) → IsSnapshotFault version file at
 
--- how many bytes of records a frame has: as many as a frame may have, and a byte stands behind them
+-- the number of bytes of records of a frame: a frame may have that many, and a byte stands behind them
 pub record IsLengthRead (disk : Disk) (len at n : ℕ) : Type 0 where
   pub some : 1 ≤ n
   pub few : n ≤ most_records
@@ -57,18 +57,18 @@ pub record IsLengthRead (disk : Disk) (len at n : ℕ) : Type 0 where
 abbrev pub BeginsWithNoFrame : List ℕ → Type 0
 BeginsWithNoFrame bytes = (effects : List Effect) (behind : List ℕ) → IsFrame effects → behind ≢ [] → bytes ≢ frame_of effects ++ behind
 
--- the same of frames whose effects may be made on this vault
+-- the same for frames whose effects are applicable to this vault
 abbrev pub BeginsWithNone : Vault → List ℕ → Type 0
 BeginsWithNone vault bytes = (effects : List Effect) (next : Vault) (behind : List ℕ) → IsFrame effects → applied vault effects ≡ Some next
     → behind ≢ [] → bytes ≢ frame_of effects ++ behind
 
--- the effects whose records these bytes are were made
+-- the effects whose records these bytes are were applied
 pub record AreMade (bytes : List ℕ) (old new : Vault) : Type 0 where
   pub effects : List Effect
   pub records : AreRecordsOf effects bytes
   pub leads : applied old effects ≡ Some new
 
--- why they were not: the bytes are no records of effects that may be made, or memory was wanted
+-- why they were not: the bytes are no records of applicable effects, or an allocation was refused
 abbrev pub AreNotMade : List ℕ → Vault → ApplyError → Type 0
 AreNotMade bytes old unmade.NotApplicable =
     (effects : List Effect) (next : Vault) → AreRecordsOf effects bytes → applied old effects ≢ Some next
@@ -83,18 +83,18 @@ pub record IsFrameRead (disk : Disk) (len at next : ℕ) (old new : Vault) : Typ
   pub within : next < len
   pub bytes : IsTrue disk.honest → drop at disk.shown ≡ frame_of effects ++ drop next disk.shown
 
--- the gate is closed and nothing was made, or a frame was read
+-- the gate is closed and nothing was applied, or a frame was read
 abbrev pub IsStepRead : Disk → ℕ → ℕ → Vault → Vault → Option ℕ → Type 0
 IsStepRead disk len at old new None = (new ≡ old) × (IsTrue disk.honest → slice_index disk.shown at ≢ 1)
 IsStepRead disk len at old new (Some next) = IsFrameRead disk len at next old new
 
--- an open gate stands here, and no frame whose effects may be made
+-- an open gate stands here, but no frame with applicable effects
 pub record IsNoFrame (vault : Vault) (file : List ℕ) (gate at : ℕ) : Type 0 where
   pub here : at ≡ gate
   pub opened : slice_index file gate ≡ 1
   pub none : BeginsWithNone vault (drop gate file)
 
--- so many frames stand between two gates, and lead from the one vault to the other
+-- this many frames stand between two gates, and lead from the one vault to the other
 pub record AreFramesRead (disk : Disk) (len from : ℕ) (old new : Vault) (count gate : ℕ) : Type 0 where
   pub frames : List (List Effect)
   pub each : AllByRecursion IsFrame frames
@@ -109,7 +109,7 @@ pub record AreAllRead (disk : Disk) (len from : ℕ) (old new : Vault) (count ga
   pub frames : AreFramesRead disk len from old new count gate
   pub shut : IsTrue disk.honest → slice_index disk.shown gate ≢ 1
 
--- the first frame that isn't one, behind frames that lead from a vault to some other
+-- the first damaged frame, behind frames that lead from a vault to some other
 pub record IsFrameWrong (from : ℕ) (old : Vault) (file : List ℕ) (at : ℕ) : Type 0 where
   pub frames : List (List Effect)
   pub vault : Vault
@@ -120,8 +120,8 @@ pub record IsFrameWrong (from : ℕ) (old : Vault) (file : List ℕ) (at : ℕ) 
   pub opened : slice_index file at ≡ 1
   pub none : BeginsWithNone vault (drop at file)
 
--- what a file has behind its head: a snapshot in the spelling of its version, and so many frames that lead from its vault to the other,
--- with so many bytes; a closed gate behind them
+-- what a file has behind its head: a snapshot in the spelling of its version, and frames, of this number and this many bytes, that lead
+-- from its vault to the other; a closed gate behind them
 pub record AreContents (disk : Disk) (version : FileVersion) (vault : Vault) (frames tail journal_length : ℕ) : Type 0 where
   pub base : Vault
   pub list : List (List Effect)

@@ -38,13 +38,13 @@ pub record StoreSeen (D : Type 0) : Type 0 where
   pub shut : Bool
   pub rest : List ℕ
 
--- of two, the one of the first file, or the one of the second; so is the active one of the first file's and the second's, and the
--- first file's of the active one and its spare
+-- the one if the file is the first, else the other: of (the first file's, the second's) the active file's, and of (the active file's,
+-- the spare's) the first file's
 abbrev pub of_file : {A : Type 0} → File → A → A → A
 of_file First one other = one
 of_file Second one other = other
 
--- the file beside
+-- the other file
 abbrev pub other : File → File
 other First = Second
 other Second = First
@@ -57,11 +57,11 @@ first_of store = of_file store.which store.active store.spare
 abbrev pub second_of : {D : Type 0} → StoreSeen D → D
 second_of store = of_file store.which store.spare store.active
 
--- the most bytes of records in the buffer where there is room for any other record
+-- while the buffer has at most this many bytes of records, there is room for any other record
 abbrev pub most_noted : ℕ
 most_noted = MAX_NOTED
 
--- from where on no frame may begin
+-- no frame may begin at this offset or behind it
 abbrev pub last_tail : ℕ
 last_tail = 2 ^ 62
 
@@ -79,7 +79,7 @@ settled_reading store s = record {
   journal_length = store.journal_length;
 }
 
--- what it reads once a snapshot counts, which is of today's version, or else a frame
+-- what opening reads once the frame under way counts, or the snapshot, which is of today's version
 abbrev pub counted_reading : {D : Type 0} → Bool → StoreSeen D → StoreState → Reading
 counted_reading renews store s = record {
   vault = s.sealed;
@@ -89,12 +89,12 @@ counted_reading renews store s = record {
   journal_length = if renews then 0 else store.journal_length + frame_extra + store.sealed;
 }
 
--- what it reads once all that is under way counts
+-- what opening reads once all that is under way counts
 abbrev pub sealed_reading : {D : Type 0} → StoreSeen D → StoreState → Reading
 sealed_reading store s = counted_reading (is_snapshot s.phase) store s
 
--- The gate that a phase opens: the active file's tail gate or, of a snapshot, the spare's head gate. Where it stands, and of the
--- active one and its spare the one that it stands in.
+-- The gate that a phase opens: the active file's tail gate or, in a snapshot, the spare's head gate. `gate_at` is its offset, and
+-- `gated` picks the file that it stands in.
 abbrev pub gate_at : {D : Type 0} → StoreSeen D → Phase → ℕ
 gate_at store phase = if is_snapshot phase then 0 else store.tail
 
@@ -121,11 +121,11 @@ abbrev pub is_old : FileVersion → Bool
 is_old One = true
 is_old Two = false
 
--- from how many bytes of frames on a snapshot is wanted
+-- a snapshot is wanted from this many bytes of frames on
 abbrev pub long_journal : ℕ
 long_journal = 1048576
 
--- whether one is, now: the frames are so long, or the active file's version is not today's
+-- whether nothing is under way, and a snapshot is wanted: the frames are that long, or the active file's version is not today's
 abbrev pub wants_snapshot : {D : Type 0} → StoreSeen D → Bool
 wants_snapshot store = is_idle store.phase && (nat_le long_journal store.journal_length || is_old store.version)
 
@@ -143,7 +143,7 @@ started_seen store v = record store { buffer = []; phase = Start; rest = behind_
 abbrev pub framed_bytes : StoreState → ℕ
 framed_bytes s = if is_snapshot s.phase then 0 else length (records_of s.sealing)
 
--- A store keeps a settled vault, a sealed one and the one after all effects.
+-- A store keeps a durable (settled) vault, a sealed one and the one after all effects.
 pub record Keeps {D : Type 0} (disk : D → Disk) (store : StoreSeen D) (s : StoreState) : Type 0 where
   pub phase : store.phase ≡ s.phase
   pub broken : store.broken ≡ s.broken
@@ -168,19 +168,19 @@ pub record IsByGate (gate : ℕ) (settled sealed : Reading) (file first second :
   pub opened : slice_index file gate ≡ 1 → AreRead first second sealed
   pub shut : slice_index file gate ≢ 1 → AreRead first second settled
 
--- the same, where a gate is being opened; else they are read as what is settled
+-- the same while a gate is being opened; else they are read as the durable vault
 abbrev pub IsLeftWhile : Bool → ℕ → Reading → Reading → List ℕ → List ℕ → List ℕ → Type 0
 IsLeftWhile true gate settled sealed file first second = IsByGate gate settled sealed file first second
 IsLeftWhile false gate settled sealed file first second = AreRead first second settled
 
--- What two files that a crash leaves are read as: the settled vault or, while a gate is being opened, the sealed one exactly where
--- that gate is 1.
+-- What two files that a crash leaves are read as: the durable vault or, while a gate is being opened, the sealed one exactly if that
+-- gate is 1.
 abbrev pub IsLeft : {D : Type 0} → StoreSeen D → StoreState → List ℕ → List ℕ → Type 0
 IsLeft store s first second =
     IsLeftWhile (is_opening s.phase) (gate_at store s.phase) (settled_reading store s) (sealed_reading store s)
     (gated s.phase (of_file store.which first second) (of_file store.which second first)) first second
 
--- what two files that a stop inside a step leaves are read as: the settled vault, or the sealed one where a gate may be opened
+-- what two files that a crash inside a step leaves are read as: the durable vault, or the sealed one where a gate may be opened
 abbrev pub IsLeftInside : {D : Type 0} → StoreSeen D → StoreState → List ℕ → List ℕ → Type 0
 IsLeftInside store s first second =
     AreRead first second (settled_reading store s) ⊎ (IsTrue (may_open s.phase) × AreRead first second (sealed_reading store s))

@@ -15,7 +15,7 @@ pub record IsRest (generation : ℕ) (rest : List ℕ) : Type 0 where
   pub ends : rest ≡ front ++ 0 ∷ []
   pub fits : generation + 1 < 2 ^ 64
 
--- what is kept of the bytes of a snapshot: of these, some are left to write
+-- what holds of the bytes of a snapshot under way; no more than these are left to write
 abbrev pub IsReached : Phase → ℕ → List ℕ → Type 0
 IsReached Start generation rest = IsRest generation rest
 IsReached Closing generation rest = IsRest generation rest
@@ -29,8 +29,9 @@ IsReached _ generation rest = Unit {0}
 abbrev pub IsBusy : ℕ → ℕ → Type 0
 IsBusy waiting tail = (tail < last_tail + frame_room) × (0 < waiting → tail < last_tail)
 
--- Where records wait or a frame is under way, the tail gate stands at most one frame behind where frames may begin. Records are
--- noted behind a frame under way only where its gate stands before that. A snapshot moves the gate to the front.
+-- If records wait or a frame is under way, the tail gate stands at most one frame behind the last offset where frames may
+-- begin. While a frame is under way, records are noted only if its gate stands where frames may begin. A snapshot moves the
+-- gate to the front.
 abbrev pub IsBounded : Phase → ℕ → ℕ → Type 0
 IsBounded Idle waiting tail = 0 < waiting → tail < last_tail + frame_room
 IsBounded Written waiting tail = IsBusy waiting tail

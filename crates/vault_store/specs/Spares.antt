@@ -6,11 +6,11 @@ use Rattle.vault_store.specs.declared.phase.Phase.{Phase}
 use Rattle.vault_store.specs.declared.phase.Phase.TheVariants.{Closing, Writing, Filled, Ready, SnapOpening}
 use Rattle.vault_store.specs.OnDisk.{IsSettled}
 
--- of what may stand beside the active file: a closed file may
+-- a closed file is among those that may stand beside the active one
 abbrev pub ClosedMayStand : (List ℕ → Type 0) → Type 0
 ClosedMayStand MayStand = (x : List ℕ) → IsClosed 0 x → MayStand x
 
--- so many of these bytes stand behind the head gate
+-- the first n of these bytes stand behind the head gate
 pub record HasFirst (n : ℕ) (bytes file : List ℕ) : Type 0 where
   pub within : n < length file
   pub same : take n (drop 1 file) ≡ take n bytes
@@ -22,23 +22,23 @@ pub record IsAside (MayStand : List ℕ → Type 0) (disk : Disk) (shut : Bool) 
   pub closed : shut ≡ true → IsClosed 0 disk.shown
   pub torn : shut ≡ false → (y : List ℕ) → IsTorn 0 1 disk.shown y → MayStand y
 
--- the head gate is closed, and that isn't settled
+-- the head gate is closed, and that isn't durable yet
 pub record IsShutting (MayStand : List ℕ → Type 0) (disk : Disk) : Type 0 where
   pub images : (x : List ℕ) → disk.IsImage x → MayStand x
   pub shut : IsClosed 0 disk.shown
 
--- behind the closed head gate so many bytes are written
+-- behind the closed head gate n bytes are written
 pub record IsFilling (disk : Disk) (n : ℕ) (bytes : List ℕ) : Type 0 where
   pub closed : StaysClosed 0 disk
   pub written : HasFirst n bytes disk.shown
 
--- all are, and settled
+-- all bytes are written and durable, behind the closed head gate
 pub record IsReady (disk : Disk) (bytes : List ℕ) : Type 0 where
   pub settled : IsSettled disk
   pub closed : IsClosed 0 disk.shown
   pub written : HasFirst (length bytes) bytes disk.shown
 
--- only the head gate is unsettled: a read gives 1 there, and what was settled isn't 1
+-- only the head gate isn't durable yet: a read gives 1 there, and the durable byte isn't 1
 pub record IsRenewing (disk : Disk) (bytes : List ℕ) : Type 0 where
   pub images : (x : List ℕ) → disk.IsImage x → HasFirst (length bytes) bytes x
   pub same : (x : List ℕ) → disk.IsImage x → SameBut 0 disk.shown x

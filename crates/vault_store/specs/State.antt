@@ -9,8 +9,8 @@ use Rattle.vault_store.specs.declared.phase.Advanced.TheVariants.{Broken}
 use Rattle.vault_format.specs.Snapshot.{snapshot_of}
 use Rattle.vault_store.specs.Phases.{Waiting, Nothing, Effects, Row, row, settled_by, after_fault}
 
--- the settled vault, the sealed one and the one after all effects; the effects from the first to the second and from the
--- second to the third; the phase; whether a device call failed
+-- the durable (settled) vault, the sealed one and the one after all effects; the effects from the first to the second and
+-- from the second to the third; the phase; whether a device call failed
 pub record StoreState : Type 0 where
   pub settled : Vault
   pub sealed : Vault
@@ -32,16 +32,16 @@ with_effect s effect next = record s { noted = next; buffer = s.buffer ++ effect
 abbrev pub started : StoreState → StoreState
 started s = record s { sealed = s.noted; sealing = s.buffer; buffer = []; phase = Start }
 
--- what waits, of the effects in the buffer
+-- whether effects wait in the buffer
 abbrev pub waiting_in : List Effect → Waiting
 waiting_in [] = Nothing
 waiting_in (effect ∷ effects) = Effects
 
--- the row of the table that a step makes here
+-- the row of the phase table that the next step makes
 abbrev pub row_of : StoreState → Row
 row_of s = row s.phase (waiting_in s.buffer) (length (snapshot_of s.sealed))
 
--- what a step answers
+-- what a step returns
 abbrev pub answer_of : StoreState → Advanced
 answer_of s = if s.broken then Broken else (row_of s).answer
 

@@ -21,7 +21,7 @@ pub record IsAtMostOneCall {A E : Type 0} (first second first_new second_new : D
   pub faults : (first.faults ≤ first_new.faults) × (second.faults ≤ second_new.faults)
   pub cause : IsErr result → HasCause first first_new ⊎ HasCause second second_new
 
--- a step that ended well, or failed
+-- a step that succeeded, or failed
 abbrev pub IsStep : {D : Type 0} → (D → Disk) → StoreSeen D → StoreSeen D → Result Advanced Fault → StoreState → Type 0
 IsStep disk old new (Ok answer) s = (answer ≡ answer_of s) × Keeps disk new (advanced s)
 IsStep disk old new (Err fault) s = (s.broken ≡ false) × ((row_of s).call ≢ NoCall) × Keeps disk new (failed (row_of s) s)
@@ -31,14 +31,14 @@ abbrev pub renews : {D : Type 0} → StoreSeen D → Result Advanced Fault → B
 renews old (Ok answers.Settled) = is_snapshot old.phase
 renews old _ = false
 
--- how many bytes of frames a step adds: the whole frame under way, where the step settles it
+-- how many bytes of frames a step adds: the whole frame under way, if the step makes it durable
 abbrev pub gained : {D : Type 0} → StoreSeen D → Result Advanced Fault → ℕ
 gained old (Ok answers.Settled) = frame_extra + old.sealed
 gained old _ = 0
 
--- The active file, its version and its numbers after a step: the last one of a commit moves the tail gate behind the frame; the last one
--- of a snapshot exchanges the files, of which the new active one is of today's version, and the tail gate then stands behind the snapshot;
--- the first one of a commit empties the buffer, also where its device call fails; no other changes them.
+-- The active file, its version and its numbers after a step: the last one of a commit moves the tail gate behind the frame; the last
+-- one of a snapshot exchanges the files, the new active one is of today's version, and its tail gate stands behind the snapshot; the
+-- first one of a commit empties the buffer, also if its device call fails; no other changes them.
 pub record AreNumbers {D : Type 0} (old new : StoreSeen D) (result : Result Advanced Fault) : Type 0 where
   pub which : new.which ≡ (if renews old result then other old.which else old.which)
   pub version : new.version ≡ (if renews old result then current_version else old.version)
@@ -47,11 +47,11 @@ pub record AreNumbers {D : Type 0} (old new : StoreSeen D) (result : Result Adva
   pub journal_length : new.journal_length ≡ (if renews old result then 0 else old.journal_length + gained old result)
   pub buffer : new.buffer ≡ (if is_idle old.phase && not old.broken then [] else old.buffer)
 
--- what a stop inside a step may leave of two devices
+-- what a crash inside a step may leave of two devices
 abbrev pub MayBeLeft : Disk → Disk → Disk → Disk → List ℕ → List ℕ → Type 0
 MayBeLeft first second first_new second_new x y = first_new.WasImage first.moment x × second_new.WasImage second.moment y
 
--- what one step does: to what is kept, to the numbers, to the devices' counts, and to files of one vault; and what a stop inside it leaves
+-- what one step does: to what is kept, to the numbers, to the devices' counts, and to files of one vault; and what a crash inside leaves
 pub record IsAdvance {D : Type 0} (disk : D → Disk) (old new : StoreSeen D) (result : Result Advanced Fault) : Type 0 where
   pub step : (s : StoreState) → Keeps disk old s → IsStep disk old new result s
   pub numbers : AreNumbers old new result

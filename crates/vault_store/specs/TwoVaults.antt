@@ -29,7 +29,7 @@ pub record IsBasedOn (generation : ℕ) (file : List ℕ) (base : Vault) : Type 
   pub some : rest ≢ []
   pub bytes : file ≡ (head_of version generation ++ snapshot_bytes version base) ++ rest
 
--- the vault that the older of two files leads to is no earlier one of the newer one's snapshot's
+-- the older file, of the generation before, leads to a vault that is no earlier state of the newer one's snapshot
 pub record AreUnrelated (older newer : List ℕ) : Type 0 where
   pub generation : ℕ
   pub vault : Vault
@@ -46,43 +46,43 @@ pub record AreFarApart (older newer : List ℕ) : Type 0 where
   pub newer_head : HasRightHead higher newer
   pub far : lower + 1 < higher
 
--- The older of two open files is not of the newer one's vault. Of one vault both are open only with generations that differ by one, and
--- then the older one leads to an earlier vault. One that can't be read decides nothing.
+-- The older of two open files is not of the newer one's vault. If both files of one vault are open, their generations differ by one,
+-- and the older one leads to an earlier vault. A file that can't be read decides nothing.
 abbrev pub IsOfAnother : List ℕ → List ℕ → Type 0
 IsOfAnother older newer = AreFarApart older newer ⊎ AreUnrelated older newer
 
--- Two files are of two vaults, in whichever order.
+-- Two files are of two vaults, in either order.
 abbrev pub AreOfTwoVaults : List ℕ → List ℕ → Type 0
 AreOfTwoVaults first second = IsOfAnother first second ⊎ IsOfAnother second first
 
--- the generation of a file whose head is right, or that it isn't
+-- the generation of a file whose head is right; none for any other
 abbrev pub IsGenerationOf : List ℕ → Option ℕ → Type 0
 IsGenerationOf file (Some generation) = HasRightHead generation file
 IsGenerationOf file None = (generation : ℕ) → HasRightHead generation file → ⊥
 
--- the vault that a file with a right head leads to, or that it leads to none
+-- the vault that a file with a right head leads to, if it leads to one
 abbrev pub IsLedTo : List ℕ → Option Vault → Type 0
 IsLedTo file (Some vault) = (generation : ℕ) → HasRightHead generation file → LeadsTo generation file vault
 IsLedTo file None = (generation : ℕ) (vault : Vault) → LeadsTo generation file vault → ⊥
 
--- the vault of its snapshot, or that it has none
+-- the vault of its snapshot, if it has one
 abbrev pub IsBaseOf : List ℕ → Option Vault → Type 0
 IsBaseOf file (Some base) = (generation : ℕ) → HasRightHead generation file → IsBasedOn generation file base
 IsBaseOf file None = (generation : ℕ) (base : Vault) → IsBasedOn generation file base → ⊥
 
--- why a file was not read: a call failed, or memory was wanted and no call failed
+-- why a file was not read: a call failed, or an allocation was refused and no call failed
 abbrev pub IsUnread : Disk → Disk → BodyError → Type 0
 IsUnread old new Device = HasCause old new
 IsUnread old new NoMemory = IsQuiet old new
 
--- the same of two files
+-- the same for two files
 abbrev pub AreUnread : Disk → Disk → Disk → Disk → BodyError → Type 0
 AreUnread first second first_new second_new Device = HasCause first first_new ⊎ HasCause second second_new
 AreUnread first second first_new second_new NoMemory = AreQuiet first second first_new second_new
 
 -- Laws: the files of one vault pass.
 
--- two of which one is closed do, as a creation leaves them
+-- two files pass if one is closed, as a creation leaves them
 abbrev pub ClosedFilesPass : Type 0
 ClosedFilesPass = (first second : List ℕ) → IsClosedFile first ⊎ IsClosedFile second → AreOfTwoVaults first second → ⊥
 
@@ -104,7 +104,7 @@ is_renewing Ready = true
 is_renewing SnapOpening = true
 is_renewing _ = false
 
--- what a crash leaves there passes, whatever it is: the older file leads to an earlier vault of the new snapshot's
+-- whatever a crash leaves there passes: the older file leads to an earlier state of the new snapshot's vault
 abbrev pub SnapshotsPass : {D : Type 0} → (D → Disk) → Type 0
 SnapshotsPass {D} disk = (store : StoreSeen D) (s : StoreState) (x y : List ℕ) → Keeps disk store s → AreHonest disk store → s.broken ≡ false
     → is_renewing s.phase ≡ true → (disk (first_of store)).IsImage x → (disk (second_of store)).IsImage y → AreOfTwoVaults x y → ⊥

@@ -1,4 +1,4 @@
-//! What stands behind the head of a file, read: its snapshot and its frames.
+//! Reads what stands behind the head of a file: its snapshot and its frames.
 ghost use Rattle.std.specs.Prelude.{◌≡◌, ◌≤◌, ℕ, IfOk, IfErr, IsTrue, length, OnOk};
 ghost use Rattle.vault_format.specs.declared.version.FileVersion.{FileVersion};
 ghost use Rattle.vault_store.specs.declared.body.BodyError.TheVariants.{Device as DeviceFailed, NoMemory as Wanted};
@@ -21,11 +21,11 @@ use vault_format::{FileVersion, HEADER, MAX_SNAPSHOT, version_of};
 pub enum Body<A: Allocator> {
     /// The vault, how many frames the file has, and where its tail gate stands.
     Whole(Book<A>, u64, u64),
-    /// The first fault, by its offset.
+    /// The offset of the first fault.
     Damaged(u64),
 }
 
-/// Why it wasn't read.
+/// Why a body wasn't read.
 #[derive(Clone, Copy, Debug, PartialEq, Eq, Error)]
 pub enum BodyError {
     #[error("device fault")]
@@ -58,8 +58,8 @@ pub(crate) struct Base<A: Allocator> {
     pub(crate) end: u64,
 }
 
-// Behind the head: the snapshot, the frames, and the tail gate. In the head stand at 8 the version, which says how the snapshot is
-// spelled, and at 20 the length n of the snapshot.
+// Behind the head: the snapshot, the frames, and the tail gate. The head has at 8 the version, which says how the snapshot is spelled,
+// and at 20 the length n of the snapshot.
 //
 //   offset  bytes
 //       20      4  n
@@ -88,7 +88,7 @@ fn read_base<D: Device, A: Allocator + Copy>(
     if len - HEADER <= u64::from(length) {
         return Err(ReadError::Damaged(20));
     }
-    // So long is no vault's, and no memory is asked for it.
+    // No vault's snapshot is so long, so no memory is requested for it.
     if length > MAX_SNAPSHOT {
         return Err(ReadError::Damaged(HEADER));
     }
@@ -123,7 +123,7 @@ pub(crate) fn read_first_base<D: Device, A: Allocator + Copy>(
 /// What stands in a file behind its head.
 #[derive(Drop)]
 pub struct Contents<A: Allocator> {
-    /// The version that the head tells.
+    /// The version that the head gives.
     pub version: FileVersion,
     /// The vault that the snapshot and the frames lead to.
     pub book: Book<A>,
@@ -167,11 +167,11 @@ pub fn read_contents<D: Device, A: Allocator + Copy>(
     })
 }
 
-/// Reads a file behind its head, which has to be right: of any other the answer is not said. It makes reads only.
+/// Reads a file behind its head. The head must be right; otherwise the result isn't specified. It makes reads only.
 ///
-/// Up to the tail gate it makes two device calls, one for the snapshot and three for a frame. For a snapshot of more than 2 MiB it makes one
-/// for each piece, and two more; where that can't be read so, it reads it once more. Beside the book it takes memory for the bytes of the
-/// snapshot, or of a piece and of the check-outs, and for the bytes and the effects of one frame at a time.
+/// Up to the tail gate it makes two device calls, one for the snapshot and three for a frame. For a snapshot of more than 2 MiB it
+/// makes one for each piece, and two more; a snapshot that can't be read in pieces is then read whole. Beside the book it takes memory
+/// for the bytes of the snapshot, or of a piece and of the check-outs, and for the bytes and the effects of one frame at a time.
 pub fn read_body<D: Device, A: Allocator + Copy>(
     alloc: A,
     device: &mut D,

@@ -19,7 +19,7 @@ pub fn is_empty<D: Device>(device: &mut D) -> Result<bool, Fault>
     Ok(device.len()? == 0)
 }
 
-/// Settles what a read gives. One device call.
+/// Makes what a read gives durable. One device call.
 pub fn settle<D: Device>(device: &mut D) -> Result<(), Fault>
     ensures calls { AreCalls (D.disk device.old) (D.disk device.new) result }
     ensures shown { IsTrue (D.disk device.old).honest → (D.disk device.new).shown ≡ (D.disk device.old).shown }
@@ -29,7 +29,7 @@ pub fn settle<D: Device>(device: &mut D) -> Result<(), Fault>
     device.sync()
 }
 
-/// Writes bytes and settles them. Two device calls.
+/// Writes bytes and syncs them. Two device calls.
 pub fn write_settled<D: Device>(device: &mut D, at: u64, bytes: &[u8]) -> Result<(), Fault>
     requires begin { IsTrue (D.disk device.old).honest → at ≤ length (D.disk device.old).shown }
     requires end { IsTrue (D.disk device.old).honest → at + length bytes.now < 2 ^ 63 }
@@ -44,7 +44,7 @@ pub fn write_settled<D: Device>(device: &mut D, at: u64, bytes: &[u8]) -> Result
     settle(device)
 }
 
-/// Settles what two devices show. Two device calls.
+/// Makes what two devices show durable. Two device calls.
 pub fn settle_both<D: Device>(first: &mut D, second: &mut D) -> Result<(), Fault>
     ensures first { IsHandedOn (D.disk first.old) (D.disk first.new) }
     ensures second { IsHandedOn (D.disk second.old) (D.disk second.new) }

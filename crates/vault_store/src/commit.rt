@@ -14,7 +14,7 @@ use vault_device::{Device, Fault};
 use vault_format::FRAME_EXTRA;
 use vault_journal::{open_gate, settle_body, settle_gate, write_body};
 
-// Notes that a device call failed: none is made after it.
+// Records that a device call failed. None is made after it.
 pub(crate) fn broken_by(broken: &mut bool, fault: Fault) -> Result<Advanced, Fault>
     ensures broken { broken.new ≡ true }
     ensures told { result ≡ Err fault }
@@ -43,7 +43,7 @@ impl<D: Device, A: Allocator> Store<D, A> {
         }
     }
 
-    // Settles the body.
+    // Syncs the body.
     fn settle_body(&mut self) -> Result<Advanced, Fault>
         requires phase { self.old.phase ≡ phases.Written }
         requires whole { self.old.broken ≡ false }
@@ -58,7 +58,7 @@ impl<D: Device, A: Allocator> Store<D, A> {
         }
     }
 
-    // Writes the frame's gate.
+    // Writes the frame's commit mark (gate).
     fn open_gate(&mut self) -> Result<Advanced, Fault>
         requires phase { self.old.phase ≡ phases.Bodied }
         requires whole { self.old.broken ≡ false }
@@ -72,7 +72,7 @@ impl<D: Device, A: Allocator> Store<D, A> {
         }
     }
 
-    // Settles the frame's gate: what was sealed is settled.
+    // Syncs the commit mark: what was sealed is durable now.
     fn settle_gate(&mut self) -> Result<Advanced, Fault>
         requires phase { self.old.phase ≡ phases.Opening }
         requires whole { self.old.broken ≡ false }
@@ -104,13 +104,13 @@ impl<D: Device, A: Allocator> Store<D, A> {
         ensures shut { self.old.phase ≡ phases.Start → self.old.broken ≡ false → self.old.shut ≡ true
             → self.new ≡ record self.old { phase = phases.Closing } }
 
-        // What a stop at any moment inside leaves is read as what is settled or, where a gate may be opened, as what is sealed.
+        // What a crash at any moment inside leaves is read as the durable vault or, where a gate may be opened, as the sealed one.
         ensures moments { (s : StoreState) (x y : List ℕ) → Keeps D.disk self.old s → IsTrue (D.disk (first_of self.old)).honest
             → IsTrue (D.disk (second_of self.old)).honest
             → MayBeLeft (D.disk (first_of self.old)) (D.disk (second_of self.old)) (D.disk (first_of self.new))
             (D.disk (second_of self.new)) x y → IsLeftInside self.old s x y }
 
-        // Files of one vault stay so, and what a stop at any moment inside leaves of them isn't told as the files of two.
+        // Files of one vault stay so, and what a crash at any moment inside leaves of them isn't reported as the files of two.
         ensures one_vault { (s : StoreState) → Keeps D.disk self.old s → IsOfOneVault D.disk self.old → IsOfOneVault D.disk self.new }
         ensures passes { (s : StoreState) (x y : List ℕ) → Keeps D.disk self.old s → IsOfOneVault D.disk self.old
             → IsTrue (D.disk (first_of self.old)).honest → IsTrue (D.disk (second_of self.old)).honest

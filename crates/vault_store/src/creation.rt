@@ -58,17 +58,17 @@ impl From<NoMemory> for CreateError {
 //       24     10  the snapshot: no check-out was numbered, one place, no check-out stands
 //       34      1  the tail gate, closed
 
-// What stands behind the head gate of a new vault's file: the mark, the version, the generation, the snapshot of a vault with the
-// library alone behind its length, and a closed tail gate.
+// What stands behind the head gate of a new vault's file: the mark, the version, the generation, the snapshot's length, the
+// snapshot of a vault with the library alone, and a closed tail gate.
 const NEW_FILE_BEHIND_GATE: [u8; 34] = [
     b'L', b'L', b'V', b'A', b'U', b'L', b'T', 0, 0, 0, 2, 0, 0, 0, 0, 0, 0, 0, 1, 0, 0, 0, 10, 0,
     0, 0, 0, 0, 0, 0, 1, 0, 0, 0,
 ];
 
-// How many of them stand before the tail gate, and with the head gate where that stands.
+// The offset of the tail gate in the file.
 const NEW_TAIL: u64 = 34;
 
-// Settles a file, and tells whether it is empty. Two device calls.
+// Syncs a file, and says whether it is empty. Two device calls.
 fn is_settled_empty<D: Device>(device: &mut D) -> Result<bool, Fault>
     ensures calls { AreCalls (D.disk device.old) (D.disk device.new) result }
     ensures shown { IsTrue (D.disk device.old).honest → (D.disk device.new).shown ≡ (D.disk device.old).shown }
@@ -80,7 +80,7 @@ fn is_settled_empty<D: Device>(device: &mut D) -> Result<bool, Fault>
     is_empty(device)
 }
 
-// Writes a new vault with its head gate closed, and then opens that. Six device calls.
+// Writes a new vault with its head gate closed, and then opens the gate. Six device calls.
 fn write_new<D: Device>(device: &mut D) -> Result<(), Fault>
     requires { IsTrue (D.disk device.old).honest → (D.disk device.old).shown ≡ [] }
     ensures calls { AreCalls (D.disk device.old) (D.disk device.new) result }
@@ -94,7 +94,7 @@ fn write_new<D: Device>(device: &mut D) -> Result<(), Fault>
     write_settled(device, 0, &[1])
 }
 
-// Settles two files, writes a new vault into them where they are empty, and gives a frame to fill.
+// Syncs two files, writes a new vault into the first if both are empty, and gives a frame to fill.
 fn make<D: Device, A: Allocator>(
     alloc: A,
     first: &mut D,
@@ -125,7 +125,7 @@ fn make<D: Device, A: Allocator>(
 
 impl<D: Device, A: Allocator> Store<D, A> {
     /// Makes a vault with the library alone, in the first of two empty files. It begins with a sync of each device. A refusal
-    /// hands the devices back. A creation that failed or was stopped leaves files of which none is open, or the new vault's.
+    /// hands the devices back. A creation that failed or crashed leaves files of which none is open, or those of the new vault.
     /// Ten device calls.
     pub fn create(alloc: A, first: D, second: D) -> Result<Store<D, A>, Refused<D, CreateError>>
         ensures kept { IfOk result (λ store. Keeps D.disk store (at_rest new_vault)) }

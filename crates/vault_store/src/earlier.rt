@@ -1,4 +1,4 @@
-//! Whether a vault may be an earlier one of another.
+//! Whether one vault may be an earlier state of another.
 ghost use Rattle.std.specs.Prelude.{◌≡◌, ◌↔◌, ◌-◌, ◌<◌, ◌≤◌, ℕ, IsTrue, length, slice_get};
 ghost use Rattle.vault_model.specs.Shelf.{numbered, versions_of};
 ghost use Rattle.vault_model.specs.Tree.{IsTree};
@@ -77,8 +77,8 @@ fn are_all_first_versions<A: Allocator + Copy>(earlier: &Book<A>, later: &Book<A
     true
 }
 
-/// Whether a vault may be an earlier one of another: nothing of it that no command takes away is missing there or stands there otherwise.
-/// The work grows with its places and versions, and it takes no memory.
+/// Whether `earlier` may be an earlier state of `later`: all that no command takes away is still in `later`, unchanged. The work grows
+/// with the places and versions of `earlier`, and it takes no memory.
 pub fn is_earlier<A: Allocator + Copy>(earlier: &Book<A>, later: &Book<A>) -> bool
     ensures { IsTrue result ↔ IsEarlier earlier.now later.now }
 {

@@ -1,4 +1,4 @@
-//! The head of a file, read.
+//! Reads the head of a file.
 ghost use Rattle.std.specs.Prelude.{IfOk, IsErr, IsTrue, OnOk};
 ghost use Rattle.vault_store.specs.Calls.{HasCause, IsQuiet};
 ghost use Rattle.vault_store.specs.Parts.{IsHead};
@@ -14,12 +14,12 @@ const MAGIC: [u8; 7] = *b"LLVAULT";
 pub enum Head {
     /// It isn't whole, or its gate is closed.
     Closed,
-    /// An open file's, and right.
+    /// The file is open, and the head is right.
     Open {
         version: FileVersion,
         generation: u64,
     },
-    /// An open file's, with its first fault at this offset.
+    /// The file is open, and the head's first fault is at this offset.
     Damaged(u64),
 }
 
@@ -32,7 +32,7 @@ pub enum Head {
 //       12      8  the generation, 1 or more
 //       20      4  the length of the snapshot, which begins at 24
 //
-// The head in the first bytes of a file.
+// The head that the first bytes of a file spell.
 fn head_in(bytes: &[u8; 24]) -> Head
     ensures { IsHead bytes.now result }
 {

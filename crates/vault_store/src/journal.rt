@@ -14,7 +14,7 @@ use vault_format::{FRAME_EXTRA, MAX_RECORDS};
 use vault_journal::{Damage, read_effects};
 use vault_model::EffectIn;
 
-/// The byte of a gate. One device call.
+/// Reads a gate byte. One device call.
 pub fn read_gate<D: Device>(device: &mut D, at: u64) -> Result<u8, Fault>
     requires { IsTrue (D.disk device.old).honest → at < length (D.disk device.old).shown }
     ensures reads { AreReads (D.disk device.old) (D.disk device.new) }
@@ -34,14 +34,14 @@ pub fn number_in(bytes: &[u8; 4]) -> u32
     u32::from_be_bytes(*bytes)
 }
 
-// Whether a frame may have so many bytes of records, with a byte behind it, in so many bytes.
+// Whether a frame with `length` bytes of records is allowed, and fits into `room` bytes with a byte behind it.
 fn is_length(length: u32, room: u64) -> bool
     ensures { IsTrue result ↔ ((1 ≤ length) × (length ≤ most_records) × (frame_extra + length < room)) }
 {
     1 <= length && length <= MAX_RECORDS && FRAME_EXTRA + u64::from(length) < room
 }
 
-// How many bytes of records the frame has whose open gate stands here. One device call at most.
+// How many bytes of records the frame at this open gate has. One device call at most.
 fn read_length<D: Device>(device: &mut D, len: u64, at: u64) -> Result<u32, ReadError>
     requires within { at < len }
     requires len { IsTrue (D.disk device.old).honest → len ≡ length (D.disk device.old).shown }
@@ -65,7 +65,7 @@ fn read_length<D: Device>(device: &mut D, len: u64, at: u64) -> Result<u32, Read
     Ok(length)
 }
 
-// Makes effects, one behind the other.
+// Applies effects, one after another.
 fn make_each<A: Allocator + Copy>(
     book: &mut Book<A>,
     effects: &[EffectIn<A>],
@@ -79,7 +79,7 @@ fn make_each<A: Allocator + Copy>(
     Ok(())
 }
 
-// Makes the effects whose records these bytes are.
+// Applies the effects whose records these bytes are.
 fn make_records<A: Allocator + Copy>(
     alloc: A,
     records: &[u8],
@@ -96,7 +96,7 @@ fn make_records<A: Allocator + Copy>(
     make_each(book, &effects)
 }
 
-/// So many bytes of a file. One device call.
+/// Reads `count` bytes of a file. One device call.
 pub fn read_bytes<D: Device, A: Allocator>(
     alloc: A,
     device: &mut D,
@@ -123,7 +123,7 @@ pub fn read_bytes<D: Device, A: Allocator>(
 //        1      4  m, the length of its records, 1 to 262,139
 //        5      m  the records
 //
-// Reads the frame at an open gate, makes its effects, and answers where the next gate stands; or nothing, at a closed gate.
+// Reads the frame at an open gate, applies its effects, and gives the offset of the next gate; `None` at a closed gate.
 fn read_frame<D: Device, A: Allocator + Copy>(
     alloc: A,
     device: &mut D,
@@ -158,7 +158,7 @@ pub struct Frames {
     pub tail: u64,
 }
 
-/// Reads all frames from an offset on, and makes their effects.
+/// Reads all frames from an offset on, and applies their effects.
 pub fn read_frames<D: Device, A: Allocator + Copy>(
     alloc: A,
     device: &mut D,

@@ -6,8 +6,8 @@ ghost use Rattle.vault_store.specs.TwoVaults.{NothingIsTakenAway, ClosedFilesPas
 
 use vault_device::Device;
 
-/// What a crash leaves of the two files of honest devices is read as the settled vault or, while a gate is being opened, as
-/// the sealed one exactly where that gate is 1; before a fault no other byte is unsettled then.
+/// What a crash leaves of the two files of honest devices is read as the durable (settled) vault. While a gate is being opened, it is
+/// read as the sealed one exactly if that gate is 1. Unless a device call failed, all other bytes of that file are durable then.
 pub fn a_crash_leaves_what_is_kept<D: Device>()
     ensures left { CrashLeavesWhatIsKept D.disk }
     ensures gate { OneGateIsOpened D.disk }
@@ -18,8 +18,8 @@ pub fn what_is_noted_is_spelled<D: Device>()
     ensures { NotedIsSpelled D.disk }
 {}
 
-/// Two files stand for at most one vault, in whichever order, and then nothing is wrong with them; at most one thing is wrong
-/// with two files first.
+/// Two files stand for at most one vault, in either order. If they stand for one, nothing is wrong with them. At most one thing is the
+/// first that is wrong with two files.
 pub fn files_stand_for_one_vault()
     ensures reading { OneReading }
     ensures either { EitherWay }
@@ -33,13 +33,13 @@ pub fn rows_are_given()
     ensures { Rows }
 {}
 
-/// The files of one vault are never told as those of two. Those of a creation are of one vault, and so are those that were opened and weren't
-/// told as two (`create`, `open`); each call keeps them so (`note`, `start_snapshot`, `advance`); and whatever a crash leaves of them
-/// passes `are_of_two_vaults`.
+/// The files of one vault are never reported as those of two. Those of a creation are of one vault, and so are those that were opened
+/// and weren't reported as two (`create`, `open`). Each call keeps them so (`note`, `start_snapshot`, `advance`). Whatever a crash
+/// leaves of them passes `are_of_two_vaults`.
 ///
-/// In words of the calls: files as a creation leaves them pass, since one is closed. A commit writes behind the snapshot of the newer file
-/// alone. A snapshot's first call may tear the older file's gate; while its bytes are written that file is closed; and where its gate is
-/// opened, the older of the two leads to an earlier vault of its, since effects take nothing away.
+/// Call by call: files as a creation leaves them pass, since one is closed. A commit writes only behind the snapshot of the newer file.
+/// A snapshot's first call may tear the older file's gate, and while its bytes are written that file is closed. Once its gate is
+/// opened, the other file is the older one, and leads to an earlier state of the new snapshot's vault, since effects take nothing away.
 pub fn files_of_one_vault_pass<D: Device>()
     ensures reached { FilesPass D.disk }
     ensures closed { ClosedFilesPass }

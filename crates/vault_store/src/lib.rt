@@ -1,31 +1,33 @@
-//! A vault in two files: created, committed in four steps, written anew in the other file as a snapshot, and read again after a
+//! A vault in two files: created, committed in four steps, written anew into the other file as a snapshot, and read again after a
 //! crash.
 //!
-//! Promises: at each exit of a step, of a commit and of a snapshot, and at each moment inside it, what a crash leaves of the
-//! files stands for the settled vault or, while a gate is being opened, for the settled or the sealed one (`advance`). A
-//! snapshot is of the book with all that was noted (`start_snapshot`). A creation, also one that was stopped,
-//! leaves the new vault or none (`create`). Two files stand for at most one vault, and each durable vault has at most one spelling in
-//! each version of the files (`laws`). Both versions are read, and the second alone is written. Opening gives that vault, or tells the
-//! first thing that is wrong with its file and offset, and writes nothing
-//! (`open`; of one file alone `read_head` and `read_body`). Two files are told as those of two vaults exactly where both are open and the
-//! older one leads to no earlier vault of the newer one's snapshot's (`are_of_two_vaults`). The files of one vault never are: a creation's
-//! are of one vault, each call keeps them so, and whatever a crash leaves of them, also inside a call, isn't told as two (`advance`, `laws`).
-//! Stands on: vault_model, vault_device, vault_journal, design_tree, part_versions, vault_checkout. Must not know: commands,
-//! replies, sessions, tickets, how many entries there are.
+//! Promises: after each step of a commit or a snapshot, and at each moment inside it, a crash leaves files that stand for the durable
+//! (settled) vault. While a gate is being opened, they stand for that or for the sealed one (`advance`). A snapshot is of the book
+//! with all that was noted (`start_snapshot`). A creation, also one that crashed, leaves the new vault or none (`create`). Two files
+//! stand for at most one vault, and each durable vault has at most one spelling in each version of the files (`laws`). Both versions
+//! are read, and only the second is written. Opening gives that vault, or reports the first thing that is wrong, with its file and
+//! offset. It writes nothing (`open`; for one file alone `read_head` and `read_body`).
+//! Two files are reported as those of two vaults exactly if both are open with right heads, and either a generation lies between
+//! theirs, or the older one, of the generation before, leads to a vault that is no earlier state of the newer one's snapshot
+//! (`are_of_two_vaults`). The files of one vault never are: those of a creation are of one vault, each call keeps them so, and whatever
+//! a crash leaves of them, also inside a call, isn't reported as two (`advance`, `laws`).
+//! Stands on: vault_model, vault_device, vault_journal, vault_format, design_tree, part_versions, vault_checkout. Must not know:
+//! commands, replies, sessions, tickets, how many entries there are.
 //!
 //! Invariants, of `Store`:
 //! 1. While a snapshot is under way, its bytes are there, no more of them are left to write, and there is a next generation.
-//! 2. The records of the frame under way have room in a frame.
-//! 3. Where records wait or a frame is under way, the tail gate stands at most one frame behind 2^62.
+//! 2. The records of the frame under way fit into a frame.
+//! 3. If records wait or a frame is under way, the tail gate stands at most one frame past 2^62.
 //! 4. The frames have at most as many bytes as stand before the tail gate.
 //! 5. A snapshot's bytes are fewer than 2^33.
-//! 6. The active file, if honest, is on the disk what the phase says: a front up to the tail gate, and the frame under way.
-//! 7. The spare file, if honest, is so, too: settled while nothing of a snapshot is written, and its head gate closed where that is
-//!    known; else, behind that gate, what is written of the snapshot under way.
+//! 6. If the active file is honest, it holds on the disk what the phase says: the front up to the tail gate, and the frame under way.
+//! 7. The same for the spare file. While nothing of a snapshot is written, it is durable, and its head gate is closed if that is
+//!    known. Otherwise it holds, behind that gate, what is written of the snapshot under way.
 //!
-//! Only tested: two real files; commits and a creation stopped at each device call, under each kind of crash, and a snapshot
-//! stopped between its calls; speed and memory of opening.
-//! Start at: docs/FORMAT.md, specs/Phases.antt (the table), commit.rt, renewal.rt; for reading specs/Files.antt and opening.rt.
+//! Only tested: two real files; commits and a creation with each kind of crash at each device call, and a snapshot with a crash
+//! between its calls; speed and memory of opening.
+//! Start at: docs/FORMAT.md, specs/Phases.antt (the table), commit.rt, renewal.rt; for reading vault_format's specs/Files.antt
+//! and opening.rt.
 #![tactic(auto)]
 
 mod body;

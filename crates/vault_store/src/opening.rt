@@ -1,4 +1,4 @@
-//! A vault that was left in two files, read again.
+//! Reads again the vault that two files hold.
 ghost use Rattle.std.specs.Prelude.{◌≡◌, ◌⊎◌, ◌↔◌, ℕ, List, [], IfOk, IfErr, IsErr, OnOk, IsTrue, true};
 ghost use Rattle.vault_journal.specs.Gate.{IsClosed};
 ghost use Rattle.vault_store.specs.declared.opening.OpenError.TheVariants.{Device as DeviceFailed, NoMemory as Wanted};
@@ -62,7 +62,7 @@ impl From<NoMemory> for OpenError {
     }
 }
 
-// What the head of a file says: an open one's generation, and whether the gate is there and closed.
+// What the head of a file says: the generation of an open file, and whether the gate is there and closed.
 #[derive(Clone, Copy)]
 struct Headed {
     generation: Option<u64>,
@@ -77,7 +77,7 @@ struct Active {
     spare_shut: bool,
 }
 
-// The generation of an open file; of a closed one there is none.
+// The generation of an open file; `None` for a closed one.
 fn generation_in<D: Device>(which: File, device: &mut D) -> Result<Option<u64>, OpenError>
     ensures reads { AreReads (D.disk device.old) (D.disk device.new) }
     ensures generation { IsTrue (D.disk device.old).honest
@@ -168,7 +168,7 @@ fn newer(first: Headed, second: Headed) -> Result<Active, OpenError>
     }
 }
 
-// Settles both files, and finds the active one by their heads.
+// Syncs both files, and finds the active one by their heads.
 fn find_active<D: Device>(first: &mut D, second: &mut D) -> Result<Active, OpenError>
     ensures first { IsHandedOn (D.disk first.old) (D.disk first.new) }
     ensures second { IsHandedOn (D.disk second.old) (D.disk second.new) }
@@ -221,7 +221,7 @@ fn read_active<D: Device, A: Allocator + Copy>(
     }
 }
 
-/// Two devices, exchanged where the second file is the active one.
+/// Two devices, swapped if the second file is the active one.
 pub fn in_turn<D: Device>(which: File, one: D, other: D) -> (D, D)
     ensures { (result.0 ≡ of_file which one other) × (result.1 ≡ of_file which other one) }
 {
@@ -232,13 +232,13 @@ pub fn in_turn<D: Device>(which: File, one: D, other: D) -> (D, D)
 }
 
 impl<D: Device, A: Allocator + Copy> Store<D, A> {
-    /// Opens the vault that two files hold, and answers its book with the store. A refusal hands the devices back. It begins
-    /// with a sync of each device and writes nothing.
+    /// Opens the vault that two files hold, and gives its book with the store. A refusal hands the devices back. It begins with a sync
+    /// of each device and writes nothing.
     ///
-    /// Of each file the head is read, and its first byte once more; of the one of the greater generation all bytes up to its tail gate,
-    /// with three device calls a frame. A snapshot of more than 2 MiB is read piece by piece, and the first part of a place at the end of
-    /// a piece once more. Beside the book it takes memory for the bytes of the snapshot, or of a piece and of the check-outs, for the
-    /// bytes and the effects of one frame at a time, and for the frame that is filled.
+    /// It reads the head of each file, and its first byte once more. It reads the file of the greater generation up to its tail gate,
+    /// with three device calls a frame. It reads a snapshot of more than 2 MiB piece by piece; where a piece ends inside a place, it
+    /// reads the first part of that place once more. Beside the book it takes memory for the bytes of the snapshot, or of a piece and
+    /// of the check-outs, for the bytes and the effects of one frame at a time, and for the frame to fill.
     pub fn open(
         alloc: A,
         first: D,

@@ -9,7 +9,7 @@ pub enum Phase {
     Written,
     /// The body is synced.
     Bodied,
-    /// The frame's gate is written, and a crash may find it open or closed.
+    /// The frame's commit mark (gate) is written, and a crash may leave it open or closed.
     Opening,
     /// A snapshot was begun.
     Start,
@@ -21,7 +21,7 @@ pub enum Phase {
     Filled,
     /// The snapshot is synced.
     Ready,
-    /// The spare's head gate is written, and a crash may find it open or closed.
+    /// The spare's head gate is written, and a crash may leave it open or closed.
     SnapOpening,
 }
 
@@ -30,9 +30,9 @@ pub enum Phase {
 pub enum Advanced {
     /// Nothing, since nothing is to be done.
     Idle,
-    /// One step, and nothing more is settled.
+    /// One step, and nothing more is durable.
     Moved,
-    /// The last step: more is settled.
+    /// The last step: more is durable.
     Settled,
     /// Nothing, since a device call failed earlier.
     Broken,

@@ -17,7 +17,7 @@ use vault_journal::{open_gate, settle_body, settle_gate};
 // How many bytes of a snapshot one step writes at most.
 const MAX_PIECE: u64 = 65_536;
 
-// The bytes of a buffer; where there is none, there are no bytes.
+// The bytes of a buffer; none if there is no buffer.
 fn bytes_of<A: Allocator>(buffer: &Option<Vec<u8, A>>) -> &[u8]
     ensures { result.now ≡ option_map_or (λ v. v.items) buffer.now [] }
 {
@@ -27,14 +27,14 @@ fn bytes_of<A: Allocator>(buffer: &Option<Vec<u8, A>>) -> &[u8]
     }
 }
 
-// Keeps the memory of a buffer as room for the next.
+// Keeps the memory of a buffer for the next snapshot.
 fn set_aside<A: Allocator>(buffer: &mut Option<Vec<u8, A>>, room: &mut Option<Vec<u8, A>>)
     ensures { option_map_or (λ v. v.items) buffer.new [] ≡ [] }
 {
     *room = buffer.take();
 }
 
-// The file beside.
+// The other file.
 fn other(which: File) -> File
     ensures { result ≡ other which }
 {
@@ -44,14 +44,14 @@ fn other(which: File) -> File
     }
 }
 
-// How many bytes the next piece has, where so many are left.
+// How many bytes the next piece has, where `left` bytes are still to write.
 fn piece_size(left: u64) -> u64
     ensures { result ≡ piece_size left }
 {
     if left <= MAX_PIECE { left } else { MAX_PIECE }
 }
 
-// The phase behind that piece.
+// The phase after that piece.
 fn behind_piece(left: u64) -> Phase
     ensures { result ≡ behind_piece left }
 {
@@ -70,7 +70,7 @@ fn write_shut<D: Device>(device: &mut D) -> Result<(), Fault>
     device.write_at(0, &[0])
 }
 
-// Writes the next of these bytes behind the head gate, where so many are left. One device call.
+// Writes the next piece of these bytes behind the head gate; `left` of them are still to write. One device call.
 fn write_next<D: Device>(device: &mut D, bytes: &[u8], left: u64) -> Result<(), Fault>
     requires within { left ≤ length bytes.now }
     requires short { length bytes.now < 2 ^ 33 }
@@ -105,7 +105,7 @@ impl<D: Device, A: Allocator> Store<D, A> {
         }
     }
 
-    // Settles the closed head gate.
+    // Syncs the closed head gate.
     pub(crate) fn settle_closed(&mut self) -> Result<Advanced, Fault>
         requires phase { self.old.phase ≡ phases.Closing }
         requires whole { self.old.broken ≡ false }
@@ -120,7 +120,7 @@ impl<D: Device, A: Allocator> Store<D, A> {
         }
     }
 
-    // Writes the next piece behind the head gate, where so many bytes are left.
+    // Writes the next piece behind the head gate; `left` bytes are still to write.
     pub(crate) fn write_piece(&mut self, left: u64) -> Result<Advanced, Fault>
         requires phase { self.old.phase ≡ phases.Writing left }
         requires whole { self.old.broken ≡ false }
@@ -134,7 +134,7 @@ impl<D: Device, A: Allocator> Store<D, A> {
         }
     }
 
-    // Settles all that was written.
+    // Syncs all that was written.
     pub(crate) fn settle_written(&mut self) -> Result<Advanced, Fault>
         requires phase { self.old.phase ≡ phases.Filled }
         requires whole { self.old.broken ≡ false }
@@ -163,7 +163,7 @@ impl<D: Device, A: Allocator> Store<D, A> {
         }
     }
 
-    // Settles the open head gate: the spare becomes the active file, and what was sealed is settled.
+    // Syncs the open head gate: the spare becomes the active file, and what was sealed is durable.
     pub(crate) fn settle_head(&mut self) -> Result<Advanced, Fault>
         requires phase { self.old.phase ≡ phases.SnapOpening }
         requires whole { self.old.broken ≡ false }

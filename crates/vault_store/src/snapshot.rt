@@ -1,4 +1,4 @@
-//! The snapshot of a vault, read.
+//! Reads the snapshot of a vault.
 ghost use Rattle.std.specs.Prelude.{◌≡◌, ◌≢◌, ◌+◌, ◌≤◌, Err, IfOk, IfErr, IsTrue, length, OnOk};
 ghost use Rattle.vault_model.specs.Vault.{Vault};
 ghost use Rattle.vault_format.specs.declared.error.SnapshotError.TheVariants as errors;
@@ -53,7 +53,7 @@ fn read_snapshot<A: Allocator + Copy>(
     }
 }
 
-// Reads a snapshot of so many bytes whole, and makes its book. None: no vault is spelled so.
+// Reads a whole snapshot of `count` bytes, and makes its book. `None`: no vault has this spelling.
 fn read_whole<D: Device, A: Allocator + Copy>(
     alloc: A,
     version: FileVersion,
@@ -74,11 +74,11 @@ fn read_whole<D: Device, A: Allocator + Copy>(
     }
 }
 
-/// The book of the snapshot of so many bytes that stands behind a file's header. None: no vault is spelled so.
+/// The book of the snapshot of `count` bytes behind a file's header. `None`: no vault has this spelling.
 ///
-/// A long one of today's version is read piece by piece. One that can't be read so is read whole, and that judges it. The work grows with
-/// the bytes that are read. Beside the book it takes memory for the list of claims, for one version or draft at a time, and for a piece and
-/// the bytes of the check-outs, or for the bytes of the whole.
+/// A long one of today's version is read piece by piece. One that can't be read so is read whole, and that reading decides. The work
+/// grows with the bytes that are read. Beside the book it takes memory for the list of claims, for one version or draft at a time, and
+/// for a piece and the bytes of the check-outs, or for the bytes of the whole.
 pub(crate) fn read_book<D: Device, A: Allocator + Copy>(
     alloc: A,
     version: FileVersion,

@@ -14,7 +14,7 @@ use vault_checkout::Book;
 use vault_device::Device;
 use vault_model::NoMemory;
 
-// From how many bytes of frames on a snapshot is wanted.
+// A snapshot is wanted from this many bytes of frames on.
 const LONG_JOURNAL: u64 = 1_048_576;
 
 /// Whether a snapshot was begun.
@@ -26,7 +26,7 @@ pub enum Started {
 }
 
 impl<D: Device, A: Allocator> Store<D, A> {
-    /// Whether a snapshot is wanted, and nothing is under way: so many bytes of frames stand in the active file, or it isn't of today's
+    /// Whether nothing is under way, and a snapshot is wanted: the active file has 1 MiB of frames or more, or it isn't of today's
     /// version.
     pub fn wants_snapshot(&self) -> bool
         ensures { result ≡ wants_snapshot self.now }
@@ -35,9 +35,9 @@ impl<D: Device, A: Allocator> Store<D, A> {
             && (self.journal_length >= LONG_JOURNAL || self.version == FileVersion::One)
     }
 
-    /// Begins a snapshot of what a restart would leave of this book, which has made all that was noted. No device call. It takes
-    /// memory for all bytes of the snapshot's file at once, about as many as the book's contents and names have, but for what was
-    /// kept of the last snapshot.
+    /// Begins a snapshot of what a restart would leave of this book. The book must have made all effects that were noted. No device
+    /// call. It takes memory for all bytes of the snapshot's file at once, about as many as the book's contents and names have, less
+    /// the buffer that was kept of the last snapshot.
     pub fn start_snapshot<B: Allocator + Copy>(
         &mut self,
         alloc: A,

@@ -1,4 +1,4 @@
-//! A store: two devices, and the frame that is filled.
+//! A store: two devices, and the frame to fill.
 ghost use Rattle.std.specs.Prelude.{◌≡◌, ◌-◌, ◌++◌, length, IsTrue};
 ghost use Rattle.vault_journal.specs.Spelling.{record_of, HasRecord};
 ghost use Rattle.vault_model.specs.Vault.{Vault};
@@ -15,13 +15,13 @@ use vault_device::Device;
 use vault_journal::Frame;
 use vault_model::EffectIn;
 
-// The most bytes of records in the buffer where there is room for any other record.
+// While the buffer has at most this many bytes of records, there is room for any other record.
 const MAX_NOTED: usize = 261_104;
 
-// From where on no frame may begin, so that each write ends below 2^63.
+// No frame may begin at this offset or behind it, so that each write ends below 2^63.
 const LAST_TAIL: u64 = 1 << 62;
 
-/// A vault in two files. What was noted is written and settled step by step.
+/// A vault in two files. What was noted is written and made durable step by step.
 #[derive(Drop)]
 pub struct Store<D: Device, A: Allocator = Global> {
     /// The open file of the greater generation, which frames are written to.
@@ -32,7 +32,7 @@ pub struct Store<D: Device, A: Allocator = Global> {
     pub(crate) which: File,
     /// The records that are noted and in no frame yet.
     pub(crate) frame: Frame<A>,
-    /// How many bytes of records the frame under way has; 0 where none is.
+    /// How many bytes of records the frame under way has; 0 if none is.
     pub(crate) sealed: u64,
     /// The version of the active file.
     pub(crate) version: FileVersion,
@@ -44,13 +44,13 @@ pub struct Store<D: Device, A: Allocator = Global> {
     pub(crate) journal_length: u64,
     /// Which step of a commit or of a snapshot comes next.
     pub(crate) phase: Phase,
-    /// Whether a device call failed. None is made then.
+    /// Whether a device call failed. No more are made then.
     pub(crate) broken: bool,
     /// Whether the spare file's head gate is known to be closed.
     pub(crate) spare_shut: bool,
-    /// What a snapshot writes behind that gate. There is some while one is under way.
+    /// What a snapshot writes behind that gate; `Some` while one is under way.
     pub(crate) rest: Option<Vec<u8, A>>,
-    /// The memory of the last such bytes, kept for the next snapshot. What stands in it means nothing.
+    /// The buffer of the last snapshot, kept for the next one. Its bytes mean nothing.
     pub(crate) room: Option<Vec<u8, A>>,
 }
 
@@ -96,7 +96,7 @@ impl<D: Device, A: Allocator> Store<D, A> {
         self.tail - self.journal_length
     }
 
-    /// The devices of the first file and of the second. What was noted and isn't settled is lost.
+    /// The devices of the first file and of the second. What was noted and isn't durable is lost.
     pub fn into_devices(self) -> (D, D)
         ensures first { result.0 ≡ first_of self }
         ensures second { result.1 ≡ second_of self }

@@ -12,7 +12,7 @@ use std::alloc::Allocator;
 use vault_checkout::Book;
 use vault_device::{Device, Fault};
 
-// The generation of a file whose head is right; of any other there is none.
+// The generation of a file whose head is right; `None` for any other.
 fn right_generation<D: Device>(device: &mut D) -> Result<Option<u64>, Fault>
     ensures reads { AreReads (D.disk device.old) (D.disk device.new) }
     ensures generation { IsTrue (D.disk device.old).honest → IfOk result (IsGenerationOf (D.disk device.old).shown) }
@@ -29,7 +29,7 @@ fn right_generation<D: Device>(device: &mut D) -> Result<Option<u64>, Fault>
     }
 }
 
-// The vault that a file with a right head leads to, with its frames; none where it can't be read.
+// The vault that a file with a right head leads to, with its frames; `None` if the file is damaged.
 fn vault_in<D: Device, A: Allocator + Copy>(
     alloc: A,
     device: &mut D,
@@ -56,7 +56,7 @@ fn vault_in<D: Device, A: Allocator + Copy>(
     }
 }
 
-// The vault of the snapshot of a file with a right head; none where it can't be read.
+// The vault of the snapshot of a file with a right head; `None` if the snapshot is damaged.
 fn base_in<D: Device, A: Allocator + Copy>(
     alloc: A,
     device: &mut D,
@@ -80,7 +80,7 @@ fn base_in<D: Device, A: Allocator + Copy>(
     }
 }
 
-// Whether the older of two files, with right heads and generations that differ by one, is not of the newer one's vault.
+// Whether the older of two files is not of the newer one's vault. Their heads are right, and their generations differ by one.
 fn is_unrelated<D: Device, A: Allocator + Copy>(
     alloc: A,
     older: &mut D,
@@ -116,7 +116,7 @@ fn is_unrelated<D: Device, A: Allocator + Copy>(
     }
 }
 
-// Whether the older of two files, with right heads of these generations, is not of the newer one's vault.
+// Whether the older of two files is not of the newer one's vault. Their heads are right, and of these generations.
 fn is_of_another<D: Device, A: Allocator + Copy>(
     alloc: A,
     generations: (u64, u64),
@@ -138,10 +138,11 @@ fn is_of_another<D: Device, A: Allocator + Copy>(
     is_unrelated(alloc, older, newer)
 }
 
-/// Whether two files are of two vaults, in whichever order. Each is read as opening reads it, and nothing is written or synced.
+/// Whether two files are of two vaults, in either order. It reads each as opening does, and writes or syncs nothing.
 ///
-/// It reads both heads and, where both are open and right and their generations differ by one, the older file up to its tail gate and the
-/// newer one's snapshot. Beside what opening takes for each of them it takes memory for both vaults at once, and keeps none of it.
+/// It reads both heads. If both are open and right and their generations differ by one, it also reads the older file up to its tail
+/// gate and the newer one's snapshot. Beside what opening takes for each of them, it takes memory for both vaults at once, and keeps
+/// none of it.
 pub fn are_of_two_vaults<D: Device, A: Allocator + Copy>(
     alloc: A,
     first: &mut D,

@@ -3,11 +3,11 @@
 use libc::types::rlimit;
 use vaultd_tasks::Failure;
 
-/// What the program has open beside the connections that it serves: the standard streams, what stands in for them, two files and the
-/// listener, and what two threads and the door wait by and are woken by.
+/// How many descriptors the program has open beside its connections: the standard streams, the files that stand in for them, the vault's
+/// two files, the listener, and those by which two threads and the door wait and are woken.
 const BESIDE: u64 = 15;
 
-/// How many descriptors a server needs: for each worker the connection that it serves, and what it has beside these.
+/// How many descriptors a server needs: one for each worker's connection, and `BESIDE`.
 pub(crate) fn needed(workers: u32) -> u64 {
     u64::from(workers) + BESIDE
 }
@@ -21,7 +21,7 @@ fn limit() -> Option<u64> {
     (libc::getrlimit(libc::RLIMIT_NOFILE, &mut limit) == 0).then_some(limit.rlim_cur)
 }
 
-/// Refuses so many workers where so few descriptors may be had.
+/// Refuses this number of workers if they need more descriptors than the limit.
 pub(crate) fn check(workers: u32, limit: u64) -> Result<(), Failure> {
     let needed = needed(workers);
     if needed <= limit {
@@ -31,7 +31,7 @@ pub(crate) fn check(workers: u32, limit: u64) -> Result<(), Failure> {
     }
 }
 
-/// Refuses so many workers where the system's limit is lower than what they need.
+/// Refuses this number of workers if they need more descriptors than the system allows.
 pub(crate) fn check_limit(workers: u32) -> Result<(), Failure> {
     limit().map_or(Ok(()), |limit| check(workers, limit))
 }

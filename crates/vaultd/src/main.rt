@@ -35,7 +35,7 @@ fn words(rt: &HostRuntime) -> io::Result<Vec<String>> {
     Ok(words)
 }
 
-/// Says in one line what went wrong, where nothing else is to be said.
+/// Says in one line what went wrong, without the reason.
 fn told(rt: &HostRuntime, failure: Failure) -> ExitCode {
     Teller::new(rt, false).tell(failure);
     ExitCode::from(FAULT)
@@ -65,7 +65,7 @@ fn unread(rt: &HostRuntime, error: &io::Error) -> ExitCode {
     ExitCode::from(REFUSED)
 }
 
-/// Does what is asked for. How to serve comes back, where that is asked for, since a server needs threads.
+/// Does what is asked for. For `serve` it only returns how to serve, since a server needs threads.
 fn answered<'p>(
     rt: &HostRuntime,
     teller: &Teller<'p, HostRuntime>,

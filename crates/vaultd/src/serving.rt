@@ -18,18 +18,18 @@ use vaultd_tasks::{
     print_line, refuse_two_vaults, take_survey,
 };
 
-/// The number of the program's one life of a vault.
+/// The number of the vault's life. The program opens one vault, once.
 const LIFE: u64 = 1;
 
-/// How many seconds a connection has been silent at least that is ended for one who waits for a place.
+/// How many seconds a connection must have been silent before it is ended for another one that waits for a place.
 const LEAST_SILENCE: u32 = 60;
 
-/// So many seconds.
+/// This number of seconds.
 fn seconds(count: u32) -> Duration {
     Duration::from_secs(u64::from(count))
 }
 
-/// Opens the vault in the two files. With it comes how it stands, where that is to be said.
+/// Opens the vault in the two files. Also gives a survey of it, if the program is asked to say more.
 fn open<'a, 'p, R: Files<File = File> + Eprint + AllocGlobal>(
     rt: &R,
     teller: &'a Teller<'p, R>,
@@ -88,7 +88,8 @@ fn introduce<R: Eprint>(
     let _ = eprintln!(rt; "listening on {address}, over {first} and {second}: {survey}");
 }
 
-/// How many may wait for a claim at once: so many as are given, or three quarters of the places, so that who holds can come and give up.
+/// How many connections may wait for a claim at once: the given number, or else three quarters of the workers. The others stay free for
+/// those who hold claims, so that they can connect and give them up.
 fn most_waits(serving: &Serving<'_>) -> u32 {
     match serving.waits {
         Some(waits) => waits,
@@ -96,7 +97,7 @@ fn most_waits(serving: &Serving<'_>) -> u32 {
     }
 }
 
-/// What the server is to keep to.
+/// The server's options.
 fn options_of(serving: &Serving<'_>) -> ServerOptions
     ensures { (0 < result.workers) × (result.workers ≤ 64) }
 {
@@ -120,7 +121,7 @@ fn options_of(serving: &Serving<'_>) -> ServerOptions
     }
 }
 
-/// What a server's error is told as: in the server's own words.
+/// The failure that is reported for a server's error.
 fn failure_of(error: ServerError) -> Failure {
     match error {
         ServerError::Accept => Failure::Accept,
@@ -128,7 +129,7 @@ fn failure_of(error: ServerError) -> Failure {
     }
 }
 
-/// Says on standard error what ends the server, as soon as it is so.
+/// Says on standard error what ends the server, as soon as it happens.
 #[derive(Drop)]
 struct Door<'a, 'p, R> {
     teller: &'a Teller<'p, R>,
@@ -143,7 +144,7 @@ impl<R: Eprint> Gate for Door<'_, '_, R> {
     }
 }
 
-/// What the end of a server is told as, whose vault broke.
+/// The failure that is reported for a server that ended because its vault broke.
 fn broken<R: Eprint>(teller: &Teller<'_, R>) -> Failure {
     if teller.has_broken() {
         Failure::Broken
@@ -152,8 +153,8 @@ fn broken<R: Eprint>(teller: &Teller<'_, R>) -> Failure {
     }
 }
 
-/// Opens the vault, binds the address, says so on standard output, and serves until enough connections were served. Where a file fails
-/// meanwhile, that is said at once.
+/// Opens the vault, binds the address, says so on standard output, and serves until it has served the given number of connections. If a
+/// file fails meanwhile, that is said at once.
 pub(crate) fn serve<
     'p,
     R: Files<File = File>

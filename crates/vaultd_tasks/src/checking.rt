@@ -9,17 +9,17 @@ use std::fs;
 use vault_inspector::{FileState, InspectError, Report, inspect, snapshot_length, why_of};
 use vault_store::{File, Head, OpenError, read_head};
 
-/// How often two files are read at most until two readings agree.
+/// How often two files are read again at most until two readings agree.
 const MAX_READINGS: u32 = 16;
 
-/// What two files hold, by one reading.
+/// What one reading finds in two files.
 #[derive(Drop)]
 pub(crate) struct Reading {
     heads: (Head, Head),
     pub(crate) report: Report,
     /// How many bytes the active file's snapshot has.
     pub(crate) snapshot: Option<u32>,
-    /// Why the two aren't of one vault, where they aren't, or why that isn't known.
+    /// Why the two aren't of one vault, if they aren't, or why that isn't known.
     two_vaults: Option<Failure>,
 }
 
@@ -71,8 +71,8 @@ impl Files<'_, '_> {
         }
     }
 
-    /// Reads both files until two readings agree; None where they never did, since a server writes to them. The first of the two is
-    /// of one moment: while the heads stay, an active file is only added to, and what another holds isn't touched.
+    /// Reads both files until two readings agree, and gives the first of the two. None if no two do, since a server writes to the files.
+    /// The first of the two shows one moment: while the heads stay, an active file only grows, and what the other holds isn't touched.
     fn read_agreed(&mut self, rt: &HostRuntime) -> Result<Option<Reading>, InspectError> {
         let mut last = self.read(rt)?;
         for _ in 0..MAX_READINGS {
@@ -94,14 +94,14 @@ impl Files<'_, '_> {
     }
 }
 
-/// Whether two readings one after the other show that the first is of one moment. Where no vault was found, all has to be the same.
+/// Whether two readings, one after the other, prove that the first shows one moment. If no vault was found, all has to be the same.
 fn agree(one: &Reading, next: &Reading) -> bool {
     let found = one.report.book.is_some() && next.report.book.is_some();
     let same = one.report.first == next.report.first && one.report.second == next.report.second;
     one.heads == next.heads && (found || same)
 }
 
-/// The file that an opening's failure is about, if it is about one.
+/// The file that a failure of opening is about, if it is about one.
 fn file_of(why: OpenError) -> Option<File> {
     match why {
         OpenError::Damaged { file, offset: _ } => Some(file),
@@ -109,7 +109,7 @@ fn file_of(why: OpenError) -> Option<File> {
     }
 }
 
-/// Why no server starts over what was read, and the file that it is about.
+/// Why no server starts over what was read, if none does, and the file that this is about.
 fn failure_of(reading: &Reading) -> (Option<Failure>, Option<File>) {
     match why_of(reading.report.first, reading.report.second) {
         Some(why) => (Some(Failure::from(why)), file_of(why)),
@@ -117,7 +117,7 @@ fn failure_of(reading: &Reading) -> (Option<Failure>, Option<File>) {
     }
 }
 
-/// What was found, where the files weren't read.
+/// What was found if the files weren't read.
 fn unread(failure: Failure, file: Option<File>) -> Finding {
     Finding {
         reading: None,
@@ -162,8 +162,8 @@ fn look<'p>(
     }
 }
 
-/// Says on standard output what the files of these two paths are, whether a server starts over them, and how full their vault is. Where
-/// none starts, the failure is why.
+/// Says on standard output what the files of these two paths are, whether a server starts over them, and how full their vault is. If none
+/// starts, the failure says why.
 pub fn check<'p>(
     rt: &HostRuntime,
     teller: &Teller<'p, HostRuntime>,

@@ -6,7 +6,7 @@ use std::alloc::{AllocError, Global};
 use std::convert::AsStr;
 use vault_protocol::SCRIPT_HELP;
 
-/// What `--version` says behind the program's name.
+/// What `--version` says after the program's name.
 const VERSION: &str = "0.8.0";
 
 /// What `create` does, below its help.
@@ -40,7 +40,7 @@ Examples:
   vaultd check vault.a vault.b
   vaultd check --json vault.a vault.b";
 
-/// What a client says and is told, below the help of `serve`.
+/// What a client sends and gets, below the help of `serve`.
 const SERVED: &str = "\
 Prints 'listening' once it accepts connections, and runs until it is stopped: by any signal, at any time. What a client
 was told is on disk then. Where a file fails, 'device fault' is said at once on standard error, and each command is
@@ -67,27 +67,27 @@ pub struct Serving<'a> {
     /// The paths of the vault's files.
     pub first: &'a str,
     pub second: &'a str,
-    /// What is handed to bind.
+    /// The address to bind.
     pub address: &'a str,
-    /// 1 to 64.
+    /// How many connections are served at a time: 1 to 64.
     pub workers: u32,
-    /// By how many threads: 1 or 2.
+    /// How many threads serve them: 1 or 2.
     pub threads: u32,
     /// After how many connections the program ends.
     pub connections: Option<u32>,
-    /// After how many seconds a connection is ended that said no line, or took no reply.
+    /// After how many seconds a connection is ended if it sent no line, or took no reply.
     pub idle: Option<u32>,
-    /// After how many seconds one is ended that has no session.
+    /// After how many seconds one is ended if it has no session.
     pub hello: u32,
-    /// After how many seconds one is ended whose line has begun, and doesn't end.
+    /// After how many seconds one is ended if its line has begun and isn't whole.
     pub line: u32,
-    /// After how many seconds one is turned away that waits for a place.
+    /// After how many seconds one that waits for a place is turned away.
     pub full: u32,
-    /// How many there may be at once from one address.
+    /// How many connections there may be at once from one address.
     pub per_address: Option<u32>,
     /// After how many seconds a 'wait' is answered at the latest.
     pub wait: u32,
-    /// How many connections may wait at once for a claim: where it isn't given, three quarters of the workers.
+    /// How many connections may wait at once for a claim. If it isn't given: three quarters of the workers.
     pub waits: Option<u32>,
 }
 
@@ -99,7 +99,7 @@ pub enum Task<'a> {
     Create(&'a str, &'a str),
     /// Reports on the files of these paths.
     Inspect(&'a str, &'a str),
-    /// Checks the files of these paths, and tells it as JSON or in sentences.
+    /// Checks the files of these paths, and prints the result as JSON if the flag is set, else in sentences.
     Check(&'a str, &'a str, bool),
     /// Serves a vault.
     Serve(Serving<'a>),
@@ -109,11 +109,11 @@ pub enum Task<'a> {
 #[derive(Clone, Copy)]
 pub struct Asked<'a> {
     pub task: Task<'a>,
-    /// Whether standard error is to have more than what failed.
+    /// Whether standard error gets more than what failed.
     pub verbose: bool,
 }
 
-/// An argument that has to be there.
+/// A required argument.
 fn needed<'a>(alloc: Global, id: &'a str, help: &'a str) -> Arg<'a> {
     Arg::new(alloc, id).required(true).help(help)
 }
@@ -126,7 +126,7 @@ fn option<'a>(alloc: Global, name: &'a str, value: &'a str, help: &'a str) -> Ar
         .help(help)
 }
 
-/// Whether to say more.
+/// The flag that asks to say more.
 fn verbose<'a>(alloc: Global, help: &'a str) -> Arg<'a> {
     Arg::new(alloc, "verbose")
         .long("verbose")
@@ -143,7 +143,7 @@ fn over_files<'a>(alloc: Global, name: &'a str) -> Result<Command<'a>, AllocErro
     command.arg(needed(alloc, "B", second))
 }
 
-/// A subcommand that says what the system said of a fault, where it is asked to.
+/// Adds the flag that asks what the system said of a fault.
 fn says_why<'a>(command: Command<'a>, alloc: Global) -> Result<Command<'a>, AllocError> {
     let help = "Says behind a fault of what it is, what was done and what the system said";
     command.arg(verbose(alloc, help))
@@ -215,7 +215,7 @@ fn idle<'a>(alloc: Global) -> Arg<'a> {
     option(alloc, "idle", "SECONDS", help).value_parser(value_parser!(u32).range(1..))
 }
 
-/// A time that is a minute where it isn't given.
+/// A time that is a minute if it isn't given.
 fn time<'a>(alloc: Global, name: &'a str, help: &'a str) -> Arg<'a> {
     option(alloc, name, "SECONDS", help)
         .default_value("60")
@@ -268,7 +268,7 @@ fn serve<'a>(alloc: Global) -> Result<Command<'a>, AllocError> {
     command.arg(verbose(alloc, help))
 }
 
-/// One subcommand more, where there was memory for it.
+/// Adds a subcommand, if there was memory for it.
 fn with<'a>(
     command: Command<'a>,
     more: Result<Command<'a>, AllocError>,
@@ -279,7 +279,7 @@ fn with<'a>(
     }
 }
 
-/// The command line. A command is long to drop, so one at a time is alive here.
+/// The command line. A command is costly to drop, so only one at a time is alive here.
 fn command_line<'a>(alloc: Global) -> Result<Command<'a>, AllocError> {
     let command = Command::new(alloc, "vaultd")
         .version(VERSION)
@@ -294,12 +294,12 @@ fn command_line<'a>(alloc: Global) -> Result<Command<'a>, AllocError> {
     with(command, serve(alloc))
 }
 
-/// A word on the command line, which has it.
+/// A word that the command line is known to have.
 fn path<'a>(matches: &ArgMatches<'a>, id: &str) -> &'a str {
     matches.get_str(id).unwrap_or("")
 }
 
-/// What `serve` is asked to do.
+/// How `serve` is asked to serve.
 fn serving_of<'a>(matches: &ArgMatches<'a>) -> Serving<'a> {
     Serving {
         first: path(matches, "A"),
@@ -325,7 +325,7 @@ fn is_verbose(matches: &ArgMatches<'_>) -> bool {
         .is_some_and(|(_, words)| words.get_flag("verbose"))
 }
 
-/// What was matched, if it is one of the subcommands.
+/// The task of the subcommand that was matched, if it is one of ours.
 fn task_in<'a>(matches: &ArgMatches<'a>) -> Option<Task<'a>> {
     match matches.subcommand() {
         Some(("script", _)) => Some(Task::Script),
@@ -349,7 +349,7 @@ fn lacks_subcommand(alloc: Global) -> Result<Error, AllocError> {
     error
 }
 
-/// What the words ask for, the program's own name first. Its error is what clap says of them, or the help that they ask for.
+/// What the words ask for, the program's own name first. The error is what clap says of them, or the help that they ask for.
 pub fn asked_of<'a, S: AsStr>(alloc: Global, words: &'a [S]) -> Result<Asked<'a>, Error> {
     let matches = command_line(alloc)?.try_get_matches_from(words)?;
     let (task, verbose) = (task_in(&matches), is_verbose(&matches));

@@ -15,7 +15,7 @@ struct Opened {
     made: bool,
 }
 
-/// Opens a file, or makes it where it is missing.
+/// Opens a file, or makes it if it is missing.
 fn open_or_make(rt: &HostRuntime, path: &str) -> io::Result<Opened> {
     let mut options = OpenOptions::new();
     options.read(true).write(true);
@@ -29,14 +29,14 @@ fn open_or_make(rt: &HostRuntime, path: &str) -> io::Result<Opened> {
     }
 }
 
-/// Takes a file away again that was made for a vault, where no vault came into it.
+/// Removes a file that was made for a vault, since no vault came into it.
 fn take_back(rt: &HostRuntime, path: &str, made: bool) {
     if made {
         let _ = fs::remove_file(rt, path);
     }
 }
 
-/// Opens a file and locks it. One that another program has by now isn't taken away, whoever made it.
+/// Opens or makes a file, and locks it. A file that another program has locked isn't removed, whoever made it.
 fn locked<'p>(
     rt: &HostRuntime,
     teller: &Teller<'p, HostRuntime>,
@@ -51,8 +51,8 @@ fn locked<'p>(
     }
 }
 
-/// Makes a vault in the files of these two paths, which are made where they are missing. Where that is refused, no file is
-/// changed, and those made for it are taken away again.
+/// Makes a vault in the files of these two paths. Missing files are made. If making the vault is refused, no file is changed, and the
+/// files that were made for it are removed again.
 fn create_files<'p>(
     rt: &HostRuntime,
     teller: &Teller<'p, HostRuntime>,

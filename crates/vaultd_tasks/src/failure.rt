@@ -6,7 +6,7 @@ use vault_inspector::{InspectError, PrintError};
 use vault_protocol::ScriptError;
 use vault_store::{CreateError, File, OpenError};
 
-/// What went wrong, as it is said in one line.
+/// What went wrong; its text is one line.
 #[derive(Clone, Copy, Debug, Error)]
 pub enum Failure {
     #[error(transparent)]
@@ -29,13 +29,13 @@ pub enum Failure {
     /// The first fault stands in the second file, at this offset.
     #[error("file b damaged at {0}")]
     SecondDamaged(u64),
-    /// The older file is not of the newer one's vault.
+    /// The older file belongs to another vault than the newer one.
     #[error("files of two vaults")]
     TwoVaults,
     /// A file can't be opened, made, read or written.
     #[error("device fault")]
     Device,
-    /// A file failed that is served. The server said so at once.
+    /// A file of the served vault failed. The server said so at once.
     #[error("device fault")]
     Broken,
     /// The system lets the program have fewer descriptors than its workers need.
@@ -46,7 +46,7 @@ pub enum Failure {
     /// The address can't be bound.
     #[error("read fault")]
     Bind,
-    /// Connections can't be accepted for good. The server said so at once.
+    /// No more connections can be accepted, for good. The server said so at once.
     #[error("read fault")]
     Accept,
     /// Standard output failed.

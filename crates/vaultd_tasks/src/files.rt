@@ -12,7 +12,7 @@ use std::os::unix::fs::FileExt;
 use std::rt::Files;
 use vault_device::{Fault, FileDevice, RawFile};
 
-/// A file, of which each call that fails is told.
+/// A file that reports each failed call to the teller.
 #[derive(Drop)]
 pub struct WatchedFile<'a, 'p, R> {
     file: File,
@@ -31,7 +31,7 @@ impl<R: Eprint> WatchedFile<'_, '_, R> {
         Fault
     }
 
-    // What a call moved; an interrupted one moved nothing.
+    // How many bytes a call moved. An interrupted one moved none.
     fn moved(&self, action: Action, answer: io::Result<usize>) -> Result<Option<usize>, Fault>
         ensures moved { IfOk answer (λ count. result ≡ Ok (Some count)) }
         ensures interrupted { IfErr answer (λ e. error_kind e ≡ ErrorKind.Interrupted → result ≡ Ok None) }

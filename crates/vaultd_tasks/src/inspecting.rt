@@ -8,7 +8,7 @@ use std::fs::{File, TryLockError};
 use std::io::Write;
 use vault_inspector::{Report, print};
 
-/// What two files were found to hold.
+/// What was found in two files.
 #[derive(Drop)]
 struct Inspection {
     report: Report,
@@ -25,7 +25,7 @@ fn opened<'p>(
     File::open(rt, path).map_err(|error| unopened(teller, path, error))
 }
 
-/// Whether another program has the file for writing. Where none has, none gets it while this one is open.
+/// Whether another program has the file for writing. If none has, none gets it while this one is open.
 fn is_in_use(file: &File) -> bool {
     matches!(file.try_lock_shared(), Err(TryLockError::WouldBlock))
 }
@@ -57,7 +57,7 @@ fn print_out(
     writer.flush().or(Err(Failure::Write))
 }
 
-/// Prints a report on the files of these two paths on standard output. Where a server has them, it says so on standard error.
+/// Prints a report on the files of these two paths on standard output. If a server has them, it says so on standard error.
 pub fn inspect<'p>(
     rt: &HostRuntime,
     teller: &Teller<'p, HostRuntime>,

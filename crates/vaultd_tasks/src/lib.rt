@@ -6,7 +6,7 @@
 //! Only tested, by `tools/try-program`: what the words ask for, statuses, texts and order of failures, why something failed, `create` and
 //! `inspect` on real files and beside their locks, closed streams.
 //! Neither: texts of help and usage; what standard input and output are; that a real file is honest.
-//! Start at: command_line.rt, then the file of a subcommand; files.rt (a file whose calls that fail are told), teller.rt (to whom).
+//! Start at: command_line.rt, then the file of a subcommand; files.rt (a file that reports failed calls), teller.rt (what it reports to).
 #![tactic(auto)]
 
 mod checking;

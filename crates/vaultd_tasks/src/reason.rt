@@ -35,7 +35,7 @@ impl Display for Action {
     }
 }
 
-/// Of what it was asked.
+/// What it was asked about.
 #[derive(Clone, Copy)]
 pub enum Subject<'a> {
     /// The file of this path.
@@ -49,7 +49,7 @@ pub enum Subject<'a> {
 impl Display for Subject<'_> {
     fn fmt<W: fmt::Write>(&self, f: &mut Formatter<W>) -> fmt::Result {
         match *self {
-            // Between quotes, and escaped, so that no name is taken for a line of the program's.
+            // In quotes and escaped, so that no name looks like a line of the program.
             Subject::File(name) | Subject::Address(name) => write!(f, "{name:?}"),
             Subject::Input => write!(f, "standard input"),
             Subject::Output => write!(f, "standard output"),

@@ -1,4 +1,4 @@
-//! Standard input and output, of which each call that fails is told.
+//! Standard input and output. Each call that fails is reported to the teller.
 
 use crate::failure::Failure;
 use crate::reason::{Action, Cause, Subject};

@@ -3,7 +3,7 @@
 use crate::failure::Failure;
 use std::fs::{File, OpenOptions};
 
-/// Files that stand where a standard stream was closed. They are kept for as long as the program runs.
+/// Files that stand in for closed standard streams. They are kept for as long as the program runs.
 #[derive(Drop)]
 pub struct Streams {
     _files: [File; 3],
@@ -16,8 +16,8 @@ fn null_device(rt: &HostRuntime) -> Result<File, Failure> {
     options.open(rt, "/dev/null").or(Err(Failure::Device))
 }
 
-/// Opens the null device as often as there are standard streams. Each time it takes the lowest descriptor that is free, so no
-/// file that is opened later gets the descriptor of a stream, and no line of the program is written into it.
+/// Opens the null device three times, once for each standard stream. Each time it takes the lowest free descriptor. So no file that is
+/// opened later gets the descriptor of a stream, and no line of the program is written into a file.
 pub fn take_streams(rt: &HostRuntime) -> Result<Streams, Failure> {
     let files = [null_device(rt)?, null_device(rt)?, null_device(rt)?];
     Ok(Streams { _files: files })

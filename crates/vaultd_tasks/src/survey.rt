@@ -1,4 +1,4 @@
-//! What a server says of its vault where it is asked to say more.
+//! What a server says about its vault, if it is asked to say more.
 
 use crate::files::WatchedDevice;
 use crate::teller::Teller;
@@ -30,7 +30,7 @@ impl Display for Survey {
     }
 }
 
-/// The generation of the active file, where there is one.
+/// The generation of the active file, if there is one.
 fn generation_of(report: &Report) -> Option<u64> {
     match (report.first, report.second) {
         (FileState::Open { generation, .. }, _) => Some(generation),
@@ -39,7 +39,7 @@ fn generation_of(report: &Report) -> Option<u64> {
     }
 }
 
-/// What a report says of its vault, where there is one, and memory for it.
+/// The survey of a report's vault, if it has one, and there is memory for it.
 fn survey_of(report: &Report) -> Option<Survey> {
     let generation = generation_of(report)?;
     let figures = figures_of(report.book.as_ref()?).ok()?;
@@ -51,8 +51,8 @@ fn survey_of(report: &Report) -> Option<Survey> {
     })
 }
 
-/// How the vault in two files stands, where more is to be said than what failed. They are read once more than opening does: of a full vault
-/// that takes under 0.1 seconds.
+/// The survey of the vault in two files, if the teller is asked to say more. Both files are read for it once more than opening does. For
+/// a full vault that takes under 0.1 seconds.
 pub fn take_survey<'a, 'p, R: Eprint>(
     alloc: Global,
     teller: &Teller<'_, R>,

@@ -1,4 +1,4 @@
-//! Who says on standard error what failed.
+//! Reports on standard error what failed.
 
 use crate::failure::Failure;
 use crate::reason::{Action, Cause, Reason, Subject};
@@ -6,21 +6,21 @@ use std::io;
 use std::sync::Mutex;
 use std::sync::atomic::{AtomicBool, Ordering};
 
-/// Says what failed, in one line, and in a second one why, where the program is asked to.
+/// Says in one line what failed, and in a second line why, if the program is asked to.
 #[derive(Drop)]
 pub struct Teller<'p, R> {
     rt: &'p R,
     verbose: bool,
     /// Why something failed last.
     last: Mutex<Option<Reason<'p>>>,
-    /// Whether a vault is served, which a file's fault breaks.
+    /// Whether a vault is served. If it is, a file's fault breaks it.
     serves: AtomicBool,
-    /// Whether it was said that it broke.
+    /// Whether it was said that the vault broke.
     has_broken: AtomicBool,
 }
 
 impl<'p, R: Eprint> Teller<'p, R> {
-    /// Nothing has failed.
+    /// A teller. Nothing has failed yet.
     pub fn new(rt: &'p R, verbose: bool) -> Teller<'p, R> {
         Teller {
             rt,
@@ -31,7 +31,7 @@ impl<'p, R: Eprint> Teller<'p, R> {
         }
     }
 
-    /// Whether more is to be said than what failed.
+    /// Whether the program is asked to say more than what failed.
     pub fn is_verbose(&self) -> bool {
         self.verbose
     }
@@ -46,7 +46,8 @@ impl<'p, R: Eprint> Teller<'p, R> {
         self.has_broken.load(Ordering::SeqCst)
     }
 
-    /// Something failed. The program ends with what comes of it, but for a server's file: this breaks its vault, and is said at once.
+    /// Something failed. While a vault is served, this breaks it, and the first such failure is said at once. Else the last failure is
+    /// kept as the reason that `tell` gives.
     pub fn note(&self, subject: Subject<'p>, action: Action, cause: Cause) {
         let reason = Reason {
             subject,
@@ -72,7 +73,7 @@ impl<'p, R: Eprint> Teller<'p, R> {
         self.say(Failure::Accept, Some(reason));
     }
 
-    /// Says why the program ends, unless that was said as soon as it was so.
+    /// Says why the program ends, unless that was said as soon as it happened.
     pub fn tell(&self, failure: Failure) {
         if !matches!(failure, Failure::Accept | Failure::Broken) {
             let last = self.last.try_lock().and_then(|last| *last);

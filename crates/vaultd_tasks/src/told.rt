@@ -1,4 +1,4 @@
-//! What `check` tells of two files.
+//! What `check` reports about two files.
 
 ghost use Rattle.std.specs.Prelude.{◌≡◌, ◌<◌, ◌^◌};
 
@@ -12,7 +12,7 @@ use std::io::{self, Write};
 use vault_inspector::{Figures, FileState, Limit};
 use vault_store::{File, FileVersion};
 
-/// What was found in two files: a reading of them, where they could be read, and why no server starts, where none does.
+/// What was found in two files: a reading of them, if they could be read, and why no server starts, if none does.
 #[derive(Drop)]
 pub(crate) struct Finding {
     pub(crate) reading: Option<Reading>,
@@ -30,7 +30,7 @@ struct Full {
     per_cent: u64,
 }
 
-/// What is told, as JSON has it.
+/// The report, with the fields of its JSON.
 #[derive(Drop, Serialize)]
 struct Told<'a> {
     served: bool,
@@ -64,7 +64,7 @@ struct Active {
     journal: u64,
 }
 
-/// What a person does next, by the page of OPERATING that says it.
+/// What a person does next: the section of OPERATING that says it.
 fn advice_of(failure: Failure) -> &'static str {
     match failure {
         Failure::FirstDamaged(_) | Failure::SecondDamaged(_) => {
@@ -89,7 +89,7 @@ fn offset_of(failure: Failure) -> Option<u64> {
     }
 }
 
-/// What is known of a file that is the active one. Behind a header of 24 bytes stand the snapshot and the journal.
+/// What is known of a file, if it is the active one. After a header of 24 bytes come the snapshot and the journal.
 fn active_in(state: FileState, snapshot: Option<u32>) -> Option<Active> {
     let FileState::Open {
         generation,
@@ -133,7 +133,7 @@ fn figures_of(finding: &Finding) -> Result<Option<Figures>, Failure> {
     }
 }
 
-/// A count, as a number of JSON. What doesn't fit, which no vault has, is the greatest.
+/// A count, as a number of JSON. A count that doesn't fit becomes the greatest number; no vault has one.
 fn in_number(count: u128) -> u64
     ensures { count < 2 ^ 64 → result ≡ count }
 {
@@ -173,7 +173,7 @@ fn words_of(alloc: Global, failure: Option<Failure>) -> Result<Option<String>, A
     }
 }
 
-/// The letter of a file, and its path.
+/// The letter of a file and its path.
 fn named<'a>(file: Option<File>, paths: (&'a str, &'a str)) -> (Option<&'a str>, Option<&'a str>) {
     match file {
         Some(File::First) => (Some("a"), Some(paths.0)),
@@ -182,7 +182,7 @@ fn named<'a>(file: Option<File>, paths: (&'a str, &'a str)) -> (Option<&'a str>,
     }
 }
 
-/// What is told, as one object of JSON.
+/// The report, as one object of JSON.
 fn json_of(alloc: Global, finding: &Finding, paths: (&str, &str)) -> Result<String, Failure> {
     let active = active_of(finding);
     let figures = figures_of(finding)?;
@@ -218,7 +218,7 @@ fn write_files<W: Write>(writer: &mut W, reading: &Reading, paths: (&str, &str))
     writeln!(writer, "file b, {b}, {}.", reading.report.second)
 }
 
-/// Writes whether a server starts, and else why not and what to do.
+/// Writes whether a server starts. If not, also why, and what to do.
 fn write_verdict<W: Write>(
     writer: &mut W,
     failure: Option<Failure>,
@@ -273,7 +273,7 @@ fn write_figures<W: Write>(writer: &mut W, figures: Figures) -> io::Result<()> {
     Ok(())
 }
 
-/// Writes what is told, in sentences.
+/// Writes the report in sentences.
 fn write_told<W: Write>(
     writer: &mut W,
     finding: &Finding,

@@ -5,8 +5,8 @@ use std::alloc::Allocator;
 use vault_device::Device;
 use vault_store::{BodyError, are_of_two_vaults};
 
-/// Refuses files of two vaults. They are read, and nothing is changed. A file that the device doesn't give decides nothing: opening says what is
-/// wrong with the active one, and the other isn't needed.
+/// Refuses files of two vaults. They are read, and nothing is changed. Files that can't be read aren't refused here: opening reports an
+/// active one that can't be read, and doesn't need the other.
 pub fn refuse_two_vaults<D: Device, A: Allocator + Copy>(
     alloc: A,
     first: &mut D,

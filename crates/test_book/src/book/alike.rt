@@ -4,7 +4,7 @@ use vault_checkout::Book;
 use vault_model::ClaimId::{Long, Short};
 use vault_model::{Claim, DraftIn, Path, PlaceId, Standing};
 
-/// Numbers, and paths of places, some of which the books lack, that are looked for in both books.
+/// Numbers and paths of places to look for in both books. The books lack some of them.
 static LOOKED_FOR: [(u32, &str); 8] = [
     (0, "/"),
     (1, "/e"),
@@ -16,8 +16,8 @@ static LOOKED_FOR: [(u32, &str); 8] = [
     (7, "/f"),
 ];
 
-/// What a book shows of a number: the claim at this position, how the claims of this number stand, the drafts of the check-out,
-/// and the first versions of the place.
+/// What a book shows of a number: the claim at this position, the standings of the long and the short claim of this number, the
+/// drafts of the check-out, and the first two versions of the place.
 type Shown<'a, A> = (
     Option<&'a Claim>,
     Option<Standing>,
@@ -48,7 +48,7 @@ fn are_places_alike<A: Allocator + Copy>(book: &Book<A>, other: &Book<A>, path: 
     book.tree().find(&path) == other.tree().find(&path)
 }
 
-/// How many places and claims a book has, and its last numbers.
+/// The number of places and of claims in a book, and the last numbers given to long and to short claims.
 pub(super) fn counts<A: Allocator + Copy>(book: &Book<A>) -> (usize, usize, u32, u32) {
     let line = book.line();
     (
@@ -59,7 +59,7 @@ pub(super) fn counts<A: Allocator + Copy>(book: &Book<A>) -> (usize, usize, u32,
     )
 }
 
-/// Whether two books show the same, beside their sessions.
+/// Whether two books show the same, apart from their sessions.
 pub(super) fn are_alike<A: Allocator + Copy>(book: &Book<A>, other: &Book<A>) -> bool {
     for (number, path) in &LOOKED_FOR {
         if shown(book, *number) != shown(other, *number) || !are_places_alike(book, other, path) {

@@ -1,4 +1,4 @@
-//! Effects in plain values, and their kinds.
+//! Effects as plain values, and their kinds.
 
 use std::alloc::{Allocator, Global};
 use test_memory::Tried;
@@ -8,7 +8,7 @@ use vault_model::{Effect, Intent, Item, Items, Listing, Name, Note, PlaceId};
 /// The kind of an effect, and the number of its claim.
 pub(super) type Kind = (&'static str, u32);
 
-/// The kind where there is no effect.
+/// The kind if there is no effect.
 pub(super) const NONE: Kind = ("", 0);
 
 pub(super) const MADE: Kind = ("Made", 0);
@@ -30,7 +30,8 @@ pub(super) fn kind_of<C>(effect: &Effect<C>) -> Kind {
     }
 }
 
-/// An effect in plain values: of the items of a claim how many there are, which are all alike.
+/// An effect as plain values. A claim's items are all alike: a row has their number, their intent and
+/// their place.
 #[derive(Clone, Copy)]
 pub(super) enum Row {
     Made(u32, &'static str),
@@ -44,7 +45,7 @@ pub(super) enum Row {
     Noted(u32),
 }
 
-/// So many items of a place, 8 at most.
+/// This number of items of a place, 8 at most.
 fn items(count: usize, intent: Intent, place: u32) -> Items {
     let mut items = Items::new();
     for _ in 0..count {
@@ -59,7 +60,7 @@ fn items(count: usize, intent: Intent, place: u32) -> Items {
     items
 }
 
-/// The name in an effect: the place's own, anna's who asks, or ben's who is given.
+/// The name in an effect: a new place's own, ben's for a check-out that is given, else anna's.
 fn name(row: Row) -> Option<Name> {
     let text = match row {
         Row::Made(_, text) | Row::Nested(_, text) => text,
@@ -69,7 +70,7 @@ fn name(row: Row) -> Option<Name> {
     Name::read(text.as_bytes())
 }
 
-/// An effect that saves so many zeros.
+/// An effect that saves this number of zeros.
 fn saved(memory: Global, number: u32, place: u32, count: usize) -> Option<Effect> {
     let Ok(zeros) = vec![in memory; 0u8; count] else {
         return None;
@@ -100,7 +101,7 @@ fn effect(memory: Global, row: Row) -> Option<Effect> {
     Some(effect)
 }
 
-/// Tries to apply the effect of a row, which has to give this where there is memory.
+/// Tries to apply the effect of a row. If there is memory, it must give this result.
 pub(super) fn applies<A: Allocator + Copy>(
     memory: Global,
     book: &mut Book<A>,

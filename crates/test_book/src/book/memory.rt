@@ -1,4 +1,4 @@
-//! Each request for memory refused in turn: the book is then as it was.
+//! Each memory request refused in turn: the book must then be as it was.
 use super::Talk;
 use super::alike::are_alike;
 use super::effects::{MADE, NESTED, NONE, Row};
@@ -13,8 +13,8 @@ use vault_checkout::{Book, FromPartsError};
 use vault_model::Intent::{Change, Look};
 use vault_model::NoMemory;
 
-/// What is said to books to see whether they know the same sessions: whose they are shows in what they check out, and so does
-/// the number that a new one gets.
+/// Lines that show whether two books have the same sessions: the check-outs show the designer of each session, and which
+/// number a new session gets.
 static PROBES: [(u32, &str); 7] = [
     (0, "checkout r:/"),
     (1, "checkout r:/"),
@@ -26,7 +26,7 @@ static PROBES: [(u32, &str); 7] = [
 ];
 
 impl<A: Allocator + Copy> Talk<A> {
-    /// A copy that heard this.
+    /// A copy that was given these lines.
     fn probed(&self, memory: Global) -> Option<Talk<A>> {
         let Some(mut copy) = self.copy() else {
             return None;
@@ -38,7 +38,7 @@ impl<A: Allocator + Copy> Talk<A> {
     }
 }
 
-/// Whether two talks have come to the same, with the same sessions.
+/// Whether two talks have the same books, with the same sessions.
 fn are_same<A: Allocator + Copy>(memory: Global, talk: &Talk<A>, other: &Talk<A>) -> bool {
     let Some(probed) = talk.probed(memory) else {
         return false;
@@ -53,7 +53,7 @@ fn are_same<A: Allocator + Copy>(memory: Global, talk: &Talk<A>, other: &Talk<A>
     is_same
 }
 
-/// Tries a step. Refused, the books are as their twins, and the next try succeeds.
+/// Tries a step. If it is refused, the books must be as their twins still, and the next try must succeed.
 fn does<A: Allocator + Copy>(
     memory: &Refusing<Global>,
     aside: Global,
@@ -72,7 +72,8 @@ fn does<A: Allocator + Copy>(
     tried.and(has_refused && is_kept && talk.does(aside, step) == Tried::Done)
 }
 
-/// Tries a step after others, which asks the first memory, beside a twin in ample memory. At the end both are the same.
+/// Tries a step after others. It takes its memory from the first allocator; a twin takes the same steps in ample memory. At
+/// the end both must be the same.
 fn does_from<A: Allocator + Copy>(
     memory: &Refusing<Global>,
     aside: Global,
@@ -99,7 +100,7 @@ fn does_from<A: Allocator + Copy>(
     tried.and(is_like)
 }
 
-/// Whether a book is like another, if it is there.
+/// Whether a book is like another. `None` if there was no memory for it.
 fn is_like<A: Allocator + Copy>(book: Result<Book<A>, NoMemory>, other: &Book<A>) -> Option<bool> {
     let Ok(book) = book else {
         return None;
@@ -109,7 +110,7 @@ fn is_like<A: Allocator + Copy>(book: Result<Book<A>, NoMemory>, other: &Book<A>
     Some(is_like)
 }
 
-/// Whether a new book, or a copy, is like a book that these steps lead to.
+/// Whether a new book, or a copy, is like the book after these steps.
 fn makes<A: Allocator + Copy>(
     memory: &Refusing<Global>,
     aside: Global,
@@ -130,7 +131,7 @@ fn makes<A: Allocator + Copy>(
     told
 }
 
-/// Whether a book is made of another's parts, like it.
+/// Whether a book made of another's parts is like that one.
 fn is_remade(
     rt: &impl Abort,
     memory: &Refusing<Global>,
@@ -182,7 +183,7 @@ fn each_request_of_a_book_is_refused(rt: HostRuntime) {
     }
 }
 
-/// A call, what is tried, and how many requests it makes.
+/// A name, a call, and the number of requests that it makes.
 static WANTED: [(&str, Call, u64); 36] = [
     (
         "Book::apply, Made",

@@ -16,22 +16,22 @@ use vault_model::{
     Owner, PlaceId,
 };
 
-/// A place, how many bytes are saved for it, which are all 7, how many times, and by how many places the next one lies before.
+/// A place, the number of bytes saved for it (each is 7), how often, and how far each next place number is below the last.
 type Saved = (u32, usize, u32, u32);
 
 const NONE: Saved = (0, 0, 0, 0);
 
-/// What a book is made of, beside the tree and the claims of another.
+/// What a book is made of, besides the tree and the claims of another.
 #[derive(Clone, Copy)]
 pub(super) struct Parts {
     /// The drafts of each claim, in the order of the line.
     drafts: &'static [Saved],
-    /// Another claim at the end of the line, which looks at a place: anna's, or a session's if that is not 0.
+    /// One more claim at the end of the line, its session, and the place that it looks at. It is anna's if the session is 0.
     claim: Option<(ClaimId, u32, u32)>,
     last_long: u32,
-    /// Whether the tree is a new one in place of the other's.
+    /// Whether the tree is a new one, instead of the other's.
     has_new_tree: bool,
-    /// Whether the shelf is a new one in place of the other's.
+    /// Whether the shelf is a new one, instead of the other's.
     has_new_shelf: bool,
     /// What is put on the shelf.
     versions: Saved,
@@ -53,7 +53,7 @@ fn drafts_of<A: Allocator + Copy>(alloc: A, (place, len, times, back): Saved) ->
     Some(Listing::from_vec(drafts))
 }
 
-/// Puts a draft to the end of a list.
+/// Appends a draft to a list.
 fn push_draft<A: Allocator + Copy>(
     alloc: A,
     drafts: &mut Vec<DraftIn<A>, A>,
@@ -70,7 +70,7 @@ fn push_draft<A: Allocator + Copy>(
     drafts.push(draft).is_ok()
 }
 
-/// Puts the drafts of each claim to the end of a list.
+/// Appends the drafts of each claim to a list.
 fn push_all_drafts<A: Allocator + Copy>(
     alloc: A,
     all: &mut Vec<Drafts<A>, A>,
@@ -95,7 +95,7 @@ fn put_versions<A: Allocator + Copy>(alloc: A, shelf: &mut Shelf<A>, saved: Save
     shelf.append_all(versions).is_ok()
 }
 
-/// Puts a claim that looks at a place to the end of a list: anna's, or the session's if that is not 0.
+/// Appends a claim that looks at a place to a list. It is anna's if the session is 0, else the session's.
 fn push_other<A: Allocator>(
     claims: &mut Vec<Claim, A>,
     (id, session, place): (ClaimId, u32, u32),
@@ -121,7 +121,7 @@ fn push_other<A: Allocator>(
     claims.push(claim).is_ok()
 }
 
-/// Puts the claims of a book to the end of a list, and behind them the other, if there is one.
+/// Appends the claims of a book to a list, and then the other claim, if there is one.
 fn push_claims<A: Allocator + Copy>(
     claims: &mut Vec<Claim, A>,
     book: &Book<A>,
@@ -164,7 +164,7 @@ fn shelf_of<A: Allocator + Copy>(
     book.shelf().copy()
 }
 
-/// What making a book of another's parts gives, with this request refused: whether they show the same.
+/// Makes a book of another's parts, with this request refused. Returns whether the two show the same, or the error.
 fn remakes<A: Allocator + Copy>(
     rt: &impl Abort,
     memory: &Refusing<Global>,
@@ -191,7 +191,7 @@ fn remakes<A: Allocator + Copy>(
     }
 }
 
-/// The same of the durable book that these steps lead to.
+/// The same for the durable book after these steps.
 pub(super) fn remakes_from<A: Allocator + Copy>(
     rt: &impl Abort,
     (memory, aside): (&Refusing<Global>, Global),
@@ -214,7 +214,7 @@ fn parts_of_a_vault_make_a_book(rt: HostRuntime) {
     }
 }
 
-/// The parts of the book that was told.
+/// The parts of the durable book after the steps of `TOLD`.
 pub(super) const OWN: Parts = Parts {
     drafts: &[(3, 2, 1, 0), NONE, NONE],
     claim: None,
@@ -244,7 +244,7 @@ const NOTHING: Parts = Parts {
     ..OWN
 };
 
-/// Its name, the book whose parts are taken, what they are then, and whether the book that is made of them is like it.
+/// A name, the steps to the book whose parts are taken, the parts, and whether the book that is made of them is like that one.
 type Row = (&'static str, List, Parts, Result<bool, FromPartsError>);
 
 static ROWS: [Row; 28] = [

@@ -34,25 +34,25 @@ fn command(memory: Global, unspelled: Unspelled) -> Command {
 /// What is done to a book and its durable book, or looked at.
 #[derive(Clone, Copy)]
 pub(super) enum Step {
-    /// A session says a line, is told another, and this is the effect.
+    /// A session says a line, is answered with another, and the effect is of this kind.
     Says(u32, &'static str, &'static str, Kind),
-    /// A session says what no line spells, and is told this.
+    /// A session gives a command that no line spells, and is answered with this line.
     SaysUnspelled(u32, Unspelled, &'static str),
-    /// Sessions of anna's join, and are told these lines.
+    /// Sessions of anna's join, and are answered with these lines.
     Join(&'static [&'static str]),
-    /// The durable book takes the book's place.
+    /// A restart: the book and the durable book change places.
     Reopens,
-    /// The durable book shows the same as the book, beside sessions.
+    /// The durable book shows the same as the book, apart from sessions.
     IsDurable,
-    /// An effect is made on the durable book.
+    /// An effect is applied to the durable book.
     Applies(Row),
     /// An effect is not applicable to the durable book.
     IsRefused(Row),
-    /// How a claim of the book stands, if it is there.
+    /// The standing of a claim of the book, if it is there.
     Stands(ClaimId, Option<Standing>),
-    /// A check-out of the book has so many drafts.
+    /// A check-out of the book has this number of drafts.
     HasDrafts(u32, usize),
-    /// How many places and claims the book has, and its last numbers.
+    /// The number of places and of claims in the book, and the last numbers given to long and to short claims.
     Counts(usize, usize, u32, u32),
     /// There is no claim at this position of the line.
     HasNone(usize),
@@ -105,7 +105,7 @@ impl List {
     }
 }
 
-/// Whether a book's second claim is the hold of session 2, on two places, which is found by its number, and there is no second
+/// Whether a book's second claim is the hold of session 2, on two places, and is found by its number, and there is no second
 /// check-out.
 fn has_hold<A: Allocator + Copy>(book: &Book<A>) -> bool {
     let line = book.line();
@@ -121,7 +121,7 @@ fn has_hold<A: Allocator + Copy>(book: &Book<A>) -> bool {
 }
 
 impl<A: Allocator + Copy> Talk<A> {
-    /// A new book, and its durable book in memory of its own, which have come there.
+    /// A new book and its durable book, each in memory of its own, after these steps.
     pub(super) fn from(alloc: A, beside: A, memory: Global, start: List) -> Option<Talk<A>> {
         let Some(mut talk) = Talk::new(alloc, beside) else {
             return None;
@@ -147,7 +147,7 @@ impl<A: Allocator + Copy> Talk<A> {
         tried
     }
 
-    /// Tries to let sessions of anna's join, which are told these lines.
+    /// Tries to let sessions of anna's join. They must be answered with these lines.
     fn join(&mut self, memory: Global, wants: &[&str]) -> Tried {
         for want in wants {
             if self.hears(memory, 0, "hello anna", (want, NONE)) != Tried::Done {
@@ -181,7 +181,7 @@ impl<A: Allocator + Copy> Talk<A> {
         }
     }
 
-    /// How many steps are done, up to the first that isn't.
+    /// The number of steps that are done before the first that isn't.
     pub(super) fn does_all(&mut self, memory: Global, steps: &[Step]) -> usize {
         for (index, step) in steps.iter().enumerate() {
             if self.does(memory, step) != Tried::Done {

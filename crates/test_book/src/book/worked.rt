@@ -39,8 +39,8 @@ pub(super) static ANNA: [Step; 12] = [
     Says(1, "checkout r:/", "OK queued c4 behind c2", ("Asked", 4)),
 ];
 
-/// A part `/e/b/p` with a version, and beside it `/e/b/q`. The line is c3, which is held with a draft of p, c2, which is held
-/// and looks at q, and c4, which is queued.
+/// A part `/e/b/p` with a version, and beside it `/e/b/q`. The line is c3 (granted, with a draft of p), c2 (granted, looks at
+/// q) and c4 (waiting).
 pub(super) static TOLD: [Step; 20] = [
     Says(0, "hello anna", "OK session 1", NONE),
     Says(1, "make /e", "OK place 1", MADE),
@@ -100,7 +100,7 @@ pub(super) static DURABLE: [Step; 8] = [
     Applies(Row::Saved(3, 4, 1024)),
 ];
 
-/// How many steps of a list are done behind those of another, up to the first that isn't, and how many there are.
+/// Does the steps of a list after those of another. Returns the number done before the first that isn't, and the number of all.
 fn count_done<A: Allocator + Copy>(
     alloc: A,
     memory: Global,
@@ -154,7 +154,7 @@ static WORKED: [(&str, List, List); 10] = [
     ),
 ];
 
-/// The line is read by the book's calls, before there is a claim and with two.
+/// The line is read by the book's calls, first without a claim and then with two.
 pub(super) static READ: [Step; 9] = [
     HasNone(0),
     Says(1, "checkout r:/e/b", "OK held c1", ("Asked", 1)),
@@ -172,7 +172,7 @@ pub(super) static READ: [Step; 9] = [
     HasHold,
 ];
 
-/// Claims are not judged again.
+/// Claims are not judged again: effects are applied without a check for overlap.
 pub(super) static NOT_JUDGED: [Step; 4] = [
     Applies(Row::Extended(2, 1, Change, 3)),
     Reopens,
@@ -180,7 +180,7 @@ pub(super) static NOT_JUDGED: [Step; 4] = [
     Stands(C1, Some(Queued(C2))),
 ];
 
-/// Each kind that has an effect, then the kinds that have none, then refusals of each kind that may have one.
+/// Each kind of command that has an effect, then those that have none, then a refusal of each kind that may have an effect.
 pub(super) static EACH_KIND: [Step; 31] = [
     Says(1, "nest /e/b/s", "OK place 5", NESTED),
     Says(1, "make /e/b/s/p", "OK place 6", MADE),
@@ -220,8 +220,8 @@ pub(super) static EACH_KIND: [Step; 31] = [
     Says(2, "quit", "OK left", NONE),
 ];
 
-/// Commands that no line spells, behind claims of both sessions. Where several refusals apply, the first is told. Session 9
-/// doesn't stand.
+/// Commands that no line spells, after claims of both sessions. Where several refusals apply, the first is the answer. There is
+/// no session 9.
 pub(super) static UNSPELLED: [Step; 17] = [
     Says(1, "make /f", "OK place 5", MADE),
     Says(1, "checkout r:/e w:/e/b", "OK held c1", ("Asked", 1)),
@@ -257,7 +257,7 @@ const NOT_YOURS: &str = "ERR 31";
 
 const NOT_HELD: &str = "ERR 32";
 
-/// What the first 64 sessions are told.
+/// The answers to the first 64 sessions.
 const SESSIONS: [&str; 64] = [
     "OK session 1",
     "OK session 2",
@@ -325,7 +325,7 @@ const SESSIONS: [&str; 64] = [
     "OK session 64",
 ];
 
-/// A 65th session waits for one to leave.
+/// A 65th session is refused until one has left.
 pub(super) static FULL: [Step; 7] = [
     Counts(1, 0, 0, 0),
     Join(&SESSIONS),
@@ -361,7 +361,7 @@ pub(super) static LEFT: [Step; 16] = [
     Stands(C3, Some(Held)),
 ];
 
-/// What the durable book tells when it is opened.
+/// What the durable book answers when it is opened.
 pub(super) static OPENED: [Step; 14] = [
     Reopens,
     IsDurable,
@@ -379,7 +379,7 @@ pub(super) static OPENED: [Step; 14] = [
     Says(1, "count /e/b/p2", "OK versions 1", NONE),
 ];
 
-/// The same, told by the book itself when it is restarted.
+/// The same, answered by the book itself when it is restarted.
 pub(super) static RESTARTED: [Step; 12] = [
     Reopens,
     Reopens,
@@ -395,10 +395,10 @@ pub(super) static RESTARTED: [Step; 12] = [
     Says(1, "count /e/b/p2", "OK versions 1", NONE),
 ];
 
-/// A claim that is queued behind the others.
+/// A claim that waits for one of the others.
 const QUEUED: Step = Applies(Row::Asked(4, 1, Change, 2));
 
-/// Places that can't be made, claims that can't be asked for or extended, and what is said of no claim.
+/// Places that can't be made, claims that can't be asked for or extended, and effects on a claim that isn't there.
 pub(super) static NOT_APPLICABLE: [Step; 22] = [
     QUEUED,
     IsRefused(Row::Made(9, "x")),
@@ -424,8 +424,8 @@ pub(super) static NOT_APPLICABLE: [Step; 22] = [
     Counts(5, 4, 4, 0),
 ];
 
-/// Drafts of no claim that is held, of places that it doesn't change, and one that is too long; check-ins of claims that aren't
-/// held.
+/// Drafts of claims that aren't granted, of places that a claim doesn't change, and one that is too long; check-ins of claims
+/// that aren't granted.
 pub(super) static NO_DRAFTS: [Step; 16] = [
     QUEUED,
     IsRefused(Row::Saved(9, 4, 1)),

@@ -9,11 +9,11 @@ use vault_model::{Outside, Refusal};
 pub(crate) enum Said {
     Hello(&'static [u8]),
     Make(&'static [u8]),
-    /// How a claim stands, of which there is none.
+    /// How a claim stands that doesn't exist.
     Question,
     /// What stands under the library.
     List,
-    /// The part /e/b/p is asked for, for change.
+    /// The part /e/b/p is checked out for change.
     CheckOut,
     /// 1,024 bytes are saved as a draft of that part, for the first check-out.
     Save,
@@ -34,7 +34,7 @@ pub(crate) enum Fate {
     Unknown,
 }
 
-/// Where a ticket is kept while it is out.
+/// Where a ticket is kept while it is outstanding.
 #[derive(Clone, Copy)]
 pub(crate) enum Hand {
     Left,
@@ -55,12 +55,12 @@ pub(crate) enum Call {
     Pump(Result<Pumped, Fault>),
     Start(Started),
     Retire(Retired),
-    /// How many entries the vault has, keeps, settled and told.
+    /// How many entries the vault has, keeps, made durable and acknowledged.
     Numbers([u64; 4]),
     Wants(bool),
     Broken(bool),
     Phase(Phase),
 }
 
-/// A call that is made so many times.
+/// How many times a call is made, and the call.
 pub(crate) type Row = (u16, Call);

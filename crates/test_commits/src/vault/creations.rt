@@ -1,4 +1,4 @@
-//! Vaults that are created, or for some reason aren't, and what a stop then leaves.
+//! Vaults that are created, or for some reason aren't, and what a crash then leaves.
 
 use crate::inspector::holding;
 use crate::vault::play::end;
@@ -15,7 +15,7 @@ pub(crate) struct Creation {
     pub bytes: (&'static [u8], &'static [u8]),
     /// Which call of each is to fail; 0 for none. A creation makes eight of the first and two of the second.
     pub failing: (u64, u64),
-    /// What the stop behind it leaves of what isn't synced.
+    /// What the crash after it leaves of what isn't synced.
     pub pick: Pick,
     /// Why it makes no vault.
     pub why: Option<CreateError>,
@@ -138,7 +138,7 @@ pub(crate) static CREATIONS: [Creation; 18] = [
     },
 ];
 
-// Why none is made, and the devices.
+// Why no vault is made, and the devices.
 fn made(
     alloc: Global,
     first: MemDevice,
@@ -166,7 +166,7 @@ fn opens(alloc: Global, first: MemDevice, second: MemDevice) -> bool {
     }
 }
 
-/// Why none is made, and whether one opens then.
+/// Why no vault is made, and whether one opens then.
 pub(crate) fn created(
     rt: &impl Abort,
     alloc: Global,

@@ -1,4 +1,4 @@
-//! Memory refused to a vault and to its two files: growth that a file is refused is a fault, and costs what wasn't settled.
+//! Memory refused to a vault and to its two files. Where a file can't grow, that is a fault, and costs what wasn't durable.
 
 use crate::vault::call::Call::{Broken, Give, Pump, Redeem, Refuse, Stage, Start};
 use crate::vault::call::Fate::{Place, Refused, Session, Unknown};
@@ -15,10 +15,10 @@ use vault_device::{MemDevice, Pick};
 use vault_model::Outside;
 use vault_model::Refusal::Exists;
 
-/// A vault in such memory, and in two files in it.
+/// A vault and its two files, all in memory that may be refused.
 type Growing<'a> = Vault<MemDevice<&'a Refusing<Global>>, &'a Refusing<Global>>;
 
-// Behind a fault.
+// After a fault.
 static FAULTED: [Row; 5] = [
     (1, Broken(true)),
     (1, Redeem(Left, Unknown)),
@@ -27,7 +27,7 @@ static FAULTED: [Row; 5] = [
     (1, Start(Started::NotNow)),
 ];
 
-// In the next life, where the place was settled.
+// In the next life, where the place was durable.
 static KEPT: [Row; 4] = [
     (1, Give(0, Hello(b"anna"))),
     (1, Stage(Left, 1, Make(b"/e"))),
@@ -53,7 +53,7 @@ fn made<'a>(rt: &impl Abort, memory: &'a Refusing<Global>) -> Growing<'a> {
     }
 }
 
-// The vault of the next life, behind a stop, and how many times its files were refused memory.
+// The vault of the next life, after a crash, and how many times its files were refused memory.
 fn next_life<'a>(
     rt: &impl Abort,
     memory: &'a Refusing<Global>,
@@ -69,7 +69,7 @@ fn next_life<'a>(
     }
 }
 
-// Whether the next life has the place exactly where it was settled.
+// Whether the next life has the place exactly where it was durable.
 fn is_left<'a>(
     rt: &impl Abort,
     memory: &'a Refusing<Global>,
@@ -85,8 +85,8 @@ fn is_left<'a>(
     count == rows.len() && refused == u64::from(is_lost)
 }
 
-// Makes calls with a request of this number refused. Refused by a file, the vault is broken; refused by the vault, the call is made again, and
-// those behind it.
+// Makes calls with the request of this number refused. If it was a file's, the vault is broken. If it was the vault's, the call is made
+// again, and those after it.
 fn grows(rt: &impl Abort, memory: &Refusing<Global>, calls: &'static [Row], number: u64) -> Tried {
     let mut vault = made(rt, memory);
     let mut hands = Hands::empty();

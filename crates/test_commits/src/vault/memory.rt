@@ -1,4 +1,4 @@
-//! Each request for memory refused in turn: of a vault's public functions, of an inspection, and of what is told of a vault.
+//! Each request for memory refused in turn: of a vault's public functions, of an inspection, and of a vault's figures.
 
 use crate::inspector::{figures, inspects};
 use crate::vault::call::Call::{Give, Numbers, Phase, Pump, Redeem, Retire, Stage, Start};
@@ -22,9 +22,9 @@ struct Trial {
     before: &'static [Row],
     /// Further calls before it, which ask for no memory.
     quiet: &'static [Row],
-    /// Calls behind its refusal.
+    /// Calls after its refusal.
     refused: &'static [Row],
-    /// Calls behind that, which ask for no memory.
+    /// Calls after that, which ask for no memory.
     behind: &'static [Row],
 }
 
@@ -52,7 +52,7 @@ fn are_answered<'a>(
     answered(vault, hands, memory, rows) == rows.len()
 }
 
-// Whether two devices are made a vault.
+// Whether a vault is made on two devices.
 fn is_created(memory: &Refusing<Global>, first: MemDevice, second: MemDevice) -> bool {
     match Vault::create(memory, first, second, 1) {
         Ok(vault) => {
@@ -66,7 +66,7 @@ fn is_created(memory: &Refusing<Global>, first: MemDevice, second: MemDevice) ->
     }
 }
 
-// Tries to create a vault. Refused, the devices come back, and serve then.
+// Tries to create a vault. Where memory is refused, the devices come back, and a vault is then made on them.
 fn creates(rt: &impl Abort, memory: &Refusing<Global>, alloc: Global, number: u64) -> Tried {
     let (first, second) = (device(rt, alloc), device(rt, alloc));
     memory.refuse(number);
@@ -111,7 +111,7 @@ fn asks(
     tried.and(is_ready && is_quiet && is_refused == has_refused && is_answered && is_over)
 }
 
-// Tries it with that request refused.
+// Makes a trial with the request of this number refused.
 fn tries(
     rt: &impl Abort,
     memory: &Refusing<Global>,
@@ -145,8 +145,8 @@ static TRIALS: [(&str, Trial, u64); 5] = [
         },
         4,
     ),
-    // Committing a list before its ticket is redeemed asks for no memory, and nor does retiring it. Refused, the ticket comes back, and
-    // nothing is told; it is told then.
+    // Committing a list before its ticket is redeemed asks for no memory, nor does retiring it. Where memory is refused, the ticket comes
+    // back, and nothing is acknowledged; the next try gives the reply.
     (
         "Vault::redeem",
         Trial {
@@ -167,7 +167,7 @@ static TRIALS: [(&str, Trial, u64); 5] = [
         },
         1,
     ),
-    // Refused, nothing is under way, and the next try starts it. One request has room for all versions and drafts.
+    // Where memory is refused, nothing is under way, and the next try starts it. One request has room for all versions and drafts.
     (
         "Vault::start_snapshot",
         Trial {

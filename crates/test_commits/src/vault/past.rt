@@ -23,15 +23,15 @@ pub(crate) enum Beginning {
     TakenOver,
 }
 
-/// Where the machine stops.
+/// Where the machine crashes.
 #[derive(Clone, Copy)]
 pub(crate) enum Stop {
     BetweenCalls,
-    /// Once more, inside the opening behind the first stop: at that call of the first device.
+    /// Once more, inside the opening after the first crash: at that call of the first device.
     InAnOpening(u64),
 }
 
-// The receipt of a command without an effect, which is staged, settled and told.
+// The receipt of a command without an effect, which is staged, made durable and acknowledged.
 fn told(rt: &impl Abort, vault: &mut Vault<MemDevice>, command: CommandIn<Global>) -> Receipt
     ensures past { (past : List (VaultSeen MemDisk)) → IsPast disk_of vault.old past
         → (staged : VaultSeen MemDisk) × (pumped : VaultSeen MemDisk)
@@ -102,7 +102,7 @@ fn begun(
     }
 }
 
-// A vault that told somebody a reply in its first life.
+// A vault that handed out a reply in its first life.
 fn first_life(
     rt: &impl Abort,
     alloc: Global,
@@ -118,7 +118,7 @@ fn first_life(
     (vault, receipt)
 }
 
-// The vault of the next life, in the files that a stop left.
+// The vault of the next life, in the files that a crash left.
 fn opened(rt: &impl Abort, alloc: Global, first: MemDevice, second: MemDevice) -> Vault<MemDevice>
     ensures { (old : VaultSeen MemDisk) (past : List (VaultSeen MemDisk)) → AreLeft disk_of old first second → IsPast disk_of old past
         → IsPast disk_of result (old ∷ past) }
@@ -132,7 +132,7 @@ fn opened(rt: &impl Abort, alloc: Global, first: MemDevice, second: MemDevice) -
     }
 }
 
-// What a crash of both leaves.
+// What a crash leaves of both.
 fn crashed(first: MemDevice, second: MemDevice, pick: Pick) -> (MemDevice, MemDevice)
     ensures { (old : VaultSeen MemDisk) → AreLeft disk_of old first second → AreLeft disk_of old result.0 result.1 }
 {
@@ -143,7 +143,7 @@ fn crashed(first: MemDevice, second: MemDevice, pick: Pick) -> (MemDevice, MemDe
     (first, second)
 }
 
-// The vault of the next life, after its machine stopped between two calls.
+// The vault of the next life, after a crash between two calls.
 fn stopped(rt: &impl Abort, alloc: Global, vault: Vault<MemDevice>, pick: Pick) -> Vault<MemDevice>
     ensures { (past : List (VaultSeen MemDisk)) → IsPast disk_of vault past → IsPast disk_of result (vault ∷ past) }
 {
@@ -152,7 +152,7 @@ fn stopped(rt: &impl Abort, alloc: Global, vault: Vault<MemDevice>, pick: Pick) 
     opened(rt, alloc, first, second)
 }
 
-// The same, after it stopped inside a pump.
+// The same, after a crash inside a pump.
 fn stopped_in_a_pump(
     rt: &impl Abort,
     alloc: Global,
@@ -171,7 +171,7 @@ fn stopped_in_a_pump(
     opened(rt, alloc, first, second)
 }
 
-// The same, after the machine stopped once more, inside the opening behind the first stop: at that call of the first device.
+// The same, after the machine crashed once more, inside the opening after the first crash: at that call of the first device.
 fn stopped_in_an_opening(
     rt: &impl Abort,
     alloc: Global,
@@ -198,7 +198,7 @@ fn stopped_in_an_opening(
     }
 }
 
-// The vault of the next life, after its machine stopped there.
+// The vault of the next life, after a crash there.
 fn next_life(
     rt: &impl Abort,
     alloc: Global,
@@ -214,7 +214,7 @@ fn next_life(
     }
 }
 
-/// A vault that told somebody a reply, stopped, and was opened again; and the receipt.
+/// A vault that handed out a reply, crashed, and was opened again; and the receipt.
 pub(crate) fn two_lives(
     rt: &impl Abort,
     alloc: Global,
@@ -233,7 +233,7 @@ pub(crate) fn two_lives(
     (next, receipt)
 }
 
-// A place's making is staged, its ticket given up, and its commit begun: two of its steps are done.
+// The making of a place is staged, its ticket given up, and its commit begun: two of its steps are done.
 fn under_way(rt: &impl Abort, vault: &mut Vault<MemDevice>, command: CommandIn<Global>)
     ensures { (past : List (VaultSeen MemDisk)) → IsPast disk_of vault.old past
         → (staged given_up written : VaultSeen MemDisk) × IsPast disk_of vault.new (written ∷ given_up ∷ staged ∷ vault.old ∷ past) }
@@ -251,7 +251,7 @@ fn under_way(rt: &impl Abort, vault: &mut Vault<MemDevice>, command: CommandIn<G
     a_past_goes_on(vault);
 }
 
-/// The same, where the machine stopped inside the pump that opens the gate of a frame.
+/// The same, where the machine crashed inside the pump that writes the commit mark (gate) of a frame.
 pub(crate) fn inside_a_pump(
     rt: &impl Abort,
     alloc: Global,

@@ -16,16 +16,16 @@ use vault_device::{MemDevice, Pick};
 use vault_model::CommandIn;
 use vault_model::Refusal::Exists;
 
-/// The lives before the last one, and where they stop.
+/// The lives, and where they crash.
 #[derive(Clone, Copy)]
 pub(crate) enum Lives {
     Two(Beginning, Stop),
-    /// Two, the first of which stops inside a pump, while a place is being made.
+    /// Two, the first of which crashes inside a pump, while a place is being made.
     InsideAPump,
     Three,
 }
 
-/// A past, what each of its stops leaves of what isn't synced, and calls of the vault behind it. A receipt for the first session was kept.
+/// A past, what each of its crashes leaves of what isn't synced, and calls of the vault after it. The first session's receipt was kept.
 pub(crate) struct Past {
     pub name: &'static str,
     pub lives: Lives,
@@ -55,7 +55,7 @@ const TWO: Past = Past {
     calls: &[(1, NOTHING), (1, Broken(false))],
 };
 
-// The headline holds over a vault that an earlier program filled, from what its files stand for on.
+// The headline holds over a vault that an earlier program filled, beginning with what its files stand for.
 const OVER_FILES: Past = Past {
     name: "over files of version 1",
     lives: Lives::Two(Beginning::TakenOver, Stop::BetweenCalls),
@@ -63,7 +63,7 @@ const OVER_FILES: Past = Past {
     ..TWO
 };
 
-// The place that was being made isn't there, behind the frame whose gate was being opened.
+// The place that was being made isn't there, after the frame whose commit mark (gate) was being written.
 const INSIDE_A_PUMP: Past = Past {
     name: "a stop inside a pump",
     lives: Lives::InsideAPump,
@@ -175,7 +175,7 @@ fn lived(rt: &impl Abort, alloc: Global, lives: Lives, pick: Pick) -> (Vault<Mem
     }
 }
 
-/// How many of its calls are answered so. The receipt is the first session's.
+/// How many of its calls are answered as they say. The receipt is the first session's.
 pub(crate) fn found(rt: &impl Abort, alloc: Global, past: &Past) -> usize {
     let (mut vault, receipt) = lived(rt, alloc, past.lives, past.pick);
     assert!(rt; is_told(receipt.reply(), Session(1)));

@@ -1,4 +1,4 @@
-//! Calls are made of a vault, one after another.
+//! Makes calls of a vault, one after another.
 
 use crate::vault::call::{Call, Fate, Hand, Row, Said};
 use group_commit::{Forgotten, Redeemed, Started, Ticket, Vault};
@@ -13,7 +13,7 @@ use vault_model::{
     ReplyIn,
 };
 
-/// Tickets that are out. They are spent by `end`, since a ticket can't be dropped.
+/// Outstanding tickets. They are spent by `end`, since a ticket can't be dropped.
 pub(crate) struct Hands<A: Allocator> {
     left: Option<Ticket<A>>,
     right: Option<Ticket<A>>,
@@ -28,7 +28,7 @@ impl<A: Allocator> Hands<A> {
         }
     }
 
-    // What stands in a hand, in whose place this is put.
+    // Puts this into a hand, and gives what was there.
     fn swap(&mut self, hand: Hand, ticket: Option<Ticket<A>>) -> Option<Ticket<A>> {
         match hand {
             Hand::Left => mem::replace(&mut self.left, ticket),
@@ -38,7 +38,7 @@ impl<A: Allocator> Hands<A> {
 }
 
 impl<A: Allocator + Copy> Hands<A> {
-    // Keeps a ticket. One that stands there is spent.
+    // Keeps a ticket. One that was there is spent.
     fn keep<D: Device>(&mut self, vault: &mut Vault<D, A>, hand: Hand, ticket: Ticket<A>) {
         give_up(vault, self.swap(hand, Some(ticket)));
     }
@@ -70,7 +70,7 @@ fn save<A: Allocator + Copy>(alloc: A) -> Option<CommandIn<A>> {
     Some(Command::Save(1, path, Listing::from_vec(content)))
 }
 
-/// The command. But for a check-out, a save and a line it takes no memory.
+/// The command. Only a check-out, a save and a line take memory.
 pub(crate) fn command<A: Allocator + Copy>(alloc: A, said: Said) -> Option<CommandIn<A>> {
     match said {
         Said::Hello(name) => Some(Command::Join(Name::read(name)?)),
@@ -99,7 +99,7 @@ pub(crate) fn is_same<A: Allocator + Copy>(
     }
 }
 
-// The ticket of a session's command, or why it isn't staged, where it is handed back.
+// The ticket of a session's command. Else why it isn't staged, or None where the same command didn't come back.
 fn staged<D: Device, A: Allocator + Copy>(
     vault: &mut Vault<D, A>,
     alloc: A,
@@ -116,7 +116,7 @@ fn staged<D: Device, A: Allocator + Copy>(
     }
 }
 
-/// Stages a command, as it is said here: done with its ticket in a hand, or refused memory, and then handed back.
+/// Stages this command, which is the one said: done with its ticket in a hand, or refused memory, and then handed back.
 pub(crate) fn stage<D: Device, A: Allocator + Copy>(
     vault: &mut Vault<D, A>,
     hands: &mut Hands<A>,
@@ -149,7 +149,7 @@ fn is_given<D: Device, A: Allocator + Copy>(
     }
 }
 
-/// Whether this is told.
+/// Whether a reply is this one.
 pub(crate) fn is_told<A: Allocator>(reply: &ReplyIn<A>, fate: Fate) -> bool {
     match reply {
         Reply::Session(number) => matches!(fate, Fate::Session(told) if told == *number),
@@ -211,7 +211,7 @@ fn start<D: Device, A: Allocator + Copy>(vault: &mut Vault<D, A>, answer: Starte
     }
 }
 
-/// How many entries a vault has, keeps, settled and told.
+/// How many entries a vault has, keeps, made durable and acknowledged.
 pub(crate) fn numbers_of<D: Device, A: Allocator + Copy>(vault: &Vault<D, A>) -> [u64; 4] {
     [vault.len(), vault.kept(), vault.durable(), vault.told()]
 }
@@ -245,7 +245,7 @@ pub(crate) fn call<D: Device, A: Allocator + Copy>(
     Tried::done(is_right)
 }
 
-/// How many of these rows are answered so, one after another, up to the first that isn't.
+/// How many of these rows are answered as they say, one after another, up to the first that isn't.
 pub(crate) fn answered<D: Device, A: Allocator + Copy>(
     vault: &mut Vault<D, A>,
     hands: &mut Hands<A>,
@@ -264,8 +264,8 @@ pub(crate) fn answered<D: Device, A: Allocator + Copy>(
     count
 }
 
-/// Calls of a new vault, what they come to, and calls of the vault of the next life, after the machine stopped with nothing unsettled
-/// kept.
+/// Calls of a new vault, what they come to, and calls of the vault of the next life, after a crash that kept nothing that wasn't
+/// synced.
 pub(crate) struct Script {
     pub name: &'static str,
     /// Which call of the first device is to fail; 0 for none. The vault's creation makes eight.
@@ -320,7 +320,8 @@ fn next_vault(
     }
 }
 
-/// How many rows are answered so in the first life, whether the files are so then, and how many are in the next life.
+/// How many rows are answered as they say in the first life, whether the files then are as the script says, and how many rows are
+/// answered in the next life.
 pub(crate) fn played(rt: &impl Abort, alloc: Global, script: &Script) -> (usize, bool, usize) {
     let mut vault = new_vault(rt, alloc, alloc, script.failing);
     let mut hands = Hands::empty();

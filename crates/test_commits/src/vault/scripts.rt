@@ -115,7 +115,7 @@ pub(crate) static SCRIPTS: [Script; 9] = [
             (1, Redeem(Left, Fate::Refused(Exists))),
         ],
     },
-    // 253 saves of 1,024 bytes have records of 261,855 bytes, behind which there is no room for a longest one.
+    // 253 saves of 1,024 bytes have records of 261,855 bytes. After these there is no room for a record of the greatest length.
     Script {
         name: "a full buffer",
         failing: 0,
@@ -138,7 +138,7 @@ pub(crate) static SCRIPTS: [Script; 9] = [
         len: 77 + 5 + 261_855,
         next: &[],
     },
-    // What is staged before a snapshot is settled with it, in the second file, and what is staged behind its start isn't.
+    // What is staged before a snapshot becomes durable with it, in the second file; what is staged after its start doesn't.
     Script {
         name: "a snapshot",
         failing: 0,
@@ -228,8 +228,8 @@ pub(crate) static SCRIPTS: [Script; 9] = [
         len: 35,
         next: &[],
     },
-    // A full history takes a command again once its first entry is told, and another one once its second is forgotten. None is
-    // retired before that. The last two of 4,098 entries are settled only by another pump.
+    // A full history takes a command again once its first entry is acknowledged, and another one once its second is forgotten. None is
+    // retired before that. The last two of 4,098 entries become durable only by another pump.
     Script {
         name: "room again",
         failing: 0,

@@ -1,4 +1,4 @@
-//! Lines said to a vault whose memory is refused: what is told of them, and what the vault then is.
+//! Lines said to a vault whose memory is refused: what answers them, and what the vault then is.
 
 use crate::vault::call::Call::{Give, Pump};
 use crate::vault::call::Row;
@@ -20,11 +20,11 @@ type Asking<'a> = Vault<MemDevice, &'a Refusing<Global>>;
 enum Call {
     Open,
     Start,
-    /// A session's line is staged, and is told this.
+    /// A session's line is staged, and this answers it.
     Stage(u32, &'static str, &'static str),
 }
 
-// Four sessions; a part with a version; anna's c2, which is held with a draft of it and has a note; behind it ben's c3, and anna's hold.
+// Four sessions; a part with a version; anna's c2, which is granted, with a draft of it and a note; behind it ben's c3, and anna's hold.
 static BEFORE: [Row; 17] = [
     (1, Give(0, Line("hello anna"))),
     (1, Give(0, Line("hello ben"))),
@@ -61,7 +61,7 @@ static QUESTIONS: [(u32, &str); 12] = [
     (1, "draft c2 /e/b/p"),
 ];
 
-// A vault in which all that was said.
+// A vault in which all of `BEFORE` was said.
 fn begun<'a>(rt: &impl Abort, memory: &'a Refusing<Global>, aside: Global) -> Asking<'a> {
     let mut vault = new_vault(rt, memory, aside, 0);
     let mut hands = Hands::empty();
@@ -71,7 +71,7 @@ fn begun<'a>(rt: &impl Abort, memory: &'a Refusing<Global>, aside: Global) -> As
     vault
 }
 
-// Pumps up to where something is settled.
+// Pumps until something is durable.
 fn settles<A: Allocator + Copy>(vault: &mut Vault<MemDevice, A>) -> bool {
     for _ in 0..8 {
         if vault.pump() == Ok(Settled) {
@@ -81,7 +81,7 @@ fn settles<A: Allocator + Copy>(vault: &mut Vault<MemDevice, A>) -> bool {
     false
 }
 
-// The line that a ticket's entry is told as, once it is settled.
+// The line that answers a ticket's entry, once that is durable.
 fn text_for<A: Allocator + Copy>(
     vault: &mut Vault<MemDevice, A>,
     aside: Global,
@@ -117,7 +117,7 @@ fn ticket_of<A: Allocator + Copy>(
     }
 }
 
-// What a session is told of a line.
+// What answers a session's line.
 fn told<A: Allocator + Copy>(
     vault: &mut Vault<MemDevice, A>,
     (alloc, aside): (A, Global),
@@ -133,7 +133,7 @@ fn told<A: Allocator + Copy>(
     }
 }
 
-// Adds what a question is told, if it is.
+// Adds what answers a question, if anything does.
 fn tell<A: Allocator + Copy>(
     vault: &mut Vault<MemDevice, A>,
     (alloc, aside): (A, Global),
@@ -162,7 +162,7 @@ fn answers<A: Allocator + Copy>(
     all
 }
 
-// Whether a vault answers all questions so. It is ended.
+// Whether a vault answers all questions like this. The vault is ended.
 fn ends_as<A: Allocator + Copy>(
     vault: Vault<MemDevice, A>,
     (alloc, aside): (A, Global),
@@ -176,7 +176,7 @@ fn ends_as<A: Allocator + Copy>(
     is_so
 }
 
-// The files that a vault leaves in a stop.
+// The files that a vault leaves in a crash.
 fn left<A: Allocator + Copy>(vault: Vault<MemDevice, A>) -> (MemDevice, MemDevice) {
     let (mut first, mut second) = vault.into_devices();
     first.crash(Pick::Old);
@@ -195,7 +195,7 @@ fn opened<A: Allocator + Copy>(
     }
 }
 
-// Opens a vault again with a request of this number refused. Refused, the files come back, and open then.
+// Opens a vault again with the request of this number refused. If it was, the files come back, and open then.
 fn opened_without<'a>(
     rt: &impl Abort,
     memory: &'a Refusing<Global>,
@@ -227,7 +227,7 @@ fn opens(
     tried.and(ends_as(vault, (memory, aside), wanted))
 }
 
-// A vault in which a place is made behind all that, and isn't settled.
+// A vault in which a place is made after all that, and isn't durable.
 fn making<'a>(rt: &impl Abort, memory: &'a Refusing<Global>, aside: Global) -> Asking<'a> {
     let mut vault = begun(rt, memory, aside);
     let mut hands = Hands::empty();
@@ -242,7 +242,7 @@ fn making<'a>(rt: &impl Abort, memory: &'a Refusing<Global>, aside: Global) -> A
     vault
 }
 
-// Begins a snapshot with a request of this number refused. Refused, nothing is under way, and the place is settled in a frame.
+// Begins a snapshot with the request of this number refused. If it was, nothing is under way, and the place is committed in a frame.
 fn starts(
     rt: &impl Abort,
     memory: &Refusing<Global>,
@@ -263,7 +263,7 @@ fn starts(
     tried.and(ends_as(next, (memory, aside), wanted) && is_settled)
 }
 
-// Stages a line with a request of this number refused. Refused, the command comes back, nothing is kept of it, and it is staged then.
+// Stages a line with the request of this number refused. If it was, the command comes back, nothing is kept of it, and it is staged then.
 fn staged_without<'a>(
     rt: &impl Abort,
     vault: &mut Asking<'a>,
@@ -286,7 +286,7 @@ fn staged_without<'a>(
     }
 }
 
-// Whether this is a line.
+// Whether this text is that line.
 fn is_line(text: Option<Vec<u8>>, line: &str) -> bool {
     let Some(text) = text else {
         return false;
@@ -296,7 +296,7 @@ fn is_line(text: Option<Vec<u8>>, line: &str) -> bool {
     is_so
 }
 
-// The line is told as ever in the end, and the vault is then as one that was refused nothing.
+// In the end the line gets its usual answer, and the vault is like one that was refused nothing.
 fn says(
     rt: &impl Abort,
     memory: &Refusing<Global>,
@@ -314,7 +314,7 @@ fn says(
     tried.and(ends_as(vault, (memory, aside), wanted) && is_told)
 }
 
-// A vault behind a call that is refused nothing.
+// A vault after a call that is refused nothing.
 fn behind<'a>(
     rt: &impl Abort,
     memory: &'a Refusing<Global>,
@@ -338,7 +338,7 @@ fn behind<'a>(
     }
 }
 
-// Tries a call with its request of this number refused, behind which a vault answers so.
+// Tries a call with its request of this number refused, after which the vault has to answer like this.
 fn tries(
     rt: &impl Abort,
     memory: &Refusing<Global>,

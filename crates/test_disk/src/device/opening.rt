@@ -5,7 +5,7 @@ ghost use Rattle.vault_device.specs.SettledByte.{stands_for, IsShut, IsOldOrNew}
 
 use vault_device::{Device, Fault};
 
-/// Writes behind a byte that is shut, settles that, opens the byte and settles that.
+/// Writes the bytes behind a closed gate byte, syncs, opens the gate and syncs again.
 pub(crate) fn append_behind<D: Device>(device: &mut D, gate: u64, bytes: &[u8]) -> Result<(), Fault>
     requires end { gate + 1 + length bytes.now < 2 ^ 63 }
     requires shut { IsTrue (D.disk device.old).honest → IsShut gate (D.disk device.old) }

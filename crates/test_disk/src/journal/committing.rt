@@ -18,7 +18,7 @@ fn framed(rt: &impl Abort, memory: Global) -> Frame {
     frame
 }
 
-/// Does the first of a commit's four steps: the body, or all but the last, or all.
+/// Does the first `steps` of a commit's four steps: 1 (the body), 3 (all but the last) or 4 (all).
 fn does<D: Device>(device: &mut D, frame: &Frame, steps: u8) -> Result<(), Fault>
     requires closed { IsTrue (D.disk device.old).honest → StaysClosed 0 (D.disk device.old) }
 {
@@ -33,7 +33,7 @@ fn does<D: Device>(device: &mut D, frame: &Frame, steps: u8) -> Result<(), Fault
     open_gate(device, 0)
 }
 
-/// Whether the first of a commit's four steps and a crash, if any, leave these bytes. Before them stands a settled 0.
+/// Whether the first `steps` of a commit, and then the crash (if any), leave these bytes. The device begins with a durable 0.
 pub(crate) fn leaves(
     rt: &impl Abort,
     memory: Global,

@@ -1,4 +1,4 @@
-//! Fields, put behind one another and read again.
+//! Fields, written one behind another and read back.
 
 use vault_journal::{
     content_at, item_at, items_at, name_at, note_at, put_bytes, put_content, put_item, put_items,
@@ -15,7 +15,7 @@ const NUMBERS: &[u8] = b"-\xab\x12\x34\x01\x02\x03\x04\x01\x02\x03\x04\x05\x06\x
 
 const OTHERS: &[u8] = b"raw\x04anna\0\x04text\x01\0\0\0\x02\x01\x01\0\0\0\x02\x02\xff\0----";
 
-/// Whether numbers are put so.
+/// Whether numbers are written as `NUMBERS`.
 fn are_numbers_put() -> bool {
     let mut out = [b'-'; 16];
     let at = put_u8(&mut out, 1, 0xab);
@@ -25,7 +25,7 @@ fn are_numbers_put() -> bool {
     at == 16 && &out[..] == NUMBERS
 }
 
-/// Whether other fields are put so.
+/// Whether other fields are written as `OTHERS`.
 fn are_others_put() -> bool {
     let (Some(name), Some(note)) = (Name::read(b"anna"), Note::read(b"\xff\0")) else {
         return false;
@@ -41,7 +41,7 @@ fn are_others_put() -> bool {
     at == 28 && &out[..] == OTHERS
 }
 
-/// Whether numbers are read so, and the bytes behind each.
+/// Whether numbers are read from `NUMBERS`, each with the bytes behind it.
 fn are_numbers_read() -> bool {
     let out = NUMBERS;
     u8_at(&out[1..]) == Some((0xab, &out[2..]))
@@ -50,7 +50,7 @@ fn are_numbers_read() -> bool {
         && u64_at(&out[8..]) == Some((0x0102_0304_0506_0708, &out[16..]))
 }
 
-/// Whether other fields are read so, and the bytes behind each.
+/// Whether other fields are read from `OTHERS`, each with the bytes behind it.
 fn are_others_read() -> bool {
     let out = OTHERS;
     let items = Items::new().with(ITEM);

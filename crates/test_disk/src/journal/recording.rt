@@ -37,7 +37,7 @@ pub(crate) fn is_recorded(memory: Global, effect: EffectIn<Global>, bytes: &[u8]
     is_so
 }
 
-/// Bytes, the byte that follows until there are so many, and that count.
+/// Bytes, the byte that fills them up, and the length that they are filled up to.
 pub(crate) type Filled = (&'static [u8], u8, usize);
 
 /// Whether these bytes are read.
@@ -49,7 +49,7 @@ pub(crate) fn is_read(memory: Global, record: &[u8]) -> bool {
     true
 }
 
-/// Whether a check-in is read from the front of the bytes, and behind it nothing is.
+/// Whether these bytes are damage from their first byte on, where they stand behind a check-in's record.
 pub(crate) fn is_spoiled(memory: Global, record: &[u8]) -> bool {
     let mut all = [0; 1100];
     let len = record.len();
@@ -67,7 +67,7 @@ pub(crate) fn is_spoiled(memory: Global, record: &[u8]) -> bool {
     }
 }
 
-/// Whether a record that is filled up is read, or spoiled where it isn't good.
+/// Whether a filled-up record is read if it is good, and is damage if it isn't.
 pub(crate) fn is_filled(memory: Global, (front, byte, len): &Filled, is_good: bool) -> bool {
     let mut all = [*byte; 1100];
     if front.len() > 1100 || *len > 1100 {
@@ -89,7 +89,7 @@ pub(crate) fn push_within<A: Allocator>(frame: &mut Frame<A>, effect: &EffectIn<
     fits
 }
 
-/// Pushes an effect with a content of so many bytes so many times, and says whether there was room.
+/// Pushes an effect with a content of `len` bytes, `times` times, and says whether there was room.
 pub(crate) fn push_saved<A: Allocator>(
     memory: Global,
     frame: &mut Frame<A>,
@@ -107,7 +107,7 @@ pub(crate) fn push_saved<A: Allocator>(
     has_room
 }
 
-// Pushes so many times, and says whether there was room.
+// Pushes an effect `times` times, and says whether there was room.
 fn push_times<A: Allocator>(frame: &mut Frame<A>, effect: &EffectIn<Global>, times: u8) -> bool
     requires { HasRecord effect.now }
 {

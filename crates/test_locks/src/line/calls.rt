@@ -14,7 +14,7 @@ use vault_model::{Claim, ClaimId, Name, NoMemory, Note, PlaceId, Standing};
 /// The memory of a line.
 pub(super) type Memory<'a> = &'a Refusing<Global>;
 
-/// A claim of which a line is made, and how it stands there. A long one is anna's, a short one of the first session.
+/// A claim for a line to be made of, and its standing there. A long one is anna's, a short one the first session's.
 pub(super) type Listed = (ClaimId, &'static [Wish], Standing);
 
 /// A call of a line, with what it has to answer.
@@ -29,12 +29,12 @@ pub(super) enum Row {
     Restart,
     Give(u32, &'static str),
     SetNote(u32, &'static str),
-    /// Another line is made, which is like this one.
+    /// Another line is made, and is like this one.
     New,
     Copy,
-    /// Another line is made of these claims, the last number being this, or refused.
+    /// Another line is made of these claims with this last number, or is refused with this error.
     FromClaims(u32, &'static [Listed], Option<FromClaimsError>),
-    /// From here on no memory is asked for.
+    /// From here on no memory is requested.
     NoMemoryFrom,
     /// Up to here.
     NoMemoryTo,
@@ -44,7 +44,7 @@ pub(super) enum Row {
     Stands(ClaimId, Option<Standing>),
     /// The check-out at a position, its designer, its items and its note.
     At(usize, ClaimId, &'static str, &'static [Wish], &'static str),
-    /// How many claims there are, and the last numbers given.
+    /// The number of claims, and the last numbers given to long and to short ones.
     Counts(usize, u32, u32),
 }
 
@@ -64,7 +64,7 @@ fn put_first<'a>(
     answers(line.put_first(tree, id, items), ())
 }
 
-// Whether a line that was made is like this one.
+// Whether a new line is like this one.
 fn is_like(made: Result<Line<Memory<'_>>, NoMemory>, line: &Line<Memory<'_>>) -> Tried {
     match made {
         Ok(made) => {
@@ -84,7 +84,7 @@ fn listed(rt: &impl Abort, (id, wishes, _): &Listed) -> Claim {
     claim_of(rt, *id, (session, "anna"), items_of(rt, wishes), "")
 }
 
-// Whether a line has just these claims, in this order, and they stand so.
+// Whether a line has just these claims, in this order, with these standings.
 fn keeps(rt: &impl Abort, line: &Line<Memory<'_>>, last_long: u32, claims: &[Listed]) -> bool {
     for (position, claim) in claims.iter().enumerate() {
         let is_there = has_claim(line, position, &listed(rt, claim));
@@ -95,7 +95,7 @@ fn keeps(rt: &impl Abort, line: &Line<Memory<'_>>, last_long: u32, claims: &[Lis
     line.len() == claims.len() && line.last_long() == last_long && line.last_short() == 0
 }
 
-// Makes a line of claims, for the list of which there is ample memory.
+// Makes a line of claims. The list of these is in ample memory.
 fn is_made<'a>(
     rt: &impl Abort,
     (memory, ample): (Memory<'a>, Memory<'a>),
@@ -140,7 +140,7 @@ fn lists<'a>(
     }
 }
 
-// Whether a check-out stands at a position, with this designer, these items and this note.
+// Whether the line has this check-out at a position, with this designer, these items and this note.
 fn is_at(
     rt: &impl Abort,
     line: &Line<Memory<'_>>,
@@ -238,7 +238,7 @@ pub(super) fn act<'a>(
     }
 }
 
-/// A line that answered these rows so, its tree being in ample memory. A failure names the row.
+/// A line after these rows, each answered as it must be. Its tree is in ample memory. A failure names the row.
 pub(super) fn line_behind<'a>(
     rt: &impl Abort,
     memories: (Memory<'a>, Memory<'a>),

@@ -34,7 +34,7 @@ struct Plain {
     reach: Reach,
 }
 
-/// What random lines have shown, a bit each.
+/// What random lines have shown, one bit each.
 const HELD: u32 = 1;
 
 const QUEUED: u32 = 2;
@@ -185,7 +185,7 @@ fn drop_at_random<A: Allocator + Copy>(
     }
 }
 
-// Whether the line has the plain program's claims, and each stands as that one says.
+// Whether the line has the plain program's claims, each with the standing that this program gives it.
 fn agrees<A: Allocator>(line: &Line<A>, plain: &[Plain], seen: &mut u32) -> bool {
     for (position, Plain { claim, reach }) in plain.iter().enumerate() {
         let standing = plain_standing(plain, claim.id, *reach);
@@ -223,7 +223,7 @@ fn take_turn<A: Allocator + Copy>(
     0
 }
 
-// What a random line shows.
+// Runs a random line, and returns what it has shown.
 fn random_line<A: Allocator + Copy>(rt: &impl Abort, alloc: A, seed: u32) -> u32 {
     let tree = tree_of(rt, alloc, &WIDE);
     let mut line = new_line(rt, alloc);

@@ -1,4 +1,4 @@
-//! Each request for memory of a line refused in turn.
+//! Each memory request of a line's calls refused in turn.
 ghost use Rattle.long_locks.specs.Lines.{IsGrownFrom};
 
 use super::calls::{Memory, Row, act, line_behind};
@@ -14,7 +14,7 @@ use std::process::Abort;
 use test_memory::{Refusing, Tried, requests};
 use vault_model::{ClaimId, Intent, Standing};
 
-// Tries a row. Refused, the line is as another, and the next try succeeds.
+// Tries a row. If it is refused, the line must be as its twin still, and the next try must succeed.
 fn takes<'a>(
     rt: &impl Abort,
     memories: (Memory<'a>, Memory<'a>),
@@ -36,7 +36,7 @@ fn takes<'a>(
     tried.and(has_refused && is_kept && act(rt, memories, line, tree, row) == Tried::Done)
 }
 
-// Tries a row behind others, beside a line that takes all with ample memory. At the end both are the same.
+// Tries a row after others. A twin line takes the same rows with ample memory. At the end both must be the same.
 fn takes_behind<'a>(
     rt: &impl Abort,
     (memory, ample): (Memory<'a>, Memory<'a>),
@@ -68,7 +68,7 @@ fn each_request_of_a_line_is_refused(rt: HostRuntime) {
     }
 }
 
-/// A check-out that looks at the first project, and is held.
+/// A check-out that looks at the first project, and is granted.
 const ASKED: Row = Row::CheckOut(&[(Look, 1)], Held);
 
 const FOUR: [Row; 4] = [ASKED; 4];
@@ -77,7 +77,7 @@ const SIXTEEN: [Row; 16] = [ASKED; 16];
 
 const THIRTY_TWO: [Row; 32] = [ASKED; 32];
 
-/// Two check-outs, a short claim and one more check-out, of which the second and third are queued.
+/// Two check-outs, a short claim and one more check-out. The second and the third claim wait.
 const QUEUED: [Row; 4] = [
     Row::CheckOut(&[(Look, 3)], Held),
     Row::CheckOut(&[(Change, 3)], Queued(C1)),
@@ -85,9 +85,9 @@ const QUEUED: [Row; 4] = [
     Row::CheckOut(&[(Look, 4)], Held),
 ];
 
-/// Calls, what comes before them, and how many requests each makes. Of a copy four are for the claims, thirteen for their modes; of
-/// a line of claims four for the claims, twelve for their modes; of the first claim four for the claim, and six for its modes. Those
-/// of the front are all for its modes.
+/// Calls, what comes before them, and the number of requests that each makes. A copy makes eight for the claims (four for their
+/// index, one for each claim) and thirteen for their modes; a line of claims seven and twelve; the first claim five and six. A move
+/// to the front makes all its requests for the claim's modes.
 static WANTED: [(&str, &[Row], Row, u64); 11] = [
     ("Line::new", &[], Row::New, 1),
     ("Line::ask_long", &[], ASKED, 11),

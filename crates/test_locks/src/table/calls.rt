@@ -31,16 +31,16 @@ pub(super) enum Row {
     PutFirst(ClaimId, &'static [Wish]),
     Release(ClaimId),
     ReleaseShort,
-    /// Another table is made, which is like this one and goes its own way: the first claim leaves it, and the second stands so then.
+    /// Another table is made, like this one but independent of it: when C1 has left the other one, C2 has this standing there.
     New(Option<Standing>),
     Copy(Option<Standing>),
     Stands(ClaimId, Option<Standing>),
-    /// The modes of the group of all claims at a place, and of that of the held ones.
+    /// The modes of the group of all claims at a place, and of the group of the granted ones.
     Groups(u32, Option<Mode>, Option<Mode>),
     Covered(u32, Option<ClaimId>),
 }
 
-// Whether a claim stands so.
+// Whether a claim has this standing.
 fn stands<A: Allocator>(table: &Table<A>, id: ClaimId, standing: Option<Standing>) -> bool {
     let blocker = match standing {
         Some(Standing::Queued(first)) => Some(first),
@@ -49,7 +49,7 @@ fn stands<A: Allocator>(table: &Table<A>, id: ClaimId, standing: Option<Standing
     table.standing(id) == standing && table.blocker(id) == blocker
 }
 
-// Whether two tables have the same groups at a place, and the same held claim over it.
+// Whether two tables have the same groups at a place, and the same granted claim that covers it.
 fn is_same_at<A: Allocator>(tree: &Tree, one: &Table<A>, other: &Table<A>, place: PlaceId) -> bool {
     (place.number() as usize) < tree.len()
         && one.group_at(place) == other.group_at(place)
@@ -71,7 +71,7 @@ pub(super) fn is_same<A: Allocator>(tree: &Tree, one: &Table<A>, other: &Table<A
     true
 }
 
-// Whether a table that was made is like this one. Once the first claim has left it, the second stands so.
+// Whether a new table is like this one, and C2 has this standing in it once C1 has left.
 fn is_like<A: Allocator>(
     tree: &Tree,
     made: Result<Table<A>, NoMemory>,
@@ -105,7 +105,7 @@ fn shows<A: Allocator>(tree: &Tree, table: &Table<A>, row: &Row) -> bool {
     }
 }
 
-// A claim that asked stands as it was told.
+// Asks for a claim. The answer must be this standing, and the claim must have it then.
 fn ask<A: Allocator + Copy>(
     rt: &impl Abort,
     tree: &Tree,
@@ -156,7 +156,7 @@ pub(super) fn act<A: Allocator + Copy>(
     }
 }
 
-/// A table that answered these rows so. A failure names the row.
+/// A table after these rows, each answered as it must be. A failure names the row.
 pub(super) fn table_behind<A: Allocator + Copy>(
     rt: &impl Abort,
     alloc: A,

@@ -1,4 +1,4 @@
-//! Each request for memory of a table refused in turn.
+//! Each memory request of a table's calls refused in turn.
 use super::calls::{C1, C2, C3, Row, act, is_same, table_behind};
 use crate::places::{SMALL, Worked, tree_of};
 use Intent::{Change, Look};
@@ -11,7 +11,7 @@ use std::process::Abort;
 use test_memory::{Refusing, Tried, requests};
 use vault_model::{ClaimId, Intent, Standing};
 
-// Tries a row. Refused, the table is as another, and the next try succeeds.
+// Tries a row. If it is refused, the table must be as its twin still, and the next try must succeed.
 fn takes<'a>(
     rt: &impl Abort,
     memory: &'a Refusing<Global>,
@@ -31,7 +31,7 @@ fn takes<'a>(
     tried.and(has_refused && is_kept && act(rt, memory, tree, table, row) == Tried::Done)
 }
 
-// Tries a row behind others, beside a table that takes all with ample memory. At the end both are the same.
+// Tries a row after others. A twin table takes the same rows with ample memory. At the end both must be the same.
 fn takes_behind<'a>(
     rt: &impl Abort,
     (memory, ample): (&'a Refusing<Global>, &'a Refusing<Global>),
@@ -67,8 +67,8 @@ fn each_request_of_a_table_is_refused(rt: HostRuntime) {
 /// The first claim, which is to look at the first project.
 const LOOKING: Row = Row::Ask(C1, &[(Look, 1)], Held);
 
-/// Calls, the claims before them, and how many requests each makes. Of the first claim they are for the entry and the queues of two
-/// places.
+/// Calls, the claims before them, and the number of requests that each makes. The first claim makes them for its entry and for the
+/// queues of two places.
 static WANTED: [(&str, &[Row], Row, u64); 7] = [
     ("Table::new", &[], Row::New(None), 0),
     (

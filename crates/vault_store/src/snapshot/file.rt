@@ -13,7 +13,7 @@ use vault_checkout::Book;
 use vault_format::fields::{put, put_u32};
 use vault_model::{Claim, ClaimId, DraftIn, NoMemory};
 
-// Where the snapshot's length and the snapshot stand behind the head gate.
+// The offsets behind the head gate of the snapshot's length and of the snapshot.
 const LENGTH_AT: usize = 19;
 
 const SNAPSHOT_AT: usize = 23;
@@ -25,7 +25,7 @@ const MAX_OF_CLAIM: usize = 144;
 
 const MAX_OF_DRAFT: usize = 6;
 
-// What a file has behind its head gate beside its places and check-outs.
+// The bytes that a file has behind its head gate beside its places and check-outs.
 const MAX_BESIDE: usize = 34;
 
 // The most bytes that drafts are spelled in.
@@ -76,7 +76,7 @@ fn put_front<A: Allocator>(out: &mut Vec<u8, A>, generation: u64) -> Result<(), 
     put_u32(out, 0)
 }
 
-// Writes the length of what stands behind it.
+// Writes the snapshot's length before the snapshot.
 fn put_length<A: Allocator>(bytes: &mut Vec<u8, A>, count: u32)
     requires { 23 ≤ length bytes.old.items }
     ensures { bytes.new.items ≡ overwritten bytes.old.items 19 (in_four count) }
@@ -84,7 +84,7 @@ fn put_length<A: Allocator>(bytes: &mut Vec<u8, A>, count: u32)
     let _ = vault_journal::put_u32(bytes.as_mut_slice(), LENGTH_AT, count);
 }
 
-/// What a snapshot writes behind the head gate of a file of this generation, in the place of these bytes.
+/// Replaces these bytes by what a snapshot writes behind the head gate of a file of this generation.
 pub fn spell_file<A: Allocator, B: Allocator + Copy>(
     mut bytes: Vec<u8, A>,
     generation: u64,

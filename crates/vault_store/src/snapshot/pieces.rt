@@ -1,4 +1,4 @@
-//! A long snapshot in the spelling of today's version, read piece by piece.
+//! Reads a long snapshot of today's version piece by piece.
 ghost use Rattle.std.specs.Prelude.{◌≡◌, ◌≢◌, ◌++◌, ◌+◌, ◌^◌, ◌<◌, ◌≤◌, [], None, IfOk, IfErr, IfSome, IsTrue, true, false, length, slice_range, OnOk};
 ghost use Rattle.vault_format.specs.Files.{header};
 ghost use Rattle.vault_format.specs.Snapshot.{current_version};
@@ -18,10 +18,10 @@ use vault_device::Device;
 use vault_format::{FileVersion, HEADER, SnapshotError, read_claims, read_places_on};
 use vault_journal::u32_at;
 
-/// How many bytes a piece has at most. A place that has more isn't read so.
+/// The most bytes of a piece. A snapshot with a longer place isn't read in pieces.
 pub(crate) const PIECE: u32 = 1 << 21;
 
-// Reads so many bytes in the place of those that are there.
+// Reads `count` bytes, which replace those in the buffer.
 fn read_over<D: Device, A: Allocator>(
     device: &mut D,
     at: u64,
@@ -43,7 +43,7 @@ fn read_over<D: Device, A: Allocator>(
     Ok(())
 }
 
-// A snapshot: how many places it has, with the library, and where it ends.
+// The extent of a snapshot: how many places it has, the library included, and where it ends.
 #[derive(Clone, Copy)]
 struct Extent {
     count: u32,
@@ -58,8 +58,8 @@ struct Front<A: Allocator> {
     at: u64,
 }
 
-// Reads a piece, and the places in it behind those that are there. Whether there was one. If not, and more are wanted, one of them doesn't
-// fit into a piece, or they don't stand there.
+// Reads a piece, and adds its places to those read before. Whether there was one. If not, and more are wanted, the next place doesn't
+// fit into a piece, or the bytes aren't those places.
 fn read_on<D: Device, A: Allocator + Copy>(
     device: &mut D,
     extent: Extent,
@@ -90,7 +90,7 @@ fn read_on<D: Device, A: Allocator + Copy>(
     Ok(taken > 0)
 }
 
-// Reads all places, from an offset on. None: one doesn't fit into a piece, or they don't stand there.
+// Reads all places, from an offset on. `None`: one doesn't fit into a piece, or the bytes aren't these places.
 fn read_front<D: Device, A: Allocator + Copy>(
     alloc: A,
     device: &mut D,
@@ -125,7 +125,7 @@ fn read_front<D: Device, A: Allocator + Copy>(
     Ok(Some(front))
 }
 
-// Reads the check-outs of a snapshot that ends here, and makes its book. None: they don't stand there, or it is no vault.
+// Reads the check-outs of a snapshot that ends here, and makes its book. `None`: the bytes aren't check-outs, or the whole is no vault.
 fn read_back<D: Device, A: Allocator + Copy>(
     alloc: A,
     last_long: u32,
@@ -171,7 +171,7 @@ fn read_back<D: Device, A: Allocator + Copy>(
     }
 }
 
-// The two numbers of which these are the bytes.
+// The two numbers that these bytes spell.
 fn two_numbers(bytes: &[u8]) -> Option<(u32, u32)>
     requires { length bytes.now ≡ 8 }
     ensures numbers { IfSome result (λ numbers. bytes.now ≡ in_four numbers.0 ++ in_four numbers.1) }
@@ -183,8 +183,8 @@ fn two_numbers(bytes: &[u8]) -> Option<(u32, u32)>
     Some((first, second))
 }
 
-/// The book of a snapshot of today's version that ends here, read piece by piece. None: a place of it doesn't fit into a piece, or no vault is
-/// spelled there.
+/// The book of a snapshot of today's version that ends here, read piece by piece. `None`: a place doesn't fit into a piece, or the
+/// bytes spell no vault.
 ///
 /// Beside the book it takes memory for one piece, for the bytes of the check-outs, and for their list.
 pub(crate) fn read_in_pieces<D: Device, A: Allocator + Copy>(

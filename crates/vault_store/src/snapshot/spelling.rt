@@ -1,4 +1,4 @@
-//! The snapshot of a vault, spelled.
+//! Spells the snapshot of a vault.
 #![tactic(auto, using(vault_format::proofs::Adding::adds_after))]
 
 ghost use Rattle.std.specs.Prelude.{◌≡◌, ◌<◌, ◌≤◌, ◌-◌, ◌∷◌, [], length, slice_get, Some};
@@ -66,7 +66,7 @@ fn put_claim<A: Allocator, B: Allocator + Copy>(
     put_drafts(out, book.drafts(number))
 }
 
-/// The claim at a position of the line, counted from 0.
+/// The claim at a position of the queue (line), counted from 0.
 pub fn claim_at<B: Allocator + Copy>(book: &Book<B>, position: usize) -> &Claim
     requires { position < length book.now.line }
     ensures { slice_get book.now.line position ≡ Some result.now }
@@ -74,7 +74,7 @@ pub fn claim_at<B: Allocator + Copy>(book: &Book<B>, position: usize) -> &Claim
     book.line().at(position).unwrap()
 }
 
-// Adds a claim where it is a check-out.
+// Adds a claim if it is a check-out.
 fn put_long<A: Allocator, B: Allocator + Copy>(
     out: &mut Vec<u8, A>,
     book: &Book<B>,
@@ -89,7 +89,7 @@ fn put_long<A: Allocator, B: Allocator + Copy>(
     }
 }
 
-// Adds each check-out, in the order of the line.
+// Adds each check-out, in the order of the queue.
 fn put_claims<A: Allocator, B: Allocator + Copy>(
     out: &mut Vec<u8, A>,
     book: &Book<B>,
@@ -114,7 +114,7 @@ fn as_count(claim: &Claim) -> usize
     }
 }
 
-// How many check-outs stand.
+// How many check-outs there are.
 fn long_count<B: Allocator + Copy>(book: &Book<B>) -> usize
     ensures count { result ≡ length (without_short book.now.line) }
     ensures few { result ≤ length book.now.line }

@@ -5,7 +5,7 @@ use Rattle.part_versions.specs.Taken.{taken_all}
 use Rattle.part_versions.proofs.Shelving.{weight-more, shelved_all-more, places_there, taken_back}
 use Rattle.part_versions.proofs.append.append_each.Goals as goal
 
--- the draft that is read is the list's
+-- the draft that is read is the one in the list
 drafted : (drafts : List Draft) (i : ℕ) (draft : Draft) (content : List ℕ) → content ≡ draft.content → draft ≡ get_or drafts i draft → content ≡ (get_or drafts i draft).content
 drafted drafts i draft content e read = e ∙ ap (λ (d : Draft). d.content) read
 

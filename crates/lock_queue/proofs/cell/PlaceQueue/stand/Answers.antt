@@ -25,7 +25,7 @@ returns-then-seat-is_held g c =
     let kept : restood c.args.id c.args.is_held items ≡ items = ap (λ b. restood c.args.id b items) (sym same) ∙ at.same in
     subst (λ (v : CellSeen). v ≡ seen (restood c.args.id c.args.is_held v.seats) v.room) c.self.view_is (ap (λ xs. seen xs (vec_capacity c.self.inside.queue)) (sym kept))
 
--- the claim's seat, and that it is to stand otherwise
+-- the claim's seat, and that its standing is to change
 its : (g : _) (c : goal.After-changed-arg-1 g) → IsAt c.args.id c.self.inside.queue.items c.in-Some.index c.index-seat.result.now
 its g c = seat_read c.args.id c.self.inside.queue.items c.deref.result.now c.in-Some.index c.index-seat.result.now c.deref.ensures.value (sym c.index_of.ensures ∙ c.in-Some.is) c.index-seat.ensures
 

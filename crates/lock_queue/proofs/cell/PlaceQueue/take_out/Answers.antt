@@ -31,7 +31,7 @@ remove-requires-2 g c =
     let inside = one_inside c.args.id queue one in
     omega (arith, inside, same, c.self.inside.queue.ok.0)
 
--- what is left is the seats of the others
+-- the seats that are left are those of the others
 left : (g : _) (c : goal.After-remove-2 g) → c.remove-2.new.self.items ≡ seats_without c.args.id c.self.inside.queue.items
 left g c =
     let queue = c.self.inside.queue.items in

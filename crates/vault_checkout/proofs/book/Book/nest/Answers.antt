@@ -9,7 +9,7 @@ use Rattle.vault_checkout.proofs.book.Book.nest.Given as given
 use Rattle.vault_checkout.proofs.book.Book.nest.Goals as goal
 use Rattle.vault_checkout.proofs.book.Book.nest.Goals.{After-admit}
 
--- what was looked at before anyone was asked
+-- what was looked at before `admit` is called
 looked : (g : given.Over) (c : After-admit g) → (last c.args.path.now ≡ Some c.in-Some.name) × (find_place c.args.self.now.tree (front c.args.path.now) ≡ Some c.in-Some-find_names.parent) × (is_part c.args.self.now.tree c.in-Some-find_names.parent ≡ false)
     × (may_nest_under c.args.self.now.tree c.in-Some-find_names.parent ≡ true)
 looked g c = (search rules, search rules, search rules, search rules)
