@@ -1,10 +1,10 @@
 #!/usr/bin/env python3
-"""What answers that were told cost a server in memory: connections that stay, each of which was told as many long lists as it may be.
+"""What answers cost a server in memory: connections that stay, each of which got as many long lists as it may get.
 
 usage, at the top of the repository:  python3 bench/answers.py [--program PROGRAM] [--folder FOLDER] [--before PROGRAM] [--port P] [--tiny]
 
-Each of 64 connections says hello, asks 4,094 times for a list of 64 names of 32 bytes, and stays. The server's resident memory is looked at
-before the first list and behind the last one. --before names a program to be measured right before it, by turns.
+Each of 64 connections says hello, asks 4,094 times for a list of 64 names of 32 bytes, and stays. The server's resident memory is read
+before the first list and after the last one. --before names another program, which is measured first.
 """
 import argparse
 import os
@@ -18,7 +18,7 @@ from measure import ALLOCATOR, arguments, head, prepared, table
 
 CONNECTIONS = 64
 NAMES = 64
-# The most lines of a connection, less its hello, and one less, so that it isn't at its end.
+# The most lines of a connection, less its hello, and less one, so that the connection doesn't end.
 LISTS = 4_094
 AT_ONCE = 64
 
@@ -32,7 +32,7 @@ class Client:
         self.ask(f"hello {name}", 1)
 
     def ask(self, line: str, times: int) -> None:
-        """Asks so often at once, and reads all replies."""
+        """Sends this number of questions at once, and reads all replies."""
         self.socket.sendall((line + "\n").encode() * times)
         for _ in range(times):
             reply = self.replies.readline()
@@ -69,7 +69,7 @@ def serving(program: str, folder: str, port: int) -> subprocess.Popen[bytes]:
 
 
 def measured(program: str, folder: str, port: int, lists: int) -> tuple[int, int, float]:
-    """Resident kilobytes before the lists and behind them, and the seconds between."""
+    """Resident kilobytes before the lists and after them, and the seconds between."""
     server = serving(program, folder, port)
     maker = Client(port, "maker")
     for number in range(NAMES):

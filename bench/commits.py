@@ -1,12 +1,12 @@
 #!/usr/bin/env python3
-"""How commits gather: cycles a second of clients that send one command at a time, each durable before it is told.
+"""How commits gather: cycles a second of clients that send one command at a time, each durable before it is answered.
 
-A cycle is a check-out, a save of 1,000 bytes and a check-in; each client has its own part. The load is load.c, one thread without a wait of
-its own; the server has 64 workers. --slow makes each sync so many milliseconds longer (slow_sync.c), as a plain disk would; with --folder on
-a file system in memory that is the whole sync. The limit is what the format leaves then: two syncs for each of a cycle's commits.
+A cycle is a check-out, a save of 1,000 bytes and a check-in; each client has its own part. The load is load.c, one thread without a wait
+of its own; the server has 64 workers. --slow makes each sync MS milliseconds longer (slow_sync.c), as a plain disk would; with --folder
+on a file system in memory that is the whole sync. The limit is then what the format allows: two syncs for each of a cycle's commits.
 
-With --floor the load meets a program that keeps nothing, and answers each line behind two sleeps (floor.c): what the load and the machine
-leave to a server of one thread, or of one for each connection.
+With --floor the load meets a program that keeps nothing, and answers each line after two sleeps (floor.c). This shows what the load and
+the machine leave to a server with one thread, or with one for each connection.
 
 usage, at the top of the repository:  python3 bench/commits.py [--program PROGRAM] [--folder FOLDER] [--clients 1,4,16,64] [--slow MS]
                                       [--floor one|workers] [--rounds N] [--port P] [--tiny]
@@ -22,7 +22,7 @@ import time
 from measure import arguments, head, prepared, table
 
 HERE = os.path.dirname(os.path.abspath(__file__))
-# So many cycles stay below 1 MiB of journal, so that no snapshot comes between.
+# This many cycles stay below 1 MiB of journal, so that no snapshot comes between.
 MAX_CYCLES = 960
 PARTS = 64
 
@@ -56,7 +56,7 @@ def processor(pid):
 
 
 def started(program, folder, options):
-    """The server over a new vault, or what stands for it."""
+    """The server over a new vault, or the program that stands in for it."""
     if getattr(options, "floor", None):
         return subprocess.Popen([f"{folder}/floor", str(options.port), str(int(options.slow * 1000)), options.floor], stdout=subprocess.PIPE)
     files = [f"{folder}/commits.{which}" for which in "ab"]
@@ -71,7 +71,7 @@ def started(program, folder, options):
 
 
 def measured(program, folder, options, load, clients, before=(), most=MAX_CYCLES):
-    """One run over a new vault, behind these lines: load.c's figures, and the server's processor time a cycle in microseconds."""
+    """One run over a new vault, after these lines: load.c's figures, and the server's processor time for a cycle, in microseconds."""
     server = started(program, folder, options)
     try:
         if server.stdout.readline().strip() != b"listening":

@@ -1,8 +1,8 @@
 #!/usr/bin/env python3
 """What check-outs elsewhere in the tree cost a command: cycles of one client beside 0, 64, 128 and 255 of them.
 
-A cycle is that of commits.py: a check-out, a save of 1,000 bytes and a check-in, each durable before it is told. Each check-out elsewhere
-looks at eight parts of seven other projects. The counts take turns.
+A cycle is that of commits.py: a check-out, a save of 1,000 bytes and a check-in, each durable before it is answered. Each check-out
+elsewhere looks at eight parts of seven other projects. The counts take turns.
 
 usage, at the top of the repository:  python3 bench/elsewhere.py [--program PROGRAM] [--folder FOLDER] [--counts 0,64,128,255] [--slow MS]
                                       [--rounds N] [--port P] [--tiny]
@@ -14,13 +14,13 @@ import statistics
 from commits import made, measured
 from measure import arguments, head, prepared, table
 
-# So many cycles, and what is made before them, stay below 1 MiB of journal, so that no snapshot comes between.
+# This many cycles, and what is made before them, stay below 1 MiB of journal, so that no snapshot comes between.
 CYCLES = 900
 PROJECTS, PARTS, ITEMS = 7, 31, 8
 
 
 def lines(count):
-    """What makes the projects, and checks out so often."""
+    """The lines that make the projects and this number of check-outs."""
     made_by = [f"make /x{k}{place}" for k in range(PROJECTS) for place in ("", "/a", *(f"/a/p{part}" for part in range(PARTS)))]
     parts = [f"/x{k}/a/p{part}" for k in range(PROJECTS) for part in range(PARTS)]
     choose = random.Random(1)

@@ -1,18 +1,18 @@
 #!/usr/bin/env python3
-"""A server that runs without end: so many commands over connections that come and go, with snapshots by themselves, and a kill -9 and a
-restart behind so many of them. It runs as the units in contrib/ start it. All places are made among the first commands, and from then on
-each part gets its versions, so that memory may be compared.
+"""A server that runs without end: --commands commands over connections that come and go, with snapshots when they are due, and a kill -9
+and a restart after each --kill-every of them. It runs as the units in contrib/ start it. All places are made among the first commands,
+and from then on each part gets its versions, so that memory may be compared.
 
-The load is made by this program, in a process of its own. Each designer has an assembly of its own, so each reply is known before it comes.
-Behind each stop all that was told is looked for: places by `list`, versions by `count` and `fetch`, check-outs with their items by
-`vaultd inspect` and `state`, drafts by checking them in. What was under way when the server was killed may have been done or not. At the
-end every version is fetched, and as many sessions are opened as may stand at once: there is room for all where none was left standing
-without its connection.
+The load is made by this program, in a process of its own. Each designer has an assembly of its own, so each reply is known before it
+comes. After each kill, all that was acknowledged is looked for: places by `list`, versions by `count` and `fetch`, check-outs with their
+items by `vaultd inspect` and `state`, drafts by checking them in. What was under way when the server was killed may have been done or
+not. At the end every version is fetched, and as many sessions are opened as there may be at once: this shows that no session outlived its
+connection.
 
 usage, at the top of the repository:  python3 bench/endless.py [--program PROGRAM] [--folder FOLDER] [--commands N] [--connections N]
                                       [--kill-every N] [--seed N] [--port P] [--tiny]
-Exit status 1 where something is found to be other than it was told, where the memory grows, or where somebody is refused 80 for longer than
-a reply takes. --folder says on which disk the vault lies; --tiny takes a hundredth of --commands and --kill-every.
+Exit status 1 if something is found to differ from what was acknowledged, if the memory grows, or if somebody is refused 80 for longer
+than a reply takes. --folder says on which disk the vault lies; --tiny takes a hundredth of --commands and --kill-every.
 """
 import argparse
 import os
@@ -29,16 +29,16 @@ from endless_load import BUSY, MEETING, PARTS, PATIENCE, Crowd, Figures, Work
 from measure import ALLOCATOR, arguments, head, megabytes, prepared, sized, table
 from vaultd_tools.files import Claim, Report
 
-# All sessions that may stand at once.
+# The most sessions at once.
 SESSIONS = WORKERS = 64
-# The memory is compared with that behind so many commands. It may grow by so many times what came to the contents, and by so many
+# The memory is compared with that after FIRST commands. It may grow by OF_CONTENTS times the growth of the contents, and by MEMORY
 # kilobytes: a snapshot's bytes, and what an allocator keeps.
 FIRST, OF_CONTENTS, MEMORY = 100_000, 4, 4096
-# The most that all contents may weigh, of which versions are given a part, and what a short one weighs.
+# The most that all contents may weigh, of which versions get a part, and what a short one weighs.
 MAX_WEIGHT, SHORT = 16_777_216 * 3 // 4, 16
 COLUMNS = ("Commands", "A second", "Longest wait", "Refused 80, and the longest", "Snapshots so far",
            "Resident memory (VmRSS): first, last, greatest", "Changes under way at the kill", "Replies compared behind it")
-# The memory is looked at so often in a life. In so many lives drafts are checked in behind a stop, which takes room for good.
+# The memory is read LOOKS times in a life. In the first LIVES lives drafts are checked in after a kill, which takes room for good.
 LOOKS, LIVES = 20, 100
 
 
@@ -86,7 +86,7 @@ class Server:
 
 
 def one_reply(link: socket.socket, line: str) -> str:
-    """What a line is told, where no other is under way."""
+    """The reply to a line, if no other line is under way."""
     link.sendall(line.encode() + b"\n")
     reply = b""
     while not reply.endswith(b"\n"):
@@ -111,8 +111,8 @@ def set_up(port: int, designers: List[Designer]) -> None:
 
 
 def settled(server: Server, designers: List[Designer]) -> int:
-    """Finds out from the files at rest what became of what was under way: how many such commands there were. Each check-out that was
-    told stands there with its items, and nobody has another one."""
+    """Finds out from the files at rest what became of what was under way: how many such commands there were. Each acknowledged check-out
+    stands there with its items, and nobody has another one."""
     standing: List[Claim] = server.report().claims()
     others = [claim.name for claim in standing if claim.owner not in {designer.name for designer in designers}]
     if others:
@@ -121,7 +121,7 @@ def settled(server: Server, designers: List[Designer]) -> int:
 
 
 def search(server: Server, designers: List[Designer], checks_in: Callable[[Designer], bool]) -> int:
-    """Looks for all that was told, over all connections at once. How many replies were compared."""
+    """Looks for all that was acknowledged, over all connections at once. How many replies were compared."""
     searches = {designer.number: Search(designer, checks_in(designer)) for designer in designers}
     figures = Figures()
 
@@ -143,7 +143,7 @@ def search(server: Server, designers: List[Designer], checks_in: Callable[[Desig
 
 
 def all_sessions(port: int, seconds: float = 10.0) -> None:
-    """Opens as many sessions as may stand at once, and takes a hold where no other stands."""
+    """Opens as many sessions as there may be at once, and takes a hold, which no other may be in the way of."""
     links = [socket.create_connection(("127.0.0.1", port), PATIENCE) for _ in range(SESSIONS)]
     end = time.monotonic() + seconds
     for number, link in enumerate(links, 1):
@@ -165,7 +165,7 @@ class Endless:
         self.server, self.designers = server, designers
         self.commands, self.kill_every = sized(options.commands, options), sized(options.kill_every, options)
         self.first = min(FIRST, self.kill_every // 2)
-        # A step is some 1.3 commands: so the last part is made by about four fifths of the first commands.
+        # A step is about 1.3 commands, so the last part is made by about four fifths of the first commands.
         steps = max(5, self.first * 3 // (5 * len(designers) * PARTS))
         most = MAX_WEIGHT // (len(designers) * SHORT)
         self.works: Dict[int, Work] = {
@@ -202,7 +202,7 @@ class Endless:
         return figures
 
     def look(self, figures: Figures) -> None:
-        """Keeps how much memory there is, and compares it with that behind the first commands."""
+        """Notes how much memory is resident, and compares it with that after the first commands."""
         now, behind = self.server.memory(), self.done + figures.told
         figures.memory.append((behind, now))
         if self.memory_at_first is None and behind >= self.first:
@@ -213,7 +213,7 @@ class Endless:
                 raise Difference(f"{now} kB are resident behind {behind:,} commands, and {most} kB are accounted for")
 
     def look_for_all(self, is_last: bool) -> int:
-        """Behind a stop: all that was told is there. How many commands were under way."""
+        """After a kill: all that was acknowledged must be there. How many commands were under way."""
         lost = settled(self.server, self.designers)
         if is_last:
             for designer in self.designers:

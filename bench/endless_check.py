@@ -1,4 +1,4 @@
-"""What a server told each of its designers, and whether it is found again behind a stop."""
+"""What a server acknowledged to each of its designers, and whether it is found again after a kill."""
 import os
 import sys
 from dataclasses import dataclass
@@ -8,35 +8,35 @@ sys.path.insert(0, os.path.join(os.path.dirname(os.path.abspath(__file__)), os.p
 
 from vaultd_tools.files import Claim, Report  # noqa: E402
 
-# What is said on a connection: it yields a line and is sent the reply. Its end says what is sent before the client hangs up without
-# waiting, and whether it hangs up by a reset.
+# A conversation on a connection: it yields a line and is sent the reply. Its return value says what is sent before the client hangs up
+# without waiting, and whether it hangs up by a reset.
 Talk = Generator[str, str, Tuple[bytes, bool]]
 # A part of it.
 Step = Generator[str, str, None]
 # A server ends a connection after 4,096 lines.
 MAX_LINES = 4000
-# So many projects there are at most.
+# The most projects.
 PROJECTS = 32
 
 
 class Difference(Exception):
-    """A server told one thing, and another is found."""
+    """A server acknowledged one thing, and another is found."""
 
 
 @dataclass
 class CheckOut:
-    """A check-out that stands, by what was told."""
+    """A check-out that stands, by what was acknowledged."""
 
     name: str
     items: Tuple[str, ...]
     part: str
-    # What its draft may be, where None is no draft. There are two where the reply to a save was lost.
+    # What its draft may be; None is no draft. There are two possibilities if the reply to a save was lost.
     drafts: Tuple[Optional[str], ...] = (None,)
 
 
 @dataclass(frozen=True)
 class Change:
-    """A command whose reply isn't told yet."""
+    """A command whose reply hasn't come yet."""
 
     kind: str
     part: str = ""
@@ -45,7 +45,7 @@ class Change:
 
 
 class Designer:
-    """All that a designer was told and that has to be found again: its parts, their versions, its check-out with its draft."""
+    """All that was acknowledged to a designer and must be found again: its parts, their versions, its check-out with its draft."""
 
     def __init__(self, number: int):
         self.number, self.name = number, f"d{number}"
@@ -68,13 +68,13 @@ class Designer:
         self.versions[part], self.found[part] = [], 0
 
     def checked_in(self, drafts: int) -> None:
-        """Its check-out is gone, and so many drafts are versions."""
+        """Its check-out is gone, and this many of its drafts are versions."""
         assert self.check_out is not None
         contents = [draft for draft in self.check_out.drafts if (draft is not None) == (drafts == 1)]
         if drafts > 1 or not contents:
             raise Difference(f"{self.check_out.name} was checked in with {drafts} drafts, and had {self.check_out.drafts}")
         if drafts:
-            # Of two contents the later one is expected first.
+            # Of two possible contents the later one is taken for the version at first.
             self.versions[self.check_out.part].append(str(contents[-1]))
         self.check_out = None
 

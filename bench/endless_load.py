@@ -10,9 +10,9 @@ from typing import Callable, Dict, List, Optional, Sequence, Tuple
 from endless_check import Change, CheckOut, Designer, Difference, Step, Talk, begun, expected, greeting
 
 BUSY = "ERR 80"
-# How many seconds a client waits before it says a line again that was answered 80, and for a reply at all.
+# How many seconds a client waits before it repeats a line that was answered 80, and how many it waits for a reply at all.
 AGAIN, PATIENCE = 0.001, 60.0
-# So many parts a designer makes, one after so many of its steps.
+# How many parts a designer makes; it makes one after a number of its steps.
 PARTS = 60
 # A project of all designers, where they meet with their holds.
 MEETING = "/meet"
@@ -58,7 +58,7 @@ class Work:
         return self.dice.choice((self._ask_out, self._ask_out, self._count, self._fetch, self._list))()
 
     def _change(self, change: Change, line: str, reply: str) -> Step:
-        """A command that changes something: until its reply is told it may have been done or not."""
+        """A command that changes something: until its reply comes it may have been done or not."""
         self.designer.under_way = change
         yield from expected(line, reply)
         self.designer.under_way = None
@@ -157,7 +157,7 @@ class Link:
         self.socket.sendall(line.encode() + b"\n")
 
     def replies(self) -> Optional[List[str]]:
-        """The replies that came, or none where the server ended the connection."""
+        """The replies that came, or none if the server ended the connection."""
         try:
             more = self.socket.recv(65536)
         except ConnectionError:
@@ -175,7 +175,7 @@ class Link:
 
 
 class Crowd:
-    """One connection for each designer, and another one where it ended."""
+    """One connection for each designer, and another one when it has ended."""
 
     def __init__(self, port: int, talk_of: Callable[[Designer], Optional[Talk]], figures: Figures, told: Callable[[], bool]):
         self.port, self.talk_of, self.figures, self.told = port, talk_of, figures, told
@@ -197,14 +197,14 @@ class Crowd:
                     return
 
     def close(self) -> None:
-        """Ends all connections without a word, as clients do that break off."""
+        """Ends all connections without a word, as clients do that break down."""
         for link in self.links.values():
             link.socket.close()
         self.links.clear()
         self.selector.close()
 
     def drain(self) -> None:
-        """Takes the replies that a server had sent before it was killed: they were told, too."""
+        """Takes the replies that a server had sent before it was killed: these are acknowledged, too."""
         for link in self.links.values():
             while (replies := link.replies()) is not None:
                 for reply in replies:
@@ -245,7 +245,7 @@ class Crowd:
         self._open(link.designer)
 
     def _refused(self, link: Link) -> None:
-        """The line will be said again. How long it was refused is known once it isn't any more."""
+        """The line will be said again. How long it was refused is known once it is answered otherwise."""
         now = time.monotonic()
         self.figures.refused += 1
         link.refused_since = link.refused_since or now
@@ -269,7 +269,7 @@ class Crowd:
 
     @staticmethod
     def _told_last(link: Link, reply: str) -> None:
-        """A reply behind which nothing more is said."""
+        """A reply after which nothing more is said."""
         if reply != BUSY:
             try:
                 link.talk.send(reply)

@@ -37,14 +37,14 @@ def waits(connection: socket.socket, line: bytes, count: int) -> List[float]:
 
 
 def direct(line: bytes, count: int) -> List[float]:
-    """The same at the server itself."""
+    """The waits at the server itself."""
     connection = socket.create_connection(("127.0.0.1", PORT))
     connection.setsockopt(socket.IPPROTO_TCP, socket.TCP_NODELAY, 1)
     return waits(connection, line, count)
 
 
 def through(folder: str, line: bytes, count: int) -> Tuple[List[float], int, int]:
-    """The same through a gate, with its resident memory in kilobytes, and how much of that is its own."""
+    """The waits through a gate, with its resident memory in kilobytes, and how much of that is its own."""
     ours, theirs = socket.socketpair()
     words = ["--as", "anna", "--server", f"127.0.0.1:{PORT}", "--log", folder + "/log", "--syslog", folder + "/syslog"]
     gate = subprocess.Popen(["/usr/bin/python3", "-I", "-c", START, *words], stdin=theirs.fileno(), stdout=theirs.fileno())
@@ -58,7 +58,7 @@ def through(folder: str, line: bytes, count: int) -> Tuple[List[float], int, int
 
 
 def shown(seconds: List[float]) -> List[str]:
-    """The median and the 99th of a hundred, in microseconds."""
+    """The median and the 99th percentile, in microseconds."""
     return [f"{1e6 * statistics.median(seconds):.0f}", f"{1e6 * sorted(seconds)[len(seconds) * 99 // 100]:.0f}"]
 
 

@@ -1,14 +1,14 @@
 #!/usr/bin/env python3
 """How an honest client fares beside eight clients that do their worst.
 
-The honest client asks `list /` over and over, each line once the one before it was told, and comes again behind 4,000 lines. Its wait for the
-first reply of a connection has the connecting in it. The eight others are threads of two further processes. With --assert the exit status is 1
-where it was told fewer than 1,000 answers a second, or waited for one longer than 50 ms: on four cores that do nothing else. Beside other load
-the figures are a hint, and the line above the table says how much there was.
+The honest client asks `list /` over and over, each line once the one before it was answered, and connects anew after 4,000 lines. Its
+wait for the first reply of a connection includes connecting. The eight others are threads of two further processes. With --assert the
+exit status is 1 if it got fewer than 1,000 answers a second, or waited for one longer than 50 ms; this holds on four cores that do
+nothing else. Beside other load the figures are a hint, and the line above the table says how much load there was.
 
-With --places clients take all 64 places, say nothing, or a byte now and then, or `hello` and then nothing, and come again as soon as they
-are ended. A designer comes then, who tries again with growing pauses. The server has the units' times. The figure is how long it takes until he
-has a session: at most 12 seconds, and 75 beside those who said `hello`. These rows take a minute and a half.
+With --places clients take all 64 places, say nothing, or a byte now and then, or `hello` and then nothing, and come again as soon as the
+server ends them. Then a designer comes, who tries again with growing pauses. The server has the time limits of the units. The figure is
+how long it takes until the designer has a session: at most 12 seconds, and 75 beside those who said `hello`. These rows take 90 seconds.
 
 usage, at the top of the repository:  python3 bench/hostile.py [--program PROGRAM] [--folder FOLDER] [--seconds S] [--rows WORD,WORD]
                                       [--threads N] [--port P] [--places] [--assert] [--tiny]
@@ -36,17 +36,17 @@ PROCESSES = 2
 WORKERS = 64
 LEAST_RATE = 1000.0
 LONGEST_WAIT = 0.05
-# A connection is told as many lines at most.
+# The most replies of a connection.
 LINES = 4096
 HONEST_LINES = 4000
 MEGABYTES = 16 * 1024 * 1024
-# The units' times.
+# The time limits of the units.
 TIMES = ("--idle", "86400", "--hello", "10", "--line", "30", "--full", "10")
 
 
 @dataclass
 class Waits:
-    """What the honest client was told: its answers a second, and the seconds that it waited for each."""
+    """What the honest client got: its answers a second, and the seconds that it waited for each."""
 
     rate: float
     waits: list[float]
@@ -66,13 +66,13 @@ def linked(port: int) -> Iterator[socket.socket]:
 
 
 def read_to_end(link: socket.socket) -> None:
-    """Reads all that is told until the server ends the connection."""
+    """Reads all that comes until the server ends the connection."""
     while link.recv(1 << 16):
         pass
 
 
 def refused(port: int, over: Event) -> int:
-    """Sends lines that are refused, as many as a connection is told, and comes again."""
+    """Sends lines that are refused, as many as a connection may, and comes again."""
     with linked(port) as link:
         link.sendall(b"\n" * (LINES + 1))
         read_to_end(link)
@@ -156,7 +156,7 @@ ROWS = (
 
 
 def act(row: Row, port: int, over: Event, count: "Synchronized[int]") -> None:
-    """One hostile client, until it is over. A server that ends a connection early is met again."""
+    """One hostile client, until it is over. It connects anew when the server ends its connection early."""
     assert row.does is not None
     while not over.is_set():
         with suppress(OSError):
@@ -174,7 +174,7 @@ def act_all(row: Row, port: int, over: Event, count: "Synchronized[int]") -> Non
 
 
 def asked(port: int, seconds: float) -> Waits:
-    """Asks as an honest client for so long."""
+    """Asks as an honest client for this long."""
     waits: list[float] = []
     begin = time.monotonic()
     while time.monotonic() < begin + seconds:
@@ -263,7 +263,7 @@ SQUATTERS = (
 
 
 def seated(port: int, squatters: Squatters, number: int) -> socket.socket:
-    """One of these, who has come and said what he says first."""
+    """One of these clients, which has connected and said what it says first."""
     link = socket.create_connection(("127.0.0.1", port), 10)
     link.setblocking(False)
     with suppress(OSError):
@@ -282,7 +282,7 @@ def is_ended(link: socket.socket) -> bool:
 
 
 def squat(port: int, squatters: Squatters, over: threading.Event) -> None:
-    """Takes all places until it is over, and comes again where one is lost."""
+    """Takes all places until it is over, and connects anew when one is lost."""
     links = [seated(port, squatters, number) for number in range(WORKERS)]
     while not over.wait(0.5):
         for number, link in enumerate(links):
@@ -345,7 +345,7 @@ def is_met(waits: Waits) -> bool:
 
 
 def answers(program: str, folder: str, options: argparse.Namespace) -> list[str]:
-    """Prints the table of what the honest client is told, and answers which rows fell short."""
+    """Prints the table of what the honest client gets, and answers which rows fell short."""
     seconds = options.seconds / 10 if options.tiny else options.seconds
     short: list[str] = []
 
@@ -365,7 +365,7 @@ def answers(program: str, folder: str, options: argparse.Namespace) -> list[str]
 
 
 def main() -> int:
-    """0, or 1 where --assert was given and a row fell short."""
+    """0, or 1 if --assert was given and a row fell short."""
     parser = arguments("How an honest client fares beside hostile ones.")
     parser.add_argument("--seconds", type=float, default=5.0, help="how long each row lasts")
     parser.add_argument("--rows", default=",".join(row.name for row in ROWS), help="the rows, with commas between")

@@ -57,7 +57,7 @@ def built(folder, fill):
 
 
 def figures(program):
-    """The middle of each call's runs in nanoseconds; of `covers`, where each run is a place, the slowest place."""
+    """The median of each call's runs in nanoseconds; for `covers`, where each run is a place, the slowest place."""
     told = collections.defaultdict(list)
     for row in subprocess.run([program], stdout=subprocess.PIPE, text=True, check=True).stdout.splitlines():
         line, count, call, nanos = row.split("|")

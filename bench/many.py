@@ -28,7 +28,7 @@ def one(program, folder, options, number, together, results):
 
 
 def row(program, folder, options, vaults):
-    """So many vaults at once."""
+    """The row of this number of vaults at once."""
     together, results = multiprocessing.Barrier(vaults), multiprocessing.Queue()
     runs = [multiprocessing.Process(target=one, args=(program, folder, options, n, together, results)) for n in range(vaults)]
     for run in runs:

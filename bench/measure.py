@@ -38,7 +38,8 @@ def sized(count: int, options: argparse.Namespace) -> int:
 def run_once(program: str, words: List[str], given: bytes = b"") -> Tuple[float, Optional[int], bytes]:
     """Runs the program, and answers its wall time in seconds, its greatest resident memory in kilobytes, and what it printed.
 
-    The memory is that of /usr/bin/time, since a process that Python starts is counted with what Python had; without it, None.
+    The memory is what /usr/bin/time reports, since a process that Python starts is counted with the memory that Python had. Without
+    /usr/bin/time it is None.
     """
     with tempfile.TemporaryFile() as source, tempfile.NamedTemporaryFile("r") as told:
         source.write(given)

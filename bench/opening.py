@@ -43,7 +43,7 @@ def checked_in(claim):
 
 
 def records(size, content):
-    """Records of about so many bytes in all: an assembly of 64 parts, checked out, saved and checked in again and again."""
+    """Records of about this many bytes in all: an assembly of 64 parts, checked out, saved and checked in again and again."""
     made_so_far = [made(0, "e"), made(1, "b")] + [made(2, f"x{n}") for n in range(PARTS)]
     yield from made_so_far
     total, claim = sum(map(len, made_so_far)), 0

@@ -1,9 +1,9 @@
 #!/usr/bin/env python3
 """What a server does from the end of a commit to the next one, when each commit has a line of every client.
 
-It tells each client its reply, waits until the load has read them and sent the next lines, and hears these. The calls of the kernel are
-written down as they happen (trace.c); a call costs a tenth of a microsecond more for it. The load is that of commits.py. Commits whose lines
-are saves are told apart from the others, since these lines have 2,000 digits.
+It sends each client its reply, waits until the load has read them and sent the next lines, and reads these. The kernel calls are recorded
+as they happen (trace.c), which costs a tenth of a microsecond more for each. The load is that of commits.py. Commits of saves are
+distinguished from the others, since their lines have 2,000 digits.
 
 usage, at the top of the repository:  python3 bench/pauses.py [--program PROGRAM] [--folder FOLDER] [--clients 16,64] [--slow MS] [--port P]
 Needs gcc.
@@ -27,8 +27,8 @@ def calls(path):
 
 
 def pauses(found, clients):
-    """Of each pause: whether saves are heard in it, its microseconds, and those of telling, waiting, hearing, one send and one receive, and how
-    many processors the calls were on."""
+    """For each pause: whether saves are read in it, its microseconds, and those of sending replies, waiting, reading lines, one send and
+    one receive, and how many processors the calls were on."""
     syncs = [number for number, call in enumerate(found) if call[2] == FSYNC]
     for one, other in zip(syncs, syncs[1:]):
         between = found[one + 1:other]

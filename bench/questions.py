@@ -1,11 +1,12 @@
 #!/usr/bin/env python3
-"""What a question costs the server in processor time, in a vault whose line is full: 256 claims, all at one place.
+"""What a question costs the server in processor time, in a vault whose queue is full: 256 claims, all at one place.
 
 usage, at the top of the repository:  python3 bench/questions.py [--program PROGRAM] [--folder FOLDER] [--port P] [--runs N] [--tiny]
 
-The time is that of all of the server's threads, from the first line of a run to its last reply, for each line: reading it, finding the answer under the
-lock, writing it and sending it. Lines are sent 32 at once, so that waits for the kernel are few, as many lines for `state` of the same claim beside
-each, which finds next to nothing. So what a question takes beside that is the finding and the text.
+The time is the processor time of all of the server's threads, from the first line of a run to its last reply, for each line: reading it,
+finding the answer under the lock, writing it and sending it. Lines are sent 32 at once, so that waits for the kernel are few. Each
+question is compared with as many lines of `state` of the same claim, which finds next to nothing. So what a question takes more than that
+is the finding and the text.
 """
 import argparse
 import statistics
@@ -18,7 +19,7 @@ from measure import arguments, head, prepared, sized, table
 CLAIMS = 256
 AT_ONCE = 32
 DRAFTS = 64
-# Each line is told one answer, of these a connection has at most 4,096.
+# Each line gets one answer, and a connection gets at most 4,096.
 PER_CONNECTION = 3_200
 
 
@@ -28,7 +29,7 @@ def processor(process: int) -> int:
 
 
 def filled(port: int) -> None:
-    """A part's check-out with as many drafts as may be, and as many claims on its project as a line has."""
+    """A part's check-out with as many drafts as there may be, and as many claims on its project as the queue may have."""
     client = Client(port, "anna")
     client.ask("make /e", 1)
     client.ask("make /e/a", 1)

@@ -1,10 +1,11 @@
 #!/usr/bin/env python3
-"""What it costs to let told commands go, and whether a command takes longer behind a million others.
+"""What it costs to trim acknowledged commands, and whether a command takes longer after a million others.
 
-A cycle is that of commits.py: a check-out, a save of 1,000 bytes and a check-in, each durable before it is told. With --before that load
-is given by turns to the program of a commit that let nothing go, 889af15 for one, which takes 4,096 commands a start; so each run has 960
-cycles. Then one server takes --commands commands of --last clients: check-outs, saves of 16 bytes and ends without a check-in, so that the
-vault stays as small as it was. The blocks behind the first thousand of them, ten thousand and so on are timed alone.
+A cycle is that of commits.py: a check-out, a save of 1,000 bytes and a check-in, each durable before it is answered. With --before that
+load is given in turns to the program of an older commit that trims nothing, such as 889af15. It takes 4,096 commands in a life, so each
+run has 960 cycles. Then one server takes --commands commands of --last clients: check-outs, saves of 16 bytes and ends without a
+check-in, so that the vault stays as small as it was. The blocks after the first thousand of them, ten thousand and so on are timed on
+their own.
 
 usage, at the top of the repository:  python3 bench/retiring.py [--before PROGRAM] [--program PROGRAM] [--folder FOLDER] [--clients 1,16,64]
                                       [--rounds N] [--commands N] [--last N] [--port P] [--tiny]
@@ -19,7 +20,7 @@ import subprocess
 from commits import PARTS, made, measured, told
 from measure import arguments, head, megabytes, prepared, sized, table
 
-# A block that is timed, in cycles, and the lines of a connection before it gives way to another.
+# The cycles of a block that is timed, and the lines of a connection before another one replaces it.
 BLOCK, LINES = 1000, 4000
 
 
@@ -36,7 +37,7 @@ def change(before, after):
 
 
 def compared(programs, folder, options, load):
-    """Rows of cycles a second and processor time of all programs, run by turns, and how the last one differs from the first."""
+    """Rows of cycles a second and processor time of all programs, run in turns, and how the last one differs from the first."""
     for clients in map(int, options.clients.split(",")):
         runs = [[] for _ in programs]
         for _ in range(options.rounds):
@@ -51,7 +52,7 @@ def compared(programs, folder, options, load):
 
 
 def block(load, folder, options, cycles, assembly):
-    """So many cycles of all clients, over connections and parts of their own, since a block ends within cycles: load.c's figures."""
+    """This number of cycles of all clients, over connections and parts of their own, since a block ends amid cycles: load.c's figures."""
     told(options.port, ["hello z", f"make {assembly}"] + [f"make {assembly}/p{k}" for k in range(options.last)] + ["quit"])
     with open(f"{folder}/long", "w", encoding="ascii") as file:
         file.write("\n\n".join(plan(assembly, client) for client in range(options.last)) + "\n")
@@ -66,7 +67,7 @@ def resident(pid):
 
 
 def long_run(program, folder, options, load):
-    """Rows of a block behind so many commands of one server."""
+    """Rows of a block after these numbers of commands of one server."""
     files = [f"{folder}/long.{which}" for which in "ab"]
     for path in files:
         if os.path.exists(path):

@@ -18,7 +18,7 @@ def hellos(count):
 
 
 def tree(projects, assemblies, parts):
-    """The lines that make so many projects, in each so many assemblies, in each so many parts."""
+    """The lines that make this number of projects, with this number of assemblies in each, and this number of parts in each of these."""
     for p in range(projects):
         yield f"@1 make /p{p}"
         for a in range(assemblies):
@@ -38,7 +38,7 @@ def full(options):
 
 
 def extensions(options):
-    """250 check-outs that stand, and 3,700 extensions: six of each are done, and in the way of the others another one stands."""
+    """250 check-outs that stand, and 3,700 extensions: six of each check-out are done, and another one is in the way of the rest."""
     lines = hellos(1) + list(tree(1, 4, 14)) + ["@1 checkout r:/p0"] * 250
     for n in range(3700):
         intent = "r" if n < 6 * 250 else "w"
@@ -47,7 +47,7 @@ def extensions(options):
 
 
 def holds(standing):
-    """So many check-outs that stand, and 1,900 holds behind them, each given up again."""
+    """This number of check-outs that stand, and 1,900 holds after them, each given up again."""
     def script(options):
         lines = hellos(1) + list(tree(1, 4, 14)) + ["@1 checkout r:/p0/a0"] * standing
         for n in range(1900):
@@ -70,7 +70,7 @@ def versions(options):
 
 
 def saves(count):
-    """So many saves of one part, each with a commit, 4,000 in a life."""
+    """This number of saves of one part, each with a commit, 4,000 in a life."""
     def script(options):
         lines = []
         for n in range(sized(count, options)):

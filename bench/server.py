@@ -1,7 +1,7 @@
 #!/usr/bin/env python3
 """How many check-outs, saves and check-ins `vaultd serve` does in a second, over TCP on the loopback.
 
-A cycle is a check-out, a save of 1,000 bytes and a check-in, each told before the next is sent; each connection has its own part. The
+A cycle is a check-out, a save of 1,000 bytes and a check-in, each answered before the next is sent; each connection has its own part. The
 load is made by this program, in processes of its own, so with many connections the figures are of both.
 
 usage, at the top of the repository:  python3 bench/server.py [--program PROGRAM] [--folder FOLDER] [--connections 1,4,16,64]
@@ -20,7 +20,7 @@ import time
 from measure import arguments, head, megabytes, prepared, table
 
 WORKERS = 64
-# So many cycles stay below 1 MiB of journal, so that no snapshot comes between; bench/snapshot.py measures those.
+# This many cycles stay below 1 MiB of journal, so that no snapshot comes between; bench/snapshot.py measures those.
 MAX_CYCLES = 960
 CONTENT = "61" * 1000
 
@@ -116,7 +116,7 @@ SERVE = []
 
 
 def measured(program, folder, options, connections, before=(), ready=lambda: None):
-    """One run: cycles a second, the walls of cycles, effects a commit, and the server's memory and processor time.
+    """One run: cycles a second, the wall times of cycles, effects a commit, and the server's memory and processor time.
 
     Once all clients are connected `ready` is called, and then the load begins.
     """

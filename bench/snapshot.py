@@ -1,13 +1,14 @@
 #!/usr/bin/env python3
-"""What a snapshot of a full vault costs a server: how long it takes, how long commands wait meanwhile, the memory, and the opening behind it.
+"""What a snapshot of a full vault costs a server: how long it takes, how long commands wait meanwhile, the memory, and opening after it.
 
-Memory is told in two ways: what is resident, and the part of it that is the server's own, where a page that other programs have, too, counts
-in parts (`Pss`), looked at each half millisecond. The first reply behind a kill counts from the start of the program, with its allocator
-left as it is.
+Memory is given in two ways: what is resident, and the server's share of it, in which a page that other programs have, too, counts in
+parts (`Pss`), read each half millisecond. The first reply after a kill counts from the start of the program, here with the allocator's
+own settings.
 
-The files are written by this program, by docs/FORMAT.md: a snapshot with 4,096 places, 256 check-outs of 8 items and 16 MiB of contents, and
-frames of almost half as many bytes behind it. A few saves over TCP then make the server begin a snapshot, into the empty second file. Each connection
-saves 1,024 bytes again and again, each save told before the next is sent. A run has one snapshot, so each row is of several runs.
+The files are written by this program, by docs/FORMAT.md: a snapshot with 4,096 places, 256 check-outs of 8 items and 16 MiB of contents,
+and frames of almost half as many bytes after it. A few saves over TCP then make the server begin a snapshot, into the empty second file.
+Each connection saves 1,024 bytes again and again, each save answered before the next is sent. A run has one snapshot, so each row is of
+several runs.
 
 usage, at the top of the repository:  python3 bench/snapshot.py [--program PROGRAM] [--folder FOLDER] [--connections 1,16,64] [--runs N]
                                       [--port P] [--start] [--tiny]
@@ -31,7 +32,7 @@ PLACES, CLAIMS, ITEMS = 4096, 256, 8
 WEIGHT = 16_777_216
 CONTENT = 1024
 SAVE = 1035
-# A frame has at most so many records of a save. The frames leave room for 14 saves before a snapshot is begun.
+# The most records of a save in a frame. The frames leave room for 14 saves before a snapshot is begun.
 FRAME = 253
 LEFT = 14
 
@@ -130,7 +131,7 @@ class Client(threading.Thread):
 
 
 def written(path, limit=60):
-    """When a snapshot was begun in an empty file, and when its head gate was written: looks about each tenth of a millisecond."""
+    """When a snapshot was begun in an empty file, and when its head gate was written. Looks about ten times a millisecond."""
     began, until = None, time.monotonic() + limit
     with open(path, "rb", buffering=0) as file:
         while time.monotonic() < until:
@@ -178,7 +179,7 @@ def one_run(program, files, content, options, connections, before=()):
 
 
 def first_reply(program, files, options):
-    """How long it is from the start of the program to its first reply over these files. It is killed then."""
+    """How long it takes from the start of the program to its first reply over these files. Then it is killed."""
     began = time.monotonic()
     with subprocess.Popen([program, "serve", *files, f"127.0.0.1:{options.port}", "--workers", str(WORKERS)], stdout=subprocess.DEVNULL) as server:
         while True:
@@ -197,7 +198,7 @@ def first_reply(program, files, options):
 
 
 def start_by_strace(program, files, content, options, folder):
-    """How long it is from the sync that settles a commit to the first write of the snapshot behind it."""
+    """How long it takes from the sync that makes a commit durable to the first write of the snapshot after it."""
     told = os.path.join(folder, "strace.out")
     traced = ["strace", "-f", "-ttt", "-T", "-y", "-e", "trace=fsync,fdatasync,write,pwrite64", "-o", told]
     one_run(program, files, content, options, 1, traced)

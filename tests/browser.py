@@ -19,7 +19,7 @@ WORDS = (
 
 
 def needed(name: str) -> str:
-    """Where a program is that a test needs. One that is missing fails the test."""
+    """The path of a program that a test needs. If it is missing, the test fails."""
     path = shutil.which(name)
     if path is None:
         raise AssertionError(f"there is no `{name}` on the path: run tools/prepare")
@@ -27,7 +27,7 @@ def needed(name: str) -> str:
 
 
 class Pages:
-    """Serves the files of a folder on a port of its own, which makes them another origin than any other server's."""
+    """Serves the files of a folder on a port of its own. So they have another origin than any other server's."""
 
     def __init__(self, folder: Path):
         handler = functools.partial(QuietHandler, directory=str(folder))
@@ -67,18 +67,18 @@ class Browser:
         self.profile.cleanup()
 
     def open(self, address: str) -> None:
-        """Opens a page, which has to load."""
+        """Opens a page, which must load."""
         self.driver.get(address)
 
     def try_to_open(self, address: str) -> None:
-        """Opens an address, as a person would by its line at the top, whatever comes of it."""
+        """Opens an address, as a person would in the address bar, whatever comes of it."""
         try:
             self.driver.get(address)
         except WebDriverException:
             pass
 
     def show(self, width: int, height: int, dark: bool = False, media: str = "") -> None:
-        """Gives pages a window of this size, of a phone where it is narrow, and says which colours a person likes, or that it is paper."""
+        """Gives pages a window of this size (a phone's if it is narrow), and says which colours a person likes, or that it is paper."""
         self.driver.execute_cdp_cmd("Emulation.setDeviceMetricsOverride", {
             "width": width, "height": height, "deviceScaleFactor": 1, "mobile": width < 500})
         self.driver.execute_cdp_cmd("Emulation.setEmulatedMedia", {
@@ -89,7 +89,7 @@ class Browser:
         self.driver.execute_cdp_cmd("Emulation.setScriptExecutionDisabled", {"value": not runs})
 
     def complaints(self) -> List[str]:
-        """What stands in the console since it was asked last."""
+        """What came into the console since the last call."""
         return [entry["message"] for entry in self.driver.get_log("browser")]  # type: ignore[no-untyped-call]
 
     def picture(self, file: Path) -> None:
@@ -98,6 +98,6 @@ class Browser:
         self.driver.save_screenshot(str(file))
 
     def value(self, expression: str) -> Any:
-        """What an expression of JavaScript comes to in the page, awaited where it is a promise."""
+        """The value of a JavaScript expression in the page, awaited if it is a promise."""
         script = f"const told = arguments[0]; Promise.resolve({expression}).then(told, error => told('failed: ' + error));"
         return self.driver.execute_async_script(script)

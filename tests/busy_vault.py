@@ -46,7 +46,7 @@ class Office:
         self.claims: List[Tuple[str, str, List[str]]] = []
 
     def say(self, name: str, *lines: str) -> List[Reply]:
-        """What a designer is told for some lines; each connection is made anew before it is spent."""
+        """The replies to some lines of a designer. Each connection is made anew before it is spent."""
         session = self.sessions[name]
         if session.lines + len(lines) > 4000:
             session.leave()
@@ -74,7 +74,7 @@ class Office:
                 self.version(part, self.moments.choice(DESIGNERS))
 
     def version(self, part: str, name: str) -> None:
-        """A designer checks a new version of a part in, where nobody is in the way."""
+        """A designer checks in a new version of a part, if nobody is in the way."""
         said = self.say(name, f"checkout w:{part}")[0]
         claim = said.words[1]
         if said.words[0] == "held":
@@ -100,7 +100,7 @@ class Office:
         self.claims.append((claim, name, items))
 
     def end(self) -> None:
-        """The oldest check-out but for a few is checked in with what it changed."""
+        """The oldest check-out, except a few, is checked in with what it changed."""
         claim, name, items = self.claims.pop(self.moments.randint(0, min(4, len(self.claims) - 1)))
         for item in items:
             if item[0] == "w" and item[2:] in self.parts:
@@ -117,7 +117,7 @@ class Office:
         self.claims[place] = (claim, other, items)
 
     def work(self, seconds: float, claims: int = 22, pause: float = 0.4) -> None:
-        """Goes on for so long with about so many check-outs."""
+        """Goes on for this long with about this many check-outs."""
         end = time.monotonic() + seconds
         while time.monotonic() < end or len(self.claims) < claims:
             act = self.take if len(self.claims) < claims or self.moments.random() < 0.45 else self.end

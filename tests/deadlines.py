@@ -1,4 +1,4 @@
-"""A deadline for each test, behind which it fails and shows where it waited, so that nothing waits for ever.
+"""A deadline for each test. After it the test fails, and shows where it waited, so that nothing waits for ever.
 
 A test, or its class, has `deadline = SECONDS` where it may take longer than most. They are far above what a quiet machine takes.
 """
@@ -9,7 +9,7 @@ from types import FrameType
 from typing import Any, Optional
 
 SECONDS = 300
-# For what stands behind a test that was ended, and for what a class makes ready before its first.
+# For the cleanup after a test that was ended, and for what a class prepares before its first test.
 BESIDE_SECONDS = 300
 
 
@@ -50,6 +50,6 @@ class Result(unittest.TextTestResult):
         signal.setitimer(signal.ITIMER_REAL, seconds)
 
     def end(self, _signal: int, _frame: Optional[FrameType]) -> None:
-        """Breaks off what runs, wherever it waits; what is cleaned up behind it has a time again."""
+        """Breaks off what runs, wherever it waits. The cleanup after it has a time limit again."""
         signal.setitimer(signal.ITIMER_REAL, BESIDE_SECONDS)
         raise Overdue(f"{self.running}, and they are over. It was broken off where the lines above say.")

@@ -33,13 +33,13 @@ class WithServer(unittest.TestCase):
             self.anna.make(place)
 
     def client(self, designer: str, patience: float = 10.0) -> Client:
-        """A designer behind the cutter; a second one of a name stands for a second run of the program."""
+        """A designer behind the cutter. A second one of the same name stands for a second run of the program."""
         client = Client(designer, "127.0.0.1", self.cutter.port, Path(self.folder.name), patience, 0.05, self.notices.append)
         self.addCleanup(client.close)
         return client
 
     def both(self) -> List[List[bytes]]:
-        """Where to cut: before a line reaches the server, and behind its reply."""
+        """Where to cut: before a line reaches the server, and before its reply reaches the client."""
         return [self.cutter.before, self.cutter.after]
 
     def gives(self) -> bool:

@@ -82,7 +82,7 @@ class Door:
         (self.programs / "ssh").chmod(0o755)
 
     def config(self, key: str, known: str = "known_hosts") -> str:
-        """The configuration of who has this key."""
+        """The configuration of the holder of this key."""
         path = self.folder / f"config-{key}-{known}"
         path.write_text(CONFIG.format(user=self.user, folder=self.folder, known=known, key=key), "ascii")
         return str(path)
@@ -126,19 +126,19 @@ class Door:
         self.scratch.cleanup()
 
     def environment(self, key: str, known: str = "known_hosts") -> Dict[str, str]:
-        """What the programs of who has this key find."""
+        """The environment of programs of the holder of this key."""
         kept = {**os.environ, "PATH": f"{self.programs}:{os.environ['PATH']}", "SSH_CONFIG": self.config(key, known)}
         for name in ("VAULT_AS", "SSH_AUTH_SOCK"):
             kept.pop(name, None)
         return kept
 
     def ssh(self, key: str, *options: str) -> "subprocess.Popen[bytes]":
-        """A conversation by ssh alone, of which no client has a part."""
+        """A conversation by ssh alone, without the client."""
         return subprocess.Popen(["ssh", "-T", "-o", "BatchMode=yes", *options, "-p", str(self.port), "127.0.0.1", "sh"],
                                 env=self.environment(key), stdin=subprocess.PIPE, stdout=subprocess.PIPE, stderr=subprocess.PIPE)
 
     def ssh_again(self, key: str) -> "subprocess.Popen[bytes]":
-        """The same on a connection that stays for further conversations, each of which has a gate of its own."""
+        """A conversation on an ssh connection that stays for further ones; each has a gate of its own."""
         return self.ssh(key, "-o", "ControlMaster=auto", "-o", "ControlPersist=60", "-o", f"ControlPath={self.folder}/control-{key}")
 
     def logged(self) -> List[str]:

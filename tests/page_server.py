@@ -42,7 +42,7 @@ class PageServer:
         return self.process.communicate(timeout=20)[1]
 
     def raw(self, request: bytes, seconds: float = ANSWER_SECONDS) -> bytes:
-        """What is answered to some bytes, until the end of the connection or of what the answer's head says, and for so long at most."""
+        """The answer to some bytes, up to the end of the connection or of what the answer's head says, and for this long at most."""
         end = time.monotonic() + seconds
         with socket.create_connection(("127.0.0.1", self.port), timeout=seconds) as client:
             client.sendall(request)
@@ -66,7 +66,7 @@ class PageServer:
         return parted(told)
 
     def page(self, path: str) -> str:
-        """A page that has to be there."""
+        """A page that must be there."""
         status, _, body = self.get(path)
         if status != 200:
             raise AssertionError((path, status, body[:500]))
@@ -119,7 +119,7 @@ class Stream:
         self.socket.close()
 
     def next(self, wanted: Callable[[str, Any], bool], seconds: float) -> Tuple[float, Any]:
-        """Waits for such an event: after how long it came, and what it says."""
+        """Waits for such an event. Gives how long that took, and what the event says."""
         begun = time.monotonic()
         while True:
             while self.events:
@@ -155,12 +155,12 @@ def told_lines(sent: bytes) -> Sequence[bytes]:
 
 
 def soon(seconds: float = 1.0) -> float:
-    """How soon something has to be there: within a second, and where the machine has more to do than it has processors for, in proportion."""
+    """How soon something must be there: within a second; on a machine with more to do than it has processors for, in proportion later."""
     return seconds * max(1.0, os.getloadavg()[0] / (os.cpu_count() or 1))
 
 
 def until(holds: Callable[[], bool], seconds: float) -> float:
-    """Waits until something holds: after how long it did."""
+    """Waits until something holds. Gives how long that took."""
     begun = time.monotonic()
     while not holds():
         if time.monotonic() - begun > seconds:

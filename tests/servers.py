@@ -18,7 +18,7 @@ from typing import Callable, Dict, List, Optional, Sequence, Tuple
 
 TOP = Path(__file__).resolve().parent.parent
 VAULTD = os.path.abspath(os.environ.get("VAULTD") or str(TOP / "crates" / "vaultd" / "out" / "vaultd"))
-# A folder in memory, where syncs take no time, for what doesn't ask about them.
+# A folder in memory, where syncs take no time, for tests that don't depend on syncs.
 MEMORY = "/dev/shm" if os.access("/dev/shm", os.W_OK) else None
 PACKAGES = sorted(path.parent for path in (TOP / "python").glob("*/pyproject.toml"))
 sys.path[:0] = [str(package / "src") for package in PACKAGES]
@@ -64,7 +64,7 @@ class Limits:
     file_bytes: Optional[int] = None
 
     def take_effect(self) -> None:
-        """Is called in the new process; the signals that end a program do so, whatever the tests' own process has."""
+        """Is called in the new process. Signals that end a program do so again, whatever the tests' own process has set."""
         for sign in (signal.SIGTERM, signal.SIGINT, signal.SIGHUP):
             signal.signal(sign, signal.SIG_DFL)
         for stream in self.closed:
@@ -138,7 +138,7 @@ class Server:
 
 
 def end_accepting(listener: socket.socket, accepts: threading.Thread) -> None:
-    """Ends a listener and the thread that accepts by it. One that is closed under its thread would accept by the next that has its number."""
+    """Ends a listener and the thread that accepts by it. Only closed, it would go on accepting by the next of its number."""
     listener.shutdown(socket.SHUT_RDWR)
     accepts.join()
     listener.close()
@@ -185,7 +185,7 @@ class Cutter:
                     client.sendall(reply)
 
     def _cut(self, words: List[bytes], line: bytes) -> bool:
-        """Whether the line begins with the first word that is asked to be cut, which then is spent. Does first what is to happen
+        """Whether the line begins with the first word that is to be cut, which is then used up. Does first what is to happen
         meanwhile."""
         if words and line.startswith(words[0]):
             words.pop(0)
@@ -196,7 +196,7 @@ class Cutter:
 
 @dataclass
 class Heard:
-    """What a client sent on a connection, what it was told, and whether the server has ended it."""
+    """What a client sent on a connection, what it got, and whether the server has ended the connection."""
 
     sent: bytearray = field(default_factory=bytearray)
     told: bytearray = field(default_factory=bytearray)
@@ -228,7 +228,7 @@ class Tap:
 
 
 def hand_on(client: socket.socket, server: socket.socket, heard: Heard) -> None:
-    """Hands on what comes to the end of both sides; behind the server's end the client has a moment to end, too."""
+    """Hands on what comes, until both sides end. After the server's end the client has a moment to end, too."""
     ways = {client: (server, heard.sent), server: (client, heard.told)}
     with client, server:
         while ways:

@@ -1,8 +1,8 @@
 """The program `vault`, killed at one of its steps: before it opens, makes, renames, links or removes a file, puts one on disk, connects, or
 sends or reads lines.
 
-Run as a program it is given the number of a step on each line of its input, and words of `vault` behind that; it runs these in a process
-of their own, which ends as if killed right before that step, and prints `killed`, or the status where the words ended before.
+Run as a program it reads from each line of its input the number of a step, and then words of `vault`. It runs these words in a process of
+their own, which ends as if killed right before that step, and prints `killed`, or the status if the words ended before that step.
 """
 
 import json
@@ -33,12 +33,12 @@ class Steps:
         self.left -= 1
 
     def on_event(self, event: str, _words: Any) -> None:
-        """Is told of each call that Python knows as an event."""
+        """Is called for each call that Python reports as an audit event."""
         if event in EVENTS:
             self.step()
 
     def around(self, function: Callable[..., Any]) -> Callable[..., Any]:
-        """A function with a step before it, and one behind."""
+        """A function with a step before it, and one after it."""
         def stepped(*words: Any) -> Any:
             self.step()
             answer = function(*words)

@@ -1,4 +1,4 @@
-"""A server's own calls on its two files, recorded by strace, and files that a stop of the machine could leave at any moment between.
+"""A server's own calls on its two files, recorded by strace, and files that a crash could leave at any moment in between.
 
 What is written and not yet synced may be there, not be there, or be there in part, byte by byte; it may be any other bytes, and the file
 may have any length on the way. What was synced is there.
@@ -51,7 +51,7 @@ def work_of(vault: Vault, client: int) -> Tuple[List[bytes], Optional[List[bytes
 
 
 def work_behind(client: int, commands: int) -> Tuple[List[bytes], Optional[List[bytes]]]:
-    """The same, as it has to be behind so many of its commands."""
+    """What a vault must hold of a client's work after this many of its commands."""
     cycles, step = divmod(commands, CYCLE)
     drafts = [content(client, cycles, step - 2)] if step > 1 else []
     return [content(client, cycle, SAVES - 1) for cycle in range(cycles)], drafts if step else None
@@ -126,12 +126,12 @@ class Recording:
         return [number for number, call in enumerate(self.calls) if call.kind == "write" and call.at == 0 and call.data == b"\x01"]
 
     def without_syncs_of_bodies(self) -> "Recording":
-        """What a server would have done that opens a gate before the body behind it is synced."""
+        """What a server would have done that opens a gate before the frame's body is synced."""
         kept = [call for number, call in enumerate(self.calls) if call.kind != "sync" or self.calls[number - 1].data == b"\x01"]
         return Recording(self.files, kept)
 
     def told_early(self) -> "Recording":
-        """What a server would have done that tells replies before their commit: each before the four calls that stand before it."""
+        """What a server would have done that sends replies before their commit: each before the four calls that it came after."""
         calls = list(self.calls)
         for number, call in enumerate(self.calls):
             if call.kind == "told" and number > 4:
@@ -149,7 +149,7 @@ class Recording:
 
 
 def record(folder: Path, snapshots: int) -> Recording:
-    """Eight clients work at a server until it has written so many snapshots, while strace looks on."""
+    """Eight clients work at a server until it has written this many snapshots, while strace records it."""
     files = (str(folder / "a"), str(folder / "b"))
     subprocess.run([VAULTD, "create", *files], check=True, stdout=subprocess.DEVNULL)
     at_first, port, trace = {name: Path(file).read_bytes() for name, file in zip("ab", files)}, free_port(), folder / "trace"
@@ -188,27 +188,27 @@ def wait_for_generation(file: Path, generation: int) -> None:
 
 @dataclass
 class Disk:
-    """A file on a disk: what is settled, what a read gives, and which ranges were written since."""
+    """A file on a disk: what is durable, what a read gives, and which ranges were written since the last sync."""
 
     settled: bytearray
     current: bytearray
     written: List[Tuple[int, int]] = field(default_factory=list)
 
     def write(self, at: int, data: bytes) -> None:
-        """A write that isn't settled yet."""
+        """A write, which isn't durable yet."""
         self.current[len(self.current):at] = bytes(max(0, at - len(self.current)))
         self.current[at:at + len(data)] = data
         self.written.append((at, at + len(data)))
 
     def sync(self) -> None:
-        """What was written is settled."""
+        """What was written becomes durable."""
         for at, end in self.written:
             self.settled[len(self.settled):at] = bytes(max(0, at - len(self.settled)))
             self.settled[at:end] = self.current[at:end]
         self.written = []
 
     def image(self, chance: random.Random) -> bytes:
-        """What a stop may leave of it."""
+        """What a crash may leave of it."""
         left = bytearray(self.settled)
         for at, end in self.written:
             left[len(left):at] = bytes(max(0, at - len(left)))
@@ -237,14 +237,14 @@ def torn(chance: random.Random, old: bytes, new: bytes) -> bytes:
 
 @dataclass
 class Moment:
-    """A moment at which the machine may stop: both files, and how many commands each client was told by then."""
+    """A moment at which the machine may crash: both files, and how many commands were acknowledged to each client by then."""
 
     files: Dict[str, Disk]
     told: List[int]
     call: int
 
     def vault(self, kind: str) -> Vault:
-        """The vault that is settled, or the one that a read gives."""
+        """The durable vault, or the one that a read gives."""
         first, second = (bytes(getattr(self.files[name], kind)) for name in "ab")
         return vault_of(first, second)
 

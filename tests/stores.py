@@ -44,7 +44,7 @@ class WithStore(WithServer):
         return parts
 
     def as_program(self) -> None:
-        """Makes ready for the program `vault`, which is anna from here on, at the server itself, and follows the store."""
+        """Prepares for runs of the program `vault`, which speaks for anna from here on, at the server itself, and follows the store."""
         self.vault("hello", f"anna@127.0.0.1:{self.server.port}")
         self.vault("store", "confirm", self.address())
 
@@ -66,7 +66,7 @@ class WithStore(WithServer):
         return self.store / place_of(card.sha256)
 
     def names_what_is_there(self, place: str = PART) -> int:
-        """Looks that each version of a part has its bytes, and answers how many these are."""
+        """Checks that each version of a part has its bytes, and answers how many versions there are."""
         count = 0
         for _, content in self.anna.history(place):
             card = read_card(content)

@@ -46,7 +46,7 @@ class TwoServers(unittest.TestCase):
             self.anna.make(place)
 
     def client(self, designer: str, patience: float = 10.0, ports: Tuple[int, ...] = ()) -> Client:
-        """A designer who knows both; a second one of a name stands for a second run of the program."""
+        """A designer who knows both. A second one of the same name stands for a second run of the program."""
         first, *others = [("127.0.0.1", port) for port in ports or [cutter.port for cutter in self.cutters]]
         client = Client(designer, *first, self.folder, patience, 0.05, self.notices.append, others=others)
         self.addCleanup(client.close)
@@ -59,7 +59,7 @@ class TwoServers(unittest.TestCase):
         other.start()
 
     def cut(self, word: bytes, behind: bool) -> None:
-        """Has the next such line lost, or its reply, and the other server take over then."""
+        """Makes the next such line get lost, or its reply, and then the other server take over."""
         for cutter in self.cutters:
             (cutter.after if behind else cutter.before)[:] = [word]
             cutter.meanwhile = self.take_over
@@ -174,7 +174,7 @@ class PassedOver(TwoServers):
         self.assertEqual((len(list(again.history(PART))), self.notices), (1, []))
 
     def copies(self) -> Tuple[str, str]:
-        """A copy of the files, as a machine has them that was cut off."""
+        """A copy of the files, as a machine that was cut off has them."""
         copies = [str(self.folder / f"copy{number}") for number in range(2)]
         for path, copy in zip(self.one.files, copies):
             shutil.copy(path, copy)

@@ -31,7 +31,7 @@ OWN = {
 
 
 def heard(link: socket.socket) -> bytes:
-    """What is told until the connection ends, in whichever way."""
+    """What comes until the connection ends, in whichever way."""
     told = b""
     with contextlib.suppress(ConnectionError):
         while True:
@@ -63,7 +63,7 @@ class Border(unittest.TestCase):
         subprocess.run([VAULTD, "create", *map(str, self.files)], check=True, stdout=subprocess.DEVNULL)
 
     def serve(self, *words: str, host: str = "127.0.0.1") -> None:
-        """Starts the server, which is killed behind the test."""
+        """Starts the server, which is killed after the test."""
         self.port = free_port()
         server = subprocess.Popen([VAULTD, "serve", *map(str, self.files), f"{host}:{self.port}", *words],
                                   stdout=subprocess.PIPE, stderr=subprocess.STDOUT)
@@ -98,7 +98,7 @@ class Border(unittest.TestCase):
         return told
 
     def lasts(self, link: socket.socket) -> float:
-        """For how many seconds a connection lasts at which nothing is said any more."""
+        """For how many seconds a connection lasts on which nothing is said any more."""
         begin = time.monotonic()
         heard(link)
         return time.monotonic() - begin
@@ -141,7 +141,7 @@ class Foreign(Border):
 
 
 class Times(Border):
-    """Whoever takes too long loses his place."""
+    """Whoever takes too long loses their place."""
 
     def test_no_session(self) -> None:
         self.serve("--hello", "1")
@@ -197,7 +197,7 @@ class Times(Border):
 
 
 class FromWhom(Border):
-    """So many connections from one address."""
+    """The limit of connections from one address."""
 
     def test_loopback_is_not_counted(self) -> None:
         self.serve("--per-address", "1")

@@ -104,7 +104,7 @@ class Check(Tries):
 
 
 class NotServed(Tries):
-    """Where no server starts, the reason, the file and the offset are said, and what to do."""
+    """If no server starts, the check says why, in which file and at which offset, and what to do."""
 
     def test_damage(self) -> None:
         for name, first, second, letter, offset in (

@@ -28,7 +28,7 @@ def both_of(*steps: Callable[[], object]) -> Callable[[], object]:
 
 
 class Lost(WithServer):
-    """Each command that changes something, with its line lost, and with its reply lost."""
+    """Each command that changes something, once with its line lost, and once with its reply lost."""
 
     def test_make(self) -> None:
         for number, cut in enumerate(self.both()):
@@ -64,7 +64,7 @@ class Lost(WithServer):
         self.assertEqual(self.anna.checkout(["w:/engine"]).claim, "c2")
 
     def test_checkout_far_behind(self) -> None:
-        """Behind more numbers than are asked for first, the lost one is found by the second's number, and alone stands."""
+        """Behind more numbers than are asked for at first, the lost one is found by the second one's number, and only it stands."""
         ben = self.client("ben")
         for _ in range(100):
             ben.abandon(ben.checkout(["r:/engine"]).claim)
@@ -118,7 +118,7 @@ class Lost(WithServer):
         self.assertEqual(self.sent(b"checkin") + self.sent(b"abandon"), 0)
 
     def test_checkin_that_another_gave_up(self) -> None:
-        """A draft that is no version is never told as checked in, and its copy is kept."""
+        """A draft that is no version is never reported as checked in, and its copy is kept."""
         claim = self.anna.checkout(["w:" + PART]).claim
         self.anna.put(PART, b"dear")
         elsewhere = Client("anna", "127.0.0.1", self.server.port, Path(self.folder.name) / "elsewhere", settling=0)
@@ -137,7 +137,7 @@ class Lost(WithServer):
         self.assertEqual(self.anna.mine(), [])
 
     def test_a_hold_ends_with_its_connection(self) -> None:
-        """Behind a restart its number is another's."""
+        """After a restart its number is another claim's."""
         hold = self.anna.hold(["r:/engine"])
         self.assertTrue(self.anna.hold_stands(hold.claim).held)
         self.server.kill()
@@ -187,7 +187,7 @@ class NoServer(WithServer):
         self.assertEqual(self.sent(b"checkin"), 1)
 
     def test_two_checkouts_settled_by_the_next_run(self) -> None:
-        """The server is away between the second try of a check-out and the finding of the first, which alone stands in the end."""
+        """The server is away between the second try of a check-out and the finding of the first. In the end only the first stands."""
         ben = self.client("ben")
         for _ in range(100):
             ben.abandon(ben.checkout(["r:/engine"]).claim)
@@ -245,7 +245,7 @@ class NoServer(WithServer):
         self.assertEqual(self.notices, [])
 
     def test_past_a_full_history(self) -> None:
-        """6,000 commands are more than a server keeps: it lets the told ones go, and takes more without a new start."""
+        """6,000 commands are more than a server keeps: it trims the acknowledged ones, and takes more without a restart."""
         for name in ("ben", "carl"):
             designer = self.client(name)
             for _ in range(15):
@@ -258,7 +258,7 @@ class Long(WithServer):
     """Work on much."""
 
     def test_history(self) -> None:
-        """More versions than are read at once: each is there, in its order, and what is read so far is told meanwhile."""
+        """More versions than are read at once: each is there, in its order, and the progress is shown meanwhile."""
         for first in range(1, 151, 50):
             self.anna.link.read_all([line for number in range(first, first + 50) for line in (
                 f"checkout w:{PART}", f"save c{number} {PART} {number:08x}", f"checkin c{number}")])
@@ -330,8 +330,8 @@ class Program(WithServer):
         self.assertIn(b"was held", self.vault("hold", "r:/engine"))
 
     def test_waiting_while_the_server_is_away(self) -> None:
-        """A wait tells once that the server is away, goes on behind its restart, and has no connection in a long pause. This one isn't let wait
-        for an answer."""
+        """A wait says once that the server is away, goes on after its restart, and has no connection in a long pause. This server doesn't
+        let it wait for an answer."""
         self.anna.checkout(["w:/engine"])
         ben, output = self.client("ben", patience=0.1), Output("wait", True)
         claim = ben.checkout(["r:/engine"]).claim

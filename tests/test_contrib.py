@@ -75,7 +75,7 @@ class Contrib(unittest.TestCase):
         self.assertIn("usage", self.said(str(CONTRIB / "install"), "--destdir", status=2))
 
     def test_replicated(self) -> None:
-        """What is settled has the same bytes, never beside a server; and a server serves where it tells a check-out."""
+        """`settle` keeps the same bytes, and never runs beside a server; `serves` says that a server serves if it grants a check-out."""
         settle, serves = str(CONTRIB / "replicated" / "settle"), str(CONTRIB / "replicated" / "serves")
         server = Server(folder=MEMORY)
         self.addCleanup(server.close)

@@ -1,7 +1,7 @@
 """Four clients that put and check in, while the server is killed at random moments and started again.
 
-`VAULT_SEED` names the moments, `VAULT_MOMENTS` how many (200), `VAULT_SECONDS` after how many seconds no more are begun (60);
-what was done is printed.
+`VAULT_SEED` selects the moments, `VAULT_MOMENTS` says how many (200), `VAULT_SECONDS` after how many seconds no more are begun (60).
+What was done is printed.
 """
 
 import os
@@ -22,7 +22,7 @@ from vault import Client, Refused
 SEED = int(os.environ.get("VAULT_SEED", "34"))
 MOMENTS = int(os.environ.get("VAULT_MOMENTS", "200"))
 SECONDS = float(os.environ.get("VAULT_SECONDS", "60"))
-# A kill and a start take some tenths of a second: even a slow machine does so many.
+# A kill and a start take some tenths of a second: even a slow machine does this many.
 LEAST_KILLS = int(min(MOMENTS, SECONDS / 3))
 DESIGNERS = ("anna", "ben", "carl", "dora")
 SHARED = "/plant/hall/crane"

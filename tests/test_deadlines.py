@@ -37,7 +37,7 @@ class Deadlines(unittest.TestCase):
     def test_waits(self) -> None:
         for number in range(5):
             class Waits(unittest.TestCase):
-                """A test that waits, and one behind it."""
+                """A test that waits, and one after it."""
 
                 @long(1)
                 def test_a(self) -> None:

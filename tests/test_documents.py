@@ -18,7 +18,7 @@ from servers import MEMORY, TOP, VAULTD, Server, free_port, program, scripts
 PAGES = sorted(path for path in [*TOP.glob("*.md"), *TOP.glob("docs/*.md"), *TOP.glob("bench/*.md"), *TOP.glob("contrib/**/*.md")])
 # Folders at the top, by which a word is known to be a path of this tree.
 FOLDERS = ("crates/", "docs/", "python/", "contrib/", "tests/", "tools/", "bench/", ".ci/")
-# Names in paths that stand for others.
+# Placeholders in paths.
 PLACEHOLDERS = re.compile(r"NAME|CRATE|FOLDER|PROGRAM|[*<{]|\.\.")
 LINK = re.compile(r"\[[^]]*\]\(([^)\s]+)\)")
 SPAN = re.compile(r"`([^`\n]+)`")
@@ -39,7 +39,7 @@ NOT_RUN = {("docs/SIMULATION.md", "cd crates/vault_simulation"): "needs the prov
 BENCH_NOT_RUN = {"bench/line.py": "proves the crates of a commit from nothing"}
 # A name of code in a span: with an underscore, or of two words as types have it.
 NAME = re.compile(r"(?<![}\w])(?:[A-Za-z]\w*_\w+|[A-Z][a-z]+[A-Z]\w*)")
-# Names of others: of the language's library and tools, of the kernel, of a cluster's fences; and one of an example.
+# Names from elsewhere: of the language's library and tools, of the kernel, of a cluster's fences; and one of an example.
 FOREIGN = {"writes_back", "shift_remove", "RT_JOBS", "sched_vcpu_pack", "fence_scsi", "fence_mpath", "try_it"}
 # Words before a program's name in a command.
 BEFORE = ("runuser", "-u", "vaultd-watch", "--", "sudo", "/usr/bin/python3", "python3")
@@ -115,7 +115,7 @@ def clauses_of_functions() -> Dict[str, Set[str]]:
 
 @cache
 def options_of(name: str) -> Set[str]:
-    """The options that a program's help or, of a script of this tree, its text has."""
+    """The options in a program's help, or, for a script of this tree, in its text."""
     if name == "vaultd":
         calls: List[List[str]] = [[VAULTD, "--help"], *([VAULTD, each, "--help"] for each in SUBCOMMANDS)]
     elif name in scripts():
@@ -225,7 +225,7 @@ def blocks_of(page: Path) -> Iterator[Tuple[str, str]]:
 
 
 def section(page: str, heading: str) -> str:
-    """What stands on a page behind a heading, up to the next of its kind."""
+    """What stands on a page after a heading, up to the next of its kind."""
     text = text_of(TOP / "docs" / page).partition(f"\n{heading}\n")[2]
     assert text, (page, heading)
     return text.partition("\n" + heading.partition(" ")[0] + " ")[0]
@@ -322,7 +322,7 @@ class Commands(unittest.TestCase):
 
 
 def bytes_of(block: str, before: bytes = b"", column: int = 11, until: int = 42) -> bytes:
-    """The bytes that a block of the page on files shows, behind those that stand before its first line; `..` stands for 34 of them."""
+    """The bytes that a block of the page on files shows, after those `before` its first line. `..` stands for these."""
     file = bytearray()
     for line in block.splitlines():
         offset = re.match(r"(?:offset)? *(\d+)$", line[:column - 2]) if column else None
@@ -350,7 +350,7 @@ class Files(unittest.TestCase):
         self.renewed, self.again = bytes_of(worked[3]), bytes_of(worked[4], self.snapshot)
 
     def told(self, *lines: str) -> None:
-        """Has the server do these commands."""
+        """Makes the server do these commands."""
         with self.server.connect() as client, client.makefile("rw", encoding="ascii", newline="\n") as stream:
             for line in lines:
                 stream.write(line + "\n")

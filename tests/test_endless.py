@@ -1,4 +1,4 @@
-"""The run without end of bench/, in short: what was told is found again over kills, and what isn't there any more is noticed."""
+"""The run without end of bench/, in short: what was acknowledged is found again after kills, and what isn't there any more is noticed."""
 
 import subprocess
 import sys
@@ -14,7 +14,7 @@ sys.path.insert(0, str(TOP / "bench"))
 from endless_check import Change, CheckOut, Designer, Difference, Search  # noqa: E402
 from vaultd_tools.files import Claim  # noqa: E402
 
-# A program that serves an older copy of the files, once it is started again: all that was told since is lost.
+# A program that serves an older copy of the files once it is started again: all that was acknowledged since is lost.
 FORGETFUL = """#!/bin/sh
 if [ "$1" = serve ]; then
   if [ -e {folder}/first ]; then cp {folder}/first "$2"; else cp "$2" {folder}/first; fi
@@ -45,7 +45,7 @@ class Endless(unittest.TestCase):
         self.assertEqual(len([line for line in done.stdout.splitlines() if line.startswith(("| 2,000", "| 4,000"))]), 2)
 
     def test_lost(self) -> None:
-        """A server that loses what it told is found out."""
+        """A server that loses what it acknowledged is found out."""
         program = self.folder / "forgetful"
         program.write_text(FORGETFUL.format(folder=self.folder, program=VAULTD), "utf-8")
         program.chmod(0o700)
@@ -55,7 +55,7 @@ class Endless(unittest.TestCase):
 
 
 def with_check_out() -> Designer:
-    """A designer with a part, and a check-out that was told."""
+    """A designer with a part, and an acknowledged check-out."""
     designer = Designer(1)
     designer.made("/s1/a1/p0")
     designer.check_out = CheckOut("c5", ("w:/s1/a1/p0",), "/s1/a1/p0")
@@ -95,7 +95,7 @@ class Settling(unittest.TestCase):
         self.assertIsNone(designer.check_out)
 
     def test_other_content(self) -> None:
-        """A version with another content than was told, one too many, and a place that nobody made."""
+        """A version with another content than was acknowledged, one too many, and a place that nobody made."""
         replies = {"hello d1": "OK session 1", "list /s1/a1": "OK list 1 p0", "count /s1/a1/p0": "OK versions 1",
                    "fetch /s1/a1/p0 1": "OK content 6162", "quit": "OK left"}
         self.assertTrue(searched(replies))

@@ -35,7 +35,7 @@ MARKS = (b" ", b"  ", b"\t", b"\r", b"\0", b"\x0b", b"\xa0", b"\xff", b"-", b"_"
 
 
 def mutated(chance: random.Random) -> bytes:
-    """A line of the protocol, with up to three small changes, few of which leave it one."""
+    """A line of the protocol with up to three small changes. Few of them leave it a line of the protocol."""
     line = bytearray(chance.choice(VALID))
     for _ in range(chance.randrange(4)):
         at = chance.randrange(len(line) + 1)
@@ -66,7 +66,7 @@ def wanted(replies: List[str]) -> List[str]:
 
 
 def replies(text: bytes) -> List[str]:
-    """What was told, but for the numbers of sessions."""
+    """The replies, without the numbers of sessions."""
     return [re.sub(r"^OK session \d+$", "OK session", line) for line in text.decode("ascii").splitlines()]
 
 
@@ -95,7 +95,7 @@ class ReadAlike(unittest.TestCase):
         self.assertGreater(min(counted.values()), 3000, counted)
 
     def test_hellos(self) -> None:
-        """The same of lines that begin with hello, each on a connection of its own."""
+        """The same for lines that begin with hello, each on a connection of its own."""
         server = Server("--workers", "8", folder=MEMORY)
         self.addCleanup(server.close)
         server.start()
@@ -118,7 +118,7 @@ class ReadAlike(unittest.TestCase):
             self.assertEqual(command_of(line) is None, size > LONGEST_LINE, size)
 
     def test_pieces(self) -> None:
-        """However the bytes come, the lines are the same, but for what a line has beyond the longest."""
+        """However the bytes come, the lines are the same, except for what a line has beyond the longest length."""
         chance = random.Random(67)
         for _ in range(300):
             text = b"\n".join(mutated(chance) * chance.choice((1, 1, 1, 400)) for _ in range(chance.randrange(1, 9)))
@@ -156,7 +156,7 @@ class WithDoor(unittest.TestCase):
         return tuple(Path(path).read_bytes() for path in self.server.files)
 
     def conversation(self, key: str, text: bytes, slowly: bool = False) -> List[str]:
-        """What is told to all that is sent, up to the end of the stream."""
+        """All that is answered to what is sent, up to the end of the stream."""
         with self.door.ssh_again(key) as process:
             assert process.stdin is not None
             for piece in [text[at:at + 1] for at in range(len(text))] if slowly else [text]:
@@ -193,7 +193,7 @@ class Attacks(WithDoor):
         self.assertEqual([line for line in self.door.logged() if " told " in line and " -> OK" in line], [])
 
     def test_broken_vault(self) -> None:
-        """Behind a hello that a broken vault refuses, another's name is refused by the gate."""
+        """After a hello that a broken vault refuses, the gate refuses another's name."""
         broken = Server("--workers", "4", folder=MEMORY)
         self.addCleanup(broken.close)
         broken.start(Limits(file_bytes=120))
@@ -205,7 +205,7 @@ class Attacks(WithDoor):
 
 
 class Roles(WithDoor):
-    """What each kind of key may do, and in what order it is told."""
+    """What each kind of key may do, and in what order refusals come."""
 
     def test_own_name(self) -> None:
         said = self.conversation("anna", b"hello anna\nmake /a\nhello ben\ncheckout w:/a\nbad\nlist /\nnote c2\nquit\n")
@@ -364,7 +364,7 @@ class Alone(unittest.TestCase):
         process.stderr.close()
 
     def test_memory(self) -> None:
-        """15 MB at most, also behind many lines and long ones."""
+        """15 MB at most, also after many lines and long ones."""
         process, client = self.gate()
         text = b"hello anna\n" + b"make /a\nlist /\n" * 100 + b"x" * 100000 + b"\n"
         self.assertTrue(told(client, text, 202).endswith(b"ERR 10\n"))
@@ -373,7 +373,7 @@ class Alone(unittest.TestCase):
         self.assertLess(int(found[1]) if found else 0, 15000)
 
     def test_time(self) -> None:
-        """A gate that runs adds 1 ms at most to a command: the medians of many, at the server and through the gate by turns."""
+        """A gate that runs adds 1 ms at most to a command, by the medians of many, at the server and through the gate in turns."""
         for line in (b"list /\n", b"make /a\n"):
             added = min(self.median_of_gate(line) - self.median_of(self.server.connect(), line) for _ in range(5))
             self.assertLess(added, 0.001, line)
@@ -395,7 +395,7 @@ class Alone(unittest.TestCase):
         return statistics.median(took)
 
     def test_client_ends_while_it_waits(self) -> None:
-        """Where a client ends whose question is under way, its gate does, too, and frees the server's place."""
+        """When a client ends while its question is under way, its gate ends, too, and frees the place at the server."""
         assert self.server.process is not None
         process, client = self.gate()
         told(client, b"hello anna\n", 1)
@@ -408,7 +408,7 @@ class Alone(unittest.TestCase):
         self.server.process.send_signal(signal.SIGCONT)
 
     def test_full_log(self) -> None:
-        """A change isn't sent on where the log doesn't take its line; questions are."""
+        """A change isn't sent on if the log doesn't take its line; questions are."""
         self.door.log.symlink_to("/dev/full")
         process, client = self.gate()
         self.assertEqual(replies(told(client, b"hello anna\nmake /a\nlist /\nquit\n", 4)), ["OK session", "ERR 80", "OK list 0", "OK left"])
@@ -437,7 +437,7 @@ class Alone(unittest.TestCase):
         self.assertEqual(process.communicate(timeout=20)[1].count(b"no system log takes lines"), 1)
 
     def test_ends_with_the_connection(self) -> None:
-        """The gate ends with its client, with its server, behind 4,096 lines, and behind 16 MiB."""
+        """The gate ends with its client, with its server, after 4,096 lines, and after 16 MiB."""
         process, client = self.gate()
         told(client, b"hello anna\n", 1)
         client.close()
@@ -459,7 +459,7 @@ class Alone(unittest.TestCase):
         self.assertIn(b"no server answers at 127.0.0.1", process.communicate(timeout=20)[1])
 
     def test_pipes(self) -> None:
-        """A gate whose input ends tells what was asked before that."""
+        """A gate whose input ends still answers what was asked before that."""
         done = subprocess.run(self.door.gate("anna"), input=b"hello anna\nlist /\n", capture_output=True, timeout=20, check=True)
         self.assertEqual(replies(done.stdout), ["OK session", "OK list 0"])
 
@@ -472,13 +472,13 @@ class Alone(unittest.TestCase):
 
 
 def heard_all(connection: socket.socket, text: bytes) -> bytes:
-    """Sends a text while it listens, and answers all that is told."""
+    """Sends a text while it reads, and answers all that came."""
     connection.sendall(text)
     return b"".join(iter(lambda: taken(connection), b""))
 
 
 def taken(connection: socket.socket) -> bytes:
-    """What comes next, nothing at the end, however it ends."""
+    """What comes next; nothing at the end, however the connection ends."""
     try:
         return connection.recv(65536)
     except ConnectionResetError:

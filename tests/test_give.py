@@ -58,7 +58,7 @@ class Give(Knowing):
         self.assertEqual(self.anna.checkin(self.claim), 1)
 
     def test_ended_by_the_receiver(self) -> None:
-        """The reply is lost, and the receiver gives the check-out up at once: the copy of the draft is kept, and told of."""
+        """The reply is lost, and the receiver gives the check-out up at once: the copy of the draft is kept, and the client says so."""
         self.anna.put(PART, b"dear")
 
         def abandon() -> None:

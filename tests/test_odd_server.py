@@ -15,7 +15,7 @@ from vault.working import Working, folder_for
 
 
 class Odd:
-    """A server that answers each line by its first word, as it is told."""
+    """A server that answers each line by its first word, with the replies that it is given."""
 
     def __init__(self) -> None:
         self.listener = socket.create_server(("127.0.0.1", 0))
@@ -69,7 +69,7 @@ class OddReplies(unittest.TestCase):
             self.refused(lambda: anna.survey("/e"), count=b"ERR 22", list=reply)
 
     def test_holders(self) -> None:
-        """An older server doesn't know the question; an odd one is told as such."""
+        """An older server doesn't know the question; an odd one is reported as such."""
         self.server.replies = {b"claims": b"ERR 10"}
         self.assertEqual(self.client.holders("/e"), [])
         for reply in (b"OK claim c1 Anna held w:/e", b"OK claim c1 anna held", b"OK claim c1 anna queued w:/e", b"OK claim c1 anna held x:/e",
@@ -77,7 +77,7 @@ class OddReplies(unittest.TestCase):
             self.refused(lambda: self.client.holders("/e"), claims=b"OK claims 1 c1", show=reply)
 
     def test_older_server(self) -> None:
-        """A server that knows neither `give` and `note` nor who holds what: that is told, and nothing is left under way."""
+        """A server that knows neither `give` and `note` nor who holds what: the client says so, and nothing is left under way."""
         self.server.replies = {b"give": b"ERR 10", b"note": b"ERR 10", b"claims": b"ERR 10", b"state": b"OK held c1", b"save": b"ERR 22"}
         asked: List[Callable[[], object]] = [lambda: self.client.give("c1", "ben"), lambda: self.client.note("c1"),
                                              lambda: self.client.set_note("c1", b"x")]
@@ -94,7 +94,7 @@ class OddReplies(unittest.TestCase):
         self.assertIn("99 what", str(refused.exception))
 
     def test_a_tree_without_end(self) -> None:
-        """A server that lists places beneath all others: the client stops where a path has no more names."""
+        """A server that lists places beneath every place: the client stops at the greatest depth of a path."""
         self.refused(lambda: self.client.survey("/e"), count=b"ERR 22", list=b"OK list 1 a")
 
     def test_nothing_is_written(self) -> None:

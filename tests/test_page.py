@@ -1,4 +1,4 @@
-"""The live page by its program: what it reads, what it tells, and what it makes of strangers on either side."""
+"""The live page by its program: what it reads, what it shows, and how it treats strangers on either side."""
 
 import asyncio
 import contextlib
@@ -86,7 +86,7 @@ class WithPage(unittest.TestCase):
 
 
 class Reading(WithPage):
-    """What each kind of page says, and that nothing is changed by it."""
+    """What each kind of page says, and that it changes nothing."""
 
     def test_kinds(self) -> None:
         """Each kind is there, with the headers that keep other pages out, and without one that lets them in."""
@@ -101,7 +101,7 @@ class Reading(WithPage):
             self.assertEqual(re.findall(FROM_ELSEWHERE, body) if path in KINDS else [], [])
 
     def test_a_part(self) -> None:
-        """Its versions have number, time, author, size, name and note; what was no card has its size alone."""
+        """Its versions have number, time, author, size, name and note; a content that is no card has its size alone."""
         self.check_in(b"v2")
         self.anna.checkout(["w:" + PART])
         text = self.text(PART)
@@ -110,7 +110,7 @@ class Reading(WithPage):
         self.assertIn("anna has it for change", text)
 
     def test_many_versions(self) -> None:
-        """The latest stand there, and links lead to those before."""
+        """The latest are shown, and links lead to those before."""
         for number in range(45):
             self.check_in(b"version %d" % number)
         latest = self.page.page(PART)
@@ -119,7 +119,7 @@ class Reading(WithPage):
         self.assertEqual(re.findall(r'id="versions:(\d+)"', self.page.page(PART + "?before=7")), ["6", "5", "4", "3", "2", "1"])
 
     def test_a_queue(self) -> None:
-        """The library's page has the line and the tree, a place's page those that concern it, a designer's all that is theirs."""
+        """The library's page has the queue and the tree, a place's page the claims that concern it, a designer's all that is theirs."""
         self.anna.make("/wing")
         self.anna.checkout(["w:" + PART])
         self.anna.set_note("c2", b"<b>until Friday</b>")
@@ -138,7 +138,7 @@ class Reading(WithPage):
         self.assertRegex(self.text("/designers"), r"an anna 1 0 1 change \S+ be ben 1 1 0")
 
     def test_how_full(self) -> None:
-        """What the questions can tell is told, and what they can't is said with who can."""
+        """The page shows what it can ask for; of what it can't, it says who can."""
         self.page.page("/")
         until(lambda: "has read 1 version," in self.text("/"), 5)
         text = self.text("/")
@@ -176,7 +176,7 @@ class Reading(WithPage):
         self.assertEqual([self.page.get(path)[0] for path in ("/~/static", "/~/engine", "/designers/anna/static", "/~", "/~/")], [404] * 5)
 
     def test_nothing_is_changed(self) -> None:
-        """Behind every kind of request the files are the same bytes, and the server heard questions alone, in the page's own name."""
+        """After every kind of request the files are the same bytes, and the server got questions alone, in the page's own name."""
         self.anna.checkout(["w:" + PART])
         self.anna.checkout(["r:/"])
         before = self.files()
@@ -196,10 +196,10 @@ class Reading(WithPage):
 
 
 class Telling(WithPage):
-    """What open pages are told, and when."""
+    """What open pages get, and when."""
 
     def test_claims_within_a_second(self) -> None:
-        """A check-out, a wait, a note, a gift, an extension and a check-in are each told; each but the note within a second."""
+        """A check-out, a wait, a note, a gift, an extension and a check-in each reach the page; each but the note within a second."""
         self.anna.make("/engine/block/pin")
         stream, part = self.stream("/"), self.stream(PART)
         self.anna.checkout(["w:" + PART])
@@ -219,7 +219,7 @@ class Telling(WithPage):
         self.assertLess(stream.change("until noon", seconds=30)[0], 30)
 
     def test_places_within_thirty_seconds(self) -> None:
-        """Places that are made meanwhile come into the tree, and an address that is younger than the last look is asked for."""
+        """Places that are made meanwhile come into the tree. A place that is younger than the last look is asked for."""
         stream = self.stream("/")
         self.anna.make("/wing")
         self.anna.make("/wing/rib")
@@ -229,7 +229,7 @@ class Telling(WithPage):
         self.assertIn("under:/wing/rib", str(stream.change("row:/wing/rib/web")[1]["added"]))
 
     def test_nobody_looks(self) -> None:
-        """Before anybody looks, and behind the last that did, the server hears nothing."""
+        """Before anybody looks, and after the last one has gone, the server gets no line."""
         time.sleep(1)
         self.assertEqual(len(self.tap.heard), 0)
         stream = self.page.stream("/")
@@ -245,7 +245,7 @@ class Telling(WithPage):
         self.assertGreater(len(self.asked()), asked)
 
     def test_connections_are_renewed(self) -> None:
-        """One connection at a time, each left before it is spent."""
+        """One connection at a time, each left before its lines are used up."""
         with self.server.connect() as client:
             told(client, b"hello anna\n" + b"checkout r:/engine\n" * 250, 251)
         stream = self.stream("/designers")
@@ -258,7 +258,7 @@ class Telling(WithPage):
         stream.next(lambda kind, data: kind == "beat", 30)
 
     def test_a_page_that_is_old(self) -> None:
-        """A stream for a page that was read before a change is told to read it again; one of this moment isn't."""
+        """A page that was read before a change is told to read it again; one of this moment isn't."""
         body = self.page.page("/")
         data = dict(re.findall(r'data-(revision|run)="([^"]*)"', body))
         keeps = self.stream("/")
@@ -277,7 +277,7 @@ class Telling(WithPage):
             now.next(lambda kind, data: kind == "again", 1)
 
     def test_since(self) -> None:
-        """A claim that came while the page looked has its moment; one that was there before has that it was."""
+        """A claim that came while the page looked shows when it came; one that was there before shows that it was."""
         self.anna.checkout(["r:" + PART])
         stream = self.stream("/")
         self.assertRegex(self.text("/"), r"c2 held .* since before 20")
@@ -308,7 +308,7 @@ class Telling(WithPage):
         stream.change('"c3"')
 
     def test_the_server_is_silent(self) -> None:
-        """One that is there and answers nothing is told as such within five seconds, before it is given up."""
+        """One that is there and answers nothing is reported as such within five seconds, before it is given up."""
         stream = self.stream("/")
         assert self.server.process is not None
         self.server.process.send_signal(19)
@@ -330,7 +330,7 @@ class Strangers(WithPage):
         return int(told_here.split(b" ")[1]) if told_here else 0
 
     def test_hosts(self) -> None:
-        """Only the names that were given are served, whatever the port behind them; all others are told 421."""
+        """Only the names that were given are served, whatever the port after them; all others get 421."""
         for host in ("vault.example.org", "VAULT.example.ORG", "vault.example.org:443", "127.0.0.1:1"):
             self.assertEqual((host, self.page.get("/", Host=host)[0]), (host, 200))
         for host in ("evil.example", "localhost", "vault.example.org.evil.example", "vault.example.org.", "", "[::1]", "127.0.0.1@evil.example",
@@ -389,7 +389,7 @@ class Strangers(WithPage):
         self.assertIn("piston", self.page.page(PART))
 
     def test_pipelined_requests(self) -> None:
-        """A few requests may stand behind each other; more end the connection."""
+        """A few requests may follow each other without waiting; more end the connection."""
         request = b"GET /designers HTTP/1.1\r\nHost: 127.0.0.1\r\n\r\n"
         with socket.create_connection(("127.0.0.1", self.page.port), timeout=20) as client:
             client.sendall(b"GET /.events?see=/ HTTP/1.1\r\nHost: 127.0.0.1\r\n\r\n" + request * 2000)
@@ -399,7 +399,7 @@ class Strangers(WithPage):
         self.assertIn("piston", self.page.page(PART))
 
     def test_many_streams(self) -> None:
-        """So many open pages are told of changes; a further one is told 503, and pages are handed out all the same."""
+        """A limited number of open pages get changes; a further one gets 503, and pages are handed out all the same."""
         streams = [self.stream("/") for _ in range(6)]
         for stream in streams:
             stream.next(lambda kind, data: kind == "beat", 10)
@@ -434,7 +434,7 @@ class Strangers(WithPage):
 
 
 class SlowReaders(unittest.IsolatedAsyncioTestCase):
-    """Whoever takes nothing is dropped. The page runs in this process, with short times."""
+    """Whoever takes nothing is dropped. The page runs in this process, with short time limits."""
 
     async def asyncSetUp(self) -> None:
         asyncio.get_running_loop().slow_callback_duration = 10
@@ -477,7 +477,7 @@ class SlowReaders(unittest.IsolatedAsyncioTestCase):
         await self.none_left()
 
     async def test_of_streams(self) -> None:
-        """A stream whose reader takes nothing is dropped behind a few messages that wait."""
+        """A stream whose reader takes nothing is dropped after a few waiting messages."""
         for _ in range(5):
             self.connected("/.events?see=/")
         await self.streams(5)
@@ -492,7 +492,7 @@ class SlowReaders(unittest.IsolatedAsyncioTestCase):
         await self.none_left()
 
     async def test_of_messages(self) -> None:
-        """So many messages wait for a reader, and with one more it is dropped."""
+        """A limited number of messages wait for a reader. With one more it is dropped."""
         stream = page_web.Stream()
         for _ in range(page_web.MAX_WAITING):
             stream.push(b"x")
@@ -501,7 +501,7 @@ class SlowReaders(unittest.IsolatedAsyncioTestCase):
         self.assertTrue(stream.over)
 
     async def streams(self, count: int) -> None:
-        """Waits until so many streams are open."""
+        """Waits until this many streams are open."""
         for _ in range(500):
             if self.page.watcher.streams == count and sum(len(channel.streams) for channel in self.page.channels.values()) == count:
                 return
@@ -582,7 +582,7 @@ class OddServers(unittest.TestCase):
             self.assertIn(said, self.said_of(Odd(replies)), replies)
 
     def test_a_tree_without_end(self) -> None:
-        """A server that lists places beneath all others: no more are taken than a vault has."""
+        """A server that lists places beneath every place: the page takes no more than a vault may have."""
         names = b"OK list 64" + b"".join(b" a%d" % number for number in range(64))
         self.assertIn("lists more places than a vault has", self.said_of(Odd({b"list": names, b"count": b"ERR 22"})))
 
@@ -597,7 +597,7 @@ class OddServers(unittest.TestCase):
         self.assertLess(time.monotonic() - begun, 20)
 
     def test_nobody(self) -> None:
-        """No server at all; a place isn't denied for it."""
+        """No server at all. The page doesn't deny a place because of it."""
         page = PageServer(1)
         self.addCleanup(page.end)
         status, _, body = page.get("/engine")
@@ -606,7 +606,7 @@ class OddServers(unittest.TestCase):
 
 
 def fill(port: int, places: int, claims: int) -> None:
-    """Makes a vault of so many places and claims: projects of an assembly each, with up to 64 parts."""
+    """Makes a vault with this many places and claims: projects of an assembly each, with up to 64 parts."""
     made, parts = 1, []
     lines: List[str] = []
     while made < places:
@@ -636,7 +636,7 @@ class Quick(unittest.TestCase):
         self.addCleanup(self.page.end)
 
     def test_fifty_pages(self) -> None:
-        """Where nothing changes they cost less than a twentieth of a core, page and server together; a change is there within a second."""
+        """While nothing changes they cost less than a twentieth of a core, page and server together; a change shows within a second."""
         assert self.server.process is not None
         streams = [self.page.stream("/") for _ in range(50)]
         for stream in streams:
@@ -659,7 +659,7 @@ class Quick(unittest.TestCase):
 
 
 class Lanes(unittest.TestCase):
-    """The curves of the line."""
+    """The curves of the queue."""
 
     def test_curves(self) -> None:
         claims = [Claim("c1", "anna", None, ("w:/a",)), Claim("c2", "ben", "c1", ("w:/a",)), Claim("c3", "cara", None, ("w:/b",)),
@@ -669,7 +669,7 @@ class Lanes(unittest.TestCase):
                                  [(0, "last", "anna"), (1, "through", "cara")], [(1, "last", "cara")], []])
 
     def test_more_than_there_is_room_for(self) -> None:
-        """Where no lane is free a curve isn't drawn, and no two have one at once."""
+        """If no lane is free a curve isn't drawn, and no two curves have one lane at once."""
         claims = [Claim(f"c{number}", "anna", None, (f"w:/p{number}",)) for number in range(20)]
         claims += [Claim(f"c{100 + number}", "ben", f"c{number}", (f"w:/p{number}",)) for number in range(20)]
         for row in curves(claims):

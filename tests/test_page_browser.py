@@ -59,7 +59,7 @@ class WithOffice(unittest.TestCase):
         self.say("w" * 32, f"checkout w:{longest} r:{longest} w:{longest}")
 
     def say(self, name: str, line: str) -> str:
-        """What a designer is told, who need not be one of the office."""
+        """The reply to a designer, who need not be one of the office."""
         if name in self.office.sessions:
             reply = self.office.say(name, line)[0]
             return ("OK " if reply.ok else "ERR ") + " ".join(reply.words)
@@ -68,7 +68,7 @@ class WithOffice(unittest.TestCase):
             return [told.readline() for _ in range(3)][1].decode().strip()
 
     def open(self, path: str) -> None:
-        """Opens a page, and waits until it is live where it can be."""
+        """Opens a page, and waits until it is live, if it can be."""
         self.browser.open(self.page.address + path)
         if self.browser.value("document.body.dataset.watch || ''"):
             until(lambda: self.words("#pill") == "live", 10)
@@ -82,7 +82,7 @@ class WithOffice(unittest.TestCase):
         return bool(self.browser.value(expression))
 
     def shows(self, selector: str, words: str, seconds: float = 1.0) -> None:
-        """Such an element comes to have these words, in time."""
+        """Waits until such an element has these words."""
         try:
             took = until(lambda: words in self.words(selector), seconds + 9)
         except AssertionError as error:
@@ -128,7 +128,7 @@ class Kinds(WithOffice):
         self.assertEqual(self.browser.complaints(), [])
 
     def test_on_paper(self) -> None:
-        """What is printed has the line, and no search."""
+        """What is printed has the queue, and no search."""
         self.fill()
         self.open("/")
         self.browser.show(794, 1123, media="print")

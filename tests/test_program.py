@@ -28,7 +28,7 @@ REFUSED = (
 
 
 class CommandLine(Tries):
-    """What the words ask for is done or told with status 0; odd words are refused with status 2."""
+    """What the words ask for is done or printed with status 0; odd words are refused with status 2."""
 
     def test_script(self) -> None:
         self.same("a script", run("script", stdin=b"@1 hello anna\n"), (0, "@1 OK session 1\n", ""))
@@ -58,7 +58,7 @@ class CommandLine(Tries):
 
 
 class Creation(Tries):
-    """Missing and empty files are used; a refused creation changes no file, and what it made is taken away again."""
+    """Missing and empty files are used; a refused creation changes no file, and what it made is removed again."""
 
     def test_over_a_vault(self) -> None:
         self.new_vault()
@@ -255,7 +255,7 @@ class OtherFaults(Tries):
         self.same("the end of a broken vault", server.end(), (1, "listening\n", FAULTS["device"] + "\n"))
 
     def test_little_memory(self) -> None:
-        """A script that memory is refused for says so. One that fits is done, beside the same limit."""
+        """A script that gets no memory says so. One that fits is done, under the same limit."""
         for rest, wanted in ((b"\n@1 hello anna\n", (0, "@1 OK session 1\n", "")), (b"#" * 15000000, fault("memory"))):
             # What `rt try` builds has AddressSanitizer, which would end it here without this word.
             process = subprocess.Popen([VAULTD, "script"], stdin=subprocess.PIPE, stdout=subprocess.PIPE, stderr=subprocess.PIPE,
@@ -275,7 +275,7 @@ class OtherFaults(Tries):
             self.same(f"8 MB more, and a script of {1000000 + len(rest)} bytes", (process.returncode, out.decode(), errors.decode()), wanted)
 
     def test_each_fault_is_tried(self) -> None:
-        """Each text of a fault stands in a try of these modules."""
+        """Each text of a fault is expected by a try of these modules."""
         text = "".join(path.read_text("utf-8") for path in (TOP / "tests").glob("test_program*.py"))
         self.assertEqual(set(re.findall(r'fault\("([a-z ]+)"', text)), set(FAULTS))
 

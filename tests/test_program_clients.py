@@ -12,7 +12,7 @@ from tries import FAULTS, Tries, content_of, fault, heard, lay, run, told
 
 
 def asks_its_client(server: Server) -> bool:
-    """Whether the one connection has a timer by which the kernel asks after its client, where nothing is under way."""
+    """Whether the one connection has a timer by which the kernel probes its client (keepalive), while nothing is under way."""
     with open("/proc/net/tcp", encoding="ascii") as rows:
         ours = [row.split() for row in rows if f":{server.port:04X} " in row]
     return [row[5][:3] for row in ours if row[1].endswith(f":{server.port:04X}") and row[3] == "01"] == ["02:"]
@@ -77,7 +77,7 @@ class Clients(Tries):
             self.check("a deaf client that reads again", whole, len(replies))
 
     def test_silent_client(self) -> None:
-        """The kernel asks after a client that says nothing, and nothing ends it without a time."""
+        """The kernel probes a client that says nothing, and nothing ends it unless a time is set."""
         server = self.serve("--workers", "1")
         with server.connect() as client:
             self.check("a session", told(client, b"hello anna\n", 1) == b"OK session 1\n")
@@ -86,7 +86,7 @@ class Clients(Tries):
             self.check("no end without a time", told(client, b"count /\n", 1) == b"ERR 22\n")
 
     def test_idle_client(self) -> None:
-        """With a time a silent client is ended after that, with its holds."""
+        """If a time is set, a silent client is ended after it, with its holds."""
         server = self.serve("--idle", "1", "--workers", "1")
         began = time.time()
         with server.connect() as client:
@@ -147,7 +147,7 @@ class Options(Tries):
         self.same("--connections", server.end(), (0, "listening\n", ""))
 
     def test_threads(self) -> None:
-        """One thread serves all places of a server, and so do two, each a half; what one hears the other commits, too."""
+        """One thread serves all places of a server, and so do two, each a half; each commits what the other reads, too."""
         for words, name in (((), "one thread"), (("--threads", "2"), "two threads")):
             self.new_vault()
             server = self.serve("--workers", "64", *words)
@@ -199,14 +199,14 @@ class Descriptors(Tries):
 
 
 class Stops(Tries):
-    """What was told is in the files, whatever ends the server, and also where they are copied while it writes."""
+    """What was acknowledged is in the files, whatever ends the server, and also in copies made while it writes."""
 
     def setUp(self) -> None:
         super().setUp()
         self.new_vault()
 
     def test_signals(self) -> None:
-        """Whatever signal ends a server, what was told is in the files; numbers go on, and sessions don't."""
+        """Whatever signal ends a server, what was acknowledged is in the files; numbers go on, and sessions don't."""
         for number, sign in enumerate((signal.SIGTERM, signal.SIGINT, signal.SIGHUP, signal.SIGKILL), 1):
             server = self.serve()
             assert server.process is not None
@@ -239,7 +239,7 @@ class Stops(Tries):
 
 
 class LongSnapshot(Tries):
-    """A vault whose snapshot has more than one piece is opened with all its versions, and refused where one byte is damaged."""
+    """A vault whose snapshot has more than one piece is opened with all its versions, and refused if one byte is damaged."""
 
     def fill(self) -> None:
         """Makes 3,200 versions of 1,000 bytes."""

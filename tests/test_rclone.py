@@ -56,7 +56,7 @@ class Remote:
 
 
 class Shared:
-    """What has to hold over each protocol."""
+    """What must hold over each protocol."""
 
     class OverRclone(WithStore):
         """A vault whose store is a remote."""
@@ -95,7 +95,7 @@ class Shared:
             self.assertEqual((self.names_what_is_there(), self.entries("incoming")), (3, []))
 
         def test_the_same_bytes_again(self) -> None:
-            """They are looked through, stay as they are, and something beside them says that they were wanted again."""
+            """They are read through, stay as they are, and something beside them says that they were wanted again."""
             card = self.put_version()
             os.utime(self.path_of(card), (1, 1))
             self.put_version()
@@ -239,7 +239,7 @@ class Sftp(Shared.OverRclone):
 
 
 class Refused(WithStore):
-    """What is told before any server is asked."""
+    """What is refused before any server is asked."""
 
     def setUp(self) -> None:
         super().setUp()

@@ -1,7 +1,7 @@
-"""Both ways from a clone to a running server, each line of README's as it stands there, with what stands below it.
+"""Both ways from a clone to a running server: runs each line of README, and compares what it prints with what stands below it.
 
-The program is made in them only where VAULT_BUILDS is set, since that takes minutes without proofs, and half an hour with them. Else the
-program that is tested stands for it.
+The program is built only if VAULT_BUILDS is set, since that takes minutes without proofs, and half an hour with them. Else the tested
+program stands in for it.
 """
 
 import os
@@ -28,7 +28,7 @@ class Readme(unittest.TestCase):
     deadline = 2 * BUILD_SECONDS
 
     def run_block(self, number: int, first: str) -> None:
-        """Runs a block, whose first line begins so."""
+        """Runs the block whose first line begins so."""
         block = BLOCKS[number]
         self.assertTrue(block[0][1].startswith(first), block[0])
         with tempfile.TemporaryDirectory(prefix="vault-test-") as folder:

@@ -1,5 +1,5 @@
-"""What the program says behind a fault with `--verbose`: of what it is, what was done, and what the system said. Without the word it says no
-more than the fault. A server whose vault breaks says so at once."""
+"""What the program says after a fault with `--verbose`: the file or address, what was done, and what the system said. Without the word it
+says no more than the fault. A server whose vault breaks says so at once."""
 
 import ctypes
 import os
@@ -16,13 +16,13 @@ from test_files import can_mount
 from tries import FAULTS, Tries, lock, run, told
 
 PIDFD_GETFD = 438
-# Root may open what nobody may, unless it gives up this.
+# Root may open files that nobody else may, unless it gives up this capability.
 AS_ANYBODY = ["setpriv", "--bounding-set", "-dac_override,-dac_read_search"] if os.geteuid() == 0 else []
 FULL = "No space left on device (os error 28)"
 
 
 def errors_of(process: "subprocess.Popen[bytes]", lines: int, seconds: float = 20) -> str:
-    """So many lines that a program says on standard error while it runs, or what it said of them in this time."""
+    """The first lines on a running program's standard error: this many, or fewer if no more came in this time."""
     assert process.stderr is not None
     said, until = b"", time.monotonic() + seconds
     while said.count(b"\n") < lines and (left := until - time.monotonic()) > 0:
@@ -50,7 +50,7 @@ def shut_listener(process: int, port: int) -> None:
 
 
 class Reasons(Tries):
-    """Each thing that may be done, and a real cause why it fails."""
+    """Each action, and a real cause why it fails."""
 
     def both(self, line: str, reason: str, *words: str, before: Sequence[str] = (), **given: object) -> None:
         """A fault without a word, and with its reason."""
@@ -146,7 +146,7 @@ class Serving(Tries):
     """What a server says of itself, and of a vault that breaks."""
 
     def broken(self, server: Server) -> List[socket.socket]:
-        """Designers save until each is told that the vault is broken; their connections."""
+        """Designers save until each gets the reply that the vault is broken. Gives their connections."""
         clients = [server.connect() for _ in range(4)]
         begin = "hello d{0}\nmake /e\nmake /e/b\nmake /e/b/p{0}\ncheckout w:/e/b/p{0}\n"
         begun = [told(client, begin.format(number).encode("ascii"), 5).splitlines()[-1] for number, client in enumerate(clients)]

@@ -1,4 +1,4 @@
-"""The client through a gate behind a real sshd: what it says where it isn't let in, and that it loses nothing where ssh is lost."""
+"""The client through a gate behind a real sshd: what it says when it isn't let in, and that it loses nothing when ssh is lost."""
 
 import os
 import re
@@ -154,7 +154,7 @@ class ThroughTheDoor(unittest.TestCase):
         self.one_sentence(self.vault("hello", f"ben@{self.server_word},{other}", status=1), "doesn't speak for ben")
 
     def test_reply_is_lost(self) -> None:
-        """A check-in whose reply is lost behind the gate is found out, and the log has it as lost, and not twice."""
+        """A check-in whose reply is lost behind the gate is found out. The log has it as lost, and not twice."""
         client = self.client()
         for place in ("/e", "/e/b", "/e/b/p"):
             client.make(place)

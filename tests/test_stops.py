@@ -1,8 +1,8 @@
-"""Files that a stop of the machine could leave under a server of eight clients, by its own calls: each opens as the vault that was settled,
-or the one that was being written, with all that a client was told by then, and a server starts over them.
+"""Files that a crash could leave under a server of eight clients, by its own calls: each opens as the durable vault, or as the one that
+was being written, with all that was acknowledged to a client by then, and a server starts over them.
 
-`VAULT_SEED` names the moments. A large run, by hand: `VAULT_MOMENTS_OF_STOPS=8000 VAULT_SNAPSHOTS=6 tests/run test_stops` looks at four pairs
-of files at each of 8,000 moments (150), over six snapshots (2).
+`VAULT_SEED` selects the moments. A large run, by hand: `VAULT_MOMENTS_OF_STOPS=8000 VAULT_SNAPSHOTS=6 tests/run test_stops` looks at
+four pairs of files at each of 8,000 moments (default 150), over six snapshots (default 2).
 """
 
 import os
@@ -45,12 +45,12 @@ class Stops(unittest.TestCase):
         self.counted: Dict[str, int] = {}
 
     def chosen(self, recording: Recording, count: int) -> List[int]:
-        """The calls in which the machine stops: two of three are any, and the third is of a snapshot, since these are few."""
+        """The calls inside which the machine crashes: two of three are any, and the third is of a snapshot, since these are few."""
         calls, rare = range(len(recording.calls)), recording.in_snapshots()
         return sorted(set(self.chance.sample(calls, count * 2 // 3) + self.chance.sample(rare, min(len(rare), count // 3))))
 
     def wrong_at(self, moment: Moment) -> List[str]:
-        """What is wrong of the files that a stop may leave at a moment, by the program and by a reader of the format."""
+        """What is wrong with the files that a crash may leave at a moment, by the program and by a reader of the format."""
         settled, writing, wrong = moment.vault("settled"), moment.vault("current"), []
         for client, told in enumerate(moment.told):
             if work_of(settled, client) not in (work_behind(client, told), work_behind(client, told + 1)):
@@ -86,7 +86,7 @@ class Stops(unittest.TestCase):
         return subprocess.run([VAULTD, word, *map(str, paths)], capture_output=True, text=True, timeout=60, check=False).stdout
 
     def wrong_in(self, recording: Recording, count: int) -> List[str]:
-        """What is wrong at so many moments of a recording."""
+        """What is wrong at this many moments of a recording."""
         return [wrong for moment in moments(recording, self.chosen(recording, count)) for wrong in self.wrong_at(moment)]
 
     def test_stops(self) -> None:

@@ -123,7 +123,7 @@ class PutAndGet(WithStore):
 
 
 class Changing:
-    """A meter in whose time a file is changed."""
+    """A progress meter that changes a file while it runs."""
 
     def __init__(self, file: Path):
         self.file = file
@@ -224,7 +224,7 @@ class NoStore(WithStore):
 
 
 class Faults(WithStore):
-    """A store that is full, away, read-only or damaged: it is told by name, and nothing is written over."""
+    """A store that is full, away, read-only or damaged: the client says which, and nothing is written over."""
 
     def refused(self, error: Type[VaultError], *said: str) -> None:
         """A put that is refused, and leaves nothing."""
@@ -447,7 +447,7 @@ class Together(WithStore):
 
 
 class Meanwhile:
-    """A meter in whose time something happens."""
+    """A progress meter that lets something happen while it runs."""
 
     def __init__(self, happens: Callable[[], None]):
         self.happens = happens

@@ -34,7 +34,7 @@ def out_of_time(_signal: int, _frame: Optional[FrameType]) -> None:
 
 
 def in_time(test: unittest.TestCase, seconds: int) -> None:
-    """Gives a test so many seconds, and each thing that it tidies up behind them half a minute."""
+    """Gives a test this many seconds, and each cleanup after them half a minute."""
     test.addCleanup(signal.signal, signal.SIGALRM, signal.signal(signal.SIGALRM, out_of_time))
     test.addCleanup(signal.setitimer, signal.ITIMER_REAL, 0)
     signal.setitimer(signal.ITIMER_REAL, seconds, 30)
@@ -85,7 +85,7 @@ class Border(unittest.TestCase):
                                                              "c1 anna held w:/engine note 6d696e65"])
 
     def sent_by(self, since: int, part: bytes) -> Heard:
-        """The connection behind the first few on which such bytes came, once the server has ended it."""
+        """The connection, after the first few, on which such bytes came, once the server has ended it."""
         end = time.monotonic() + SEEN_SECONDS
         while time.monotonic() < end:
             for connection in self.tap.heard[since:]:
@@ -239,10 +239,10 @@ class Tools(Border):
 
 
 class FirstLine(Border):
-    """A first line as HTTP has it, or TLS's first byte, however the bytes come: the connection is ended, and nothing behind is heard."""
+    """A first line as HTTP has it, or TLS's first byte, however the bytes come: the connection is ended, and nothing after it is read."""
 
     def ended(self, *pieces: bytes, pause: float = 0.0) -> bytes:
-        """What a connection is told to its end, which the server makes by itself."""
+        """What comes on a connection up to its end, which the server makes by itself."""
         with self.server.connect() as client:
             client.settimeout(10)
             client.setsockopt(socket.IPPROTO_TCP, socket.TCP_NODELAY, 1)
@@ -315,7 +315,7 @@ class Probes(Border):
         self.sessions = 2
 
     def probe(self, text: bytes, ends: bool) -> bytes:
-        """What a probe is told to its end; it says itself that no more comes where it isn't to be ended."""
+        """What a probe gets up to its end. If the server needn't end it, it says itself that no more comes."""
         with self.server.connect() as client:
             client.settimeout(10)
             try:
@@ -355,7 +355,7 @@ class Probes(Border):
 
 
 class ForGood(unittest.TestCase):
-    """What anybody who can connect fills for good, and that what the page on operating has somebody look at tells it."""
+    """What anybody who can connect may fill for good, and that the page on operating says how to see it."""
 
     def setUp(self) -> None:
         in_time(self, 120)
@@ -424,7 +424,7 @@ class NoPlace(unittest.TestCase):
         return client
 
     def test_told_and_ended(self) -> None:
-        """Whoever waits is told 80 behind the time, whatever he said, and nothing of it is done."""
+        """Whoever waits gets 80 after the time, whatever they said, and nothing of it is done."""
         for lines in (b"", b"hello ben\nmake /wing\n", b"hello ben"):
             began = time.monotonic()
             with self.server.connect() as waiting:

@@ -1,4 +1,4 @@
-"""The tools around the files, backup, salvage and board, on real vaults; and those around a check."""
+"""The tools around the files (backup, salvage and board), on real vaults; and those around a check."""
 
 import hashlib
 import html
@@ -59,7 +59,7 @@ class Backup(WithVault):
     """Copies of a running vault."""
 
     def test_while_it_serves(self) -> None:
-        """What was told before the copying is in each backup; nothing else is left in the folder."""
+        """What was acknowledged before the copying is in each backup; nothing else is left in the folder."""
         stop, told = threading.Event(), [0]
 
         def work() -> None:
@@ -131,7 +131,7 @@ def damage(file: Path, gate: int, behind: int, content: bytes) -> None:
 
 
 def gates(file: Path) -> List[int]:
-    """Where the frames of a vault's first file begin that never had a snapshot but the first."""
+    """The offsets where frames begin in the first file of a vault that never had another snapshot than its first."""
     data, found, gate = file.read_bytes(), [], 34
     while data[gate] == 1:
         found.append(gate)
@@ -140,7 +140,7 @@ def gates(file: Path) -> List[int]:
 
 
 class Salvage(WithVault):
-    """Damaged vaults: the copy opens, what is given up is told, and the vault's own files stay as they are."""
+    """Damaged vaults: the copy opens, salvage says what it gives up, and the vault's own files stay as they are."""
 
     def setUp(self) -> None:
         super().setUp()
@@ -224,7 +224,7 @@ class Salvage(WithVault):
 
 
 class Balanced(HTMLParser):
-    """Looks that each element is closed by its own end, and counts them."""
+    """Checks that each element is closed by its own end tag, and counts them."""
 
     def __init__(self) -> None:
         super().__init__()

@@ -39,8 +39,8 @@ class Shell:
             self.lines.put(line)
 
     def run(self, line: str, wanted: int, patience: float = 15) -> List[str]:
-        """Runs a line, and answers what was printed until it ended; where fewer lines came than are wanted, waits for those that
-        a background program prints. Ends behind so many seconds without one."""
+        """Runs a line, and answers what was printed until it ended. If fewer lines came than are wanted, waits for those that a
+        background program prints. Ends after a number of seconds without one."""
         assert self.process.stdin is not None
         self.process.stdin.write(f"{line}\necho {DONE}\n")
         self.process.stdin.flush()

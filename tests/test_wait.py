@@ -7,13 +7,13 @@ import unittest
 
 from test_border import Border, heard
 
-# How many waits are timed, and how long one that is waited for may take behind the release.
+# How many waits are timed, and how long one may take after the release.
 ROUNDS = 20
 SOON = 0.1
 
 
 def answered_within(link: socket.socket, seconds: float) -> bytes:
-    """What is told within so long; nothing where nothing is."""
+    """The reply that comes within this time; nothing if none does."""
     link.settimeout(seconds)
     try:
         return link.recv(4096)
@@ -40,7 +40,7 @@ class Waiting(Border):
         return link
 
     def may_wait_in_the_end(self, link: socket.socket, line: bytes) -> None:
-        """The line waits, within three seconds: until the server has seen who is gone, it is answered at once."""
+        """The line comes to wait within three seconds. It is answered at once until the server has seen that the others are gone."""
         until = time.monotonic() + 3
         link.sendall(line)
         while answered_within(link, 0.5):

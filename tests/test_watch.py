@@ -40,7 +40,7 @@ class Watch(WithVault):
         self.assertEqual(self.asked(), (5, f"nobody listens at 127.0.0.1:{self.server.port}.\n"))
 
     def test_deaf(self) -> None:
-        """A server that is stopped in its tracks gives no answer; the same one that goes on does."""
+        """A server that is suspended gives no answer; once it goes on, it does."""
         assert self.server.process is not None
         self.server.process.send_signal(signal.SIGSTOP)
         status, said = self.asked(patience=1)
@@ -119,7 +119,7 @@ class Metrics(WithVault):
         return {match[1] + (":" + match[2] if match[2] else ""): float(match[3]) for match in found if match}
 
     def test_of_a_running_vault(self) -> None:
-        """Each figure is the vault's, and the same once more where nothing happened."""
+        """Each figure is the vault's, and is the same again if nothing happened."""
         ben = Client("ben", "127.0.0.1", self.server.port, self.folder / "state")
         self.addCleanup(ben.close)
         ben.checkout(["r:/engine"])

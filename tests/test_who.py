@@ -32,7 +32,7 @@ ROD = "/engine/block/rod"
 
 
 class Between(Cutter):
-    """Hands lines on, but for some, which it answers in another way."""
+    """Hands lines on, except some, which it answers in another way."""
 
     def _hand_on(self, client: socket.socket) -> None:
         with client, contextlib.suppress(OSError), socket.create_connection(("127.0.0.1", self.server_port)) as server:
@@ -51,7 +51,7 @@ class Between(Cutter):
                     client.sendall(reply)
 
     def answer(self, line: bytes, ask: Callable[[bytes], bytes]) -> bytes:
-        """The reply to a line; nothing where the connection ends."""
+        """The reply to a line; nothing if the connection ends."""
         return ask(line)
 
     def sent(self, word: bytes) -> int:
@@ -99,7 +99,7 @@ class WithDesigners(WithServer):
         self.anna.make(ROD)
 
     def elsewhere(self, designer: str = "anna", port: int = 0, patience: float = 10.0) -> Client:
-        """A designer on another machine, with a memory of its own; at another server where a port is named."""
+        """A designer on another machine, with a memory of its own; at another server if a port is given."""
         folder = tempfile.TemporaryDirectory(prefix="vault-test-", dir=MEMORY)
         self.addCleanup(folder.cleanup)
         client = Client(designer, "127.0.0.1", port or self.cutter.port, Path(folder.name), patience, 0.05, self.notices.append)
@@ -146,7 +146,7 @@ class Who(WithDesigners):
         self.assertLess(time.time() - began, 30)
 
     def test_known_since(self) -> None:
-        """A claim is known from the first time that it was told of, over runs; one of one's own from when it was made."""
+        """A claim is known from the first time that the client saw it, over runs; one's own from when it was made."""
         began = time.time()
         self.anna.checkout(["w:" + PART])
         made = time.time()
@@ -159,7 +159,7 @@ class Who(WithDesigners):
         self.assertEqual({holder.claim: since for holder, since in self.client("anna").who("/engine/block")}, first)
 
     def test_known_anew(self) -> None:
-        """Behind a restart of the server a hold's number is another's; a check-out that was given is the same one."""
+        """After a restart of the server a hold's number is another hold's; a check-out that was given is the same one."""
         ben = self.client("ben")
         ben.hold(["r:" + ROD])
         claim = ben.checkout(["w:" + PART]).claim
@@ -237,7 +237,7 @@ class InTheWay(WithDesigners):
         self.assertEqual(standing.sentence("ben"), "h1 is queued behind c1, which anna holds: w:/engine.")
 
     def test_gone_meanwhile(self) -> None:
-        """The claim in the way is gone before it is asked whose it is: what is told then is how it stands."""
+        """The claim in the way is gone before the client asks whose it is: then it says how its own claim stands."""
         ben = self.client("ben")
         ben.checkout(["w:" + PART])
         self.cutter.before.append(b"claims")
@@ -253,7 +253,7 @@ class InTheWay(WithDesigners):
         self.assertTrue(self.anna.checkout(["w:/engine"]).held)
 
     def test_server_away_behind_the_answer(self) -> None:
-        """A check-out that was told is told, though nobody can be asked any more who is in the way."""
+        """A check-out that was acknowledged is reported, although nobody can be asked any more who is in the way."""
         self.client("ben").checkout(["w:" + PART])
         self.cutter.before.append(b"claims")
         self.cutter.meanwhile = self.server.kill
@@ -299,7 +299,7 @@ class Ring(WithDesigners):
                          "Anna holds /x, for which ben waits; ben holds /y, for which anna waits")
 
     def test_told_once_it_is_there(self) -> None:
-        """A ring that comes to be while one waits is told then."""
+        """A ring that comes to be while one waits is reported then."""
         anna, ben = self.client("anna"), self.client("ben")
         anna.checkout(["w:/x"])
         ben.checkout(["w:/y"])
@@ -324,7 +324,7 @@ class Ring(WithDesigners):
             self.assertEqual(in_words(line, claim, "anna"), "", (line, claim))
 
     def test_random_lines(self) -> None:
-        """There is a ring exactly where a walk from designer to designer comes back, and what is told of it is so."""
+        """There is a ring exactly if a walk from designer to designer comes back, and what is said of it is true."""
         moments, rings = random.Random(64), 0
         for _ in range(1500):
             line = lined(random_line(moments))
@@ -342,7 +342,7 @@ class Ring(WithDesigners):
         self.assertGreater(rings, 100)
 
     def test_more_than_there_may_be(self) -> None:
-        """A server that tells of more claims than any may have isn't asked for each."""
+        """A server that lists more claims than any server may have isn't asked for each."""
         class Endless(Between):
             """Tells of thousands."""
 
@@ -366,7 +366,7 @@ class Ring(WithDesigners):
 
 
 def lined(claims: List[Tuple[str, List[str]]]) -> List[Holder]:
-    """A line of claims, each held where none before it meets it, and else queued behind the first that does."""
+    """A queue of claims, each granted if none before it meets it, and else waiting behind the first that does."""
     line: List[Holder] = []
     for number, (owner, items) in enumerate(claims, 1):
         claim = Holder(f"c{number}", owner, True, tuple(items))
@@ -376,7 +376,7 @@ def lined(claims: List[Tuple[str, List[str]]]) -> List[Holder]:
 
 
 def in_words(text: str, claim: str, designer: str) -> str:
-    """The ring that a line told as text has, in words."""
+    """The ring in a queue that is given as text, in words."""
     line = lined([(words.split()[0], words.split()[1:]) for words in text.split("; ") if words])
     return Standing(claim, False, ring=tuple(ring(line, claim))).ring_in_words(designer)
 
@@ -389,7 +389,7 @@ def random_line(moments: random.Random) -> List[Tuple[str, List[str]]]:
 
 
 def comes_back(line: List[Holder], claim: Holder) -> bool:
-    """Whether a claim of others is in a claim's way, and one of its designer's in the way of those others, on and on."""
+    """Whether waits lead back: from a claim to the designers in its way, on to those in their way, and so on, to its own designer."""
     def blockers(owner: str, which: Optional[Holder] = None) -> Set[str]:
         return {before.owner for number, waiting in enumerate(line) for before in line[:number]
                 if waiting.owner == owner and (which is None or waiting is which) and not waiting.held and meeting(before, waiting)}
@@ -655,7 +655,7 @@ class WaitTests(WithDesigners):
     """`vault wait`."""
 
     def waited(self, stands: Between, meanwhile: Callable[[], None], *more: str) -> Tuple[str, Output]:
-        """What a wait of ben's for c2 says that begins now, where something is done meanwhile."""
+        """What a wait of ben's for c2 says that begins now, while something is done."""
         ben, output = self.elsewhere("ben", stands.port, 2.0), Output("wait", True)
         doer = threading.Timer(1.0, meanwhile)
         doer.start()
@@ -670,7 +670,7 @@ class WaitTests(WithDesigners):
         self.client("ben").checkout(["w:/engine"])
 
     def test_the_server_lets_one_wait(self) -> None:
-        """It is asked once, and told as soon as it is held."""
+        """It is asked once, and answers as soon as the claim is held."""
         stands = self.between(Holding)
         began = time.monotonic()
         said, output = self.waited(stands, lambda: self.anna.abandon("c1"))
@@ -738,7 +738,7 @@ class WaitTests(WithDesigners):
         self.assertEqual((refused.exception.code, stands.sent(b"wait")), (30, 1))
 
     def test_server_killed(self) -> None:
-        """It is killed while one waits, and started again: the wait goes on, and tells once that it was away."""
+        """It is killed while one waits, and started again: the wait goes on, and says once that the server was away."""
         stands = self.between(Holding)
 
         def restart() -> None:

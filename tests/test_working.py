@@ -324,7 +324,7 @@ class Status(WithFolder):
 
 
 class PutAndCheckin(WithFolder):
-    """Changed files are put where a held check-out takes them in, and checked in with a note."""
+    """Changed files are put if a held check-out takes them in, and checked in with a note."""
 
     def put(self, place: str = PART, claim: str = "") -> str:
         """Checks a part out and puts the file; answers the check-out."""

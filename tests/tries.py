@@ -1,4 +1,4 @@
-"""What the tries of the built program share: it is run in a folder of its own, and each try has a name."""
+"""What the tests of the built program share: it runs in a folder of its own, and each try has a name."""
 
 import fcntl
 import os
@@ -13,7 +13,7 @@ from servers import VAULTD, Limits, Server
 NEW = bytes.fromhex("014c4c5641554c5400000002000000000000000100000" "00a00000000000000010000" "00")
 NEW_TEXT = "file a: open, generation 1, frames 0, tail 34\nfile b: closed\nplaces 1, versions 0, claims 0, drafts 0\n"
 IN_USE_TEXT = "vault in use: a server may have written while the files were read\n"
-# What the program says on standard error where it ends with status 1.
+# What the program says on standard error if it ends with status 1.
 FAULTS = {
     "vault exists": "vault exists",
     "in use": "vault in use",
@@ -32,7 +32,7 @@ Done = Tuple[Optional[int], str, str]
 
 
 def fault(kind: str, *numbers: int) -> Done:
-    """The status, the output and the errors of a program that ends by such a fault."""
+    """The status, the output and the errors of a program that ends with this fault."""
     return 1, "", FAULTS[kind].format(*numbers) + "\n"
 
 
@@ -48,7 +48,7 @@ def run(*words: Union[str, bytes], stdin: Union[bytes, int] = b"", stdout: int =
 
 
 def lay(**contents: Optional[bytes]) -> None:
-    """Gives each of these files its bytes, and takes those away that have none."""
+    """Writes these bytes to each of these files, and removes those that have none."""
     for path, content in contents.items():
         if content is not None:
             with open(path, "wb") as file:
@@ -76,7 +76,7 @@ def lock(path: str, kind: int = fcntl.LOCK_EX) -> IO[bytes]:
 
 
 def told(connection: socket.socket, text: bytes, replies: int) -> bytes:
-    """What a connection is told for a text, so many replies."""
+    """The first replies on a connection to a text, this many."""
     connection.sendall(text)
     got = b""
     while got.count(b"\n") < replies:
@@ -88,7 +88,7 @@ def told(connection: socket.socket, text: bytes, replies: int) -> bytes:
 
 
 def heard(connection: socket.socket) -> bytes:
-    """What a connection is told to its end."""
+    """All that comes on a connection, up to its end."""
     got = b""
     while more := connection.recv(65536):
         got += more
@@ -105,12 +105,12 @@ class Tries(unittest.TestCase):
         os.chdir(folder.name)
 
     def check(self, name: str, holds: bool, seen: object = "") -> None:
-        """One try, which has to hold; those behind it are made in any case."""
+        """One try, which must hold; those after it are made in any case."""
         with self.subTest(name):
             self.assertTrue(holds, seen)
 
     def same(self, name: str, seen: object, wanted: object) -> None:
-        """One try that has to come to this."""
+        """One try that must give this."""
         with self.subTest(name):
             self.assertEqual(seen, wanted)
 

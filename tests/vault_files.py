@@ -1,4 +1,4 @@
-"""Reads the two files of a vault by docs/FORMAT.md, by code of its own: what a test compares with what the program says."""
+"""Reads the two files of a vault by docs/FORMAT.md, with code of its own. Tests compare this with what the program says."""
 
 from dataclasses import dataclass, field
 from typing import Callable, Dict, List, Optional, Tuple
@@ -19,18 +19,18 @@ class Bytes:
         self.data, self.at = data, 0
 
     def take(self, size: int) -> bytes:
-        """So many bytes."""
+        """This many bytes."""
         if self.at + size > len(self.data):
             raise Damaged(f"no {size} bytes at {self.at}")
         self.at += size
         return self.data[self.at - size:self.at]
 
     def number(self, size: int) -> int:
-        """A number of so many bytes."""
+        """A number of this many bytes."""
         return int.from_bytes(self.take(size), "big")
 
     def sized(self, size: int) -> bytes:
-        """Bytes behind their length, which has so many bytes."""
+        """Bytes after their length, which has this many bytes."""
         return self.take(self.number(size))
 
     @property
@@ -79,7 +79,7 @@ class Vault:
 
 
 def items_of(data: Bytes) -> List[Item]:
-    """Items behind their number."""
+    """Items after their number."""
     return [(data.number(1), data.number(4)) for _ in range(data.number(1))]
 
 
@@ -105,7 +105,7 @@ def check_in(vault: Vault, number: int) -> None:
 
 
 def extend(vault: Vault, number: int, items: List[Item]) -> None:
-    """A check-out gets further items and goes to the front of the line."""
+    """A check-out gets further items and goes to the front of the queue."""
     one = vault.line.pop(number)
     one.items += items
     vault.line = {number: one, **vault.line}
@@ -141,7 +141,7 @@ def generation_of(file: bytes) -> Optional[int]:
 
 
 def vault_of(first: bytes, second: bytes) -> Vault:
-    """The vault that two files hold: the snapshot of the active one, and each frame behind it."""
+    """The vault that two files hold: the snapshot of the active one, and each frame after it."""
     generations = {generation: file for file in (first, second) if (generation := generation_of(file)) is not None}
     if not generations:
         raise Damaged("neither head is open")

@@ -20,13 +20,13 @@ ASKED_WHILE_HOLDING_SECONDS = 30.0
 FIRST_PAUSE_SECONDS = 1.0
 LONGEST_PAUSE_SECONDS = 60.0
 KEPT_OPEN_SECONDS = 5.0
-# How long the answer to `wait` may take before it is asked anew, and what is no waiting.
+# How long the answer to `wait` may take before it is asked anew, and an answer within how many seconds means that it didn't wait.
 ANSWERED_WITHIN_SECONDS = 90.0
 SOON_SECONDS = 1.0
 
 
 def told_standing(standing: Standing, designer: str) -> Told:
-    """A standing, who is in the way, and what to do where it is queued."""
+    """A standing, who is in the way, and what to do if it is queued."""
     wait = "" if standing.held else f"`vault wait {standing.claim}` waits."
     said = (standing.sentence(designer), standing.ring_in_words(designer), wait)
     return " ".join(filter(None, said)), standing.fields()
@@ -43,7 +43,7 @@ def extend(client: Client, words: Words, _output: Output) -> Told:
 
 
 def checkin(client: Client, words: Words, output: Output) -> Told:
-    """Makes versions of the drafts of a check-out, or of a working folder's files, with a note where one is given."""
+    """Makes versions of the drafts of a check-out, or of a working folder's files, with a note if one is given."""
     if not CHECKOUT.fullmatch(words.claim) and is_folder(words.claim):
         return checkin_folder(client, words, output)
     noted = Parts(client).set_note(words.claim, words.note) if words.note is not None else 0
@@ -90,8 +90,8 @@ def queued_still(line: str, standing: Standing) -> Refused:
 
 
 def wait_a_turn(client: Client, claim: str, patience: Patience) -> None:
-    """Waits as long as the server lets one wait for an answer. One that tells at once that a claim is queued, as it is older or too many wait
-    already, is asked again behind a growing pause."""
+    """Waits as long as the server lets one wait for an answer. A server may answer at once that a claim is queued, since it is older or too
+    many wait already. It is then asked again after a growing pause."""
     began = time.monotonic()
     try:
         standing = client.turn(claim, max(0.01, min(patience.left(), ANSWERED_WITHIN_SECONDS)))
@@ -106,7 +106,7 @@ def wait_a_turn(client: Client, claim: str, patience: Patience) -> None:
 
 
 def asked_again(client: Client, claim: str, patience: Patience, output: Output) -> Standing:
-    """How a claim stands. Where the server is away, that is told once, and it is asked until it answers or the time is over."""
+    """How a claim stands. If the server is away, this says so once, and asks until it answers or the time is over."""
     away = False
     while True:
         try:
@@ -152,7 +152,7 @@ def note(client: Client, words: Words, _output: Output) -> Told:
 
 
 def readable(note: bytes) -> str:
-    """A note as text, or its bytes in hexadecimal where it is none that can be shown."""
+    """A note as text, or its bytes in hexadecimal if it can't be shown as text."""
     text = note.decode("utf-8", "replace")
     return text if text.isprintable() and "\ufffd" not in text else "0x" + note.hex()
 
@@ -167,7 +167,7 @@ def mine(client: Client, words: Words, _output: Output) -> Told:
 
 
 def drafts_of(standing: Standing, claim: Claim) -> List[str]:
-    """The parts of which a check-out has drafts, as the server tells, or else of which copies are kept here."""
+    """The parts of which a check-out has drafts, as the server says, or else of which copies are kept here."""
     return sorted(claim.drafts) if standing.drafts is None else list(standing.drafts)
 
 
@@ -236,8 +236,8 @@ def hold(client: Client, words: Words, output: Output) -> Told:
 
 
 def until_input_ends(asked: Callable[[], Standing]) -> None:
-    """Waits for the end of standard input, and now and then asks, so that the connection isn't taken for one that is dead. A thread
-    reads, since not every system can wait for standard input and a time at once."""
+    """Waits for the end of standard input, and now and then asks the server something, so that it doesn't take the connection for dead. A
+    thread reads, since not every system can wait for standard input and a time at once."""
     reader = threading.Thread(target=read_to_the_end, daemon=True)
     reader.start()
     while True:
@@ -254,7 +254,7 @@ def read_to_the_end() -> None:
 
 
 def still(client: Client, standing: Standing) -> Standing:
-    """How a hold stands now, which ends with the connection that it was asked for on."""
+    """How a hold stands now. It ends with the connection that it was asked for on."""
     now = client.hold_stands(standing.claim)
     if now.gone:
         raise Refused(f"{standing.claim} ended before its time: the connection was lost. What you read may have changed since.", 30)

@@ -1,7 +1,7 @@
-"""A designer at a server, who loses nothing where the connection breaks.
+"""A designer at a server, who loses nothing when the connection breaks.
 
-Where a connection ends before the answer to a command, the client connects again and finds out whether the command was
-done, by questions that change nothing, before it says anything twice.
+If a connection ends before the answer to a command, the client connects again. By questions that change nothing, it finds out whether the
+command was done, before it says anything twice.
 """
 
 import contextlib
@@ -32,12 +32,12 @@ OLDER = ("The server is older than this client, and doesn't tell who holds what,
 
 
 class Client:
-    """A designer at a server. Every method raises a `VaultError` with a sentence where it can't do what it says."""
+    """A designer at a server. Every method raises a `VaultError` with a sentence if it can't do what it says."""
 
     def __init__(self, designer: str, host: str, port: int, state: Optional[Path] = None, patience: float = 30.0,
                  settling: float = 1.0, notice: Callable[[str], None] = quiet, progress: Callable[[str], None] = quiet,
                  others: Sequence[Address] = ()):
-        """The others are further addresses of the same vault: the first that answers is spoken to, for as long as it does."""
+        """The others are further addresses of the same vault. The client uses the first one that answers, for as long as it does."""
         self.designer, self.servers = checked(NAME, designer, "designer's name"), [(host, port), *others]
         self.memory = Memory((state or state_folder()) / memory_name(designer, self.servers))
         self.patience, self.settling = patience, settling
@@ -101,8 +101,8 @@ class Client:
         return claim
 
     def claim_for(self, place: str, claim: str = "") -> str:
-        """The check-out that a draft of a part would belong to: the one that is named, or else the one remembered that takes it in for
-        change. It is asked for, so that nobody sends long files in vain."""
+        """The check-out that a draft of a part would belong to: the one that is named, or else the remembered one that covers the part for
+        change. This is found out first, so that nobody sends long files in vain."""
         place_word(place)
         with self._alone():
             self._count(place)
@@ -117,14 +117,14 @@ class Client:
         return self.version(place, version)[1]
 
     def last(self, place: str) -> Optional[Tuple[int, bytes]]:
-        """The last version of a part with its number, or nothing where there is no such part, or no version of it."""
+        """The last version of a part with its number, or nothing if there is no such part, or no version of it."""
         with self._alone():
             counted = self.link.read("count " + place_word(place))
             number = number_in(counted, 1) if counted.ok else 0
             return (number, content_in(self.link.read(f"fetch {place} {number}"))) if number else None
 
     def version(self, place: str, version: Optional[int] = None) -> Tuple[int, bytes]:
-        """A version of a part with its number, the last one where none is named."""
+        """A version of a part with its number, the last one if none is named."""
         place_word(place)
         if version is not None and not 1 <= version <= GREATEST:
             raise Misused(f"`{version}` is no version: versions of a part are 1, 2 and so on.")
@@ -158,18 +158,18 @@ class Client:
                 yield from ((number, content_in(reply)) for number, reply in zip(numbers, replies))
 
     def tree(self, place: str = "/") -> Iterator[str]:
-        """The places beneath one, each behind the one that it stands in."""
+        """The places beneath one, each after the one that it stands in."""
         place_word(place)
         with self._alone():
             yield from self._beneath(place)
 
     def holders(self, place: str) -> List[Holder]:
-        """The claims at a place, above it or beneath it, in the order of the line; none where the server is older and doesn't tell."""
+        """The claims at a place, above it or beneath it, in the order of the queue; none if the server is older and doesn't say."""
         with self._alone():
             return self._line(place_word(place)) or []
 
     def who(self, place: str) -> List[Tuple[Holder, float]]:
-        """The claims at a place, above it or beneath it, in the order of the line, and since when this client knows each, in seconds."""
+        """The claims at a place, above it or beneath it, in the order of the queue, and since when this client knows each, in seconds."""
         with self._alone():
             line = self.line.at(place_word(place))
             if line is None:
@@ -237,12 +237,12 @@ class Client:
             return self._standing(claim)
 
     def standing(self, claim: str) -> Standing:
-        """How a claim stands, with who is in its way, as far as the server tells."""
+        """How a claim stands, with who is in its way, as far as the server says."""
         return self._with_way(self.state(claim))
 
     def turn(self, claim: str, seconds: float) -> Optional[Standing]:
-        """How a claim stands, as soon as it is held or gone, or after the time that the server lets one wait; nothing where it tells nothing
-        within some seconds, or doesn't know this question. Other commands of this designer may be said meanwhile."""
+        """How a claim stands, as soon as it is held or gone, or after the time that the server lets one wait. Nothing if the server doesn't
+        answer within some seconds, or doesn't know this question. Other commands of this designer may be said meanwhile."""
         reply = self.link.read_within("wait " + claim_word(claim), seconds)
         if reply is not None and reply.code == GONE:
             return Standing(claim, False, gone=True)
@@ -269,7 +269,7 @@ class Client:
         return content_in(reply)
 
     def give(self, claim: str, receiver: str) -> None:
-        """Gives a check-out to another designer, with its place in the line, its drafts and its note."""
+        """Gives a check-out to another designer, with its place in the queue, its drafts and its note."""
         if checked(NAME, receiver, "designer's name") == self.designer:
             raise Misused(f"You are {receiver}. Name the designer who is to have {claim}.")
         self._end(Command("give", f"give {checkout_word(claim)} {receiver}", claim))
@@ -286,9 +286,9 @@ class Client:
             return content_in(self.link.read("note " + checkout_word(claim)))
 
     def mine(self, named: Sequence[str] = ()) -> List[Tuple[Standing, Claim]]:
-        """The check-outs of this designer that stand, wherever they were asked for, and those that this client remembers and that are gone or
-        another's. Such a one is told once, and as long as a copy of a draft is kept for it that isn't a version. At a server that is older
-        these are the ones remembered, and those that are named, which are remembered from then on."""
+        """The check-outs of this designer that stand, wherever they were asked for, and those remembered here that are gone or another's.
+        A gone one is listed once, and again as long as a copy of a draft that isn't a version is kept for it. At an older server these are
+        the remembered check-outs, and those that are named, which are remembered from then on."""
         with self._alone():
             self._take_up(named)
             line = self._line("/")
@@ -316,7 +316,7 @@ class Client:
             self.memory.save()
 
     def hold(self, items: List[str]) -> Standing:
-        """Asks for a claim that ends with this connection. It is asked once: a connection that is lost has ended it."""
+        """Asks for a claim that ends with this connection. It is asked only once, since a lost connection has ended it."""
         line = " ".join(["hold"] + item_words(items))
         with self._alone():
             try:
@@ -332,7 +332,7 @@ class Client:
         return standing
 
     def hold_stands(self, claim: str) -> Standing:
-        """How a hold of this client stands. It is asked on the connection of the hold alone, since behind a restart of the server
+        """How a hold of this client stands. It is asked only on the connection of the hold, since after a restart of the server
         its number may be another's."""
         gone = Standing(claim_word(claim), False, gone=True)
         if self.link.connection is None or self.link.connection is not self.held_on:
@@ -352,7 +352,7 @@ class Client:
 
     @contextlib.contextmanager
     def _alone(self) -> Iterator[None]:
-        """Works alone on the client's file, and first finds out what became of an earlier command."""
+        """Locks the client's file meanwhile, and first finds out what became of an earlier command."""
         with self.memory.locked(lambda: self.progress("waiting for another `vault` of this designer")):
             self.link.prefer(self.memory.server)
             try:
@@ -373,8 +373,8 @@ class Client:
             return self._carry_out(command)
 
     def _end(self, command: Command) -> Reply:
-        """Ends a check-out of this designer, or gives it to another: asked first, so that one that is gone later, or another's, is so by
-        this command."""
+        """Ends a check-out of this designer, or gives it to another. First asks how it stands: if it is gone later, or another's, then
+        by this command."""
         with self._alone():
             stands = self.link.read(whose(command.claim))
             if stands.code == GONE:
@@ -384,7 +384,7 @@ class Client:
             return self._carry_out(command)
 
     def _carry_out(self, command: Command) -> Reply:
-        """Sends a command until it is told, remembering it all the while, and keeps what its reply says."""
+        """Sends a command until it is answered, remembering it all the while, and keeps what its reply says."""
         self.memory.begin(command)
         try:
             reply = self._told(command)
@@ -431,7 +431,7 @@ class Client:
                     raise not_known(command, SENTENCES[82] if reply else "The server can't be reached.", 82 if reply else None)
 
     def _tried(self, command: Command, lost: bool) -> Reply:
-        """The reply to one try, which is made where no earlier one, whose reply was lost, is found to be done."""
+        """The reply to one try. The try is made only if no earlier one, whose reply was lost, turns out to be done."""
         found = self.recovery.find_out(command) if lost else None
         if found is not None:
             return found
@@ -470,7 +470,7 @@ class Client:
         self.memory.save()
 
     def _claim_for(self, place: str) -> str:
-        """The check-out of this designer that takes in a place for change: the one that is held, or else the first that waits."""
+        """The check-out of this designer that covers a place for change: the one that is held, or else the first that waits."""
         line = self._line(place)
         if line is not None:
             told = [holder for holder in line if holder.is_check_out_of(self.designer) and holder.changes(place)]
@@ -487,13 +487,13 @@ class Client:
                       " for one, and `--claim` names one that was made elsewhere.")
 
     def _remembered_for(self, place: str) -> List[str]:
-        """The check-outs remembered that take in a place for change and stand."""
+        """The remembered check-outs that cover a place for change and stand."""
         fitting = [name for name, claim in self.memory.claims.items()
                    if not claim.given and any(item[0] == "w" and under(place, item[2:]) for item in claim.items)]
         return [name for name in fitting if self.link.read(whose(name)).code in MINE]
 
     def _line(self, place: str) -> Optional[List[Holder]]:
-        """The claims at a place, in the order of the line, and remembers since when they are known; nothing where the server is older."""
+        """The claims at a place, in the order of the queue; nothing if the server is older. Remembers since when they are known."""
         found = self.line.at(place)
         self._tell_older()
         if found is not None and self.memory.knows(found, place == "/"):
@@ -501,13 +501,13 @@ class Client:
         return found
 
     def _tell_older(self) -> None:
-        """Tells once that the server is older, where it is."""
+        """Says once that the server is older, if it is."""
         if self.line.older and not self.told_older:
             self.told_older = True
             self.notice(OLDER)
 
     def _with_way(self, standing: Standing) -> Standing:
-        """A standing with who is in the way, as far as the server tells."""
+        """A standing with who is in the way, as far as the server says."""
         line = None
         if standing.behind:
             with contextlib.suppress(VaultError), self._alone():
@@ -519,7 +519,7 @@ class Client:
                        ring=tuple(ring(line, standing.claim)))
 
     def _refusal(self, reply: Reply) -> Refused:
-        """A refusal, with whose the claim is that is in the way, as far as the server tells."""
+        """A refusal, with the owner of the claim in the way, as far as the server says."""
         named: Optional[List[Holder]] = None
         if reply.claims():
             with contextlib.suppress(VaultError):
@@ -536,7 +536,7 @@ class Client:
             self.memory.claims.setdefault(name, Claim([]))
 
     def _put_aside(self, claim: str) -> None:
-        """Forgets a check-out whose number another one has, but for the copies of its drafts."""
+        """Forgets a check-out whose number another one has, except the copies of its drafts."""
         path = self.memory.put_aside(claim)
         if path is not None:
             self.notice(f"{claim} is another check-out than the one that had this number here: the vault came back from a backup, or is another"
@@ -551,7 +551,7 @@ class Client:
         return found
 
     def _stand(self, line: Sequence[Holder]) -> List[Tuple[Standing, Claim]]:
-        """The check-outs of this designer in the line of all claims, which are remembered from now on, and those remembered that are gone."""
+        """The check-outs of this designer among all claims, which are remembered from now on, and the remembered ones that are gone."""
         named = {holder.claim: holder for holder in line}
         mine = [holder for holder in line if holder.is_check_out_of(self.designer)]
         told = dict(zip((holder.claim for holder in mine), self.link.asked("drafts", [holder.claim for holder in mine])))

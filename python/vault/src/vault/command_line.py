@@ -17,7 +17,7 @@ def seconds(word: str) -> float:
 
 
 class Parser(argparse.ArgumentParser):
-    """The reader of the command line, whose errors are told as all others."""
+    """The reader of the command line. Its errors are reported like all others."""
 
     def error(self, message: str) -> NoReturn:
         """Says what is wrong with the command line."""

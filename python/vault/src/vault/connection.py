@@ -1,4 +1,4 @@
-"""How the client speaks to a server: one connection at a time, made anew where it is spent or lost."""
+"""How the client speaks to a server: one connection at a time, made anew when its lines are used up or it is lost."""
 
 import contextlib
 import socket
@@ -57,7 +57,7 @@ class Connection:
             raise
 
     def ask_within(self, line: str, seconds: float) -> Reply:
-        """Sends one line whose answer may take so long; behind that the connection ends."""
+        """Sends one line whose answer may take this long. After that the connection ends."""
         self.socket.settimeout(seconds)
         reply = self.ask(line)
         self.socket.settimeout(REPLY_SECONDS)
@@ -104,7 +104,7 @@ class Patience:
 
 
 def quiet(_sentence: str) -> None:
-    """Tells nobody."""
+    """A notice that goes nowhere."""
 
 
 class Link:
@@ -145,7 +145,7 @@ class Link:
         self.first = (self.first + 1) % len(self.servers)
 
     def connected(self) -> Connection:
-        """The connection, made anew where it is spent or lost."""
+        """The connection, made anew if its lines are used up or it is lost."""
         if self.connection is not None and self.connection.lines > LINES_OF_A_CONNECTION:
             self.close()
         if self.connection is None:
@@ -188,7 +188,7 @@ class Link:
         raise Unreachable(str(connection.greeting.refusal()))
 
     def read_all(self, lines: List[str]) -> List[Reply]:
-        """The replies to questions that change nothing, asked again until all are told."""
+        """The replies to questions that change nothing, asked again until all are answered."""
         patience = Patience(self.patience)
         while True:
             try:

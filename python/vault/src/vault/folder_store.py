@@ -43,7 +43,7 @@ class FolderStore:
             raise self._fault(error) from error
 
     def add(self, source: Path, meter: Meter, follow: bool = True) -> Kept:
-        """Copies a file into the store while it is hashed; where its bytes are there, they are looked through and made young."""
+        """Copies a file into the store while it is hashed. If its bytes are there already, they are read through and made young."""
         self._look()
         with steady(source, follow) as opened, meter(source.name, os.fstat(opened.fileno()).st_size) as moved:
             try:
@@ -94,7 +94,7 @@ class FolderStore:
             raise self._fault(error) from error
 
     def remove(self, kept: Kept, before: float) -> bool:
-        """Takes bytes away that are still older than that: their age is looked at again right before."""
+        """Removes bytes that are still older than that. Their age is checked again right before."""
         found = self.find(kept.sha256)
         if found is None or found.since >= before:
             return False
@@ -105,7 +105,7 @@ class FolderStore:
         return True
 
     def leftovers(self, before: float) -> int:
-        """Takes away what clients that were killed left under names of their own."""
+        """Removes what killed clients left under names of their own."""
         removed = 0
         incoming = self.folder / INCOMING
         for path in list(incoming.iterdir()) if incoming.is_dir() and not incoming.is_symlink() else []:
@@ -134,7 +134,7 @@ class FolderStore:
             return False
 
     def _look(self) -> None:
-        """Refuses a folder that isn't the store: where a disk isn't mounted, an empty folder may stand in its place."""
+        """Refuses a folder that isn't the store: if a disk isn't mounted, an empty folder may stand in its place."""
         try:
             marked = self._is_marked()
         except OSError as error:
@@ -160,8 +160,8 @@ class FolderStore:
         return open(folder / uuid.uuid4().hex, "xb")
 
     def _is_there(self, kept: Kept) -> bool:
-        """Whether bytes are there, which are looked through and made young, so that no sweep takes them. Where they are another's file,
-        which can't be touched, they count as missing: the same bytes take its place."""
+        """Whether bytes are there. If so, they are read through and made young, so that no sweep takes them. If they are in another user's
+        file, whose time can't be changed, they count as missing: the same bytes then replace that file."""
         path, there = self._path(kept.sha256), self.find(kept.sha256)
         if there is None:
             return False
@@ -203,7 +203,7 @@ class FolderStore:
 
 @contextlib.contextmanager
 def taken_away_again(path: Path) -> Iterator[None]:
-    """A file that is gone behind this in any case, where it has no other name by then."""
+    """A file that is gone afterwards in any case, unless it has another name by then."""
     try:
         yield
     finally:
@@ -212,7 +212,7 @@ def taken_away_again(path: Path) -> Iterator[None]:
 
 
 def read_only(path: Path) -> None:
-    """Takes the right to write away from a file, where the system has that."""
+    """Makes a file read-only, if the system can."""
     if os.name != "nt":
         with contextlib.suppress(OSError):
             path.chmod(path.stat().st_mode & 0o444)

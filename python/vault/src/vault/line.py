@@ -1,4 +1,4 @@
-"""The line of claims, as a server tells it: who is in whose way, and where designers wait for each other in a ring."""
+"""The queue of claims, as a server lists it: who is in whose way, and where designers wait for each other in a ring."""
 
 from typing import Dict, List, Optional, Sequence
 
@@ -7,19 +7,19 @@ from vault.recovery import GONE
 from vault.words import CLAIM, Holder, Wait, holder_in, listed_in, odd, under
 
 UNKNOWN_COMMAND = 10
-# More claims than these are told by no vault server, whose limit is 256.
+# No vault server lists more claims than this; its limit is 256.
 MAX_CLAIMS = 1024
 
 
 class Line:
-    """Asks who holds what. A server that is older doesn't know these questions; whether it is one is asked each time, as it may be started anew
+    """Asks who holds what. An older server doesn't know these questions. Whether it knows them is found out each time, as it may be restarted
     while a client stays."""
 
     def __init__(self, link: Link):
         self.link, self.older = link, False
 
     def at(self, place: str) -> Optional[List[Holder]]:
-        """The claims at a place, above it or beneath it, in the order of the line; nothing where the server is older."""
+        """The claims at a place, above it or beneath it, in the order of the queue; nothing if the server is older."""
         told = self.link.read("claims " + place)
         self.older = told.code == UNKNOWN_COMMAND
         if self.older:
@@ -30,7 +30,7 @@ class Line:
         return self.of(claims)
 
     def of(self, claims: Sequence[str]) -> Optional[List[Holder]]:
-        """Those of some claims that stand; nothing where the server is older."""
+        """Those of some claims that stand; nothing if the server is older."""
         replies = self.link.asked("show", claims)
         self.older = any(reply.code == UNKNOWN_COMMAND for reply in replies)
         return None if self.older else [holder_in(reply, claim) for claim, reply in zip(claims, replies) if reply.code != GONE]
@@ -47,8 +47,8 @@ def chain(line: Sequence[Holder], claim: str) -> List[Holder]:
 
 
 def ring(line: Sequence[Holder], claim: str) -> List[Wait]:
-    """Where designers wait for each other: the shortest ring of waits that ends with a claim's, each for what the designer of the wait before
-    it has; none where there is none. One of claims that are held is told before one in which an earlier claim waits, too."""
+    """Where designers wait for each other: the shortest ring of waits that begins and ends at the designer of a claim. Each wait is for what
+    the next designer has. None if there is no ring. A ring through held claims alone goes before one in which an earlier claim waits, too."""
     waiting = next((holder for holder in line if holder.claim == claim), None)
     if waiting is None:
         return []

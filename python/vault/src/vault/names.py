@@ -1,4 +1,4 @@
-"""Names of files and of parts: what a card says is a name only where every system can have it, and it leads nowhere else."""
+"""Names of files and of parts: what a card says is a name only if every system can have it, and it leads nowhere else."""
 
 import re
 import unicodedata
@@ -9,7 +9,7 @@ from vault.card import NAME_BYTES
 
 PART_BYTES = 32
 ODD = re.compile(r'[/\\<>:"|?*]')
-# What Windows takes for a device, whatever stands behind the first dot.
+# What Windows takes for a device, whatever follows the first dot.
 RESERVED = re.compile(r"(con|prn|aux|nul|conin\$|conout\$|(com|lpt)[0-9\u00b9\u00b2\u00b3])( *\..*)?", re.IGNORECASE)
 # The short name that Windows gives the folder's own files.
 SHORT = re.compile(r"vault~[0-9]+", re.IGNORECASE)
@@ -26,13 +26,13 @@ def usable(name: str) -> bool:
 
 
 def folded(name: str) -> str:
-    """A name as systems compare it that know no capitals, or spell letters otherwise."""
+    """A name as it is compared by systems that ignore capitals, or spell letters otherwise."""
     return unicodedata.normalize("NFC", unicodedata.normalize("NFC", name).casefold())
 
 
 def choose_name(wanted: str, part: str, taken: Collection[str]) -> str:
-    """A name for a part's file: the one that its card says, or one with the part's own name where that can't be or is taken. Taken names
-    are given folded."""
+    """A name for a part's file: the one that its card says, or one with the part's own name if that can't be or is taken. Taken names are
+    given folded."""
     return next(name for name in candidates(wanted, part) if usable(name) and folded(name) not in taken)
 
 

@@ -30,13 +30,13 @@ class Output:
             print("vault: " + sentence, file=sys.stderr)
 
     def progress(self, sentence: str) -> None:
-        """Says what goes on, where somebody looks."""
+        """Says what goes on, if somebody looks."""
         if sys.stderr.isatty() and not self.as_json:
             print("vault: " + sentence, file=sys.stderr)
 
     @contextlib.contextmanager
     def meter(self, what: str, size: int) -> Iterator[Moved]:
-        """Shows how far something is that takes longer than a second, where somebody looks."""
+        """Shows how far something is that takes longer than a second, if somebody looks."""
         if self.as_json or not sys.stderr.isatty():
             yield lambda _bytes: None
             return

@@ -22,7 +22,7 @@ TRIES = 3
 
 @dataclass(frozen=True)
 class Version:
-    """A version of a part, or a draft of one: its content in the vault, and the card that this is, if it is one."""
+    """A version of a part, or a draft of one: its content in the vault, and the card that the content is, if it is one."""
 
     place: str
     number: int
@@ -54,7 +54,7 @@ class Put:
 
 
 class Parts:
-    """A designer's files. Every method raises a `VaultError` with a sentence where it can't do what it says."""
+    """A designer's files. Every method raises a `VaultError` with a sentence if it can't do what it says."""
 
     def __init__(self, client: Client, setting: Optional[Setting] = None, meter: Meter = no_meter, cache: Optional[Cache] = None):
         self.client, self.meter, self.cache = client, meter, cache
@@ -62,7 +62,7 @@ class Parts:
         self.opened: Optional[Store] = None
 
     def store(self) -> Optional[Store]:
-        """The vault's store, or nothing where it names none. It is asked for until there is one."""
+        """The vault's store, or nothing if it names none. The vault is asked again until there is one."""
         if self.opened is None:
             self.opened = self.setting.store()
         return self.opened
@@ -89,7 +89,7 @@ class Parts:
                          f" {found} in before.")
 
     def get(self, place: str, number: Optional[int] = None) -> Version:
-        """A version of a part, the last one where none is named."""
+        """A version of a part, the last one if none is named."""
         return Version(place, *self.client.version(place, number))
 
     def history(self, place: str) -> Iterator[Version]:
@@ -97,7 +97,7 @@ class Parts:
         return (Version(place, number, content) for number, content in self.client.history(place))
 
     def write(self, version: Version, target: IO[bytes], where: str, meter: Optional[Meter] = None) -> None:
-        """Writes the bytes of a version into an open file, or raises where they are not those that were checked in."""
+        """Writes the bytes of a version into an open file, or raises if they are not those that were checked in."""
         card = version.card
         if card is None:
             target.write(version.content)
@@ -128,7 +128,7 @@ class Parts:
             give_new_name(Path(file.name), path)
 
     def set_note(self, claim: str, note: str) -> int:
-        """Writes a note on each draft of a check-out that was put from here, and answers how many these are."""
+        """Writes a note on each draft of a check-out that was put from here, and answers how many there are."""
         note_word(note)
         cards = {place: read_card(content) for place, content in self.client.kept_drafts(claim).items()}
         if not any(cards.values()):
@@ -144,7 +144,7 @@ class Parts:
         return [Version(place, 0, content) for place, content in sorted(self.client.kept_drafts(claim).items())]
 
     def _put_small(self, place: str, file: Path, claim: str, follow: bool) -> Put:
-        """Puts a file of few bytes as it is, where the vault names no store."""
+        """Puts a file of few bytes as it is, if the vault names no store."""
         with steady(file, follow) as opened:
             size = os.fstat(opened.fileno()).st_size
             piece = memoryview(bytearray(CONTENT_BYTES + 1))
@@ -172,7 +172,7 @@ class Parts:
     @staticmethod
     @contextlib.contextmanager
     def _beside(path: Path) -> Iterator[IO[bytes]]:
-        """A new file beside a path, which is gone behind this."""
+        """A new file beside a path, which is gone afterwards."""
         beside = path.with_name(f".vault-{uuid.uuid4().hex}")
         try:
             with open(beside, "xb") as file:
@@ -190,7 +190,7 @@ def parts_of_program(client: Client, meter: Meter = no_meter) -> Parts:
 
 
 def give_new_name(came: Path, path: Path) -> None:
-    """Gives a file a name that nothing has yet; where the system has no links, in two steps."""
+    """Gives a file a name that nothing has yet; in two steps if the system has no links."""
     try:
         try:
             os.link(came, path)

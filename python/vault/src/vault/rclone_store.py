@@ -1,8 +1,8 @@
 """A store on a remote of the client's own rclone, which reaches S3, Azure, WebDAV, SFTP and much else. No storage protocol is spoken here.
 
-Little is asked of a remote: that what was written is read again. So bytes come in under a name of their own, are read back through their
-hash, and only then get the name by which they are found, which takes nobody's place. As many remotes can't make a file young, a second one
-of the same name, in `touched`, says since when bytes are wanted again.
+Little is asked of a remote: that it reads back what was written. So bytes come in under a name of their own, are read back through their
+hash, and only then get the name by which they are found, which replaces no other file. Since many remotes can't change a file's time, a
+second file of the same name, in `touched`, says since when bytes are wanted again.
 """
 
 import contextlib
@@ -31,7 +31,7 @@ TIME = re.compile(r"([0-9]{4}-[0-9]{2}-[0-9]{2}T[0-9]{2}:[0-9]{2}:[0-9]{2})(?:\.
 
 
 class RcloneStore:
-    """A path on a remote; each step is a run of rclone, which has the client's own configuration and no words but these."""
+    """A path on a remote. Each step is a run of rclone, with the client's own configuration and no other words than those here."""
 
     def __init__(self, address: RcloneAddress):
         self.address, self.remote, self.path = address.text, address.remote, address.path
@@ -53,7 +53,7 @@ class RcloneStore:
         self._delete(trial)
 
     def add(self, source: Path, meter: Meter, follow: bool = True) -> Kept:
-        """Copies a file to the store where its bytes aren't there; where they are, they are looked through and made young."""
+        """Copies a file to the store if its bytes aren't there; if they are, they are read through and made young."""
         self._look()
         with steady(source, follow) as opened, meter(source.name, os.fstat(opened.fileno()).st_size) as moved:
             kept = Kept(*copy_through_hash(opened, Nowhere(), moved), time.time())
@@ -90,7 +90,7 @@ class RcloneStore:
                 yield Kept(kept.sha256, kept.size, max(kept.since, touched.get(kept.sha256, 0.0)))
 
     def remove(self, kept: Kept, before: float) -> bool:
-        """Takes bytes away that are still older than that, and that nobody wanted again."""
+        """Removes bytes that are still older than that, and that nobody wanted again."""
         ages = [self._since(entry) for entry in (self._stat(place_of(kept.sha256)), self._stat(f"{TOUCHED}/{kept.sha256}")) if entry]
         if not ages or max(ages) >= before:
             return False
@@ -100,7 +100,7 @@ class RcloneStore:
         return True
 
     def leftovers(self, before: float) -> int:
-        """Takes away what clients that were killed left under names of their own."""
+        """Removes what killed clients left under names of their own."""
         old = [entry for entry in self._list(INCOMING) if self._since(entry) < before]
         for entry in old:
             self._delete(f"{INCOMING}/{entry['Path']}")
@@ -126,7 +126,7 @@ class RcloneStore:
                     self._delete(came)
 
     def _send(self, source: Path, came: str, kept: Kept, meter: Meter, follow: bool) -> None:
-        """Copies a file to the remote; it has to be the one that was hashed before."""
+        """Copies a file to the remote. It must be the one that was hashed before."""
         rclone = subprocess.Popen(self._words("rcat", "--", self._at(came)), stdin=subprocess.PIPE, stdout=subprocess.DEVNULL,
                                   stderr=subprocess.PIPE)
         assert rclone.stdin is not None
@@ -187,7 +187,7 @@ class RcloneStore:
                             f" {self.remote}, or ask whoever runs the vault.")
 
     def _read(self, place: str) -> Optional[bytes]:
-        """A short file, or nothing where it isn't there."""
+        """A short file, or nothing if it isn't there."""
         return self._run("cat", "--", self._at(place), may_lack=True)
 
     def _write(self, place: str, content: bytes) -> None:
@@ -225,7 +225,7 @@ class RcloneStore:
 
     @staticmethod
     def _since(entry: Dict[str, Any]) -> float:
-        """When a file was written; one of which that isn't known counts as written just now, so that no sweep takes it."""
+        """When a file was written. If that isn't known, it counts as written just now, so that no sweep takes it."""
         found = TIME.fullmatch(str(entry.get("ModTime")))
         return datetime.strptime(found[1] + found[2], "%Y-%m-%dT%H:%M:%S%z").timestamp() if found else time.time()
 
@@ -236,7 +236,7 @@ class RcloneStore:
         return [self.program, words[0], *PATIENCE, *words[1:]]
 
     def _run(self, *words: str, given: bytes = b"", may_lack: bool = False) -> Optional[bytes]:
-        """Runs rclone to its end, and answers what it said, or nothing where a file isn't there and may lack."""
+        """Runs rclone to its end, and answers what it said, or nothing if a file is missing that may be missing."""
         done = subprocess.run(self._words(*words), input=given, capture_output=True, check=False)
         if done.returncode in NOT_THERE and may_lack:
             return None

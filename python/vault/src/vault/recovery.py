@@ -17,8 +17,8 @@ NO_PART = 22
 
 
 def whose(claim: str) -> str:
-    """Asks whose a check-out is: to save at the library is always refused, 22 for one of one's own that is held, 32 for one that is
-    queued, 31 for another's and 30 for none."""
+    """Asks whose a check-out is, by a save at the library, which is always refused: with 22 if the check-out is one's own and held, 32 if it
+    is one's own and queued, 31 if it is another's, and 30 if there is none."""
     return f"save {claim} / -"
 
 
@@ -46,8 +46,8 @@ class Recovery:
         return f"Your earlier `{shown(command)}` was done."
 
     def find_out(self, command: Command) -> Optional[Reply]:
-        """Whether a command was done whose reply was lost: the reply that it would have had, or nothing where it wasn't
-        done or where it may be sent again in any case. Asks only what changes nothing."""
+        """Whether a command was done whose reply was lost: the reply that it would have had, or nothing if it wasn't done or may be sent
+        again in any case. Asks only what changes nothing."""
         if command.kind == "checkout" and command.second:
             return self._the_first_of_two(command, self.link.read("state " + command.second))
         if command.kind == "checkout":
@@ -117,7 +117,7 @@ class Recovery:
         raise self.gone(command.claim, Reply(False, (str(GONE),)))
 
     def _found_given(self, command: Command) -> Optional[Reply]:
-        """What became of giving a check-out to another: it was this designer's before, so it is given where it is another's."""
+        """What became of giving a check-out to another. It was this designer's before, so it is given if it is another's now."""
         reply = self.link.read(whose(command.claim))
         if reply.code in MINE:
             return None
@@ -126,7 +126,7 @@ class Recovery:
         raise self.gone(command.claim, reply)
 
     def _found_checkout(self, command: Command) -> Optional[Reply]:
-        """The check-out behind the last number known that is this designer's and not remembered."""
+        """The check-out after the last known number that is this designer's and not remembered."""
         seen, number = command.last_number, command.last_number + 1
         while number <= seen + LOOK_AHEAD:
             asked = range(number, number + BATCH)
@@ -151,7 +151,7 @@ class Recovery:
         return mine and f"c{number}" not in self.memory.claims
 
     def _the_first_of_two(self, command: Command, reply: Reply) -> Reply:
-        """Looks below a check-out that was asked for again for the one of the earlier try; where both stand, keeps the first."""
+        """Looks before a check-out that was asked for again for the one of the earlier try. If both stand, keeps the first."""
         second = int(command.second[1:])
         lowest = max(command.last_number + 1, second - SWEEP)
         for start in range(lowest, second, BATCH):

@@ -14,7 +14,7 @@ TCP_HOST = re.compile(r"[A-Za-z0-9._:%-]{1,255}")
 SSH_HOST = re.compile(r"[A-Za-z0-9][A-Za-z0-9._-]{0,254}|\[[0-9A-Fa-f:.]{2,45}(%[A-Za-z0-9._-]{1,32})?\]")
 SSH_USER = re.compile(r"[A-Za-z0-9_][A-Za-z0-9._-]{0,63}")
 PORT = re.compile(r"[0-9]{1,5}")
-# What the server is asked to run: a key of the gate has a command of its own, which sshd runs in the place of this.
+# The command that sshd is asked to run. A key of the gate has a forced command, which sshd runs instead.
 GATE = "vaultd-gate"
 OPTIONS = ("BatchMode=yes", "ClearAllForwardings=yes", "ForwardAgent=no", "ForwardX11=no", "PermitLocalCommand=no", "RequestTTY=no",
            "ServerAliveInterval=15", "ServerAliveCountMax=4")
@@ -35,7 +35,7 @@ class NotLetIn(Unreachable):
 
 
 def read_server(word: str) -> Optional[Tuple[str, int]]:
-    """Host and port of a server's address, of ssh's with 0 where none is named; None where the word is none."""
+    """Host and port of a server's address; the port is 0 for an ssh address without one. None if the word is no address."""
     if word.startswith(SSH):
         return read_ssh(word)
     host, colon, port = word.rpartition(":")
@@ -45,7 +45,7 @@ def read_server(word: str) -> Optional[Tuple[str, int]]:
 
 
 def read_ssh(word: str) -> Optional[Tuple[str, int]]:
-    """The same of an address as ssh:vault@vault.example.org:22, of which user and port may be missing."""
+    """Host and port of an address such as ssh:vault@vault.example.org:22, in which user and port may be missing."""
     user, _, rest = word[len(SSH):].rpartition("@")
     host, colon, port = rest.rpartition(":") if not rest.endswith("]") else (rest, "", "")
     if not colon:
@@ -61,7 +61,7 @@ def is_port(word: str) -> bool:
 
 
 def read_servers(word: str) -> Tuple[Address, ...]:
-    """The same of some addresses with commas between, each once; none where one of them is none, or where these are too many."""
+    """Hosts and ports of some addresses with commas between, each once; none if one of them is no address, or there are too many."""
     found = [read_server(each) for each in word.split(",")]
     several = tuple(dict.fromkeys(each for each in found if each is not None))
     return several if len(several) == len(found) <= MAX_SERVERS else ()
@@ -79,7 +79,7 @@ class Stream:
         self.socket = stream
 
     def explained(self, lost: Lost, _designer: str) -> Exception:
-        """Why the server didn't greet, as far as more is known than that the connection ended."""
+        """Why the server didn't greet, if more is known than that the connection ended."""
         return lost
 
     def close(self) -> None:
@@ -89,7 +89,7 @@ class Stream:
 
 
 class SshStream(Stream):
-    """A stream by a program `ssh`, between whose pipes and a socket two threads carry; a third hears what it says of itself."""
+    """A stream through a program `ssh`. Two threads carry bytes between its pipes and a socket; a third reads its error messages."""
 
     def __init__(self, host: str, port: int, seconds: float):
         ours, self.other = socket.socketpair()
@@ -146,7 +146,7 @@ class SshStream(Stream):
             self.other.close()
 
     def close(self) -> None:
-        """Ends the stream, and the program where it doesn't end by that."""
+        """Ends the stream, and the program if it doesn't end by that."""
         with contextlib.suppress(OSError):
             self.socket.shutdown(socket.SHUT_RDWR)
         super().close()
@@ -164,7 +164,7 @@ class SshStream(Stream):
 
 
 def ssh_words(host: str, port: int, seconds: float) -> List[str]:
-    """The command line of ssh: options first, and what comes from an address behind them, where nothing is an option."""
+    """The command line of ssh: options first, and after them what comes from an address, where nothing counts as an option."""
     user, _, name = host[len(SSH):].rpartition("@")
     words = ["ssh", "-T"]
     for option in (*OPTIONS, f"ConnectTimeout={max(1, int(seconds))}"):
@@ -175,7 +175,7 @@ def ssh_words(host: str, port: int, seconds: float) -> List[str]:
 
 
 def refusal(told: str, host: str, port: int, designer: str) -> str:
-    """What ssh said, in a sentence with what to do, where asking again would change nothing."""
+    """What ssh said, in a sentence with what to do, if asking again would change nothing."""
     place, by_hand = shown(host, port), "ssh" + (f" -p {port}" if port else "") + f" {host[len(SSH):]}"
     if "REMOTE HOST IDENTIFICATION HAS CHANGED" in told:
         return (f"{place} doesn't have the key by which ssh knows it: it was set up anew, or something else answers there. Ask whoever runs"

@@ -48,7 +48,7 @@ SENTENCES: Dict[int, str] = {
 
 
 class VaultError(Exception):
-    """Something that a person has to know; its text is a sentence with what to do."""
+    """Something that a person must know; its text is a sentence with what to do."""
 
     status = 1
 
@@ -81,7 +81,7 @@ class NotKnown(VaultError):
 
 
 class NotUnderstood(VaultError):
-    """The server said what this client can't read."""
+    """The server said something that this client can't read."""
 
     status = 3
 
@@ -138,7 +138,7 @@ class Holder:
     behind: str = ""
 
     def changes(self, place: str) -> bool:
-        """Whether the claim takes in a place for change."""
+        """Whether the claim covers a place for change."""
         return any(item[0] == "w" and under(place, item[2:]) for item in self.items)
 
     def fields(self) -> Dict[str, Any]:
@@ -169,7 +169,7 @@ def refusal_by(reply: Reply, holder: Holder, designer: str) -> Refused:
 
 
 def who_does(owner: str, what: str, designer: str) -> str:
-    """A designer and what that one does, where it is `you` for the one who is told."""
+    """A designer and what that one does; `you` if it is the designer who reads it."""
     return f"you {what}" if owner == designer else f"{owner} {what}s"
 
 
@@ -195,9 +195,9 @@ class Wait:
 
 @dataclass(frozen=True)
 class Standing:
-    """How a claim stands: held, or queued behind another, or gone where it is neither; and whether it is known to be another
-    designer's. As far as the server tells: of one that is queued, each claim before it that it waits for in turn, and where designers wait
-    for each other in a ring; of a check-out of one's own, the parts that it has drafts of."""
+    """How a claim stands: held, or queued behind another, or gone if it is neither; and whether it is known to be another designer's. As far
+    as the server says, for a queued claim: each claim before it that it waits for in turn, and where designers wait for each other in a
+    ring; for a check-out of one's own: the parts that it has drafts of."""
 
     claim: str
     held: bool
@@ -251,7 +251,7 @@ def word_in(reply: Reply, at: int) -> str:
 
 
 def content_in(reply: Reply) -> bytes:
-    """The bytes that a reply tells, of a version or of a note."""
+    """The bytes in a reply, of a version or of a note."""
     if not reply.ok:
         raise reply.refusal()
     word = word_in(reply, 1)
@@ -278,7 +278,7 @@ def listed_in(reply: Reply, form: "re.Pattern[str]") -> Tuple[str, ...]:
 
 
 def holder_in(reply: Reply, claim: str) -> Holder:
-    """The claim that a reply shows, which has to be this one."""
+    """The claim that a reply shows, which must be this one."""
     if not reply.ok:
         raise reply.refusal()
     found = SHOWN.fullmatch(" ".join(reply.words))
@@ -294,7 +294,7 @@ def odd(reply: Reply) -> NotUnderstood:
 
 
 def standing_of(reply: Reply) -> Standing:
-    """The standing that a reply tells."""
+    """The standing in a reply."""
     named = reply.claims()
     if not named:
         raise odd(reply)
@@ -307,7 +307,7 @@ def under(place: str, above: str) -> bool:
 
 
 def checked(pattern: "re.Pattern[str]", word: str, what: str) -> str:
-    """The word, where it has the form that the protocol wants."""
+    """The word, if it has the form that the protocol wants."""
     if pattern.fullmatch(word):
         return word
     raise Misused(f"`{word}` is no {what}.")
@@ -330,7 +330,7 @@ def checkout_word(word: str) -> str:
 
 
 def numbered(pattern: "re.Pattern[str]", word: str, what: str) -> str:
-    """A letter and a number, where there can be such a number."""
+    """A letter and a number, if there can be such a number."""
     if int(checked(pattern, word, what)[1:]) > GREATEST:
         raise Misused(f"`{word}` is no {what}.")
     return word
