@@ -1,4 +1,4 @@
-"""The tools around the files (backup, salvage and board), on real vaults; and those around a check."""
+"""The tools around the files (backup, salvage and board), on real vaults; and those around a check, with what is planted."""
 
 import hashlib
 import html
@@ -14,7 +14,7 @@ import time
 import unittest
 from html.parser import HTMLParser
 from pathlib import Path
-from typing import Any, List, Tuple
+from typing import Any, Dict, List, Tuple
 
 from servers import MEMORY, TOP, VAULTD, Server, program
 
@@ -375,6 +375,39 @@ class CheckOver(unittest.TestCase):
         shutil.copy(TOP / "tools" / "check-over", self.folder / "tools")
         self.assertIn("clone has no library of vault_model, lock_modes", self.said("clone", "lock_queue", status=2, tool="plant-over"))
         self.assertIn("usage", self.said("clone", status=1, tool="plant-over"))
+
+
+class Planted(unittest.TestCase):
+    """What is planted to be refused or found still applies: an edit or a patch that doesn't tries nothing."""
+
+    def test_edits(self) -> None:
+        """Each old text of an edit is there once, after the edit's earlier pairs."""
+        edits = sorted([*TOP.glob("crates/*/must-fail/*.edit"), *TOP.glob("crates/*/edits/*.edit")])
+        self.assertGreater(len(edits), 500)
+        for edit in edits:
+            with self.subTest(edit=str(edit.relative_to(TOP))):
+                texts: Dict[Path, str] = {}
+                file, old = Path(), ""
+                for line in edit.read_text("utf-8").splitlines():
+                    word, _, text = line.partition(": ")
+                    if word == "file":
+                        file = edit.parents[1] / text.strip()
+                        texts.setdefault(file, file.read_text("utf-8"))
+                    elif word == "old":
+                        self.assertEqual(texts[file].count(text), 1, text)
+                        old = text
+                    elif word == "new":
+                        texts[file] = texts[file].replace(old, text)
+
+    def test_patches(self) -> None:
+        """Each bug of the simulation applies, as tools/try-bugs applies it."""
+        patches = sorted(TOP.glob("crates/vault_simulation/bugs/*.patch"))
+        self.assertGreaterEqual(len(patches), 10)
+        for patch in patches:
+            with self.subTest(patch=patch.name), patch.open(encoding="utf-8") as file:
+                done = subprocess.run(["patch", "--dry-run", "-s", "-p1", "-d", str(TOP)], stdin=file, capture_output=True, text=True,
+                                      timeout=60, check=False)
+                self.assertEqual(done.returncode, 0, done.stdout)
 
 
 if __name__ == "__main__":
