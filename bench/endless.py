@@ -180,7 +180,7 @@ class Endless:
         return sum(len(content) // 2 + 8 for designer in self.designers for each in designer.versions.values() for content in each) // 1024
 
     def life(self, count: int) -> Figures:
-        """A life of the server, with so many commands, and its end by a kill while others are under way."""
+        """A life of the server, with this many commands, and its end by a kill while others are under way."""
         figures = Figures()
 
         def one_more() -> bool:

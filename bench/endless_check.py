@@ -197,7 +197,7 @@ class Search:
 
 
 def compare_counts(designers: Sequence[Designer], report: Report, others: int) -> None:
-    """The counts of a report are those of what was told, beside so many other places."""
+    """The counts of a report must be those of what was acknowledged, besides this many other places."""
     projects = {designer.project for designer in designers}
     places = others + len(projects) + sum(1 + len(designer.versions) for designer in designers)
     versions = sum(len(each) for designer in designers for each in designer.versions.values())

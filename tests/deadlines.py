@@ -44,7 +44,7 @@ class Result(unittest.TextTestResult):
         signal.setitimer(signal.ITIMER_REAL, 0)
 
     def arm(self, running: str, seconds: int) -> None:
-        """From now on so many seconds are left."""
+        """From now on this many seconds are left."""
         self.running = running
         signal.signal(signal.SIGALRM, self.end)
         signal.setitimer(signal.ITIMER_REAL, seconds)

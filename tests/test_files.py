@@ -172,7 +172,7 @@ class Libraries(WithStore):
     """Where platformdirs, rich and tqdm are missing, all goes on; only filelock is needed."""
 
     def without(self, missing: Sequence[str], *words: str, seconds: float = 1.0) -> "subprocess.Popen[bytes]":
-        """The program, on a terminal where these libraries aren't; what takes longer than so many seconds is shown."""
+        """The program, on a terminal without these libraries; what takes longer than this many seconds is shown."""
         code = (f"import sys; sys.modules.update(dict.fromkeys({tuple(missing)!r})); import vault.output; vault.output.METER_SECONDS = {seconds};"
                 " from vault.program import main; raise SystemExit(main())")
         path = os.pathsep.join(str(package / "src") for package in PACKAGES)

@@ -223,7 +223,7 @@ class Tools(Border):
                 self.check_ended(since, LINES if "-alpn" in words else TLS)
 
     def test_nc(self) -> None:
-        """A MiB of random bytes is so many lines that are none; a request by hand is ended."""
+        """A MiB of random bytes is read as lines that are no commands; a request by hand is ended."""
         noise = random.Random(63).randbytes(1 << 20)
         self.assertNotEqual(noise[:1], TLS)
         lines = self.run_tool("nc", "-N", "127.0.0.1", str(self.tap.port), given=noise)[1].split(b"\n")

@@ -195,7 +195,7 @@ impl Counts {
         self.up_at(place_of_reply(reply));
     }
 
-    /// Counts a crash in a phase, after which the devices kept this.
+    /// Counts the end of a life in a phase, after which the devices kept this.
     pub(crate) fn stop(&mut self, phase: Phase, first: Left, second: Left) {
         self.up(Met::Stop);
         self.up_at(place_of_phase(phase));

@@ -201,7 +201,7 @@ impl History {
         None
     }
 
-    /// A crash that the first `kept` entries of the present life outlive. A new book is given what is left. Whether its replies are the
+    /// The end of the present life, which its first `kept` entries outlive. A new book is given what is left. Whether its replies are the
     /// same.
     pub(crate) fn stop(&mut self, kept: u64) -> bool {
         let Some(talk) = self.prefix(kept) else {

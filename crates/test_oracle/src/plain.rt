@@ -34,7 +34,7 @@ fn meets_any(tree: &Tree, one: &Item, others: &[Item]) -> bool {
     false
 }
 
-/// Whether one claim changes a place that the other looks at or changes.
+/// Whether one of two claims changes a place that the other looks at or changes.
 fn overlap(tree: &Tree, one: &Claim, other: &Claim) -> bool {
     for item in one.items.as_slice() {
         if meets_any(tree, item, other.items.as_slice()) {

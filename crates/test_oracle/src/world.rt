@@ -302,7 +302,7 @@ impl World {
         Pumped::Settled
     }
 
-    /// A pump without a fault. Gives its answer. A snapshot that it closes the file for has `rest` bytes behind its head gate.
+    /// A pump without a fault. Gives its answer. If it begins to write a snapshot, this has `rest` bytes behind its head gate.
     pub fn pump(&mut self, rest: u64) -> Pumped {
         if self.broken {
             return Pumped::Broken;
@@ -367,7 +367,7 @@ impl World {
         }
     }
 
-    /// A crash that leaves this of the two files, and the next life. Gives how many entries of the last life are kept.
+    /// The end of a life, which leaves this of the two files. The next life begins. Gives how many entries of the last one are kept.
     pub fn stop(&mut self, first: Left, second: Left) -> u64 {
         let (active, spare) = match self.active.which {
             File::First => (first, second),

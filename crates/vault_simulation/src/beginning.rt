@@ -133,7 +133,7 @@ impl Run {
         }
     }
 
-    // Replaces the files of a new vault by those of version 1, which hold the same, and opens them.
+    // Does in a new vault what the files of version 1 hold, then replaces its files by these, and opens them.
     fn opened_first_version(&mut self, vault: Vault<MemDevice>) -> Option<Vault<MemDevice>> {
         let mut vault = vault;
         self.tell(&mut vault, 0, "hello anna");

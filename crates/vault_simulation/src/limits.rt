@@ -41,7 +41,7 @@ struct Asking {
     verdict: Verdict,
 }
 
-// Whether this reply is right: past the limit it must be refused by it, else done.
+// Whether this reply is right: past the limit it must be a refusal by the limit, else no refusal.
 fn is_as_wanted(reply: &Reply, is_past: bool) -> bool {
     match reply {
         Reply::Refused(refusal) => is_past && *refusal == Refusal::Limit,
@@ -49,7 +49,7 @@ fn is_as_wanted(reply: &Reply, is_past: bool) -> bool {
     }
 }
 
-// Gives a command. Whether its reply is right: past the limit it must be refused by it, else done.
+// Gives a command. Whether its reply is right: past the limit it must be a refusal by the limit, else no refusal.
 fn is_told(talk: &mut Talk, session: u32, command: &Command, is_past: bool) -> bool {
     match talk.tell(session, command) {
         Some((reply, effect)) => {
@@ -129,7 +129,7 @@ fn spent_up_to(alloc: Global, last_long: u32) -> Option<Talk> {
 }
 
 impl Asking {
-    // Says the line. Past the limit it must be refused by it, and change nothing; else it must be done.
+    // Says the line. Past the limit, the limit must refuse it, and nothing may change; else it must be done.
     fn ask(&mut self, session: u32, is_past: bool) {
         let sound = match read_line_of(self.alloc, self.line.as_slice()) {
             Ok(command) => {

@@ -145,7 +145,7 @@ pub(crate) fn play_all(judge: &mut Judge, vault: &mut Vault<MemDevice>, steps: &
     }
 }
 
-// The machine crashes, and the files keep this: the files of the next life.
+// Ends a vault's life. Gives its files for the next life, which keep this.
 fn next_life(judge: &mut Judge, vault: Vault<MemDevice>, left: Left) -> Files {
     let mut files = Files::of(vault);
     judge.stop(&mut files, left, left);

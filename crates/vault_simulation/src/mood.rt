@@ -66,7 +66,7 @@ pub(crate) enum Beginning {
     Versions,
     /// More records than the open buffer has room for.
     FullBuffer,
-    /// So many frames that a snapshot is wanted.
+    /// Enough frames that a snapshot is wanted.
     LongJournal,
     /// As many entries as are kept.
     FullHistory,

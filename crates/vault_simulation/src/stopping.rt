@@ -44,7 +44,7 @@ impl Run {
         files
     }
 
-    // Crashes, and judges what is found after it.
+    // Ends the life, and judges what is found after it.
     fn stopped(&mut self, files: &mut Files, first: Left, second: Left) {
         self.judge.stop(files, first, second);
         self.speakers.restart();
@@ -128,7 +128,7 @@ impl Run {
         self.opened(files)
     }
 
-    /// The machine crashes, and the vault is opened in another life. None if a difference is found.
+    /// Ends the life, mostly by a crash, and opens the vault in another one. None if a difference is found.
     pub(crate) fn reopened(&mut self, files: Files) -> Option<Vault<MemDevice>> {
         let mut files = files;
         let (first, second) = self.left_of_both();

@@ -3,7 +3,7 @@
 //! Promises: it is safe and, but for `serve`, total. Each subcommand is one call of a crate beneath.
 //! Stands on: vaultd_tasks, group_commit, vault_sessions, vault_server. Must not know: anything that a contract should say;
 //! it is kept thin.
-//! Only tested: the stored run of a script; by `tools/try-program`, behind the proofs, what the words ask for, statuses, texts and order
+//! Only tested: the stored run of a script; and by `tools/try-program`: what the words ask for, statuses, texts and order
 //! of failures, `create`, `inspect` and `serve` on real files and beside their locks, signals, closed streams, odd clients.
 //! Neither: texts of help and usage; what standard input and output are.
 //! Start at: command_line.rt of vaultd_tasks, then the file of a subcommand; serving.rt has `serve`.

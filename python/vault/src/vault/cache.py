@@ -1,5 +1,5 @@
-"""Bytes that were fetched, kept for the next time, where the store is on another disk. They are compared with their name on each use, and
-the oldest give way where there are too many."""
+"""Bytes that were fetched, kept for the next time if the store is on another disk. They are compared with their name on each use, and
+the oldest give way if there are too many."""
 
 import contextlib
 import os
@@ -16,14 +16,14 @@ PART_OF_ALL = 4
 
 
 class Cache:
-    """A folder of bytes by their SHA-256. Whatever goes wrong with it costs time alone."""
+    """A folder of bytes by their SHA-256. Whatever goes wrong with it only costs time."""
 
     def __init__(self, folder: Path, most: int = MAX_BYTES):
         self.folder, self.most = folder, most
         self.size: Optional[int] = None
 
     def fetch(self, store: Store, sha256: str, size: int, target: Own, meter: Meter) -> None:
-        """Writes bytes into a file, from here where they are here, and else from the store."""
+        """Writes bytes into a file, from here if they are here, and else from the store."""
         if self.most == 0 or size * PART_OF_ALL > self.most or store.near(self.folder):
             store.fetch(sha256, size, target, meter)
         elif not self._take(sha256, size, target, meter):
@@ -32,7 +32,7 @@ class Cache:
                 self._keep(beside, sha256, size)
 
     def _take(self, sha256: str, size: int, target: Own, meter: Meter) -> bool:
-        """Whether bytes are here, and were written. What isn't what it has to be is taken away."""
+        """Whether bytes are here, and were written. Those that don't match their name are removed."""
         path = self.folder / sha256
         try:
             with open(path, "rb", buffering=0) as source, meter(sha256[:12], size) as moved:
@@ -49,7 +49,7 @@ class Cache:
 
     @contextlib.contextmanager
     def _beside(self) -> Iterator[Any]:
-        """A new file here, or nothing where there can be none; it is gone behind this."""
+        """A new file here, or nothing if there can be none; it is gone afterwards."""
         try:
             self.folder.mkdir(mode=0o700, parents=True, exist_ok=True)
             file = open(self.folder / f"new-{uuid.uuid4().hex}", "xb")
@@ -75,7 +75,7 @@ class Cache:
                     os.replace(file.name, self.folder / sha256)
 
     def _make_room(self, size: int) -> None:
-        """Takes the oldest away where there would be too many, down to three quarters of what there may be."""
+        """Removes the oldest if there would be too many, down to three quarters of what there may be."""
         if self.size is None:
             self.size = sum(each[1] for each in self._kept())
         self.size += size

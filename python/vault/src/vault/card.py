@@ -54,7 +54,7 @@ class Card:
 
 
 def read_card(content: bytes) -> Optional[Card]:
-    """The card that a content is, or nothing where it isn't exactly one."""
+    """The card that a content is, or nothing if it isn't exactly one."""
     try:
         found = FORM.fullmatch(content.decode("utf-8"))
     except UnicodeDecodeError:
@@ -69,7 +69,7 @@ def read_card(content: bytes) -> Optional[Card]:
 
 
 def is_text(word: str, most: int) -> bool:
-    """Whether a word may stand in a card: text without control characters, of at most so many bytes."""
+    """Whether a word may stand in a card: text without control characters, of at most this many bytes."""
     try:
         return 0 < len(word.encode("utf-8")) <= most and CONTROL.search(word) is None
     except UnicodeEncodeError:
@@ -77,7 +77,7 @@ def is_text(word: str, most: int) -> bool:
 
 
 def name_word(name: str) -> str:
-    """A file's name, where a card can have it."""
+    """A file's name, if a card can have it."""
     if not is_text(name, NAME_BYTES):
         raise Misused(f"A file's name is text of at most {NAME_BYTES} bytes without control characters, and {name!a} is none. Give it"
                       " another name.")
@@ -85,7 +85,7 @@ def name_word(name: str) -> str:
 
 
 def note_word(note: str) -> str:
-    """A note, where a card can have it."""
+    """A note, if a card can have it."""
     if not is_text(note, NOTE_BYTES):
         raise Misused(f"A version's note is one line of 1 to {NOTE_BYTES} bytes. Say it shorter, and in one line.")
     return note
@@ -102,5 +102,5 @@ def moment(seconds: float) -> str:
 
 
 def shown(text: str) -> str:
-    """A text of a card as it is shown: what a terminal could take for a command, or what turns the direction of writing, is spelled."""
+    """A text of a card as it is shown: what a terminal could take for a command, or what turns the direction of writing, is escaped."""
     return "".join(letter if letter.isprintable() else f"\\u{ord(letter):04x}" for letter in text)

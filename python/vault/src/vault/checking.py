@@ -13,7 +13,7 @@ AT_ONCE = 512
 
 @dataclass
 class Checked:
-    """How many versions there are, how many of them have their bytes in the store, and which of these are not as they have to be."""
+    """How many versions there are, how many of them have their bytes in the store, and which of these are not as they must be."""
 
     versions: int = 0
     files: int = 0
@@ -21,7 +21,7 @@ class Checked:
 
 
 def check_store(parts: Parts, read: bool) -> Checked:
-    """Looks whether the store has the bytes of each version, of the right size, and, where that is asked, of the right hash."""
+    """Checks that the store has the bytes of each version, of the right size, and, if that is asked, of the right hash."""
     store = parts.store()
     if store is None:
         raise Refused("The vault names no store. `vault store set ADDRESS` names one.")

@@ -20,7 +20,7 @@ ASKED_WHILE_HOLDING_SECONDS = 30.0
 FIRST_PAUSE_SECONDS = 1.0
 LONGEST_PAUSE_SECONDS = 60.0
 KEPT_OPEN_SECONDS = 5.0
-# How long the answer to `wait` may take before it is asked anew, and an answer within how many seconds means that it didn't wait.
+# How long the answer to `wait` may take before it is asked anew. An answer that comes sooner than the second number didn't wait.
 ANSWERED_WITHIN_SECONDS = 90.0
 SOON_SECONDS = 1.0
 
@@ -90,8 +90,8 @@ def queued_still(line: str, standing: Standing) -> Refused:
 
 
 def wait_a_turn(client: Client, claim: str, patience: Patience) -> None:
-    """Waits as long as the server lets one wait for an answer. A server may answer at once that a claim is queued, since it is older or too
-    many wait already. It is then asked again after a growing pause."""
+    """Waits as long as the server lets one wait for an answer. A server may answer at once that a claim is queued, since it is older or
+    too many wait already. It is then asked again after a growing pause."""
     began = time.monotonic()
     try:
         standing = client.turn(claim, max(0.01, min(patience.left(), ANSWERED_WITHIN_SECONDS)))

@@ -101,8 +101,8 @@ class Client:
         return claim
 
     def claim_for(self, place: str, claim: str = "") -> str:
-        """The check-out that a draft of a part would belong to: the one that is named, or else the remembered one that covers the part for
-        change. This is found out first, so that nobody sends long files in vain."""
+        """The check-out that a draft of a part would belong to: the one that is named, or else the remembered one that covers the part
+        for change. This is found out first, so that nobody sends long files in vain."""
         place_word(place)
         with self._alone():
             self._count(place)
@@ -241,8 +241,8 @@ class Client:
         return self._with_way(self.state(claim))
 
     def turn(self, claim: str, seconds: float) -> Optional[Standing]:
-        """How a claim stands, as soon as it is held or gone, or after the time that the server lets one wait. Nothing if the server doesn't
-        answer within some seconds, or doesn't know this question. Other commands of this designer may be said meanwhile."""
+        """How a claim stands, as soon as it is held or gone, or after the time that the server lets one wait. Nothing if the server
+        doesn't answer within some seconds, or doesn't know this question. Other commands of this designer may be said meanwhile."""
         reply = self.link.read_within("wait " + claim_word(claim), seconds)
         if reply is not None and reply.code == GONE:
             return Standing(claim, False, gone=True)
@@ -287,8 +287,8 @@ class Client:
 
     def mine(self, named: Sequence[str] = ()) -> List[Tuple[Standing, Claim]]:
         """The check-outs of this designer that stand, wherever they were asked for, and those remembered here that are gone or another's.
-        A gone one is listed once, and again as long as a copy of a draft that isn't a version is kept for it. At an older server these are
-        the remembered check-outs, and those that are named, which are remembered from then on."""
+        Such a one is listed once, and again as long as a copy of a draft that isn't a version is kept for it. At an older server these
+        are the remembered check-outs, and those that are named, which are remembered from then on."""
         with self._alone():
             self._take_up(named)
             line = self._line("/")

@@ -21,7 +21,7 @@ def write_whole(path: Path, content: bytes) -> None:
 
 
 def sync_folder(folder: Path) -> None:
-    """Puts a folder's entries on disk, where the system has a call for that."""
+    """Puts a folder's entries on disk, if the system has a call for that."""
     if os.name == "nt":
         return
     descriptor = os.open(str(folder), os.O_RDONLY)

@@ -23,14 +23,14 @@ from vault.words import CHECKOUT, PLACE, Misused, VaultError
 
 OWN = ".vault"
 FORM = "vault working folder 1"
-# For how long behind a file's time it may have been changed again without another time: where times are of whole seconds, and else.
+# For how long after a file's time it may have been changed again without another time: if times are of whole seconds, and else.
 COARSE, FINE = 2_000_000_000, 50_000_000
 
 
 @dataclass
 class Entry:
     """What is remembered of a part's file: the version that it was, and how it looked then, with its time and when that was set; the name
-    that its card says; and the draft that was put of it since."""
+    in its card; and the draft of it that was put since."""
 
     place: str
     version: int
@@ -78,7 +78,7 @@ class Folder:
     # Files.
 
     def at(self, name: str) -> Path:
-        """The path of a file. Its folder has to be in this one, and no link on the way."""
+        """The path of a file. Its folder must be in this one, with no link on the way."""
         path = self.path.joinpath(*name.split("/"))
         if not is_safe(name):
             raise Misused(f"`{name!a}` is no file of a working folder.")
@@ -110,7 +110,7 @@ class Folder:
         return False
 
     def seen(self, name: str) -> Optional[os.stat_result]:
-        """How a file looks, or nothing where it isn't there."""
+        """How a file looks, or nothing if it isn't there."""
         try:
             return os.lstat(self.at(name))
         except FileNotFoundError:
@@ -121,13 +121,13 @@ class Folder:
         return hash_of(self.at(name))[0]
 
     def remember_look(self, name: str, seen: os.stat_result) -> None:
-        """Remembers how a file looks whose bytes are known."""
+        """Remembers how a file looks, whose bytes are known."""
         entry = self.files[name]
         entry.size, entry.time, entry.set_at, entry.looked = seen.st_size, seen.st_mtime_ns, seen.st_ctime_ns, time.time_ns()
 
     @contextlib.contextmanager
     def new_file(self) -> Iterator[IO[bytes]]:
-        """A file under a name of its own, which is gone behind this."""
+        """A file under a name of its own, which is gone afterwards."""
         path = self._real(self.path / OWN) / f"new-{uuid.uuid4().hex}"
         try:
             with open(path, "xb") as file:
@@ -175,7 +175,7 @@ class Folder:
         return {folded(name.rpartition("/")[2]): name for name in names}
 
     def _real(self, path: Path) -> Path:
-        """A path, where neither it nor what stands above it in this folder is a link."""
+        """A path, if neither it nor what is above it in this folder is a link."""
         top = os.path.realpath(self.path)
         wanted = os.path.join(top, *path.relative_to(self.path).parts)
         if os.path.realpath(path) != wanted:
@@ -189,7 +189,7 @@ def is_safe(name: str) -> bool:
 
 
 def read_folder(path: Path) -> Optional[Folder]:
-    """What is remembered of a working folder, or nothing where it is none."""
+    """What is remembered of a working folder, or nothing if it is none."""
     kept = path / OWN / "folder.json"
     try:
         return folder_of(path, json.loads(kept.read_text("utf-8")))

@@ -62,7 +62,7 @@ def status(client: Client, words: Words, output: Output) -> Told:
 
 
 def state_in_words(state: State) -> str:
-    """How a file stands, where there is something to say."""
+    """How a file stands, if there is something to say."""
     said: List[str] = []
     if state.missing:
         said.append("missing here")
@@ -90,7 +90,7 @@ def add(client: Client, words: Words, _output: Output) -> Told:
 
 
 def tell_left(done: Done, output: Output) -> None:
-    """Tells which files were left, and why."""
+    """Says which files were left, and why."""
     for name, reason in done.left:
         output.notice(f"{shown(name)} {reason}.")
 

@@ -160,8 +160,8 @@ class FolderStore:
         return open(folder / uuid.uuid4().hex, "xb")
 
     def _is_there(self, kept: Kept) -> bool:
-        """Whether bytes are there. If so, they are read through and made young, so that no sweep takes them. If they are in another user's
-        file, whose time can't be changed, they count as missing: the same bytes then replace that file."""
+        """Whether bytes are there. If so, they are read through and made young, so that no sweep takes them. If they are in another
+        user's file, whose time can't be changed, they count as missing: the same bytes then replace that file."""
         path, there = self._path(kept.sha256), self.find(kept.sha256)
         if there is None:
             return False

@@ -12,7 +12,7 @@ MAX_CLAIMS = 1024
 
 
 class Line:
-    """Asks who holds what. An older server doesn't know these questions. Whether it knows them is found out each time, as it may be restarted
+    """Asks who holds what. An older server doesn't know these questions. Whether it does is found out each time, as it may be restarted
     while a client stays."""
 
     def __init__(self, link: Link):
@@ -47,8 +47,9 @@ def chain(line: Sequence[Holder], claim: str) -> List[Holder]:
 
 
 def ring(line: Sequence[Holder], claim: str) -> List[Wait]:
-    """Where designers wait for each other: the shortest ring of waits that begins and ends at the designer of a claim. Each wait is for what
-    the next designer has. None if there is no ring. A ring through held claims alone goes before one in which an earlier claim waits, too."""
+    """Where designers wait for each other: the shortest ring of waits that ends with this claim's wait. Each wait is for what the
+    designer of the wait before it has. None if there is no ring. A ring through held claims alone goes before one in which an earlier
+    claim waits, too."""
     waiting = next((holder for holder in line if holder.claim == claim), None)
     if waiting is None:
         return []
@@ -56,7 +57,7 @@ def ring(line: Sequence[Holder], claim: str) -> List[Wait]:
 
 
 def ring_of(line: Sequence[Holder], waiting: Holder, held: bool) -> List[Wait]:
-    """The same, through claims that are held alone where that is asked: those whom this claim's designer waits for are gone through, then
+    """The shortest such ring; through held claims alone if that is asked. Goes through those whom this claim's designer waits for, then
     those whom these wait for, and so on, until one waits for this designer."""
     came: Dict[str, Wait] = {}
     level = [wait for wait in waits_of(line, waiting, held) if wait.before.owner != waiting.owner]
@@ -73,7 +74,7 @@ def ring_of(line: Sequence[Holder], waiting: Holder, held: bool) -> List[Wait]:
 
 
 def way_back(came: Dict[str, Wait], owner: str, last: str) -> List[Wait]:
-    """The waits for what a designer has, and then for what the one who waits for it has, down to the last."""
+    """The wait for what a designer has, then the one for what that waiting designer has, and so on, down to the last designer."""
     found: List[Wait] = []
     while owner != last:
         found.append(came[owner])
@@ -94,7 +95,7 @@ def waits_of(line: Sequence[Holder], waiting: Holder, held: bool) -> List[Wait]:
 
 
 def meeting(before: Holder, waiting: Holder) -> str:
-    """The place of a claim at which another one meets it, one of the two for change, if they meet."""
+    """The place of a claim at which another one meets it, with one of the two items for change; empty if they don't meet."""
     for item in before.items:
         for other in waiting.items:
             if "w" in (item[0], other[0]) and (under(item[2:], other[2:]) or under(other[2:], item[2:])):

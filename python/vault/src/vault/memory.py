@@ -35,7 +35,7 @@ class Claim:
 
 @dataclass
 class Known:
-    """A claim that this client was told of: whose it was, what it had, and when it was told of first."""
+    """A claim that this client has heard of: whose it was, what it had, and when the client first heard of it."""
 
     owner: str
     items: List[str]
@@ -131,8 +131,8 @@ class Memory:
         self.last_number = max([self.last_number] + numbers)
 
     def knows(self, line: Sequence[Holder], all_claims: bool) -> bool:
-        """Remembers claims that were told of, where all that stand were told these alone, and answers whether any is new. One of which neither
-        owner nor items are as before is another of that number, as behind a restart of the server."""
+        """Remembers claims that the server listed, and only these if it listed all that stand. Whether this changed what is remembered.
+        If neither owner nor items of one are as before, it is another claim of that number, as after a restart of the server."""
         found = {}
         for holder in line:
             before = self.known.get(holder.claim)

@@ -17,8 +17,8 @@ NO_PART = 22
 
 
 def whose(claim: str) -> str:
-    """Asks whose a check-out is, by a save at the library, which is always refused: with 22 if the check-out is one's own and held, 32 if it
-    is one's own and queued, 31 if it is another's, and 30 if there is none."""
+    """Asks whose a check-out is, by a save at the library, which is always refused: with 22 if the check-out is one's own and held, 32 if
+    it is one's own and queued, 31 if it is another's, and 30 if there is none."""
     return f"save {claim} / -"
 
 

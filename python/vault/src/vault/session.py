@@ -10,7 +10,7 @@ from vault.words import Misused
 
 
 def read_address(word: str) -> Tuple[str, Tuple[Address, ...]]:
-    """Designer, and host and port of each server, of a word as anna@127.0.0.1:7070, as anna@one:7070,two:7070, or as
+    """Designer, and host and port of each server, of a word such as anna@127.0.0.1:7070, anna@one:7070,two:7070, or
     anna@ssh:vault.example.org, where the port is 0."""
     designer, _, servers = word.partition("@")
     found = read_servers(servers)
@@ -28,7 +28,7 @@ def remember_designer(word: str) -> None:
 
 
 def who(named: Optional[str]) -> str:
-    """The designer at a server that is meant: named by --as, by VAULT_AS, or by the last `vault hello`."""
+    """The designer and the server that are meant: named by --as, by VAULT_AS, or by the last `vault hello`."""
     meant = named or os.environ.get("VAULT_AS")
     if meant:
         return meant

@@ -21,7 +21,7 @@ def open_store(address: Address) -> Store:
 
 
 class Setting:
-    """The part in which a vault names its store. Anybody can change a part, so an address is followed once the designer confirmed it."""
+    """The part in which a vault names its store. Anybody can change a part, so an address counts only once the designer confirmed it."""
 
     def __init__(self, client: Client, opened: Callable[[Address], Store] = open_store):
         self.client, self.opened = client, opened
@@ -32,7 +32,7 @@ class Setting:
         return last[1].decode("utf-8", "backslashreplace").removesuffix("\n") if last else ""
 
     def store(self) -> Optional[Store]:
-        """The vault's store, or nothing where it names none."""
+        """The vault's store, or nothing if it names none."""
         named = self.named()
         if not named:
             return None
@@ -46,7 +46,7 @@ class Setting:
         return self.opened(address)
 
     def confirm(self, text: str) -> None:
-        """Follows an address from now on, which the vault names."""
+        """Follows the address that the vault names, from now on."""
         address, named = read_store_address(text), self.named()
         if address.text != named:
             raise Misused(f"The vault names {shown(named) or 'no store'}, not {address.text}. `vault store` shows it.")

@@ -13,7 +13,7 @@ MARK = b"vault store 1\n"
 
 
 class StoreFault(VaultError):
-    """What the store has, or does, is not as it has to be."""
+    """What the store has, or does, is not as it must be."""
 
 
 class StoreAway(VaultError):
@@ -36,37 +36,37 @@ class Kept:
 
 
 class Store(Protocol):
-    """A store that can be reached. Each call raises a `VaultError` with a sentence where it can't do what it says."""
+    """A store that can be reached. Each call raises a `VaultError` with a sentence if it can't do what it says."""
 
     address: str
 
     def prepare(self) -> None:
-        """Makes the store where it isn't there yet, and tries whether it can be written and read."""
+        """Makes the store if it isn't there yet, and tries whether it can be written and read."""
 
     def add(self, source: Path, meter: Meter, follow: bool = True) -> Kept:
-        """Sees to it that the store has a file's bytes, on disk and young, and answers their name."""
+        """Makes sure that the store has a file's bytes, on disk and young, and answers their name."""
 
     def find(self, sha256: str) -> Optional[Kept]:
         """What the store has under a name, or nothing; the bytes are not read."""
 
     def fetch(self, sha256: str, size: int, target: Own, meter: Meter) -> None:
-        """Writes bytes into a file, and raises `Wrong` where they are not those."""
+        """Writes bytes into a file, and raises `Wrong` if they are not those."""
 
     def all(self) -> Iterator[Kept]:
         """All that the store has."""
 
     def remove(self, kept: Kept, before: float) -> bool:
-        """Takes bytes away that are still older than that, and answers whether it did."""
+        """Removes bytes that are still older than that, and answers whether it did."""
 
     def leftovers(self, before: float) -> int:
-        """Takes away what was begun before that and never ended, and answers how many these were."""
+        """Removes what was begun before that and never ended, and answers how many these were."""
 
     def near(self, folder: Path) -> bool:
         """Whether its bytes are as near as that folder, so that a copy there would save nothing."""
 
 
 def compare(sha256: str, size: int, found: str, length: int) -> None:
-    """Raises `Wrong` where bytes are not those that are named."""
+    """Raises `Wrong` if bytes are not those that are named."""
     if length != size:
         raise Wrong(f"they are {length:,} bytes, and have to be {size:,}")
     if found != sha256:

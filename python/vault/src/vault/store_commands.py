@@ -35,7 +35,7 @@ def store(client: Client, words: Words, output: Output) -> Told:
 
 
 def check(client: Client, words: Words, output: Output) -> Told:
-    """Looks whether the store has what the versions name."""
+    """Checks whether the store has what the versions name."""
     found = check_store(Parts(client, meter=output.meter), words.read)
     for version, reason in found.bad:
         output.notice(f"version {version.number} of {version.place}, {shown(version.card.name if version.card else '')}: {reason}"
@@ -52,7 +52,7 @@ def check(client: Client, words: Words, output: Output) -> Told:
 
 
 def set_store(setting: Setting, address: str, output: Output) -> Told:
-    """Has the vault name a store."""
+    """Makes the vault name a store."""
     before = setting.set(address)
     if before and before != address:
         output.notice(f"The vault named {shown(before)} until now. Copy all that is there to {address}, before anybody gets a file.")

@@ -14,7 +14,7 @@ from vault.words import Misused
 PIECE = 1 << 20
 
 Moved = Callable[[int], None]
-# What shows how far something is: it is given what it is and how many bytes it has, and while it stands, how many more were moved.
+# A meter shows how far something is. It is given what it is and how many bytes it has, and, while it stands, how many more were moved.
 Meter = Callable[[str, int], "AbstractContextManager[Moved]"]
 
 
@@ -59,7 +59,7 @@ def hash_of(path: Path, moved: Moved = lambda _bytes: None) -> Tuple[str, int]:
 
 
 class Own:
-    """A file of the designer's own, whose faults are told as such, and not as the store's."""
+    """A file of the designer's own, whose faults are reported as such, and not as the store's."""
 
     def __init__(self, file: Any, name: str):
         self.file, self.name = file, name
@@ -90,7 +90,7 @@ class Own:
 
 @contextmanager
 def steady(path: Path, follow: bool = True) -> Iterator[Own]:
-    """A file to be read from its start to its end; who changes it meanwhile is told of. A link is followed only where that is asked."""
+    """A file to be read from its start to its end. If it changes meanwhile, that is an error. A link is followed only if asked."""
     flags = os.O_RDONLY | getattr(os, "O_BINARY", 0) | getattr(os, "O_NONBLOCK", 0) | (0 if follow else getattr(os, "O_NOFOLLOW", 0))
     try:
         if not follow and path.is_symlink():

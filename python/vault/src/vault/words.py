@@ -195,9 +195,9 @@ class Wait:
 
 @dataclass(frozen=True)
 class Standing:
-    """How a claim stands: held, or queued behind another, or gone if it is neither; and whether it is known to be another designer's. As far
-    as the server says, for a queued claim: each claim before it that it waits for in turn, and where designers wait for each other in a
-    ring; for a check-out of one's own: the parts that it has drafts of."""
+    """How a claim stands: held, or queued behind another, or gone if it is neither; and whether it is known to be another designer's. As
+    far as the server says, for a queued claim: each claim before it that it waits for in turn, and where designers wait for each other in
+    a ring; for a check-out of one's own: the parts that it has drafts of."""
 
     claim: str
     held: bool

@@ -32,8 +32,8 @@ class Done:
 
 @dataclass(frozen=True)
 class State:
-    """How a file stands: it is changed or missing here, its newest version is another than the one that it was made of, and it is checked
-    out for change, by this designer, or by others, as far as the server tells."""
+    """How a file stands: whether it is changed or missing here, whether its newest version is another than the one that it was made of,
+    and whether it is checked out for change, by this designer, or by others, as far as the server says."""
 
     file: str
     place: str
@@ -47,7 +47,7 @@ class State:
 
 
 class Working:
-    """A working folder, and the designer's files that it is of. Call it within `Folder.locked`."""
+    """A working folder, and the designer's files that it belongs to. Call its methods within `Folder.locked`."""
 
     def __init__(self, parts: Parts, folder: Folder):
         self.parts, self.client, self.folder = parts, parts.client, folder
@@ -71,7 +71,7 @@ class Working:
         return done
 
     def states(self) -> List[State]:
-        """How each file of a part stands, and which held check-out of this designer takes it in for change."""
+        """How each file of a part stands, and which held check-out of this designer covers it for change."""
         _, numbers = self.client.survey(self.folder.place)
         claims, found = self._claims(), []
         holders = [holder for holder in self.client.holders(self.folder.place) if holder.held and holder.owner != self.client.designer]
@@ -86,7 +86,7 @@ class Working:
         return found
 
     def put(self, claim: str = "") -> Done:
-        """Puts each changed file that a held check-out of this designer takes in, or the one that is named."""
+        """Puts each changed file that a held check-out of this designer covers, or the check-out that is named."""
         done, claims = Done(), self._claims()
         if claim and claim not in claims:
             raise Misused(f"{claim} is no held check-out of yours at {self.folder.place}. `vault mine` shows those that there are.")
@@ -147,7 +147,7 @@ class Working:
             self.folder.make_folder(names[place])
 
     def _wants(self, name: Optional[str], number: int) -> bool:
-        """Whether a part's version has to be looked at: it is new here, another than the one that was got, or its file is missing."""
+        """Whether a part's version must be looked at: it is new here, another than the one that was got, or its file is missing."""
         return name is None or self.folder.files[name].version != number or self.folder.seen(name) is None
 
     def _get_one(self, version: Version, name: Optional[str], moved: Moved, done: Done) -> None:
@@ -176,7 +176,7 @@ class Working:
             done.files.append(new)
 
     def _fetch(self, version: Version, name: Optional[str], new: str, entry: Entry, before: Optional[os.stat_result], moved: Moved) -> None:
-        """Writes a version into its file, and takes away the file by the name that it had before."""
+        """Writes a version into its file, and removes the file by the name that it had before."""
         with self.folder.new_file() as file:
             self.parts.write(version, file, str(self.folder.path / new), lambda _what, _size: given(moved))
             self.folder.bring(file, new, entry, before if new == name else None)
@@ -186,7 +186,7 @@ class Working:
                 self.folder.at(name).unlink()
 
     def _adopt(self, name: str, entry: Entry) -> None:
-        """Remembers that a file is a version, whose bytes it has."""
+        """Remembers that a file is a version, since it has its bytes."""
         seen = self.folder.seen(name)
         self.folder.files[name] = entry
         if seen is not None:
@@ -232,7 +232,7 @@ class Working:
         done.files.append(name)
 
     def _settle(self, claims: List[str]) -> None:
-        """Remembers of which versions files are now that were drafts in check-outs that are checked in."""
+        """Files that were drafts in check-outs that are checked in are now versions: remembers which."""
         names = [name for name, entry in sorted(self.folder.files.items()) if entry.claim in claims]
         _, numbers = self.client.survey(self.folder.place)
         wanted = [(self.folder.files[name].place, numbers.get(self.folder.files[name].place, 0)) for name in names]
@@ -259,12 +259,12 @@ class Working:
 
 @contextlib.contextmanager
 def given(moved: Moved) -> Iterator[Moved]:
-    """A meter that stands already."""
+    """A meter that runs already."""
     yield moved
 
 
 def covering(claims: Dict[str, Sequence[str]], place: str) -> List[str]:
-    """The check-outs that take in a place for change."""
+    """The check-outs that cover a place for change."""
     return [name for name, items in claims.items() if any(item[0] == "w" and under(place, item[2:]) for item in items)]
 
 
@@ -274,7 +274,7 @@ def server_of(parts: Parts) -> str:
 
 
 def folder_for(parts: Parts, place: str, path: Path) -> Folder:
-    """The working folder of an assembly at a path, which is made where nothing is there."""
+    """The working folder of an assembly at a path. It is made if nothing is there."""
     path = Path(os.path.abspath(path))
     folder = read_folder(path)
     if folder is not None:

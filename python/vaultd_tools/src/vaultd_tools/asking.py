@@ -7,7 +7,7 @@ from dataclasses import dataclass
 from typing import Tuple
 
 SERVES, BUSY, BROKEN, DEAF, DOWN, ODD = "serves", "busy", "broken", "deaf", "down", "odd"
-# What a server says that is there, but takes no more just now: no session is free, no room in its history, no memory.
+# The replies of a server that is there, but takes no more just now: no session is free, no room in its history, no memory.
 TAKES_NO_MORE = (b"ERR 50\n", b"ERR 80\n", b"ERR 81\n")
 LONGEST_ANSWER = 256
 
@@ -26,7 +26,7 @@ class Answer:
 
 
 def line_of(connection: socket.socket, end: float) -> bytes:
-    """The next line that a connection is told before a moment; what came of it where the other side ended. Raises TimeoutError behind it."""
+    """The next line on a connection before a moment; what came of it if the other side ended. Raises TimeoutError after that moment."""
     line = b""
     while not line.endswith(b"\n") and len(line) < LONGEST_ANSWER:
         connection.settimeout(max(0.001, end - time.monotonic()))
@@ -52,7 +52,7 @@ def answer_of(where: str, hello: bytes, left: bytes) -> Answer:
 
 
 def conversation(connection: socket.socket, end: float) -> Tuple[bytes, bytes]:
-    """The replies to a hello, and to a quit where there is a session then."""
+    """The replies to a hello, and to a quit if there is a session then."""
     connection.sendall(b"hello watch\n")
     hello = line_of(connection, end)
     if not hello.startswith(b"OK session "):
@@ -62,7 +62,7 @@ def conversation(connection: socket.socket, end: float) -> Tuple[bytes, bytes]:
 
 
 def ask(host: str, port: int, patience: float) -> Answer:
-    """Says hello and quit to the server at an address, and waits so many seconds at most."""
+    """Says hello and quit to the server at an address, and waits this many seconds at most."""
     where, end = f"{host}:{port}", time.monotonic() + patience
     try:
         with socket.create_connection((host, port), patience) as connection:

@@ -45,12 +45,12 @@ def one_try(vaultd: str, first: str, second: str, folder: Path) -> Tuple[Path, s
 
 
 def whole(folder: Path) -> bool:
-    """Whether a folder is a backup that was made here: by its name, and by what is in it."""
+    """Whether a folder is a backup that this tool made: by its name, and by what is in it."""
     return KEPT.fullmatch(folder.name) is not None and not folder.is_symlink() and sorted(os.listdir(folder)) == ["a", "b"]
 
 
 def take_away(folder: Path) -> None:
-    """Takes a folder away. It loses its name first, so a half of it is never taken for a backup."""
+    """Removes a folder. It loses its name first, so half of it is never taken for a backup."""
     hidden = folder.with_name(f"{PARTIAL}{folder.name.lstrip('.')}")
     if hidden != folder:
         os.rename(folder, hidden)
@@ -59,8 +59,8 @@ def take_away(folder: Path) -> None:
 
 
 def thin_out(folder: Path, keep: int, new: Path) -> List[Path]:
-    """Takes away all backups but the newest ones by their names, and what killed runs left a day ago or earlier; answers the backups that
-    went. The new one stays also where an earlier one has a later name, as behind a clock that was wrong."""
+    """Removes all backups except the newest ones by their names, and what killed runs left a day ago or earlier; answers the backups that
+    went. The new one stays even if an earlier one has a later name, as after a clock was wrong."""
     for partial in folder.glob(PARTIAL + "*"):
         if partial.is_dir() and time.time() - partial.stat().st_mtime > PARTIAL_SECONDS:
             shutil.rmtree(partial)
@@ -104,7 +104,7 @@ def made(vaultd: str, asked: argparse.Namespace, folder: Path) -> Tuple[Path, st
 
 
 def main() -> int:
-    """0 where a backup was made, and no more are kept than were asked for, else 1."""
+    """0 if a backup was made, and no more are kept than were asked for, else 1."""
     asked = words()
     try:
         vaultd, folder = find_vaultd(asked.vaultd), Path(asked.folder)

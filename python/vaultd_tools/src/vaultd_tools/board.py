@@ -35,7 +35,7 @@ def page(report: Report, title: str) -> str:
 
 
 def report_of(vaultd: str, first: str, second: str, tries: int) -> Report:
-    """What a copy of the vault has; a copy that doesn't open is made again."""
+    """The report on a copy of the vault. A copy that doesn't open is made again."""
     for number in range(tries):
         time.sleep(0.2 * number)
         with tempfile.TemporaryDirectory(prefix="vault-board-") as folder:
@@ -56,7 +56,7 @@ def words() -> argparse.Namespace:
 
 
 def main() -> int:
-    """Prints the page: 0 where the vault opens, else 1."""
+    """Prints the page. 0 if the vault opens, else 1."""
     asked = words()
     try:
         report = report_of(find_vaultd(asked.vaultd), asked.first, asked.second, 5)

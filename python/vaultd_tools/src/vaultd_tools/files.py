@@ -18,7 +18,7 @@ CLAIM = re.compile(r"(?P<name>[ch]\d+) (?P<owner>\S+) (?:held|queued behind (?P<
 
 
 class ToolError(Exception):
-    """Something that a person has to know; its text is a sentence with what to do."""
+    """Something that a person must know; its text is a sentence with what to do."""
 
 
 @dataclass(frozen=True)
@@ -40,7 +40,7 @@ class Report:
 
     @property
     def counts(self) -> Optional[str]:
-        """The line of the vault's counts, where the files open."""
+        """The line of the vault's counts, if the files open."""
         lines = self.text.splitlines()
         return lines[2] if len(lines) > 2 and lines[2].startswith("places ") else None
 
@@ -55,13 +55,13 @@ class Report:
         return (found.group(1), int(found.group(2))) if found else None
 
     def claims(self) -> List[Claim]:
-        """The standing claims, in the order of the line."""
+        """The standing claims, in the order of the queue."""
         found = [CLAIM.fullmatch(line) for line in self.text.splitlines()[3:]]
         return [Claim(m["name"], m["owner"], m["behind"], tuple(m["items"].split()), bytes.fromhex(m["note"] or "")) for m in found if m]
 
 
 def find_vaultd(named: Optional[str]) -> str:
-    """The program: the one that is named, that of VAULTD, or the one on the path."""
+    """The program: the one that is named, the one that VAULTD names, or the one on the path."""
     found = named or os.environ.get("VAULTD") or shutil.which("vaultd")
     if found is None or not os.access(found, os.X_OK):
         raise ToolError(f"The program vaultd is not {'at ' + found if found else 'on the path'}. Name it with --vaultd.")

@@ -42,7 +42,7 @@ class Role:
         return anothers or self.only_asks and not command.asks
 
     def is_logged(self, command: Command) -> bool:
-        """Whether this has its lines in the log: a change, and whom an administrator speaks for."""
+        """Whether this goes into the log: a change, and for whom an administrator speaks."""
         return command.changes or self.any_name and command.keyword == b"hello"
 
 
@@ -54,7 +54,7 @@ class Client:
         self.writes.register(CLIENT_OUT, select.POLLOUT)
 
     def tell(self, text: bytes) -> None:
-        """Writes something to the client, who has to take it in time. No write is larger than what a stream takes at once."""
+        """Writes something to the client, which must take it in time. No write is larger than what a stream takes at once."""
         while text:
             ready = self.writes.poll(TAKE_SECONDS * 1000)
             if not ready or ready[0][1] & GONE:
@@ -78,7 +78,7 @@ class Server:
         self.alone.register(self.socket, select.POLLIN)
 
     def next_piece(self, client: Client) -> bytes:
-        """Waits for what the client says next. Where the server says something unasked, that is its last word."""
+        """Waits for what the client says next. If the server says something unasked, that is its last word."""
         ready = dict(self.idle.poll())
         if self.socket.fileno() in ready:
             client.tell(self.socket.recv(LONGEST_REPLY))
@@ -88,8 +88,7 @@ class Server:
         raise Over("the client is gone")
 
     def reply(self, command: Command, to_the_end: bool) -> bytes:
-        """Sends a command and waits for its reply. Where the client goes meanwhile, only a reply that is for the log is still waited
-        for."""
+        """Sends a command and waits for its reply. If the client goes meanwhile, this only waits on for a reply that the log needs."""
         told, poll, limit = b"", self.asked, None
         try:
             self.socket.sendall(command.line)
@@ -150,7 +149,7 @@ class Gate:
         self.client.tell(b"ERR 31\n")
 
     def _hand_on(self, command: Command) -> None:
-        """Sends a command on and tells its reply. A change is in the log before the server hears of it."""
+        """Sends a command on and hands its reply to the client. A change is in the log before the server gets it."""
         logged = self.role.is_logged(command)
         try:
             if logged:
@@ -176,7 +175,7 @@ class Gate:
         return reply
 
     def _note_outcome(self, logged: bool, kind: str, what: str) -> None:
-        """What became of a command that was sent: it is told, whether or not the log takes its line."""
+        """Logs what became of a command that was sent. The client gets its reply, whether or not the log takes the line."""
         try:
             if logged:
                 self._note(kind, what)
@@ -227,7 +226,7 @@ def words(given: list[str] | None = None) -> argparse.Namespace:
 
 
 def main() -> int:
-    """0 once the conversation has ended, 1 where there is no server or no log, 2 where the command line is wrong."""
+    """0 once the conversation has ended, 1 if there is no server or no log, 2 if the command line is wrong."""
     asked = words()
     host, port = asked.server
     by, key = asked.designer.decode("ascii"), keys_of(os.environ.get("SSH_USER_AUTH"))

@@ -36,7 +36,7 @@ class Key:
 
 
 def options_of(text: str) -> Optional[Dict[str, str]]:
-    """The options before a key by their names in small letters, as sshd has them; None where they can't be read."""
+    """The options before a key by their names in lower case, as sshd reads them; None if they can't be read."""
     found: Dict[str, str] = {}
     at = 0
     while at < len(text):
@@ -96,7 +96,7 @@ def complaints_of(lines: List[str]) -> Tuple[List[str], List[str]]:
 
 
 def main() -> int:
-    """0 where each key speaks for a name, else 1."""
+    """0 if each key speaks for a name, else 1."""
     parser = argparse.ArgumentParser(prog="vaultd-gate-keys", description=__doc__, formatter_class=argparse.RawDescriptionHelpFormatter)
     parser.add_argument("file", metavar="FILE", help="as /etc/ssh/vaultd-gate/authorized_keys")
     asked = parser.parse_args()

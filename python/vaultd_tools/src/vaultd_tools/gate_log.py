@@ -1,8 +1,8 @@
 """The gate's log: who asked for which change, and what was answered.
 
-A change has a line before it is sent to the server (`asks`) and one behind it: `told` with the reply, or `lost` where the connection
-ended without one. What the gate itself refuses has one line, `refused`. Whatever comes from outside is one of the protocol's words,
-or is escaped, so no line can be made up.
+A change has a line before it is sent to the server (`asks`) and one after it: `told` with the reply, or `lost` if the connection ended
+without one. What the gate itself refuses has one line, `refused`. Whatever comes from outside is one of the protocol's words, or is
+escaped, so nobody can forge a line.
 """
 
 from __future__ import annotations
@@ -27,7 +27,7 @@ def plain(text: bytes) -> str:
 
 
 def fingerprint_of(key: bytes) -> str:
-    """The fingerprint of a public key as sshd's own log has it, or `-`. ssh-keygen says it: a library of hashes is larger than the
+    """The fingerprint of a public key as sshd's own log has it, or `-`. ssh-keygen computes it: a library of hashes is larger than the
     gate."""
     given, giving = os.pipe()
     told, telling = os.pipe()
@@ -79,7 +79,7 @@ class Unwritten(Exception):
 
 
 class Log:
-    """Writes each line to the system's log, where there is one, and to a file, where one is named. A file is only added to, each line by
+    """Writes each line to the system's log, if there is one, and to a file, if one is named. A file is only appended to, each line by
     one write."""
 
     def __init__(self, who: str, file: str | None, synced: bool, syslog: str, say: Callable[[str], None]):
@@ -101,7 +101,7 @@ class Log:
             return None
 
     def write(self, number: str, name: str, kind: str, what: str) -> None:
-        """Writes a line. Raises where the file doesn't take it; the system's log may be away."""
+        """Writes a line. Raises if the file doesn't take it; the system's log may be away."""
         line = f"{now()} id={number} {self.who} as={name} {kind} {what}"
         if self.file >= 0:
             self._to_file(line)

@@ -34,7 +34,7 @@ def number(word: bytes) -> bytes | None:
 
 
 def numbered(letter: bytes, word: bytes) -> bytes | None:
-    """A letter, and behind it a number from 1 on."""
+    """A letter, and after it a number from 1 on."""
     digits = number(word[1:])
     return word[:1] + digits if word[:1] == letter and digits and digits != b"0" else None
 
@@ -60,13 +60,13 @@ def item(word: bytes) -> bytes | None:
 
 
 def content(word: bytes) -> bytes | None:
-    """Bytes by hexadecimal digits of either case, which are spelled in lower case from here on."""
+    """Bytes as hexadecimal digits of either case, which are spelled in lower case from here on."""
     return word.lower() if CONTENT.fullmatch(word) else None
 
 
 Reader = Callable[[bytes], "bytes | None"]
 
-# For each keyword the words that may stand behind it.
+# For each keyword the words that may follow it.
 FORMS: dict[bytes, tuple[tuple[Reader, ...], ...]] = {
     b"hello": ((name,),), b"quit": ((),),
     b"make": ((path,), (path, checkout)), b"nest": ((path,), (path, checkout)),
@@ -75,7 +75,7 @@ FORMS: dict[bytes, tuple[tuple[Reader, ...], ...]] = {
     b"state": ((claim,),), b"list": ((path,),), b"fetch": ((path, number),), b"count": ((path,),),
     b"show": ((claim,),), b"claims": ((path,),), b"drafts": ((checkout,),), b"draft": ((checkout, path),), b"wait": ((claim,),),
 }
-# The same of those that end with one item or more.
+# The same for keywords whose line ends with one item or more.
 FORMS_WITH_ITEMS: dict[bytes, tuple[Reader, ...]] = {b"checkout": (), b"extend": (claim,), b"hold": ()}
 QUESTIONS = frozenset((b"hello", b"quit", b"state", b"list", b"fetch", b"count", b"show", b"claims", b"drafts", b"draft", b"wait"))
 
@@ -100,7 +100,7 @@ class Command:
 
     @property
     def changes(self) -> bool:
-        """Whether it may change something. A save at the library never does: clients ask by it whose a check-out is."""
+        """Whether it may change something. A save at the library never does: clients use it to ask whose a check-out is."""
         return not self.asks and not (self.keyword == b"save" and self.words[1] == b"/")
 
     @property
@@ -114,7 +114,7 @@ class Command:
 
 
 def readers_of(keyword: bytes, count: int) -> tuple[Reader, ...] | None:
-    """What reads each of so many words behind a keyword, where so many may stand there."""
+    """The readers of this many words after a keyword, if this many may follow it."""
     if keyword in FORMS_WITH_ITEMS:
         before = FORMS_WITH_ITEMS[keyword]
         return before + (item,) * (count - len(before)) if count > len(before) else None
@@ -139,7 +139,7 @@ def command_of(line: bytes) -> Command | None:
 
 
 class Lines:
-    """Takes what comes, in whatever pieces, apart into lines. Of a line that is too long it keeps as much as shows that."""
+    """Splits what comes, in whatever pieces, into lines. Of a line that is too long it keeps just enough to show that."""
 
     def __init__(self) -> None:
         self.begun = b""

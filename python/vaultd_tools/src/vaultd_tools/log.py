@@ -73,7 +73,7 @@ class Claims:
 
 
 def records(lines: Iterable[str], damaged: List[str]) -> Iterator[Record]:
-    """The records of a log. One that begins behind the torn end of another is read; other lines are handed back as damaged."""
+    """The records of a log. One that begins after the torn end of another is read, too; other lines are handed back as damaged."""
     for line in lines:
         found = None
         for start in re.finditer(r"\d{4}-\d\d-\d\dT", line):
@@ -130,7 +130,7 @@ def sentence(record: Record, claims: Claims) -> str:
 
 
 def told(found: Iterable[Record], place: str, everything: bool) -> Iterator[str]:
-    """What the log has of a place, line by line. What was refused was not done, and isn't told."""
+    """What the log has of a place, line by line. What was refused was not done, and isn't shown."""
     claims = Claims()
     for record in found:
         shown = everything or record.words[0] not in ("save", "note")
@@ -141,7 +141,7 @@ def told(found: Iterable[Record], place: str, everything: bool) -> Iterator[str]
 
 
 def lines_of(files: List[str]) -> Iterator[str]:
-    """The lines of these files, in their order, or of the system's journal where none is named."""
+    """The lines of these files, in their order, or of the system's journal if none is named."""
     for file in files:
         with Path(file).open(encoding="ascii", errors="backslashreplace", newline="\n") as log:
             yield from log
@@ -150,7 +150,7 @@ def lines_of(files: List[str]) -> Iterator[str]:
 
 
 def journal() -> Iterator[str]:
-    """The lines in the system's journal that the gate's user wrote: anybody can write some under the gate's word, but not as this user."""
+    """The lines in the system's journal that the gate's user wrote: anybody can write some under the gate's tag, but not as this user."""
     try:
         user = pwd.getpwnam(GATE_USER).pw_uid
         done = subprocess.run(["journalctl", "--quiet", "--no-pager", "-t", "vaultd-gate", f"_UID={user}", "-o", "cat"], capture_output=True,
@@ -191,7 +191,7 @@ def words() -> argparse.Namespace:
 
 
 def main() -> int:
-    """0 where the log could be read, else 1."""
+    """0 if the log could be read, else 1."""
     asked = words()
     damaged: List[str] = []
     try:

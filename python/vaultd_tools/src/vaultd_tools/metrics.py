@@ -16,7 +16,7 @@ from vaultd_tools.files import ToolError, check, find_vaultd, say_error
 from vaultd_tools.gate import address
 
 Sample = Tuple[Dict[str, str], float]
-# What `vaultd check` says where a server writes so much that no two readings agree.
+# What `vaultd check` says if a server writes so much that no two readings agree.
 IN_USE = "vault in use"
 # Each figure of `vaultd check --json` that is a metric of its own, and what it says.
 FIGURES = {
@@ -49,7 +49,7 @@ def metric(name: str, what: str, samples: List[Sample]) -> Iterator[str]:
 
 
 def number(value: Any) -> Optional[float]:
-    """A figure, where it is one."""
+    """A figure, if it is one."""
     return float(value) if isinstance(value, (int, float)) and not isinstance(value, bool) else None
 
 
@@ -88,7 +88,7 @@ def page(vault: str, answer: Answer, checked: Dict[str, Any], written: Optional[
 
 
 def write_whole(path: Path, text: str) -> None:
-    """Writes a file anew beside itself, and puts it in its place."""
+    """Writes a file anew beside itself, and then replaces it."""
     descriptor, beside = tempfile.mkstemp(prefix=f".{path.name}.", dir=str(path.parent))
     try:
         with os.fdopen(descriptor, "w", encoding="utf-8") as file:
@@ -114,7 +114,7 @@ def words() -> argparse.Namespace:
 
 
 def main() -> int:
-    """0 where the file was written with all figures, 1 where some or all are missing."""
+    """0 if the file was written with all figures, 1 if some or all are missing."""
     asked, status = words(), 0
     files, (host, port) = [asked.first, asked.second], asked.address
     checked: Dict[str, Any] = {}

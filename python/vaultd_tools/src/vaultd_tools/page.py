@@ -96,7 +96,7 @@ async def serve(asked: argparse.Namespace) -> None:
 
 
 def main() -> int:
-    """0 once a signal ended it, 1 where the address can't be listened at, 2 where the command line is wrong."""
+    """0 once a signal ended it, 1 if it can't listen at the address, 2 if the command line is wrong."""
     asked = words()
     logging.basicConfig(stream=sys.stderr, format="vaultd-page: %(message)s", level=logging.WARNING)
     try:

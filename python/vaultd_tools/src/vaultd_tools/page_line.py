@@ -1,4 +1,4 @@
-"""The line of claims as a page shows it: who has to be gone before whom, and the curves that lead to whom a claim waits for."""
+"""The queue of claims as a page shows it: who must be gone before whom, and the curves that lead to the claims that a claim waits for."""
 
 from __future__ import annotations
 
@@ -24,13 +24,13 @@ def under(place: str, above: str) -> bool:
 
 
 def overlap(one: Claim, other: Claim) -> bool:
-    """Whether one claim changes what the other looks at or changes; an item takes in all beneath its place."""
+    """Whether one claim changes what the other looks at or changes; an item covers all beneath its place."""
     return any("w" in first[0] + second[0] and (under(first[2:], second[2:]) or under(second[2:], first[2:]))
                for first in one.items for second in other.items)
 
 
 class Index:
-    """Which claims, as bits by their numbers in the line, have an item at a place, and which have one at or beneath it."""
+    """Which claims have an item at a place, and which have one at or beneath it, as bits by their numbers in the queue."""
 
     def __init__(self) -> None:
         self.at: dict[str, int] = {}
@@ -43,7 +43,7 @@ class Index:
             self.beneath[above] = self.beneath.get(above, 0) | bit
 
     def meeting(self, place: str) -> int:
-        """The claims with an item that takes in this place, or that stands beneath it."""
+        """The claims with an item that covers this place, or that is beneath it."""
         found = self.beneath.get(place, 0)
         for above in ways(place):
             found |= self.at.get(above, 0)
@@ -59,7 +59,7 @@ def numbers(bits: int) -> Iterator[int]:
 
 
 def before(claims: Sequence[Claim]) -> list[int]:
-    """For each claim, as bits by number, all that have to be gone before it is held: those before it that overlap it, and what these wait
+    """For each claim, as bits by number, all that must be gone before it is held: those before it that overlap it, and what these wait
     for."""
     every, changing = Index(), Index()
     found: list[int] = []
@@ -77,7 +77,7 @@ def before(claims: Sequence[Claim]) -> list[int]:
 
 
 def waiting(found: Sequence[int]) -> list[int]:
-    """For each claim how many have it among those that have to be gone before them."""
+    """For each claim the number of claims that wait until it is gone."""
     counted = [0] * len(found)
     for bits in found:
         for number in numbers(bits):
@@ -87,7 +87,7 @@ def waiting(found: Sequence[int]) -> list[int]:
 
 @dataclass(frozen=True)
 class Segment:
-    """The piece of a curve that passes one claim of the line: where it begins, ends, branches off, or goes on by."""
+    """The piece of a curve at one claim of the queue: where it begins, ends, branches off, or goes past."""
 
     lane: int
     kind: str
@@ -96,7 +96,7 @@ class Segment:
 
 @dataclass(frozen=True)
 class Curve:
-    """From a claim of the line down to all that wait behind it, by their numbers."""
+    """A curve from a claim of the queue down to all that wait behind it, by their numbers."""
 
     target: int
     waiters: frozenset[int]
@@ -116,7 +116,7 @@ class Curve:
 
 
 def curves(claims: Sequence[Claim]) -> list[tuple[Segment, ...]]:
-    """For each claim the curves that pass it. A curve for which no lane is free isn't drawn."""
+    """For each claim the curves that pass it. If no lane is free for a curve, it isn't drawn."""
     rows = {claim.name: number for number, claim in enumerate(claims)}
     waiters: dict[int, set[int]] = {}
     for number, claim in enumerate(claims):

@@ -1,4 +1,4 @@
-"""What the page knows of a vault: its places, its claims in the order of the line, and what of this changed while somebody looked."""
+"""What the page knows of a vault: its places, its claims in the order of the queue, and what of this changed while somebody looked."""
 
 from __future__ import annotations
 
@@ -62,7 +62,7 @@ class Place:
 
 @dataclass(frozen=True)
 class Since:
-    """When the page saw a claim first; whether it looked right before, too."""
+    """When the page first saw a claim, and whether it had also looked right before that."""
 
     when: datetime
     exact: bool
@@ -70,7 +70,7 @@ class Since:
 
 @dataclass(frozen=True)
 class News:
-    """Something that changed while the page looked: who did what where. Any of the three may be missing."""
+    """Something that changed while the page looked: who did what, and where. Any of the three may be missing."""
 
     when: datetime
     owner: str
@@ -102,13 +102,13 @@ class Model:
         self.news: deque[News] = deque(maxlen=KEPT_NEWS)
 
     def add(self, path: str) -> Place:
-        """A place that wasn't known. By how deep it stands it is a part, none, or either."""
+        """Adds a place that wasn't known. Its depth says whether it is a part, no part, or possibly either."""
         names = depth(path)
         self.places[path] = place = Place(path, False if names <= 2 else True if names == MAX_NAMES else None)
         return place
 
     def keep(self, path: str, version: Version, size: int) -> None:
-        """Keeps what a version says. The oldest that nobody asked for since are let go."""
+        """Keeps what a version says. The oldest that nobody asked for since are dropped."""
         if (path, version.number) not in self.versions:
             self.read += 1
             self.read_bytes += size

@@ -1,4 +1,4 @@
-"""Turns what is known of a vault into HTML, by the templates: for the live page in pieces, which are told again when they change, and for
+"""Turns what is known of a vault into HTML, by the templates: for the live page in pieces, which are sent again when they change, and for
 the board as one file."""
 
 from __future__ import annotations
@@ -59,7 +59,7 @@ def time_of(text: str) -> datetime:
 
 
 def spelled(text: str) -> str:
-    """A stranger's text as it is shown: of marks that are put onto a letter few, since many would reach over what stands around them."""
+    """A stranger's text as it is shown: only a few combining marks on a letter, since many would reach over what is around them."""
     marks, letters = 0, []
     for letter in shown(text):
         marks = marks + 1 if unicodedata.category(letter) in ("Mn", "Me") else 0
@@ -74,7 +74,7 @@ def static(name: str) -> str:
 
 @dataclass(frozen=True)
 class ClaimRow:
-    """A claim as it stands in the line."""
+    """A claim as it stands in the queue."""
 
     name: str
     owner: str
@@ -130,7 +130,7 @@ class DesignerRow:
 
 @dataclass(frozen=True)
 class Line:
-    """The whole line, with what follows from it."""
+    """The whole queue, with what follows from it."""
 
     claims: Sequence[Claim]
     ahead: Sequence[int]
@@ -149,7 +149,7 @@ class Line:
 
     @property
     def longest(self) -> int:
-        """For how many whoever waits for most waits."""
+        """The most claims that one claim waits for."""
         return max((bin(bits).count("1") for bits in self.ahead), default=0)
 
     def rows(self, shown: Sequence[Claim], since: Mapping[str, Since], drawn: bool = True) -> list[ClaimRow]:
@@ -186,7 +186,7 @@ class Line:
 
 @dataclass
 class Pieces:
-    """A page in pieces by their ids: texts that are put in anew, lists whose items have keys, and branches of the tree, which only
+    """A page in pieces by their ids: texts that are replaced, lists whose items have keys, and branches of the tree, which only
     grow."""
 
     texts: dict[str, str] = field(default_factory=dict)

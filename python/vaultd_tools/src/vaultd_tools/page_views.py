@@ -36,12 +36,12 @@ class Gauge:
 
     @property
     def part(self) -> float:
-        """In hundredths; what isn't empty shows."""
+        """In hundredths; at least 0.6 if it isn't empty, so that it shows."""
         return round(max(0.6 if self.has else 0.0, min(100.0, 100.0 * self.has / self.most)), 1)
 
 
 class Tree:
-    """The places at and beneath one, with who has claims there. In a vault that isn't large, branches with claims stand open."""
+    """The places at and beneath one, with who has claims there. In a vault that isn't large, branches with claims are open."""
 
     def __init__(self, renderer: Renderer, model: Model):
         self.renderer, self.model = renderer, model
@@ -110,7 +110,7 @@ class Source:
 
 
 class View:
-    """A page that is shown, and told of changes."""
+    """A page that is shown, and that gets changes."""
 
     template = ""
     live = True
@@ -121,7 +121,7 @@ class View:
         raise NotImplementedError
 
     async def prepare(self, watcher: Watcher) -> None:
-        """Has what it shows beside be read."""
+        """Makes sure that what it shows besides has been read."""
 
     def is_there(self, model: Model) -> bool:
         """Whether the vault has what it shows."""
@@ -132,7 +132,7 @@ class View:
         raise NotImplementedError
 
     def words(self, source: Source, pieces: Pieces) -> dict[str, Any]:
-        """What its template needs beside the pieces."""
+        """What its template needs besides the pieces."""
         return {}
 
     def branch(self, source: Source, path: str) -> str:
@@ -170,7 +170,7 @@ class PlaceView(View):
         return range(max(1, last - VERSIONS_SHOWN + 1), last + 1)
 
     def pieces(self, source: Source) -> Pieces:
-        """What it shows of the line, and of the place."""
+        """What it shows of the queue, and of the place."""
         model, renderer, pieces = source.model, source.renderer, source.common()
         line = Line.of(model.claims)
         here = model.claims if self.path == "/" else [claim for claim in model.claims if concerns(claim, self.path)]
@@ -300,7 +300,7 @@ class Found:
 
 @dataclass(frozen=True)
 class SearchView(View):
-    """What has all the words that were asked for."""
+    """The results of a search: what has all the words that were asked for."""
 
     asked: str
     template = "search.html"
@@ -352,7 +352,7 @@ def text_of_claim(claim: Claim) -> str:
 
 
 def counts(model: Model, top: str) -> Markup:
-    """How many places of each kind stand beneath one."""
+    """How many places of each kind there are beneath one."""
     kinds = Counter(place.kind for place in model.walk(top) if place.path != top)
     words = [f"{kinds[kind]:,} {kind if kinds[kind] == 1 else plural}"
              for kind, plural in (("project", "projects"), ("assembly", "assemblies"), ("part", "parts")) if kinds[kind]]
@@ -373,7 +373,7 @@ def gauges(model: Model) -> Iterator[Gauge]:
 
 
 def view_at(path: str, query: dict[str, str]) -> View | None:
-    """The page at an address, by the address as it was sent: no name needs to be spelled in another way."""
+    """The page at an address, by the address as it was sent: no name needs another spelling."""
     if path == "/.search":
         return SearchView(query.get("q", "")[:LONGEST_SEARCH])
     names = path.split("/")

@@ -1,6 +1,6 @@
 """Watches a vault for the page while somebody looks: all claims twice a second, all places and notes within twenty seconds.
 
-It asks over one connection at a time. A reply that is the same as the last one to its question is looked at no further.
+It asks over one connection at a time. If a reply is the same as the last one to its question, it isn't parsed again.
 """
 
 from __future__ import annotations
@@ -134,7 +134,7 @@ class Watcher:
         await self.close()
 
     async def _turn(self) -> None:
-        """What is asked once every half second. Where it takes long, that is said meanwhile."""
+        """Asks what is due every half second. If it takes long, the page says so meanwhile."""
         turn = asyncio.ensure_future(self._ask_a_turn())
         try:
             done, _ = await asyncio.wait({turn}, timeout=SLOW_SECONDS)
@@ -158,7 +158,7 @@ class Watcher:
         self._misses = min(MISSES_A_SECOND, self._misses + MISSES_A_SECOND * TURN_SECONDS)
 
     async def _connected(self, count: int) -> Wire:
-        """The connection, with room for so many lines; a spent one is left first."""
+        """The connection, with room for this many lines. One without room is left first."""
         if self._wire is not None and not self._wire.has_room_for(count):
             wire, self._wire = self._wire, None
             await wire.leave()
@@ -184,7 +184,7 @@ class Watcher:
     # Claims
 
     def _doubt(self) -> None:
-        """The server may have been started again meanwhile: holds have the numbers of others then, and a backup may have been put in place."""
+        """The server may have been restarted meanwhile: then holds may have the numbers of other ones, and a backup may be in place."""
         for name in [name for name in self.model.since if name[0] == "h"]:
             del self.model.since[name]
         self._line.clear()
@@ -194,7 +194,7 @@ class Watcher:
             place.latest = None
 
     async def _read_claims(self) -> None:
-        """Asks for the line and for each claim in it. Where that is what was told before, nothing is done."""
+        """Asks for the queue and for each claim in it. If the replies are the same as before, nothing is done."""
         names = [claim.name for claim in self.model.claims]
         replies = await self.ask(["claims /"] + ["show " + name for name in names])
         if replies != self._line:
@@ -208,7 +208,7 @@ class Watcher:
         self.model.as_of = now()
 
     def _take_claims(self, shown: list[tuple[str, bytes]]) -> None:
-        """Puts the line in the place of the one before, and says what is different."""
+        """Replaces the queue by this one, and notes what is different."""
         notes = {claim.name: claim.note for claim in self.model.claims}
         old = {claim.name: claim for claim in self.model.claims}
         claims = [claim_in(name, reply, notes.get(name, b"")) for name, reply in shown]
@@ -228,7 +228,7 @@ class Watcher:
             self._tell_of_claims(old, claims)
 
     def _look_for_versions(self, gone: Iterable[Claim]) -> None:
-        """A check-out that is gone may have been checked in: the parts that it had for change are counted next."""
+        """A check-out that is gone may have been checked in: the versions of the parts that it had for change are counted next."""
         places = [item[2:] for claim in gone for item in claim.items if item[0] == "w"]
         for place in places:
             self._urgent.extend("count " + found.path for found in self.model.walk(place) if found.part)
@@ -253,7 +253,7 @@ class Watcher:
     # Places, notes and versions
 
     def _questions(self) -> list[str]:
-        """All that is asked again and again beside the line."""
+        """All that is asked again and again besides the queue."""
         places = [("count " if place.part else "list ") + place.path for place in self.model.places.values() if place.part is not None]
         return places + ["note " + claim.name for claim in self.model.claims if claim.name[0] == "c"]
 
@@ -265,14 +265,14 @@ class Watcher:
         self._whole = True
 
     async def _drain(self, most: int | None) -> None:
-        """Asks what is to be asked first, so much of it or all."""
+        """Asks what is to be asked first, this much of it or all."""
         while self._urgent and (most is None or most > 0):
             questions = [self._urgent.popleft() for _ in range(min(BATCH, len(self._urgent)))]
             await self._read(questions)
             most = None if most is None else most - len(questions)
 
     async def _read(self, questions: Sequence[str]) -> None:
-        """Asks, and takes in what isn't what was told before."""
+        """Asks, and takes in replies that differ from those before."""
         if not questions:
             return
         for question, reply in zip(questions, await self.ask(questions)):
@@ -295,7 +295,7 @@ class Watcher:
             self._take_version(path, int(question.split(" ")[2]), reply)
 
     def _begin_anew(self) -> None:
-        """A place is gone, which no vault loses: it is another vault that answers here now."""
+        """A place is gone. No vault loses one, so another vault answers here now."""
         if "/" in self.model.places:
             self.model.places.clear()
             self.model.versions.clear()
@@ -342,7 +342,7 @@ class Watcher:
             self._take_versions(place, int(found[1]))
 
     def _take_versions(self, place: Place, count: int) -> None:
-        """A part has so many versions: those that are new are read, of one that wasn't known the last alone."""
+        """A part has this many versions: the new ones are read; of a part that wasn't known only the last one."""
         first = max(place.versions, count - LEARNED_AT_ONCE) if place.latest else count - 1
         if not self._quiet and count > place.versions:
             self.model.tell("", f"has version {count}", place.path)
@@ -365,15 +365,15 @@ class Watcher:
         self.model.keep(path, Version(number, card.size if card else len(content), card), len(content))
         self._changed = True
 
-    # What a page asks for beside
+    # What a page asks for besides
 
     async def learn_versions(self, path: str, wanted: Sequence[int]) -> None:
-        """Reads these versions of a part, where they aren't known. Where the server is away they stay unknown."""
+        """Reads these versions of a part, if they aren't known. If the server is away they stay unknown."""
         missing = [number for number in wanted if (path, number) not in self.model.versions]
         await self._try_to_read([f"fetch {path} {number}" for number in missing])
 
     async def learn_place(self, path: str) -> None:
-        """Asks for a place that isn't known, and for those above it: it may be younger than the last look. Not for any number of them."""
+        """Asks for an unknown place, and for those above it: it may be younger than the last look. Their number is limited."""
         if path in self.model.places or self._misses < 1 or not self._whole:
             return
         self._misses -= 1
@@ -411,7 +411,7 @@ def claim_in(name: str, reply: bytes, note: bytes) -> Claim:
 
 
 def bytes_in(reply: bytes, what: bytes, most: int) -> bytes:
-    """The bytes that a reply tells."""
+    """The bytes in a reply."""
     found = BYTES.fullmatch(reply)
     content = b"" if found is None or found[2] == b"-" else bytes.fromhex(found[2].decode("ascii"))
     if found is None or found[1] != what or len(content) > most:
@@ -420,7 +420,7 @@ def bytes_in(reply: bytes, what: bytes, most: int) -> bytes:
 
 
 def concerns(claim: Claim, path: str) -> bool:
-    """Whether a claim takes in a place, or has something beneath it."""
+    """Whether a claim covers a place, or has something beneath it."""
     return any(under(path, item[2:]) or under(item[2:], path) for item in claim.items)
 
 

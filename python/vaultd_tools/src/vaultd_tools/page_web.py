@@ -1,6 +1,6 @@
-"""Hands the page out by HTTP, and tells open pages of changes as they are seen. No request changes anything.
+"""Hands the page out by HTTP, and sends changes to open pages as they are seen. No request changes anything.
 
-Whoever can reach it isn't trusted: names of hosts are looked at, streams and connections are bounded, and who takes nothing is dropped.
+Whoever can reach it isn't trusted: host names are checked, streams and connections are bounded, and who takes nothing is dropped.
 """
 
 from __future__ import annotations
@@ -56,7 +56,7 @@ class Refusal(Exception):
 
 
 class Stream:
-    """What an open page is still to be told."""
+    """What is still to be sent to an open page."""
 
     def __init__(self) -> None:
         self.messages: deque[bytes] = deque()
@@ -64,19 +64,19 @@ class Stream:
         self.over = False
 
     def push(self, message: bytes) -> None:
-        """Tells the page something. One that takes nothing is dropped."""
+        """Queues something for the page. A page that takes nothing is dropped."""
         self.messages.append(message)
         if len(self.messages) > MAX_WAITING:
             self.end()
         self.wake.set()
 
     def end(self) -> None:
-        """Tells it no more."""
+        """Sends it no more."""
         self.over = True
         self.wake.set()
 
     async def next(self) -> bytes:
-        """What is to be told next, or that there is nothing."""
+        """What is to be sent next, or that there is nothing."""
         if not self.messages and not self.over:
             self.wake.clear()
             with contextlib.suppress(asyncio.TimeoutError):
@@ -85,7 +85,7 @@ class Stream:
 
 
 class Channel:
-    """All streams of one page, and what they were told last."""
+    """All streams of one page, and what they were sent last."""
 
     def __init__(self, view: View, source: Source, revision: int):
         self.view, self.source, self.changed_at = view, source, revision
@@ -93,7 +93,7 @@ class Channel:
         self.streams: set[Stream] = set()
 
     def update(self, revision: int, sentences: list[str]) -> None:
-        """Tells all of them what is different now."""
+        """Sends all of them what is different now."""
         old, self.pieces = self.pieces, self.view.pieces(self.source)
         changed = difference(old, self.pieces, lambda path: self.view.branch(self.source, path))
         if changed == {}:
@@ -113,7 +113,7 @@ AGAIN = b"event: again\ndata: \n\n"
 
 
 def difference(old: Pieces, new: Pieces, branch: Callable[[str], str]) -> dict[str, Any] | None:
-    """What an open page has to put in place, nothing where it is right, or None where it has to be read as a whole again."""
+    """What an open page must replace; nothing if it is right, or None if it must be read as a whole again."""
     if old.lists.keys() != new.lists.keys() or any(
             path not in new.branches or new.branches[path][:len(children)] != children for path, children in old.branches.items()):
         return None
@@ -143,7 +143,7 @@ class Door(web.RequestHandler):
         self.on_lost: Callable[[], None] = lambda: None
 
     def connection_made(self, transport: asyncio.BaseTransport) -> None:
-        """Takes a connection, where there is room for one more."""
+        """Takes a connection, if there is room for one more."""
         if len(self.doors.connections) >= MAX_CONNECTIONS and isinstance(transport, asyncio.Transport):
             transport.abort()
             return
@@ -158,7 +158,7 @@ class Door(web.RequestHandler):
             self.force_close()
 
     def data_received(self, data: bytes) -> None:
-        """Takes bytes; requests that wait behind others are few."""
+        """Takes bytes. Only a few requests may wait behind others."""
         super().data_received(data)
         if len(self._messages) > MAX_PIPELINED:
             self.force_close()
@@ -202,17 +202,17 @@ class Page:
         self.static = {name: static(name).encode("utf-8") for name in STATIC}
         self.told: News | None = None
 
-    # What is seen is told
+    # What is seen is sent
 
     def publish(self) -> None:
-        """Tells all open pages what changed."""
+        """Sends all open pages what changed."""
         self.revision += 1
         sentences = self._sentences()
         for channel in list(self.channels.values()):
             channel.update(self.revision, sentences)
 
     def _sentences(self) -> list[str]:
-        """What is new, for who listens to the page: not all of it where it is much."""
+        """What is new, for those who listen to the page by a screen reader; not all of it if it is much."""
         found: list[str] = []
         for news in self.watcher.model.news:
             if news is self.told:
@@ -244,7 +244,7 @@ class Page:
         return response
 
     def _read(self, request: web.BaseRequest) -> tuple[str, dict[str, str]]:
-        """The address that is asked for, where the request is one that is answered at all."""
+        """The address that is asked for, if the request is one that is answered at all."""
         self._look_at(request)
         path, _, query = request.raw_path.partition("?")
         if not path.startswith("/") or not request.raw_path.isascii():
@@ -321,7 +321,7 @@ class Page:
     # Streams
 
     async def _stream(self, request: web.BaseRequest, query: dict[str, str]) -> web.StreamResponse:
-        """Tells one open page of changes until it is closed."""
+        """Sends changes to one open page until it is closed."""
         path, _, rest = query.get("see", "").partition("?")
         view = self._view(path, dict(parse_qsl(rest, max_num_fields=MAX_FIELDS)))
         if not view.live:
@@ -341,7 +341,7 @@ class Page:
 
     @contextlib.contextmanager
     def _joined(self, view: View, stream: Stream, query: dict[str, str]) -> Iterator[None]:
-        """The stream is one of its page's, and knows whether that changed since it was read."""
+        """Adds the stream to those of its page, and notes whether the page changed since it was read."""
         channel = self.channels.get(view)
         if channel is None:
             channel = self.channels[view] = Channel(view, self.source, self.revision)

@@ -17,7 +17,7 @@ QUESTIONS = frozenset(("hello", "quit", "claims", "show", "note", "list", "count
 
 
 class Broken(Exception):
-    """The server can't be asked. Its text goes on behind "The server at HOST:PORT"."""
+    """The server can't be asked. The text continues "The server at HOST:PORT"."""
 
 
 def reason(error: OSError) -> str:
@@ -56,11 +56,11 @@ class Wire:
         return wire
 
     def has_room_for(self, count: int) -> bool:
-        """Whether so many lines may still be sent, and `quit` behind them."""
+        """Whether this many lines may still be sent, and `quit` after them."""
         return self.lines + count < MAX_LINES
 
     async def ask(self, questions: Sequence[str]) -> list[bytes]:
-        """The replies to some questions, which are sent at once. Where that fails the connection is of no more use."""
+        """The replies to some questions, which are sent at once. If that fails, the connection is of no more use."""
         assert all(question.partition(" ")[0] in QUESTIONS for question in questions) and not any(
             question.startswith("note ") and question.count(" ") != 1 for question in questions)
         self.lines += len(questions)

@@ -20,14 +20,14 @@ VERSION_AT, VERSION_BYTES = 8, 4
 
 
 def number(data: bytes, at: int, size: int) -> int:
-    """The number of so many bytes at an offset; raises IndexError where they aren't there."""
+    """The number in this many bytes at an offset; raises IndexError if they aren't there."""
     if at + size > len(data):
         raise IndexError(at)
     return int.from_bytes(data[at:at + size], "big")
 
 
 def name(data: bytes, at: int) -> Tuple[str, int]:
-    """A name and the offset behind it."""
+    """A name and the offset after it."""
     size = number(data, at, 1)
     word = data[at + 1:at + 1 + size]
     if not 1 <= size <= 32 or len(word) < size:
@@ -36,7 +36,7 @@ def name(data: bytes, at: int) -> Tuple[str, int]:
 
 
 def record(data: bytes, at: int) -> Tuple[str, int]:
-    """A record in words, and the offset behind it; raises IndexError where none stands there."""
+    """A record in words, and the offset after it; raises IndexError if none is there."""
     kind = number(data, at, 1)
     if kind == 1:
         made, end = name(data, at + 5)
@@ -77,7 +77,7 @@ def records(data: bytes) -> Iterator[str]:
 
 
 def cut_off(data: bytes, gate: int) -> List[str]:
-    """What stands in the frames from a gate on, in words, as far as it can be read."""
+    """What is in the frames from a gate on, in words, as far as it can be read."""
     found: List[str] = []
     while gate + 5 <= len(data) and data[gate] == 1:
         size = int.from_bytes(data[gate + 1:gate + 5], "big")
@@ -87,7 +87,7 @@ def cut_off(data: bytes, gate: int) -> List[str]:
 
 
 def written_version(vaultd: str) -> int:
-    """The version of the files that the program writes, by a vault that it makes."""
+    """The version of the files that the program writes, found by having it make a vault."""
     with tempfile.TemporaryDirectory(prefix="vault-salvage-") as folder:
         made = Path(folder) / "a"
         subprocess.run([vaultd, "create", str(made), str(Path(folder) / "b")], check=True, stdout=subprocess.DEVNULL)
@@ -142,7 +142,7 @@ class Salvage:
             self.write(file, 0, b"\0")
 
     def write_head(self, file: str, at: int, were: bytes, tries: List[bytes]) -> None:
-        """Writes fixed bytes of a head again: the first of some with which the file's snapshot can be read, or else the last."""
+        """Writes fixed bytes of a head again: of some candidates the first with which the snapshot can be read, else the last."""
         self.mended.append((file, at))
         self.said.append(f"file {file}: the head's bytes at {at} were {were.hex()}, and are written again")
         for content in tries:
@@ -152,7 +152,7 @@ class Salvage:
                 return
 
     def open_one(self) -> bool:
-        """Opens the closed file of the greater generation that was not given up, where neither is open."""
+        """If neither file is open: opens the closed file of the greater generation that was not given up."""
         best: Optional[Tuple[int, str]] = None
         for file, copy in sorted(self.copies.items()):
             data = copy.read_bytes()
@@ -176,7 +176,7 @@ def words() -> argparse.Namespace:
 
 
 def main() -> int:
-    """0 where the copy opens, 1 where it doesn't."""
+    """0 if the copy opens, 1 if it doesn't."""
     asked = words()
     try:
         vaultd, folder = find_vaultd(asked.vaultd), Path(asked.folder)

@@ -31,7 +31,7 @@ def named_in(vaultd: str, first: str, second: str) -> Set[str]:
 
 
 def sweep(store: Store, named: Set[str], before: float, only_look: bool) -> Tuple[List[Kept], int]:
-    """Takes away what nobody names and what is older, and what clients that were killed left. Answers what it took, and how many of these."""
+    """Removes what nobody names and what is older, and what killed clients left. Answers what it removed, and how many leftovers."""
     kept = list(store.all())
     if kept and not any(each.sha256 in named for each in kept):
         raise ToolError(f"the vault names nothing that {store.address} has, so this is another vault's store. Nothing was taken away.")
@@ -58,7 +58,7 @@ def words() -> argparse.Namespace:
 
 
 def main() -> int:
-    """0 where the store was swept, else 1."""
+    """0 if the store was swept, else 1."""
     asked = words()
     try:
         vaultd, store = find_vaultd(asked.vaultd), open_store(read_store_address(asked.address))

@@ -24,7 +24,7 @@ DEVICE_FAULT = "device fault"
 
 
 def mark_of(marks: Path, unit: str) -> Path:
-    """Where the mark of a unit's server stands."""
+    """The path of the mark of a unit's server."""
     name = unit[:-len(".service")] if unit.endswith(".service") else unit
     if not name or "/" in name or name.startswith("."):
         raise ToolError(f"`{unit}` is no unit's name: write it as vaultd.service or vaultd@plant.service.")
@@ -43,7 +43,7 @@ def set_mark(mark: Path, reason: str) -> str:
 
 
 def restart(unit: str) -> str:
-    """Restarts a unit's server that runs, and says so. One that somebody stopped stays stopped."""
+    """Restarts a unit's server if it runs, and says so. One that somebody stopped stays stopped."""
     done = subprocess.run(["systemctl", "--no-block", "try-restart", "--", unit], capture_output=True, text=True, check=False)
     if done.returncode != 0:
         raise ToolError(f"`systemctl try-restart {unit}` said: {done.stderr.strip() or done.returncode}. Restart the server by hand.")
@@ -71,7 +71,7 @@ def said_by(invocation: str) -> str:
 
 
 def ended(unit: str, invocation: str, marks: Path) -> str:
-    """Marks a server that ended as broken where it had said `device fault`; answers what was done, or nothing."""
+    """Marks a server that ended as broken if it had said `device fault`; answers what was done, or nothing."""
     faults = [line for line in said_by(invocation).splitlines() if line == DEVICE_FAULT]
     return set_mark(mark_of(marks, unit), f"its server said `{DEVICE_FAULT}`") if faults else ""
 
@@ -101,7 +101,7 @@ def asked(where: Tuple[str, int], patience: float) -> int:
 
 
 def main() -> int:
-    """The status of what was found; of `act` and `ended` 0 where they could do what they are for, else 1."""
+    """The status of what was found; for `act` and `ended` 0 if they could do their work, else 1."""
     given = words()
     if given.kind == "ask":
         return asked(given.address, given.patience)
