@@ -12,7 +12,7 @@ mod worked;
 use effects::{Kind, NONE, kind_of};
 use std::alloc::{Allocator, Global};
 use std::mem;
-use test_memory::Tried;
+use test_memory::Outcome;
 use vault_checkout::Book;
 use vault_lines::{read_line_of, text_of};
 use vault_model::{ClaimId, Command, EffectIn, ReplyIn};
@@ -92,12 +92,12 @@ impl<A: Allocator + Copy> Talk<A> {
     }
 
     /// A restart. The book and the durable book change places, so that the durable one is given the commands from now on.
-    fn reopen(&mut self) -> Tried {
+    fn reopen(&mut self) -> Outcome {
         mem::swap(&mut self.book, &mut self.durable);
         self.book.restart();
         self.durable.restart();
         self.said = 0;
-        Tried::Done
+        Outcome::Done
     }
 
     /// Tries a command: whether its reply is this line, and its effect is of this kind and applies to the durable book.
@@ -107,25 +107,25 @@ impl<A: Allocator + Copy> Talk<A> {
         session: u32,
         command: &Command,
         (want, kind): (&str, Kind),
-    ) -> Tried {
+    ) -> Outcome {
         if self.said == u32::MAX {
-            return Tried::Wrong;
+            return Outcome::Wrong;
         }
         let Ok((reply, effect)) = self.book.act(session, command) else {
-            return Tried::Refused;
+            return Outcome::Refused;
         };
         self.said += 1;
         let is_made = is_made(&mut self.durable, &effect, kind);
         drop(effect);
         let is_told = is_told(memory, &reply, want);
         drop(reply);
-        Tried::done(is_made && is_told)
+        Outcome::done(is_made && is_told)
     }
 
     /// Tries a line in the same way.
-    fn hears(&mut self, memory: Global, session: u32, line: &str, want: (&str, Kind)) -> Tried {
+    fn hears(&mut self, memory: Global, session: u32, line: &str, want: (&str, Kind)) -> Outcome {
         let Ok(command) = read_line_of(memory, line.as_bytes()) else {
-            return Tried::Wrong;
+            return Outcome::Wrong;
         };
         let tried = self.answers(memory, session, &command, want);
         drop(command);

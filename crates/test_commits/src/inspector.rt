@@ -2,7 +2,7 @@ ghost use Rattle.std.specs.Prelude.{◌<◌, length};
 
 use std::alloc::{Allocator, Global};
 use std::process::Abort;
-use test_memory::{Refusing, Tried};
+use test_memory::{Outcome, Refusing};
 use vault_device::{Device, Fault, MemDevice};
 use vault_inspector::{
     Figures, FileState, InspectError, PrintError, Report, figures_of, inspect, print,
@@ -80,7 +80,7 @@ pub(crate) fn inspects(
     memory: &Refusing<Global>,
     alloc: Global,
     number: u64,
-) -> Tried {
+) -> Outcome {
     let mut a = holding(rt, alloc, QUEUED);
     let mut b = holding(rt, alloc, NEW);
     memory.refuse(number);
@@ -92,9 +92,9 @@ pub(crate) fn inspects(
         Ok(report) => {
             let is_printed = is_printed(&report);
             drop(report);
-            Tried::done(!has_refused && is_printed)
+            Outcome::done(!has_refused && is_printed)
         }
-        Err(error) => Tried::refused(has_refused && error == InspectError::NoMemory),
+        Err(error) => Outcome::refused(has_refused && error == InspectError::NoMemory),
     }
 }
 
@@ -121,7 +121,7 @@ pub(crate) fn figures(
     memory: &Refusing<Global>,
     alloc: Global,
     number: u64,
-) -> Tried {
+) -> Outcome {
     let report = reported(rt, memory, alloc);
     let tried = match &report.book {
         Some(book) => {
@@ -130,7 +130,7 @@ pub(crate) fn figures(
             let tried = memory.judge(told, NoMemory, |figures| *figures == QUEUED_FIGURES);
             tried.and(figures_of(book) == Ok(QUEUED_FIGURES))
         }
-        None => Tried::Wrong,
+        None => Outcome::Wrong,
     };
     drop(report);
     tried

@@ -5,7 +5,7 @@ use opening::append_behind;
 use short_file::ShortFile;
 use std::alloc::{Allocator, Global};
 use std::fs;
-use test_memory::{Refusing, Tried};
+use test_memory::{Outcome, Refusing};
 use vault_device::{Device, Fault, FileDevice, MemDevice, Pick};
 
 /// Bytes, and where they are written.
@@ -139,15 +139,15 @@ fn calls_fail_when_they_should(rt: HostRuntime) {
 }
 
 /// Tries to make a device.
-pub(crate) fn makes_device(memory: &Refusing<Global>) -> Tried {
+pub(crate) fn makes_device(memory: &Refusing<Global>) -> Outcome {
     let made = MemDevice::new(memory);
     let has_refused = memory.has_refused();
     let Ok(device) = made else {
-        return Tried::refused(has_refused);
+        return Outcome::refused(has_refused);
     };
     let is_new = (device.calls(), device.refused()) == (0, 0);
     drop(device);
-    Tried::done(!has_refused && is_new)
+    Outcome::done(!has_refused && is_new)
 }
 
 /// Four bytes, and 100 behind them.
@@ -160,7 +160,7 @@ fn puts<A: Allocator + Copy>(
     memory: &Refusing<Global>,
     device: &mut MemDevice<A>,
     number: u64,
-) -> Tried {
+) -> Outcome {
     let grown = &GROWN[..];
     let before = device.calls();
     memory.refuse(number);
@@ -168,10 +168,10 @@ fn puts<A: Allocator + Copy>(
     let has_refused = memory.has_refused();
     let is_counted = device.calls().checked_sub(before) == Some(2);
     if is_put {
-        return Tried::done(!has_refused && is_counted && device.refused() == 0);
+        return Outcome::done(!has_refused && is_counted && device.refused() == 0);
     }
     let is_told = is_counted && device.refused() == 1 && shows(device, &grown[..4]);
-    Tried::refused(has_refused && is_told && writes(device, 4, &grown[4..]))
+    Outcome::refused(has_refused && is_told && writes(device, 4, &grown[4..]))
 }
 
 /// Tries such a write to a device with four bytes, each written and synced on its own.
@@ -179,10 +179,10 @@ pub(crate) fn grows<A: Allocator + Copy>(
     memory: &Refusing<Global>,
     alloc: A,
     number: u64,
-) -> Tried {
+) -> Outcome {
     memory.refuse(0);
     let Ok(mut device) = MemDevice::new(alloc) else {
-        return Tried::Wrong;
+        return Outcome::Wrong;
     };
     let is_ready = settles_each(&mut device);
     let tried = puts(memory, &mut device, number);

@@ -8,7 +8,7 @@ use committing::leaves;
 use recording::{Filled, is_filled, is_read, is_recorded, is_spoiled, push_saved, push_within};
 use std::alloc::{Allocator, Global};
 use std::process::Abort;
-use test_memory::{Refusing, Tried};
+use test_memory::{Outcome, Refusing};
 use vault_device::Pick;
 use vault_journal::{Damage, Frame, LONGEST_RECORD, read_effects};
 use vault_model::{Effect, Intent, Item, Items, Listing, Name, Note, PlaceId};
@@ -205,29 +205,29 @@ fn full_frame(rt: HostRuntime) {
 }
 
 /// Tries to make a frame.
-pub(crate) fn makes_frame(memory: &Refusing<Global>) -> Tried {
+pub(crate) fn makes_frame(memory: &Refusing<Global>) -> Outcome {
     let made = Frame::new(memory);
     let has_refused = memory.has_refused();
     let Ok(frame) = made else {
-        return Tried::refused(has_refused);
+        return Outcome::refused(has_refused);
     };
     let is_new = frame.len() == 0;
     drop(frame);
-    Tried::done(!has_refused && is_new)
+    Outcome::done(!has_refused && is_new)
 }
 
 /// Tries to push an effect into a frame.
-pub(crate) fn pushes(memory: &Refusing<Global>, aside: Global, number: u64) -> Tried {
+pub(crate) fn pushes(memory: &Refusing<Global>, aside: Global, number: u64) -> Outcome {
     memory.refuse(0);
     let Ok(mut frame) = Frame::new(memory) else {
-        return Tried::Wrong;
+        return Outcome::Wrong;
     };
     memory.refuse(number);
     let is_pushed = push_saved(aside, &mut frame, 5, 1);
     let has_refused = memory.has_refused();
     let is_long = frame.len() == 16;
     drop(frame);
-    Tried::done(!has_refused && is_pushed && is_long)
+    Outcome::done(!has_refused && is_pushed && is_long)
 }
 
 /// Whether a byte that is no record, behind a record of the longest content, is reported without a request for memory.
@@ -238,14 +238,14 @@ fn is_told_behind_the_longest(memory: &Refusing<Global>) -> bool {
 }
 
 /// Tries to read seven records, after bytes that aren't all records.
-pub(crate) fn reads(memory: &Refusing<Global>) -> Tried {
+pub(crate) fn reads(memory: &Refusing<Global>) -> Outcome {
     let is_told = is_told_behind_the_longest(memory);
     let records =
         b"\x04\0\0\0\x01\0\0\0\0\0\x04text\x05\0\0\0\x01\x05\0\0\0\x02\x05\0\0\0\x03\x05\0\0\0\x04\x05\0\0\0\x05\x06\0\0\0\x05";
     let told = count(memory, records);
     let has_refused = memory.has_refused();
     match told {
-        Ok(count) => Tried::done(is_told && !has_refused && count == 7),
-        Err(damage) => Tried::refused(is_told && has_refused && damage == Damage::NoMemory),
+        Ok(count) => Outcome::done(is_told && !has_refused && count == 7),
+        Err(damage) => Outcome::refused(is_told && has_refused && damage == Damage::NoMemory),
     }
 }

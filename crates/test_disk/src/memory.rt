@@ -3,7 +3,7 @@
 use crate::device::{grows, makes_device};
 use crate::journal::{makes_frame, pushes, reads};
 use std::alloc::Global;
-use test_memory::{Refusing, Tried, requests};
+use test_memory::{Outcome, Refusing, requests};
 
 /// What is tried.
 #[derive(Clone, Copy)]
@@ -16,7 +16,7 @@ enum Call {
 }
 
 /// Tries a call with its request of this number refused.
-fn tries(memory: &Refusing<Global>, alloc: Global, call: Call, number: u64) -> Tried {
+fn tries(memory: &Refusing<Global>, alloc: Global, call: Call, number: u64) -> Outcome {
     memory.refuse(number);
     match call {
         Call::MakesDevice => makes_device(memory),

@@ -1,7 +1,7 @@
 //! Each memory request refused in turn.
 
 use std::alloc::{Allocator, Global};
-use test_memory::{Refusing, Tried, requests};
+use test_memory::{Outcome, Refusing, requests};
 use vault_lines::{LineError, outside_text, read_line_of, text_of};
 use vault_model::{
     ClaimId, Command, CommandIn, Intent, Listing, Name, NoMemory, Outside, Path, PathItem, Reply,
@@ -184,7 +184,7 @@ fn is_told(memory: &Refusing<Global>, global: Global, told: Told, want: &[u8]) -
 }
 
 /// Tries a call, with its request of this number refused.
-fn tries(memory: &Refusing<Global>, global: Global, call: Call, number: u64) -> Tried {
+fn tries(memory: &Refusing<Global>, global: Global, call: Call, number: u64) -> Outcome {
     memory.refuse(number);
     let is_right = match call {
         Call::Reads(line, length) => is_read(memory, line, length),

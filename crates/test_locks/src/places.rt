@@ -5,7 +5,7 @@ use Kind::{Assembly, Part, Project};
 use design_tree::Tree;
 use std::alloc::Allocator;
 use std::process::Abort;
-use test_memory::Tried;
+use test_memory::Outcome;
 use vault_model::{Intent, Item, Items, Kind, Name, NoMemory, PlaceId};
 
 /// The number of a place, a name, and the kinds of new places under it: each in the one before, all of this name.
@@ -118,10 +118,10 @@ pub(crate) fn overlap(one: Reach, other: Reach) -> bool {
 }
 
 /// Whether a call gives the wanted answer.
-pub(crate) fn answers<T: PartialEq + Copy>(told: Result<T, NoMemory>, wanted: T) -> Tried {
+pub(crate) fn answers<T: PartialEq + Copy>(told: Result<T, NoMemory>, wanted: T) -> Outcome {
     match told {
-        Ok(told) => Tried::done(told == wanted),
-        Err(NoMemory) => Tried::Refused,
+        Ok(told) => Outcome::done(told == wanted),
+        Err(NoMemory) => Outcome::Refused,
     }
 }
 

@@ -7,7 +7,7 @@ use crate::versions::Step::{Appends, Copies};
 use crate::{tree, versions};
 use std::alloc::Global;
 use std::process::Abort;
-use test_memory::{Refusing, Tried, requests};
+use test_memory::{Outcome, Refusing, requests};
 use vault_model::Kind::Project;
 
 /// What is tried.
@@ -29,7 +29,7 @@ fn tries(
     alloc: Global,
     call: &Call,
     number: u64,
-) -> Tried {
+) -> Outcome {
     let tried = match call {
         Call::CopiesTree => return tree::copies(memory, alloc, number),
         Call::Tree(start, step) => return tree::does_from(memory, alloc, (start, step), number),
@@ -49,7 +49,7 @@ fn tries(
             versions::makes(memory)
         }
     };
-    tried.and(memory.has_refused() == (tried == Tried::Refused))
+    tried.and(memory.has_refused() == (tried == Outcome::Refused))
 }
 
 #[test]

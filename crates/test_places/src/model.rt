@@ -2,7 +2,7 @@
 
 use std::alloc::Global;
 use std::process::Abort;
-use test_memory::{Refusing, Tried};
+use test_memory::{Outcome, Refusing};
 use vault_model::split::cut;
 use vault_model::{
     ClaimId, Command, Effect, Intent, Listing, Name, Note, Path, PathItem, PlaceId, Refusal, Reply,
@@ -114,71 +114,71 @@ fn list<T: Copy>(rt: &impl Abort, alloc: Global, items: &[T]) -> Listing<T> {
 }
 
 /// Tries to copy a list. The list must give its items, too.
-fn copies_list(memory: &Refusing<Global>, list: Listing<u8>) -> Tried {
+fn copies_list(memory: &Refusing<Global>, list: Listing<u8>) -> Outcome {
     let Ok(copy) = list.copy(memory) else {
         drop(list);
-        return Tried::Refused;
+        return Outcome::Refused;
     };
     let is_same = copy.as_slice() == list.as_slice();
     drop(copy);
     let bytes = list.into_vec();
     let has_all = bytes.as_slice() == b"abc".as_slice();
     drop(bytes);
-    Tried::done(is_same && has_all)
+    Outcome::done(is_same && has_all)
 }
 
 /// Tries to copy a command. A copy of the copy must equal the command.
-fn copies_command(memory: &Refusing<Global>, alloc: Global, command: Command) -> Tried {
+fn copies_command(memory: &Refusing<Global>, alloc: Global, command: Command) -> Outcome {
     let Ok(copy) = command.copy(memory) else {
         drop(command);
-        return Tried::Refused;
+        return Outcome::Refused;
     };
     let Ok(again) = copy.copy(alloc) else {
         drop(copy);
         drop(command);
-        return Tried::Wrong;
+        return Outcome::Wrong;
     };
     let is_same = again == command;
     drop(again);
     drop(copy);
     drop(command);
-    Tried::done(is_same)
+    Outcome::done(is_same)
 }
 
 /// Tries to copy a reply in the same way.
-fn copies_reply(memory: &Refusing<Global>, alloc: Global, reply: Reply) -> Tried {
+fn copies_reply(memory: &Refusing<Global>, alloc: Global, reply: Reply) -> Outcome {
     let Ok(copy) = reply.copy(memory) else {
         drop(reply);
-        return Tried::Refused;
+        return Outcome::Refused;
     };
     let Ok(again) = copy.copy(alloc) else {
         drop(copy);
         drop(reply);
-        return Tried::Wrong;
+        return Outcome::Wrong;
     };
     let is_same = again == reply;
     drop(again);
     drop(copy);
     drop(reply);
-    Tried::done(is_same)
+    Outcome::done(is_same)
 }
 
 /// Tries to copy an effect in the same way.
-fn copies_effect(memory: &Refusing<Global>, alloc: Global, effect: Effect) -> Tried {
+fn copies_effect(memory: &Refusing<Global>, alloc: Global, effect: Effect) -> Outcome {
     let Ok(copy) = effect.copy(memory) else {
         drop(effect);
-        return Tried::Refused;
+        return Outcome::Refused;
     };
     let Ok(again) = copy.copy(alloc) else {
         drop(copy);
         drop(effect);
-        return Tried::Wrong;
+        return Outcome::Wrong;
     };
     let is_same = again == effect;
     drop(again);
     drop(copy);
     drop(effect);
-    Tried::done(is_same)
+    Outcome::done(is_same)
 }
 
 /// Three items.
@@ -196,7 +196,7 @@ pub(crate) fn copies(
     memory: &Refusing<Global>,
     alloc: Global,
     copied: Copied,
-) -> Tried {
+) -> Outcome {
     match copied {
         Copied::List => copies_list(memory, list(rt, alloc, b"abc")),
         Copied::CheckOut => copies_command(memory, alloc, Command::CheckOut(items(rt, alloc))),

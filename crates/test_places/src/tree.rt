@@ -8,7 +8,7 @@ use Step::{
 use design_tree::AddError::{Exists, Limit, WrongKind};
 use design_tree::{AddError, Tree};
 use std::alloc::{Allocator, Global};
-use test_memory::{Refusing, Tried};
+use test_memory::{Outcome, Refusing};
 use vault_model::Kind::{Assembly, Library, Part, Project};
 use vault_model::{Kind, Name, NoMemory, Path, PlaceId};
 
@@ -54,30 +54,30 @@ fn adds<A: Allocator + Copy>(
     text: &[u8],
     kind: Kind,
     want: Result<u32, AddError>,
-) -> Tried {
+) -> Outcome {
     let Some(name) = Name::read(text) else {
-        return Tried::Wrong;
+        return Outcome::Wrong;
     };
     let count = tree.len();
     if parent as usize >= count {
-        return Tried::Wrong;
+        return Outcome::Wrong;
     }
     match tree.add(PlaceId(parent), name, kind) {
-        Ok(place) => Tried::done(want == Ok(place.number()) && place.number() as usize == count),
-        Err(AddError::NoMemory) => Tried::Refused,
-        Err(error) => Tried::done(want == Err(error) && tree.len() == count),
+        Ok(place) => Outcome::done(want == Ok(place.number()) && place.number() as usize == count),
+        Err(AddError::NoMemory) => Outcome::Refused,
+        Err(error) => Outcome::done(want == Err(error) && tree.len() == count),
     }
 }
 
 /// Tries to make the small tree, in a new one.
-fn adds_small<A: Allocator + Copy>(tree: &mut Tree<A>) -> Tried {
+fn adds_small<A: Allocator + Copy>(tree: &mut Tree<A>) -> Outcome {
     for (place, parent, text, kind) in &SMALL {
         let tried = adds(tree, *parent, text, *kind, Ok(*place));
-        if tried != Tried::Done {
+        if tried != Outcome::Done {
             return tried;
         }
     }
-    Tried::done(tree.len() == 5)
+    Outcome::done(tree.len() == 5)
 }
 
 /// The places of the small tree: the parent, the name and the kind of each.
@@ -89,21 +89,21 @@ static SMALL: [(u32, u32, &[u8], Kind); 4] = [
 ];
 
 /// Tries to make this number of projects, 63 at most, in a tree of five places at most.
-fn adds_projects<A: Allocator + Copy>(tree: &mut Tree<A>, count: u8) -> Tried {
+fn adds_projects<A: Allocator + Copy>(tree: &mut Tree<A>, count: u8) -> Outcome {
     let first = tree.len();
     if first > 5 {
-        return Tried::Wrong;
+        return Outcome::Wrong;
     }
     for index in 0..count.min(63) {
         let number = index + 1;
         let name = [b'a' + number / 8, b'0' + number % 8];
         let place = first as u32 + u32::from(index);
         let tried = adds(tree, 0, &name, Project, Ok(place));
-        if tried != Tried::Done {
+        if tried != Outcome::Done {
             return tried;
         }
     }
-    Tried::Done
+    Outcome::Done
 }
 
 /// Tries to push a child that may be made.
@@ -113,19 +113,19 @@ fn pushes<A: Allocator + Copy>(
     text: &[u8],
     kind: Kind,
     want: u32,
-) -> Tried
+) -> Outcome
     requires { parent ≤ length tree.old }
 {
     let Some(name) = Name::read(text) else {
-        return Tried::Wrong;
+        return Outcome::Wrong;
     };
     let may_have = tree.may_have(parent, kind);
     if !may_have || tree.is_full(parent) || tree.child(parent, &name).is_some() {
-        return Tried::Wrong;
+        return Outcome::Wrong;
     }
     match tree.push(parent, name, kind) {
-        Ok(place) => Tried::done(place.number() == want),
-        Err(NoMemory) => Tried::Refused,
+        Ok(place) => Outcome::done(place.number() == want),
+        Err(NoMemory) => Outcome::Refused,
     }
 }
 
@@ -171,42 +171,42 @@ fn are_numbered(places: &[PlaceId], numbers: &[u32]) -> bool {
 }
 
 /// Tries to list the children of a place.
-fn has_children<A: Allocator + Copy>(tree: &Tree<A>, place: PlaceId, want: &[u32]) -> Tried
+fn has_children<A: Allocator + Copy>(tree: &Tree<A>, place: PlaceId, want: &[u32]) -> Outcome
     requires { place ≤ length tree.now }
 {
     let Ok(children) = tree.children(place) else {
-        return Tried::Refused;
+        return Outcome::Refused;
     };
     let are_so = are_numbered(children.as_slice(), want);
     drop(children);
-    Tried::done(are_so)
+    Outcome::done(are_so)
 }
 
 /// Tries to list the children of a place, which must be full with this number of them.
-fn is_full<A: Allocator + Copy>(tree: &Tree<A>, place: PlaceId, want: usize) -> Tried
+fn is_full<A: Allocator + Copy>(tree: &Tree<A>, place: PlaceId, want: usize) -> Outcome
     requires { place ≤ length tree.now }
 {
     let Ok(children) = tree.children(place) else {
-        return Tried::Refused;
+        return Outcome::Refused;
     };
     let count = children.len();
     drop(children);
-    Tried::done(count == want && tree.is_full(place))
+    Outcome::done(count == want && tree.is_full(place))
 }
 
 /// Tries to list the names of a place's children.
-fn has_names<A: Allocator + Copy>(tree: &Tree<A>, place: PlaceId, text: &[u8]) -> Tried
+fn has_names<A: Allocator + Copy>(tree: &Tree<A>, place: PlaceId, text: &[u8]) -> Outcome
     requires { place ≤ length tree.now }
 {
     let Some(want) = Path::read(text) else {
-        return Tried::Wrong;
+        return Outcome::Wrong;
     };
     let Ok(names) = tree.names_under(place) else {
-        return Tried::Refused;
+        return Outcome::Refused;
     };
     let are_so = names.as_slice() == want.names();
     drop(names);
-    Tried::done(are_so)
+    Outcome::done(are_so)
 }
 
 /// Whether a place has this child by a name.
@@ -228,10 +228,10 @@ fn is_nowhere<A: Allocator>(tree: &Tree<A>, text: &[u8]) -> bool {
 }
 
 /// Tries a step.
-fn does<A: Allocator + Copy>(tree: &mut Tree<A>, row: &Row) -> Tried {
+fn does<A: Allocator + Copy>(tree: &mut Tree<A>, row: &Row) -> Outcome {
     let (number, step) = row;
     if *number as usize >= tree.len() {
-        return Tried::Wrong;
+        return Outcome::Wrong;
     }
     let place = PlaceId(*number);
     match *step {
@@ -239,26 +239,26 @@ fn does<A: Allocator + Copy>(tree: &mut Tree<A>, row: &Row) -> Tried {
         Projects(count) => adds_projects(tree, count),
         Adds(text, kind, want) => adds(tree, *number, text, kind, want),
         Pushes(text, kind, want) => pushes(tree, place, text, kind, want),
-        Is(text, parent, kind) => Tried::done(is_place(tree, place, text, parent, kind)),
+        Is(text, parent, kind) => Outcome::done(is_place(tree, place, text, parent, kind)),
         Has(want) => has_children(tree, place, want),
         HasNames(text) => has_names(tree, place, text),
-        HasChild(text, want) => Tried::done(has_child(tree, place, text, want)),
-        IsUnder(top, want) => Tried::done(tree.is_under(place, PlaceId(top)) == want),
-        MayHave(nests, parts, kind) => Tried::done(
+        HasChild(text, want) => Outcome::done(has_child(tree, place, text, want)),
+        IsUnder(top, want) => Outcome::done(tree.is_under(place, PlaceId(top)) == want),
+        MayHave(nests, parts, kind) => Outcome::done(
             tree.may_nest_under(place) == nests
                 && tree.may_have(place, Part) == parts
                 && tree.kind_under(place) == kind,
         ),
         IsFull(count) => is_full(tree, place, count),
-        Counts(count) => Tried::done(tree.len() == count),
-        Lacks(text) => Tried::done(is_nowhere(tree, text)),
+        Counts(count) => Outcome::done(tree.len() == count),
+        Lacks(text) => Outcome::done(is_nowhere(tree, text)),
     }
 }
 
 /// The number of steps that are done before the first that isn't.
 fn does_all<A: Allocator + Copy>(tree: &mut Tree<A>, steps: &[Row]) -> usize {
     for (index, row) in steps.iter().enumerate() {
-        if does(tree, row) != Tried::Done {
+        if does(tree, row) != Outcome::Done {
             return index;
         }
     }
@@ -411,7 +411,7 @@ fn tree_from<A: Allocator + Copy>(alloc: A, start: &Row) -> Option<Tree<A>> {
     let Ok(mut tree) = Tree::new(alloc) else {
         return None;
     };
-    if does(&mut tree, start) != Tried::Done {
+    if does(&mut tree, start) != Outcome::Done {
         drop(tree);
         return None;
     }
@@ -425,15 +425,15 @@ fn does_beside<A: Allocator + Copy, B: Allocator + Copy>(
     twin: &Tree<B>,
     step: &Row,
     number: u64,
-) -> Tried {
+) -> Outcome {
     memory.refuse(number);
     let tried = does(tree, step);
     let has_refused = memory.has_refused();
-    if tried != Tried::Refused {
+    if tried != Outcome::Refused {
         return tried.and(!has_refused);
     }
     let is_kept = is_same(tree, twin);
-    tried.and(has_refused && is_kept && does(tree, step) == Tried::Done)
+    tried.and(has_refused && is_kept && does(tree, step) == Outcome::Done)
 }
 
 /// Tries a step after another. A twin does the same in ample memory. At the end both must be the same.
@@ -442,39 +442,39 @@ pub(crate) fn does_from(
     alloc: Global,
     (start, step): (&Row, &Row),
     number: u64,
-) -> Tried {
+) -> Outcome {
     let Some(mut tree) = tree_from(memory, start) else {
-        return Tried::Wrong;
+        return Outcome::Wrong;
     };
     let Some(mut ample) = tree_from(alloc, start) else {
         drop(tree);
-        return Tried::Wrong;
+        return Outcome::Wrong;
     };
     let tried = does_beside(memory, &mut tree, &ample, step, number);
-    let is_like = does(&mut ample, step) == Tried::Done && is_same(&tree, &ample);
+    let is_like = does(&mut ample, step) == Outcome::Done && is_same(&tree, &ample);
     drop(tree);
     drop(ample);
     tried.and(is_like)
 }
 
 /// Tries to make a tree.
-pub(crate) fn makes(memory: &Refusing<Global>) -> Tried {
+pub(crate) fn makes(memory: &Refusing<Global>) -> Outcome {
     let Ok(tree) = Tree::new(memory) else {
-        return Tried::Refused;
+        return Outcome::Refused;
     };
     let is_new = tree.len() == 1;
     drop(tree);
-    Tried::done(is_new)
+    Outcome::done(is_new)
 }
 
 /// Tries to copy the small tree.
-pub(crate) fn copies(memory: &Refusing<Global>, alloc: Global, number: u64) -> Tried {
+pub(crate) fn copies(memory: &Refusing<Global>, alloc: Global, number: u64) -> Outcome {
     let Some(tree) = tree_from(memory, &(0, Small)) else {
-        return Tried::Wrong;
+        return Outcome::Wrong;
     };
     let Some(ample) = tree_from(alloc, &(0, Small)) else {
         drop(tree);
-        return Tried::Wrong;
+        return Outcome::Wrong;
     };
     memory.refuse(number);
     let copy = tree.copy();
@@ -483,10 +483,10 @@ pub(crate) fn copies(memory: &Refusing<Global>, alloc: Global, number: u64) -> T
     drop(tree);
     let Ok(copy) = copy else {
         drop(ample);
-        return Tried::refused(has_refused && is_kept);
+        return Outcome::refused(has_refused && is_kept);
     };
     let is_copied = is_same(&copy, &ample);
     drop(copy);
     drop(ample);
-    Tried::done(!has_refused && is_kept && is_copied)
+    Outcome::done(!has_refused && is_kept && is_copied)
 }

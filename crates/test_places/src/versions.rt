@@ -4,7 +4,7 @@ use Step::{Appends, Copies, Counts, Fetches, IsLimit, Spells, Weighs};
 use part_versions::{NotAppended, Shelf};
 use std::alloc::{Allocator, Global};
 use std::process::Abort;
-use test_memory::{Refusing, Tried};
+use test_memory::{Outcome, Refusing};
 use vault_model::{Draft, Drafts, Listing, PlaceId};
 
 /// A number of drafts, their place, the first bytes of each content, and its length: the rest of it is `x`.
@@ -62,13 +62,13 @@ fn appends<A: Allocator + Copy>(
     shelf: &mut Shelf<A>,
     rows: &[Saved],
     is_limit: bool,
-) -> Tried {
+) -> Outcome {
     match shelf.append_all(drafts_of(rt, alloc, rows)) {
-        Ok(()) => Tried::done(!is_limit),
+        Ok(()) => Outcome::done(!is_limit),
         Err(NotAppended::Limit(back)) => {
-            Tried::done(are_drafts(rt, alloc, back, rows) && is_limit)
+            Outcome::done(are_drafts(rt, alloc, back, rows) && is_limit)
         }
-        Err(NotAppended::NoMemory(back)) => Tried::refused(are_drafts(rt, alloc, back, rows)),
+        Err(NotAppended::NoMemory(back)) => Outcome::refused(are_drafts(rt, alloc, back, rows)),
     }
 }
 
@@ -86,13 +86,13 @@ fn is_same<A: Allocator, B: Allocator>(one: &Shelf<A>, other: &Shelf<B>) -> bool
 }
 
 /// Tries to copy a shelf.
-fn copies<A: Allocator + Copy>(shelf: &Shelf<A>) -> Tried {
+fn copies<A: Allocator + Copy>(shelf: &Shelf<A>) -> Outcome {
     let Ok(copy) = shelf.copy() else {
-        return Tried::Refused;
+        return Outcome::Refused;
     };
     let is_copied = is_same(&copy, shelf);
     drop(copy);
-    Tried::done(is_copied)
+    Outcome::done(is_copied)
 }
 
 /// Tries a step.
@@ -101,15 +101,17 @@ fn does<A: Allocator + Copy>(
     alloc: Global,
     shelf: &mut Shelf<A>,
     step: &Step,
-) -> Tried {
+) -> Outcome {
     match *step {
         Appends(rows) => appends(rt, alloc, shelf, rows, false),
         IsLimit(rows) => appends(rt, alloc, shelf, rows, true),
         Copies => copies(shelf),
-        Fetches(place, version, want) => Tried::done(shelf.fetch(PlaceId(place), version) == want),
-        Spells(place, want) => Tried::done(shelf.spelled(PlaceId(place)) == want),
-        Counts(place, want) => Tried::done(shelf.count(PlaceId(place)) == want),
-        Weighs(weight, len) => Tried::done(shelf.weight() == weight && shelf.len() == len),
+        Fetches(place, version, want) => Outcome::done(
+            shelf.fetch(PlaceId(place), version) == want,
+        ),
+        Spells(place, want) => Outcome::done(shelf.spelled(PlaceId(place)) == want),
+        Counts(place, want) => Outcome::done(shelf.count(PlaceId(place)) == want),
+        Weighs(weight, len) => Outcome::done(shelf.weight() == weight && shelf.len() == len),
     }
 }
 
@@ -118,7 +120,7 @@ fn does_all(rt: &impl Abort, alloc: Global, steps: &[Step]) {
     let mut shelf = Shelf::new(alloc);
     for (index, step) in steps.iter().enumerate() {
         let tried = does(rt, alloc, &mut shelf, step);
-        assert!(rt; tried == Tried::Done, "step {index}");
+        assert!(rt; tried == Outcome::Done, "step {index}");
     }
     drop(shelf);
 }
@@ -218,27 +220,27 @@ pub(crate) fn does_from(
     alloc: Global,
     (start, step): (&[Saved], &Step),
     number: u64,
-) -> Tried {
+) -> Outcome {
     let mut shelf = Shelf::new(memory);
     let mut ample = Shelf::new(alloc);
-    let is_ready = appends(rt, alloc, &mut shelf, start, false) == Tried::Done
-        && appends(rt, alloc, &mut ample, start, false) == Tried::Done;
+    let is_ready = appends(rt, alloc, &mut shelf, start, false) == Outcome::Done
+        && appends(rt, alloc, &mut ample, start, false) == Outcome::Done;
     memory.refuse(number);
     let tried = does(rt, alloc, &mut shelf, step);
-    let is_refused = tried == Tried::Refused;
+    let is_refused = tried == Outcome::Refused;
     let is_told = memory.has_refused() == is_refused;
     let is_kept = !is_refused
-        || (is_same(&shelf, &ample) && does(rt, alloc, &mut shelf, step) == Tried::Done);
-    let is_like = does(rt, alloc, &mut ample, step) == Tried::Done && is_same(&shelf, &ample);
+        || (is_same(&shelf, &ample) && does(rt, alloc, &mut shelf, step) == Outcome::Done);
+    let is_like = does(rt, alloc, &mut ample, step) == Outcome::Done && is_same(&shelf, &ample);
     drop(shelf);
     drop(ample);
     tried.and(is_ready && is_told && is_kept && is_like)
 }
 
 /// Tries to make a shelf.
-pub(crate) fn makes(memory: &Refusing<Global>) -> Tried {
+pub(crate) fn makes(memory: &Refusing<Global>) -> Outcome {
     let shelf = Shelf::new(memory);
     let is_new = shelf.weight() == 0 && shelf.len() == 0;
     drop(shelf);
-    Tried::done(is_new)
+    Outcome::done(is_new)
 }

@@ -1,7 +1,7 @@
 //! Each memory request refused in turn.
 
 use std::alloc::Global;
-use test_memory::{Refusing, Tried, requests};
+use test_memory::{Outcome, Refusing, requests};
 use vault_protocol::{ScriptError, run_script};
 
 /// A script, and what it prints.
@@ -33,7 +33,7 @@ fn runs(
     alloc: Global,
     (script, output): (&[u8], &[u8]),
     number: u64,
-) -> Tried {
+) -> Outcome {
     let mut reader = script;
     let mut held = Vec::new(alloc);
     memory.refuse(number);

@@ -8,7 +8,7 @@ use std::process::Abort;
 use std::sync::Wait;
 use std::thread::Threads;
 use std::time::Clock;
-use test_memory::{Refusing, Tried, requests};
+use test_memory::{Outcome, Refusing, requests};
 use vault_sessions::{Ended, Flushed, Totals};
 
 // If the memory for a snapshot is refused, what was staged is committed, and the snapshot is begun after that. The first request is for
@@ -61,15 +61,15 @@ fn talks<H: Threads + Wait + Clock + Sync + Abort>(
     global: Global,
     memory: &Refusing<Global>,
     request: u64,
-) -> Tried {
+) -> Outcome {
     let (came, heard) = talked(rt, global, memory, &ASKED, request);
     let shows = shows_refusal(came, &heard);
     let is_whole = came == Some(ASKED.came) && heard.as_slice() == TOLD;
     drop(heard);
     if memory.has_refused() {
-        Tried::refused(shows)
+        Outcome::refused(shows)
     } else {
-        Tried::done(is_whole)
+        Outcome::done(is_whole)
     }
 }
 

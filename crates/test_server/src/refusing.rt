@@ -9,7 +9,7 @@ use std::process::Abort;
 use std::sync::Wait;
 use std::thread::Threads;
 use std::time::Clock;
-use test_memory::{Refusing, Tried, requests};
+use test_memory::{Outcome, Refusing, requests};
 use vault_server::ServerError;
 use vault_sessions::Totals;
 
@@ -52,7 +52,7 @@ fn may_be_heard(heard: &str) -> bool {
 // Serves one connection, with this request refused. If the client heard of the place, it is in what a crash would leave.
 fn serves<
     R: Net<Listener = TcpListener, Stream = TcpStream> + Threads + Wait + Clock + Sync + Abort,
->(rt: &R, global: Global, memory: &Refusing<Global>, request: u64) -> Tried {
+>(rt: &R, global: Global, memory: &Refusing<Global>, request: u64) -> Outcome {
     let (came, heard, _, _) = served(rt, global, memory, &REFUSED, request);
     let has_refused = memory.has_refused();
     let is_told = heard.as_str().contains("OK place 1\n");
@@ -61,9 +61,9 @@ fn serves<
     let is_whole = came == REFUSED.came && heard.as_str() == TOLD;
     drop(heard);
     match came.error {
-        None if has_refused => Tried::refused(is_so && is_kept),
-        None => Tried::done(is_whole),
-        Some(error) => Tried::refused(has_refused && is_so && error == ServerError::NoMemory),
+        None if has_refused => Outcome::refused(is_so && is_kept),
+        None => Outcome::done(is_whole),
+        Some(error) => Outcome::refused(has_refused && is_so && error == ServerError::NoMemory),
     }
 }
 

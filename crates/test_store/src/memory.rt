@@ -3,7 +3,7 @@ ghost use Rattle.std.specs.Prelude.{◌<◌, length};
 
 use std::alloc::{Allocator, Global};
 use std::process::Abort;
-use test_memory::{Refusing, Tried, requests};
+use test_memory::{Outcome, Refusing, requests};
 use vault_checkout::Book;
 use vault_device::{Device, MemDevice};
 use vault_model::{ClaimId, NoMemory, PlaceId, Standing};
@@ -36,7 +36,7 @@ fn creates_without(
     memory: &Refusing<Global>,
     alloc: Global,
     number: u64,
-) -> Tried {
+) -> Outcome {
     let first = MemDevice::new(alloc).expect(rt, "a device");
     let second = MemDevice::new(alloc).expect(rt, "a device");
     memory.refuse(number);
@@ -44,11 +44,11 @@ fn creates_without(
         Ok(store) => {
             let is_done = !memory.has_refused() && store.journal_len() == 0;
             drop(store);
-            Tried::done(is_done)
+            Outcome::done(is_done)
         }
         Err(refused) => {
             let is_told = memory.has_refused() && refused.why == CreateError::NoMemory;
-            Tried::refused(is_created(memory, refused.first, refused.second) && is_told)
+            Outcome::refused(is_created(memory, refused.first, refused.second) && is_told)
         }
     }
 }
@@ -84,7 +84,12 @@ fn is_with_e<A: Allocator + Copy>(memory: A, first: MemDevice, second: MemDevice
 }
 
 // Tries to open a vault. If that is refused, the same devices open afterwards.
-fn opens_without(rt: &impl Abort, memory: &Refusing<Global>, alloc: Global, number: u64) -> Tried {
+fn opens_without(
+    rt: &impl Abort,
+    memory: &Refusing<Global>,
+    alloc: Global,
+    number: u64,
+) -> Outcome {
     let first = holding(rt, alloc, WITH_E);
     let second = MemDevice::new(alloc).expect(rt, "a device");
     memory.refuse(number);
@@ -94,17 +99,22 @@ fn opens_without(rt: &impl Abort, memory: &Refusing<Global>, alloc: Global, numb
                 && (book.tree().len(), store.journal_len()) == (2, 12);
             drop(store);
             drop(book);
-            Tried::done(is_done)
+            Outcome::done(is_done)
         }
         Err(refused) => {
             let is_told = memory.has_refused() && refused.why == OpenError::NoMemory;
-            Tried::refused(is_with_e(memory, refused.first, refused.second) && is_told)
+            Outcome::refused(is_with_e(memory, refused.first, refused.second) && is_told)
         }
     }
 }
 
 // Tries to start a snapshot. Without memory nothing is begun.
-fn starts_without(rt: &impl Abort, memory: &Refusing<Global>, alloc: Global, number: u64) -> Tried {
+fn starts_without(
+    rt: &impl Abort,
+    memory: &Refusing<Global>,
+    alloc: Global,
+    number: u64,
+) -> Outcome {
     laws::what_is_noted_is_spelled::<MemDevice>();
     laws::a_crash_leaves_what_is_kept::<MemDevice>();
     let first = holding(rt, alloc, WITH_E);
@@ -119,9 +129,9 @@ fn starts_without(rt: &impl Abort, memory: &Refusing<Global>, alloc: Global, num
     drop(book);
     let has_refused = memory.has_refused();
     if (started, phase) == (Ok(Started::Yes), Phase::Start) {
-        Tried::done(!has_refused)
+        Outcome::done(!has_refused)
     } else {
-        Tried::refused(has_refused && (started, phase) == (Err(NoMemory), Phase::Idle))
+        Outcome::refused(has_refused && (started, phase) == (Err(NoMemory), Phase::Idle))
     }
 }
 
@@ -153,7 +163,12 @@ fn is_line<A: Allocator + Copy>(book: &Book<A>) -> bool {
 }
 
 // Tries to read what stands behind the head of a file.
-fn reads_without(rt: &impl Abort, memory: &Refusing<Global>, alloc: Global, number: u64) -> Tried {
+fn reads_without(
+    rt: &impl Abort,
+    memory: &Refusing<Global>,
+    alloc: Global,
+    number: u64,
+) -> Outcome {
     let mut device = holding(rt, alloc, LINE);
     memory.refuse(number);
     let body = read_body(memory, &mut device);
@@ -177,7 +192,7 @@ fn compares_without(
     memory: &Refusing<Global>,
     alloc: Global,
     number: u64,
-) -> Tried {
+) -> Outcome {
     laws::files_of_one_vault_pass::<MemDevice>();
     let mut first = holding(rt, alloc, WITH_E);
     let mut second = holding(rt, alloc, LINE);
@@ -210,7 +225,7 @@ fn tries(
     alloc: Global,
     call: Call,
     number: u64,
-) -> Tried {
+) -> Outcome {
     match call {
         Call::Create => creates_without(rt, memory, alloc, number),
         Call::Open => opens_without(rt, memory, alloc, number),

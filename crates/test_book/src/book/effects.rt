@@ -1,7 +1,7 @@
 //! Effects as plain values, and their kinds.
 
 use std::alloc::{Allocator, Global};
-use test_memory::Tried;
+use test_memory::Outcome;
 use vault_checkout::{ApplyError, Book};
 use vault_model::{Effect, Intent, Item, Items, Listing, Name, Note, PlaceId};
 
@@ -107,14 +107,14 @@ pub(super) fn applies<A: Allocator + Copy>(
     book: &mut Book<A>,
     row: Row,
     want: Result<(), ApplyError>,
-) -> Tried {
+) -> Outcome {
     let Some(effect) = effect(memory, row) else {
-        return Tried::Wrong;
+        return Outcome::Wrong;
     };
     let told = book.apply(&effect);
     drop(effect);
     if told == Err(ApplyError::NoMemory) {
-        return Tried::Refused;
+        return Outcome::Refused;
     }
-    Tried::done(told == want)
+    Outcome::done(told == want)
 }

@@ -8,7 +8,7 @@ use super::steps::Step::{Applies, Says};
 use super::steps::{List, Step};
 use std::alloc::{Allocator, Global};
 use std::process::Abort;
-use test_memory::{Refusing, Tried, requests};
+use test_memory::{Outcome, Refusing, requests};
 use vault_checkout::{Book, FromPartsError};
 use vault_model::Intent::{Change, Look};
 use vault_model::NoMemory;
@@ -61,15 +61,15 @@ fn does<A: Allocator + Copy>(
     twin: &Talk<A>,
     step: &Step,
     number: u64,
-) -> Tried {
+) -> Outcome {
     memory.refuse(number);
     let tried = talk.does(aside, step);
     let has_refused = memory.has_refused();
-    if tried != Tried::Refused {
+    if tried != Outcome::Refused {
         return tried.and(!has_refused);
     }
     let is_kept = are_same(aside, talk, twin);
-    tried.and(has_refused && is_kept && talk.does(aside, step) == Tried::Done)
+    tried.and(has_refused && is_kept && talk.does(aside, step) == Outcome::Done)
 }
 
 /// Tries a step after others. It takes its memory from the first allocator; a twin takes the same steps in ample memory. At
@@ -81,20 +81,20 @@ fn does_from<A: Allocator + Copy>(
     start: List,
     step: &Step,
     number: u64,
-) -> Tried {
+) -> Outcome {
     let (of_book, of_durable) = match step {
         Applies(_) => (ample, asked),
         _ => (asked, ample),
     };
     let Some(mut talk) = Talk::from(of_book, of_durable, aside, start) else {
-        return Tried::Wrong;
+        return Outcome::Wrong;
     };
     let Some(mut twin) = Talk::from(ample, ample, aside, start) else {
         drop(talk);
-        return Tried::Wrong;
+        return Outcome::Wrong;
     };
     let tried = does(memory, aside, &mut talk, &twin, step, number);
-    let is_like = twin.does(aside, step) == Tried::Done && are_same(aside, &talk, &twin);
+    let is_like = twin.does(aside, step) == Outcome::Done && are_same(aside, &talk, &twin);
     drop(talk);
     drop(twin);
     tried.and(is_like)
@@ -161,7 +161,7 @@ fn tries(
     aside: Global,
     call: &Call,
     number: u64,
-) -> Tried {
+) -> Outcome {
     let told = match call {
         Call::Does(start, step) => {
             return does_from(memory, aside, (memory, ample), *start, step, number);

@@ -8,7 +8,7 @@ use super::worked::{
 };
 use super::{C2, H1, Talk};
 use std::alloc::{Allocator, Global};
-use test_memory::Tried;
+use test_memory::Outcome;
 use vault_checkout::ApplyError::NotApplicable;
 use vault_checkout::Book;
 use vault_model::{ClaimId, Command, Listing, Note, Owner, Standing};
@@ -140,7 +140,7 @@ impl<A: Allocator + Copy> Talk<A> {
         session: u32,
         unspelled: Unspelled,
         want: &str,
-    ) -> Tried {
+    ) -> Outcome {
         let command = command(memory, unspelled);
         let tried = self.answers(memory, session, &command, (want, NONE));
         drop(command);
@@ -148,17 +148,17 @@ impl<A: Allocator + Copy> Talk<A> {
     }
 
     /// Tries to let sessions of anna's join. They must be answered with these lines.
-    fn join(&mut self, memory: Global, wants: &[&str]) -> Tried {
+    fn join(&mut self, memory: Global, wants: &[&str]) -> Outcome {
         for want in wants {
-            if self.hears(memory, 0, "hello anna", (want, NONE)) != Tried::Done {
-                return Tried::Wrong;
+            if self.hears(memory, 0, "hello anna", (want, NONE)) != Outcome::Done {
+                return Outcome::Wrong;
             }
         }
-        Tried::Done
+        Outcome::Done
     }
 
     /// Tries a step.
-    pub(super) fn does(&mut self, memory: Global, step: &Step) -> Tried {
+    pub(super) fn does(&mut self, memory: Global, step: &Step) -> Outcome {
         match *step {
             Step::Says(session, line, want, kind) => {
                 self.hears(memory, session, line, (want, kind))
@@ -168,23 +168,27 @@ impl<A: Allocator + Copy> Talk<A> {
             }
             Step::Join(wants) => self.join(memory, wants),
             Step::Reopens => self.reopen(),
-            Step::IsDurable => Tried::done(are_alike(&self.book, &self.durable)),
+            Step::IsDurable => Outcome::done(are_alike(&self.book, &self.durable)),
             Step::Applies(row) => applies(memory, &mut self.durable, row, Ok(())),
             Step::IsRefused(row) => { applies(memory, &mut self.durable, row, Err(NotApplicable)) }
-            Step::Stands(id, standing) => { Tried::done(self.book.line().standing(id) == standing) }
-            Step::HasDrafts(number, count) => Tried::done(self.book.drafts(number).len() == count),
-            Step::Counts(places, claims, long, short) => {
-                Tried::done(counts(&self.book) == (places, claims, long, short))
+            Step::Stands(id, standing) => {
+                Outcome::done(self.book.line().standing(id) == standing)
             }
-            Step::HasNone(position) => Tried::done(self.book.line().at(position).is_none()),
-            Step::HasHold => Tried::done(has_hold(&self.book)),
+            Step::HasDrafts(number, count) => Outcome::done(
+                self.book.drafts(number).len() == count,
+            ),
+            Step::Counts(places, claims, long, short) => {
+                Outcome::done(counts(&self.book) == (places, claims, long, short))
+            }
+            Step::HasNone(position) => Outcome::done(self.book.line().at(position).is_none()),
+            Step::HasHold => Outcome::done(has_hold(&self.book)),
         }
     }
 
     /// The number of steps that are done before the first that isn't.
     pub(super) fn does_all(&mut self, memory: Global, steps: &[Step]) -> usize {
         for (index, step) in steps.iter().enumerate() {
-            if self.does(memory, step) != Tried::Done {
+            if self.does(memory, step) != Outcome::Done {
                 return index;
             }
         }

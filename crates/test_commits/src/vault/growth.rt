@@ -10,7 +10,7 @@ use group_commit::Pumped::{Moved, Settled};
 use group_commit::{Pumped, Started, Vault};
 use std::alloc::Global;
 use std::process::Abort;
-use test_memory::{Refusing, Tried, requests};
+use test_memory::{Outcome, Refusing, requests};
 use vault_device::{MemDevice, Pick};
 use vault_model::Outside;
 use vault_model::Refusal::Exists;
@@ -87,7 +87,12 @@ fn is_left<'a>(
 
 // Makes calls with the request of this number refused. If it was a file's, the vault is broken. If it was the vault's, the call is made
 // again, and those after it.
-fn grows(rt: &impl Abort, memory: &Refusing<Global>, calls: &'static [Row], number: u64) -> Tried {
+fn grows(
+    rt: &impl Abort,
+    memory: &Refusing<Global>,
+    calls: &'static [Row],
+    number: u64,
+) -> Outcome {
     let mut vault = made(rt, memory);
     let mut hands = Hands::empty();
     memory.refuse(number);
@@ -103,9 +108,9 @@ fn grows(rt: &impl Abort, memory: &Refusing<Global>, calls: &'static [Row], numb
     hands.end(&mut vault);
     let is_left = is_left(rt, memory, vault, is_lost);
     if has_refused {
-        Tried::refused(is_right && is_left && count < calls.len())
+        Outcome::refused(is_right && is_left && count < calls.len())
     } else {
-        Tried::done(is_right && is_left && count == calls.len())
+        Outcome::done(is_right && is_left && count == calls.len())
     }
 }
 

@@ -12,7 +12,7 @@ use group_commit::Retired::One;
 use group_commit::{CreateError, Refused, Started, Vault};
 use std::alloc::Global;
 use std::process::Abort;
-use test_memory::{Refusing, Tried, requests};
+use test_memory::{Outcome, Refusing, requests};
 use vault_device::MemDevice;
 
 // What asks for memory, and calls around it.
@@ -67,18 +67,18 @@ fn is_created(memory: &Refusing<Global>, first: MemDevice, second: MemDevice) ->
 }
 
 // Tries to create a vault. Where memory is refused, the devices come back, and a vault is then made on them.
-fn creates(rt: &impl Abort, memory: &Refusing<Global>, alloc: Global, number: u64) -> Tried {
+fn creates(rt: &impl Abort, memory: &Refusing<Global>, alloc: Global, number: u64) -> Outcome {
     let (first, second) = (device(rt, alloc), device(rt, alloc));
     memory.refuse(number);
     match Vault::create(memory, first, second, 1) {
         Ok(vault) => {
             let is_done = !memory.has_refused() && vault.len() == 0;
             end(vault);
-            Tried::done(is_done)
+            Outcome::done(is_done)
         }
         Err(Refused { why, first, second }) => {
             let is_told = memory.has_refused() && why == CreateError::NoMemory;
-            Tried::refused(is_created(memory, first, second) && is_told)
+            Outcome::refused(is_created(memory, first, second) && is_told)
         }
     }
 }
@@ -91,7 +91,7 @@ fn asks(
     trial: &Trial,
     asking: Call,
     number: u64,
-) -> Tried {
+) -> Outcome {
     let mut vault = new_vault(rt, memory, alloc, 0);
     let mut hands = Hands::empty();
     let is_ready = are_answered(&mut vault, &mut hands, memory, trial.before);
@@ -101,7 +101,7 @@ fn asks(
     memory.refuse(number);
     let tried = call(&mut vault, &mut hands, memory, asking);
     let has_refused = memory.has_refused();
-    let is_refused = tried == Tried::Refused;
+    let is_refused = tried == Outcome::Refused;
     let is_answered = !is_refused || are_answered(&mut vault, &mut hands, memory, trial.refused);
     memory.refuse(1);
     let is_over = are_answered(&mut vault, &mut hands, memory, trial.behind)
@@ -118,7 +118,7 @@ fn tries(
     alloc: Global,
     trial: &Trial,
     number: u64,
-) -> Tried {
+) -> Outcome {
     match trial.of {
         Asking::Create => creates(rt, memory, alloc, number),
         Asking::Call(asking) => asks(rt, memory, alloc, trial, asking, number),

@@ -5,7 +5,7 @@ use group_commit::{Forgotten, Redeemed, Started, Ticket, Vault};
 use std::alloc::{Allocator, Global};
 use std::mem;
 use std::process::Abort;
-use test_memory::Tried;
+use test_memory::Outcome;
 use vault_device::{Device, MemDevice, Pick};
 use vault_lines::read_line_of;
 use vault_model::{
@@ -123,13 +123,13 @@ pub(crate) fn stage<D: Device, A: Allocator + Copy>(
     alloc: A,
     (hand, session, said): (Hand, u32, Said),
     command: CommandIn<A>,
-) -> Tried {
+) -> Outcome {
     match staged(vault, alloc, (session, said), command) {
         Ok(ticket) => {
             hands.keep(vault, hand, ticket);
-            Tried::Done
+            Outcome::Done
         }
-        Err(why) => Tried::refused(why == Some(Outside::NoMemory)),
+        Err(why) => Outcome::refused(why == Some(Outside::NoMemory)),
     }
 }
 
@@ -170,26 +170,26 @@ fn redeem<D: Device, A: Allocator + Copy>(
     hands: &mut Hands<A>,
     hand: Hand,
     fate: Fate,
-) -> Tried {
+) -> Outcome {
     let Some(ticket) = hands.swap(hand, None) else {
-        return Tried::Wrong;
+        return Outcome::Wrong;
     };
     let (is_right, ticket) = match vault.redeem(ticket) {
         Redeemed::Told(receipt) => {
             let is_told = is_told(receipt.reply(), fate);
             drop(receipt);
-            return Tried::done(is_told);
+            return Outcome::done(is_told);
         }
         Redeemed::NoMemory(ticket) => {
             hands.keep(vault, hand, ticket);
-            return Tried::Refused;
+            return Outcome::Refused;
         }
         Redeemed::NotYet(ticket) => (matches!(fate, Fate::NotYet), ticket),
         Redeemed::Stranger(ticket) => (matches!(fate, Fate::Stranger), ticket),
         Redeemed::Unknown(ticket) => (matches!(fate, Fate::Unknown), ticket),
     };
     hands.keep(vault, hand, ticket);
-    Tried::done(is_right)
+    Outcome::done(is_right)
 }
 
 fn is_forgotten<D: Device, A: Allocator + Copy>(
@@ -204,10 +204,10 @@ fn is_forgotten<D: Device, A: Allocator + Copy>(
     }
 }
 
-fn start<D: Device, A: Allocator + Copy>(vault: &mut Vault<D, A>, answer: Started) -> Tried {
+fn start<D: Device, A: Allocator + Copy>(vault: &mut Vault<D, A>, answer: Started) -> Outcome {
     match vault.start_snapshot() {
-        Ok(started) => Tried::done(started == answer),
-        Err(NoMemory) => Tried::Refused,
+        Ok(started) => Outcome::done(started == answer),
+        Err(NoMemory) => Outcome::Refused,
     }
 }
 
@@ -222,11 +222,11 @@ pub(crate) fn call<D: Device, A: Allocator + Copy>(
     hands: &mut Hands<A>,
     alloc: A,
     call: Call,
-) -> Tried {
+) -> Outcome {
     let is_right = match call {
         Call::Stage(hand, session, said) => {
             let Some(command) = command(alloc, said) else {
-                return Tried::Wrong;
+                return Outcome::Wrong;
             };
             return stage(vault, hands, alloc, (hand, session, said), command);
         }
@@ -242,7 +242,7 @@ pub(crate) fn call<D: Device, A: Allocator + Copy>(
         Call::Broken(is_broken) => vault.is_broken() == is_broken,
         Call::Phase(phase) => vault.phase() == phase,
     };
-    Tried::done(is_right)
+    Outcome::done(is_right)
 }
 
 /// How many of these rows are answered as they say, one after another, up to the first that isn't.
@@ -255,7 +255,7 @@ pub(crate) fn answered<D: Device, A: Allocator + Copy>(
     let mut count: usize = 0;
     for (times, each) in rows {
         for _ in 0..*times {
-            if call(vault, hands, alloc, *each) != Tried::Done {
+            if call(vault, hands, alloc, *each) != Outcome::Done {
                 return count;
             }
         }

@@ -8,7 +8,7 @@ use group_commit::Pumped::{Moved, Settled};
 use group_commit::{OpenError, Phase, Redeemed, Refused, Started, Ticket, Vault};
 use std::alloc::{Allocator, Global};
 use std::process::Abort;
-use test_memory::{Refusing, Tried, requests};
+use test_memory::{Outcome, Refusing, requests};
 use vault_device::{MemDevice, Pick};
 use vault_lines::text_of;
 use vault_model::{CommandIn, NoMemory, Outside};
@@ -201,16 +201,19 @@ fn opened_without<'a>(
     memory: &'a Refusing<Global>,
     (first, second): (MemDevice, MemDevice),
     number: u64,
-) -> (Tried, Asking<'a>) {
+) -> (Outcome, Asking<'a>) {
     memory.refuse(number);
     match Vault::open(memory, first, second, 2) {
         Ok(vault) => {
             let is_new = vault.len() == 0;
-            (Tried::done(!memory.has_refused() && is_new), vault)
+            (Outcome::done(!memory.has_refused() && is_new), vault)
         }
         Err(Refused { why, first, second }) => {
             let is_told = memory.has_refused() && why == OpenError::NoMemory;
-            (Tried::refused(is_told), opened(rt, memory, (first, second)))
+            (
+                Outcome::refused(is_told),
+                opened(rt, memory, (first, second)),
+            )
         }
     }
 }
@@ -221,7 +224,7 @@ fn opens(
     aside: Global,
     wanted: &[u8],
     number: u64,
-) -> Tried {
+) -> Outcome {
     let files = left(begun(rt, memory, aside));
     let (tried, vault) = opened_without(rt, memory, files, number);
     tried.and(ends_as(vault, (memory, aside), wanted))
@@ -249,14 +252,14 @@ fn starts(
     aside: Global,
     wanted: &[u8],
     number: u64,
-) -> Tried {
+) -> Outcome {
     let mut vault = making(rt, memory, aside);
     memory.refuse(number);
     let started = vault.start_snapshot();
     let has_refused = memory.has_refused();
     let tried = match started {
-        Ok(started) => Tried::done(!has_refused && started == Started::Yes),
-        Err(NoMemory) => Tried::refused(has_refused && vault.phase() == Phase::Idle),
+        Ok(started) => Outcome::done(!has_refused && started == Started::Yes),
+        Err(NoMemory) => Outcome::refused(has_refused && vault.phase() == Phase::Idle),
     };
     let is_settled = settles(&mut vault);
     let next = opened(rt, memory, left(vault));
@@ -270,17 +273,17 @@ fn staged_without<'a>(
     memory: &'a Refusing<Global>,
     (session, line): (u32, &'static str),
     number: u64,
-) -> (Tried, Option<Ticket<&'a Refusing<Global>>>) {
+) -> (Outcome, Option<Ticket<&'a Refusing<Global>>>) {
     let command = command(memory, Line(line)).expect(rt, "a command");
     let numbers = numbers_of(vault);
     memory.refuse(number);
     match vault.stage(session, command) {
-        Ok(ticket) => (Tried::done(!memory.has_refused()), Some(ticket)),
+        Ok(ticket) => (Outcome::done(!memory.has_refused()), Some(ticket)),
         Err((why, back)) => {
             let has_refused = memory.has_refused();
             let is_back = why == Outside::NoMemory && is_same(memory, &back, Line(line));
             let is_kept = numbers_of(vault) == numbers;
-            let tried = Tried::refused(has_refused && is_back && is_kept);
+            let tried = Outcome::refused(has_refused && is_back && is_kept);
             (tried, ticket_of(vault, session, back))
         }
     }
@@ -304,7 +307,7 @@ fn says(
     (session, line, text): (u32, &'static str, &'static str),
     wanted: &[u8],
     number: u64,
-) -> Tried {
+) -> Outcome {
     let mut vault = begun(rt, memory, aside);
     let (tried, ticket) = staged_without(rt, &mut vault, memory, (session, line), number);
     let is_told = match ticket {
@@ -345,7 +348,7 @@ fn tries(
     aside: Global,
     (call, wanted): (&Call, &[u8]),
     number: u64,
-) -> Tried {
+) -> Outcome {
     match call {
         Call::Open => opens(rt, memory, aside, wanted, number),
         Call::Start => starts(rt, memory, aside, wanted, number),

@@ -8,7 +8,7 @@ use lock_table::Extension;
 use long_locks::{FromClaimsError, Line};
 use std::alloc::Global;
 use std::process::Abort;
-use test_memory::{Refusing, Tried};
+use test_memory::{Outcome, Refusing};
 use vault_model::{Claim, ClaimId, Name, NoMemory, Note, PlaceId, Standing};
 
 /// The memory of a line.
@@ -54,7 +54,7 @@ fn put_first<'a>(
     tree: &Tree<Memory<'a>>,
     id: ClaimId,
     wishes: &[Wish],
-) -> Tried
+) -> Outcome
     requires { IsGrownFrom line.old.tree tree.now }
     ensures { IsGrownFrom line.new.tree tree.now }
 {
@@ -65,14 +65,14 @@ fn put_first<'a>(
 }
 
 // Whether a new line is like this one.
-fn is_like(made: Result<Line<Memory<'_>>, NoMemory>, line: &Line<Memory<'_>>) -> Tried {
+fn is_like(made: Result<Line<Memory<'_>>, NoMemory>, line: &Line<Memory<'_>>) -> Outcome {
     match made {
         Ok(made) => {
             let is_like = is_same(&made, line);
             drop(made);
-            Tried::done(is_like)
+            Outcome::done(is_like)
         }
-        Err(NoMemory) => Tried::Refused,
+        Err(NoMemory) => Outcome::Refused,
     }
 }
 
@@ -103,7 +103,7 @@ fn is_made<'a>(
     last_long: u32,
     claims: &[Listed],
     wanted: Option<FromClaimsError>,
-) -> Tried {
+) -> Outcome {
     let mut list = Vec::new(ample);
     for claim in claims {
         assert!(rt; list.push(listed(rt, claim)).is_ok());
@@ -112,10 +112,10 @@ fn is_made<'a>(
         Ok(line) => {
             let is_right = wanted.is_none() && keeps(rt, &line, last_long, claims);
             drop(line);
-            Tried::done(is_right)
+            Outcome::done(is_right)
         }
-        Err(FromClaimsError::NoMemory) => Tried::Refused,
-        Err(error) => Tried::done(wanted == Some(error)),
+        Err(FromClaimsError::NoMemory) => Outcome::Refused,
+        Err(error) => Outcome::done(wanted == Some(error)),
     }
 }
 
@@ -126,7 +126,7 @@ fn lists<'a>(
     tree: &Tree<Memory<'a>>,
     place: u32,
     ids: &[ClaimId],
-) -> Tried
+) -> Outcome
     requires { IsGrownFrom line.now.tree tree.now }
 {
     assert!(rt; (place as usize) < tree.len());
@@ -134,9 +134,9 @@ fn lists<'a>(
         Ok(told) => {
             let is_right = told.as_slice() == ids;
             drop(told);
-            Tried::done(is_right)
+            Outcome::done(is_right)
         }
-        Err(NoMemory) => Tried::Refused,
+        Err(NoMemory) => Outcome::Refused,
     }
 }
 
@@ -193,7 +193,7 @@ pub(super) fn act<'a>(
     line: &mut Line<Memory<'a>>,
     tree: &Tree<Memory<'a>>,
     row: &Row,
-) -> Tried
+) -> Outcome
     requires { IsGrownFrom line.old.tree tree.now }
     ensures { IsGrownFrom line.new.tree tree.now }
 {
@@ -211,30 +211,30 @@ pub(super) fn act<'a>(
         Row::ClaimsAt(place, ids) => lists(rt, line, tree, place, ids),
         Row::Drop(id) => {
             line.drop_claim(id);
-            Tried::Done
+            Outcome::Done
         }
         Row::DropSession(session) => {
             line.drop_session(session);
-            Tried::Done
+            Outcome::Done
         }
         Row::Restart => {
             line.restart();
-            Tried::Done
+            Outcome::Done
         }
         Row::Give(number, designer) => {
             line.give(number, Name::read(designer.as_bytes()).expect(rt, "a name"));
-            Tried::Done
+            Outcome::Done
         }
         Row::SetNote(number, note) => {
             line.set_note(number, Note::read(note.as_bytes()).expect(rt, "a note"));
-            Tried::Done
+            Outcome::Done
         }
         Row::New => is_like(Line::new(memories.0), line),
         Row::Copy => is_like(line.copy(), line),
         Row::FromClaims(last_long, claims, wanted) => {
             is_made(rt, memories, tree, last_long, claims, wanted)
         }
-        _ => Tried::done(shows(rt, memories.0, line, tree, row)),
+        _ => Outcome::done(shows(rt, memories.0, line, tree, row)),
     }
 }
 
@@ -251,7 +251,7 @@ pub(super) fn line_behind<'a>(
     let mut line = new_line(rt, memories.0);
     for (index, row) in rows.iter().enumerate() {
         let tried = act(rt, memories, &mut line, tree, row);
-        assert!(rt; tried == Tried::Done, "{name}, row {index}");
+        assert!(rt; tried == Outcome::Done, "{name}, row {index}");
     }
     line
 }

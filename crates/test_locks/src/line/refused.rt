@@ -11,7 +11,7 @@ use design_tree::Tree;
 use lock_table::Extension::Done;
 use long_locks::Line;
 use std::process::Abort;
-use test_memory::{Refusing, Tried, requests};
+use test_memory::{Outcome, Refusing, requests};
 use vault_model::{ClaimId, Intent, Standing};
 
 // Tries a row. If it is refused, the line must be as its twin still, and the next try must succeed.
@@ -23,17 +23,17 @@ fn takes<'a>(
     tree: &Tree<Memory<'a>>,
     number: u64,
     row: &Row,
-) -> Tried
+) -> Outcome
     requires { IsGrownFrom line.old.tree tree.now }
 {
     memories.0.refuse(number);
     let tried = act(rt, memories, line, tree, row);
     let has_refused = memories.0.has_refused();
-    if tried != Tried::Refused {
+    if tried != Outcome::Refused {
         return tried.and(!has_refused);
     }
     let is_kept = is_same(line, twin);
-    tried.and(has_refused && is_kept && act(rt, memories, line, tree, row) == Tried::Done)
+    tried.and(has_refused && is_kept && act(rt, memories, line, tree, row) == Outcome::Done)
 }
 
 // Tries a row after others. A twin line takes the same rows with ample memory. At the end both must be the same.
@@ -43,12 +43,12 @@ fn takes_behind<'a>(
     number: u64,
     worked: Worked<Row>,
     row: &Row,
-) -> Tried {
+) -> Outcome {
     let tree = tree_of(rt, ample, &SMALL);
     let mut line = line_behind(rt, (memory, ample), &tree, worked);
     let mut twin = line_behind(rt, (ample, ample), &tree, worked);
     let tried = takes(rt, (memory, ample), &mut line, &twin, &tree, number, row);
-    let is_done = act(rt, (ample, ample), &mut twin, &tree, row) == Tried::Done;
+    let is_done = act(rt, (ample, ample), &mut twin, &tree, row) == Outcome::Done;
     let is_like = is_same(&line, &twin);
     drop(line);
     drop(twin);

@@ -10,7 +10,7 @@ use lock_modes::Mode;
 use lock_table::{Extension, Table};
 use std::alloc::Allocator;
 use std::process::Abort;
-use test_memory::Tried;
+use test_memory::Outcome;
 use vault_model::{ClaimId, Intent, NoMemory, PlaceId, Standing};
 
 pub(super) const C1: ClaimId = ClaimId::Long(1);
@@ -77,16 +77,16 @@ fn is_like<A: Allocator>(
     made: Result<Table<A>, NoMemory>,
     table: &Table<A>,
     second: Option<Standing>,
-) -> Tried {
+) -> Outcome {
     match made {
         Ok(mut made) => {
             let is_like = is_same(tree, &made, table);
             made.release(C1);
             let is_apart = stands(&made, C2, second);
             drop(made);
-            Tried::done(is_like && is_apart)
+            Outcome::done(is_like && is_apart)
         }
-        Err(NoMemory) => Tried::Refused,
+        Err(NoMemory) => Outcome::Refused,
     }
 }
 
@@ -113,11 +113,11 @@ fn ask<A: Allocator + Copy>(
     id: ClaimId,
     wishes: &[Wish],
     standing: Standing,
-) -> Tried {
+) -> Outcome {
     assert!(rt; table.standing(id).is_none());
     assert!(rt; !table.is_full());
     match answers(table.ask(id, locks_of(rt, tree, wishes)), standing) {
-        Tried::Done => Tried::done(stands(table, id, Some(standing))),
+        Outcome::Done => Outcome::done(stands(table, id, Some(standing))),
         tried => tried,
     }
 }
@@ -129,7 +129,7 @@ pub(super) fn act<A: Allocator + Copy>(
     tree: &Tree,
     table: &mut Table<A>,
     row: &Row,
-) -> Tried {
+) -> Outcome {
     match *row {
         Row::Ask(id, wishes, standing) => ask(rt, tree, table, id, wishes, standing),
         Row::Extend(id, wishes, told) => {
@@ -144,15 +144,15 @@ pub(super) fn act<A: Allocator + Copy>(
         }
         Row::Release(id) => {
             table.release(id);
-            Tried::done(stands(table, id, None))
+            Outcome::done(stands(table, id, None))
         }
         Row::ReleaseShort => {
             table.release_short();
-            Tried::Done
+            Outcome::Done
         }
         Row::New(second) => is_like(tree, Table::new(alloc), table, second),
         Row::Copy(second) => is_like(tree, table.copy(), table, second),
-        _ => Tried::done(shows(tree, table, row)),
+        _ => Outcome::done(shows(tree, table, row)),
     }
 }
 
@@ -166,7 +166,7 @@ pub(super) fn table_behind<A: Allocator + Copy>(
     let mut table = Table::new(alloc).expect(rt, "memory");
     for (index, row) in rows.iter().enumerate() {
         let tried = act(rt, alloc, tree, &mut table, row);
-        assert!(rt; tried == Tried::Done, "{name}, row {index}");
+        assert!(rt; tried == Outcome::Done, "{name}, row {index}");
     }
     table
 }

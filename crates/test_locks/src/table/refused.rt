@@ -8,7 +8,7 @@ use lock_table::Extension::Done;
 use lock_table::Table;
 use std::alloc::Global;
 use std::process::Abort;
-use test_memory::{Refusing, Tried, requests};
+use test_memory::{Outcome, Refusing, requests};
 use vault_model::{ClaimId, Intent, Standing};
 
 // Tries a row. If it is refused, the table must be as its twin still, and the next try must succeed.
@@ -20,15 +20,15 @@ fn takes<'a>(
     twin: &Table<&'a Refusing<Global>>,
     number: u64,
     row: &Row,
-) -> Tried {
+) -> Outcome {
     memory.refuse(number);
     let tried = act(rt, memory, tree, table, row);
     let has_refused = memory.has_refused();
-    if tried != Tried::Refused {
+    if tried != Outcome::Refused {
         return tried.and(!has_refused);
     }
     let is_kept = is_same(tree, table, twin);
-    tried.and(has_refused && is_kept && act(rt, memory, tree, table, row) == Tried::Done)
+    tried.and(has_refused && is_kept && act(rt, memory, tree, table, row) == Outcome::Done)
 }
 
 // Tries a row after others. A twin table takes the same rows with ample memory. At the end both must be the same.
@@ -39,11 +39,11 @@ fn takes_behind<'a>(
     number: u64,
     worked: Worked<Row>,
     row: &Row,
-) -> Tried {
+) -> Outcome {
     let mut table = table_behind(rt, memory, tree, worked);
     let mut twin = table_behind(rt, ample, tree, worked);
     let tried = takes(rt, memory, tree, &mut table, &twin, number, row);
-    let is_done = act(rt, ample, tree, &mut twin, row) == Tried::Done;
+    let is_done = act(rt, ample, tree, &mut twin, row) == Outcome::Done;
     let is_like = is_same(tree, &table, &twin);
     drop(table);
     drop(twin);
