@@ -42,10 +42,10 @@ class Pages:
 
 
 class QuietHandler(http.server.SimpleHTTPRequestHandler):
-    """Hands out files and says nothing of it."""
+    """Hands out files, and logs nothing."""
 
     def log_message(self, format: str, *words: Any) -> None:
-        """Says nothing."""
+        """Logs nothing."""
 
 
 class Browser:

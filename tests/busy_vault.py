@@ -1,6 +1,6 @@
 """An office at work, for pages to be looked at: a vault of machines with files' cards, and sixteen designers who go on changing it.
 
-usage: tests/busy_vault.py PORT [SECONDS]        fills the vault of a running server, and works on in it for so long
+usage: tests/busy_vault.py PORT [SECONDS]        fills the vault of a running server, and works on in it for this long
 """
 
 import hashlib

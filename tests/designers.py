@@ -16,7 +16,7 @@ PART = "/engine/block/piston"
 
 
 class WithServer(unittest.TestCase):
-    """A server with one part, a cutter before it, and a folder for the clients' files, all in memory: tests/test_crash.py asks the
+    """A server with one part, a cutter before it, and a folder for the clients' files, all in memory. tests/test_crash.py uses a
     disk."""
 
     def setUp(self) -> None:

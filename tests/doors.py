@@ -72,12 +72,12 @@ class Door:
         self.ssh_program()
 
     def know_host(self, name: str, key: Path) -> None:
-        """Writes down by which key ssh is to know this host."""
+        """Writes down the key by which ssh knows this host."""
         words = key.read_text("ascii").split()
         (self.folder / name).write_text(f"[127.0.0.1]:{self.port} {words[0]} {words[1]}\n", "ascii")
 
     def ssh_program(self) -> None:
-        """Puts ssh itself on the path with a configuration that a variable names, since it asks no variable for its home."""
+        """Puts an `ssh` on the path whose configuration a variable names, since ssh itself takes its home from no variable."""
         (self.programs / "ssh").write_text(f'#!/bin/sh\nexec {shutil.which("ssh")} -F "$SSH_CONFIG" "$@"\n', "ascii")
         (self.programs / "ssh").chmod(0o755)
 
@@ -117,7 +117,7 @@ class Door:
         raise AssertionError((self.folder / "sshd.log").read_text("utf-8"))
 
     def close(self) -> None:
-        """Ends sshd, and the connections that stayed, and takes its files away."""
+        """Ends sshd and the connections that stayed, and removes its files."""
         for control in self.folder.glob("control-*"):
             subprocess.run(["ssh", "-S", str(control), "-O", "exit", "127.0.0.1"], capture_output=True, check=False)
         if self.process is not None:

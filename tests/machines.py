@@ -11,7 +11,7 @@ from typing import Dict, Tuple
 MIRROR = "http://deb.debian.org/debian"
 RELEASE = "bookworm"
 CACHE = Path(os.environ.get("VAULT_CACHE", "/var/cache/vaultd-tests"))
-# What the packages need and what the page on operating names, and beside it the programs of the script.
+# What the packages need and what the page on operating names, and the programs that the script uses.
 PACKAGES = ("systemd", "systemd-sysv", "dbus", "python3", "python3-filelock", "python3-aiohttp", "python3-jinja2", "openssh-server", "nftables",
             "iproute2", "netcat-openbsd", "psmisc", "prometheus-node-exporter", "curl", "ca-certificates")
 SCRIPT_UNIT = "script-of-a-test.service"
@@ -44,7 +44,7 @@ def wanting() -> str:
 
 
 def base() -> Path:
-    """The machine's root, which no run writes into. Takes two minutes, and the network, where it isn't there yet."""
+    """The machine's root, which no run writes into. If it isn't there yet, this takes two minutes, and the network."""
     root = CACHE / f"{RELEASE}-4"
     if root.exists():
         return root

@@ -36,7 +36,7 @@ class PageServer:
         return f"http://127.0.0.1:{self.port}"
 
     def end(self) -> bytes:
-        """Ends it as a service's manager does: what it said on standard error."""
+        """Ends it as a service manager does, and answers what it said on standard error."""
         if self.process.poll() is None:
             self.process.send_signal(signal.SIGTERM)
         return self.process.communicate(timeout=20)[1]

@@ -77,7 +77,7 @@ class Limits:
 
 
 class Server:
-    """A server over two files, those of a new vault where none are named, which can be killed and started again at one address."""
+    """A server over two files (of a new vault if none are named), which can be killed and started again at the same address."""
 
     def __init__(self, *words: str, folder: Optional[str] = None, files: Optional[Tuple[str, str]] = None):
         self.folder = tempfile.TemporaryDirectory(prefix="vault-test-", dir=folder)
@@ -122,7 +122,7 @@ class Server:
             self.process = None
 
     def end(self) -> Tuple[Optional[int], str, str]:
-        """Waits until it ends by itself: its status, its output and its errors."""
+        """Waits until it ends by itself, and answers its status, its output and its errors."""
         assert self.process is not None
         try:
             out, errors = self.process.communicate(timeout=20)
@@ -132,7 +132,7 @@ class Server:
         return status, (self.said + out).decode(), errors.decode()
 
     def close(self) -> None:
-        """Kills the server and takes its files away."""
+        """Kills the server and removes its files."""
         self.kill()
         self.folder.cleanup()
 

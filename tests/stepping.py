@@ -21,7 +21,7 @@ EVENTS = {"open", "os.chmod", "os.link", "os.mkdir", "os.remove", "os.rename", "
 
 
 class Steps:
-    """Counts steps, and ends this process without a word before one of them."""
+    """Counts steps, and ends this process at once before one of them."""
 
     def __init__(self, last: int):
         self.left = last

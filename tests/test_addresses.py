@@ -109,7 +109,7 @@ class Lost(TwoServers):
         self.assertEqual(len(list(anna.history(PART))), number + 1)
 
     def test_by_the_next_run(self) -> None:
-        """Nobody serves for longer than one is patient, and then the other one."""
+        """Nobody serves for longer than the client is patient, and then the other server does."""
         for number, (behind, told) in enumerate(((True, "was done."), (False, "was not done. Say it again."))):
             claim = self.anna.checkout(["w:" + PART]).claim
             self.anna.put(PART, b"bore %d" % number)
@@ -152,11 +152,11 @@ class Lost(TwoServers):
 
 
 class PassedOver(TwoServers):
-    """An address whose server is broken, full, away, or none."""
+    """An address whose server is broken, full, away, or no vault's."""
 
     def test_broken(self) -> None:
-        """A server that answers questions from what was, and breaks at the first command: what it was told to do is done at the other one, once.
-        From then on that one is asked, whichever stands first."""
+        """A server that answers questions from its old state, and breaks at the first command: the other one does that command, once.
+        From then on the other one is asked, whichever stands first."""
         claim = self.anna.checkout(["w:" + PART]).claim
         self.anna.put(PART, b"bore 80")
         self.one.kill()
@@ -181,7 +181,7 @@ class PassedOver(TwoServers):
         return copies[0], copies[1]
 
     def test_each_question_broken(self) -> None:
-        """One that answers 82 to all, once it is greeted, or not even then."""
+        """One that answers 82 to all after the greeting, or doesn't even take the greeting."""
         for greeting in (b"OK session 1", b"ERR 82", b"ERR 80", b"HTTP/1.1 400 Bad Request", b""):
             odd = Odd()
             self.addCleanup(odd.listener.close)
@@ -210,7 +210,7 @@ class PassedOver(TwoServers):
             self.assertEqual(came, [])
 
     class connections_to:
-        """Counts who comes to a port."""
+        """Collects the connections to a port."""
 
         def __init__(self, port: int):
             self.listener, self.came = socket.create_server(("127.0.0.1", port)), list[object]()
@@ -248,7 +248,7 @@ class PassedOver(TwoServers):
         self.assertIn("/wing", list(self.client("ben", ports=(self.two.port,)).tree()))
 
     def test_all_away(self) -> None:
-        """Both are named, and tried again behind growing pauses."""
+        """Both are named, and tried again after growing pauses."""
         ports = free_port(), free_port()
         said: List[str] = []
         anna = self.client("anna", patience=1.5, ports=ports)
@@ -272,7 +272,7 @@ class PassedOver(TwoServers):
 
 
 class Words(TwoServers):
-    """The list on the command line, and what is kept by it."""
+    """The list on the command line, and what is kept under it."""
 
     def vault(self, *words: str, status: int = 0) -> str:
         """What the program says."""

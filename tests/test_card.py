@@ -28,7 +28,7 @@ class Cards(unittest.TestCase):
         self.assertLessEqual(len(card.spell()), 1024)
 
     def test_no_cards(self) -> None:
-        """Contents as they were before, and what is nearly a card."""
+        """Contents as they were before there were cards, and what is nearly a card."""
         for content in (b"", b"bore 80\n", TEXT[:-1], TEXT + b"\n", TEXT + b"x", b"\n" + TEXT, TEXT.replace(b"\n", b"\r\n"),
                         TEXT.replace(b"card 1", b"card 2"), TEXT.replace(b"abab", b"ABAB"), TEXT.replace(b"3145728", b"03145728"),
                         TEXT.replace(b"3145728", b"-1"), TEXT.replace(b"3145728", b"9" * 19), TEXT.replace(b"anna", b"Anna"),
@@ -40,7 +40,7 @@ class Cards(unittest.TestCase):
             self.assertIsNone(read_card(content), content)
 
     def test_one_spelling(self) -> None:
-        """Whatever is taken for a card is spelled as it was."""
+        """Whatever is read as a card is written again with the same bytes."""
         moments, taken = random.Random(65), 0
         for _ in range(20000):
             content = bytearray(TEXT)
@@ -63,7 +63,7 @@ class Cards(unittest.TestCase):
                 note_word(word)
 
     def test_shown(self) -> None:
-        """What turns the direction of writing is spelled."""
+        """What turns the direction of writing is shown escaped."""
         self.assertEqual(shown("Kolben \u202egpj.exe \u00e4"), "Kolben \\u202egpj.exe \u00e4")
 
 

@@ -125,7 +125,7 @@ class NotServed(Tries):
             self.same(f"{name}: nothing is changed", held("a", "b"), [first, second])
 
     def test_files_of_two_vaults(self) -> None:
-        """The older file has to lead to an earlier vault of the newer one's snapshot, by its frames, too. Nothing is changed."""
+        """The older file, with its frames, must lead to an earlier vault than the newer one's snapshot. Nothing is changed."""
         plant, office = (bytes(4) + b"\0\0\0\2\0\0\0\0" + bytes([len(name)]) + name + bytes(3) for name in (b"plant", b"office"))
         made = NEW[:34] + b"\1\0\0\0\x0b\1\0\0\0\0\5plant\0"
         for name, first, second, served in (

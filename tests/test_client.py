@@ -64,7 +64,7 @@ class Lost(WithServer):
         self.assertEqual(self.anna.checkout(["w:/engine"]).claim, "c2")
 
     def test_checkout_far_behind(self) -> None:
-        """Behind more numbers than are asked for at first, the lost one is found by the second one's number, and only it stands."""
+        """After more numbers than are asked about at first, the lost one is found by the second one's number, and only it stands."""
         ben = self.client("ben")
         for _ in range(100):
             ben.abandon(ben.checkout(["r:/engine"]).claim)
@@ -255,7 +255,7 @@ class NoServer(WithServer):
 
 
 class Long(WithServer):
-    """Work on much."""
+    """A long history."""
 
     def test_history(self) -> None:
         """More versions than are read at once: each is there, in its order, and the progress is shown meanwhile."""
@@ -371,8 +371,8 @@ class Program(WithServer):
         self.assertEqual({words[0] for words in said}, set(COMMANDS))
 
     def test_killed(self) -> None:
-        """The program is killed while its check-in is under way, by turns before the server hears of it and before the reply is heard, and
-        the next run finds out: each content is a version once."""
+        """The program is killed while its check-in is under way, in turn before the server gets it and before the client gets the reply.
+        The next run finds out: each content is a version once."""
         contents = [b"content %d" % number for number in range(6)]
         self.vault("hello", f"anna@127.0.0.1:{self.cutter.port}")
         for number, content in enumerate(contents):

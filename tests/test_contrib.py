@@ -97,7 +97,7 @@ class Contrib(unittest.TestCase):
 
     @unittest.skipUnless(shutil.which("systemd-analyze"), "needs systemd-analyze")
     def test_replicated_units(self) -> None:
-        """The unit with what is added on a machine of two, and the mount."""
+        """The unit with its additions for two machines, and the mount."""
         units = self.root / "units"
         (units / "vaultd.service.d").mkdir(parents=True)
         program = self.root / "vaultd"
@@ -151,21 +151,21 @@ class Contrib(unittest.TestCase):
         self.assertEqual(sorted(file.name for file in (self.root / "usr/lib/python3/dist-packages/vaultd_tools/templates").iterdir()), templates)
 
     def test_the_template_is_the_unit(self) -> None:
-        """The template differs from the unit in its names alone."""
+        """The template differs from the unit only in its names."""
         unit = (CONTRIB / "systemd" / "vaultd.service").read_text("utf-8")
         template = (CONTRIB / "systemd" / "vaultd@.service").read_text("utf-8").splitlines()
         other = [line.partition("=")[0] for line in set(unit.splitlines()) ^ set(template)]
         self.assertEqual(set(other), {"Description", "Environment", "EnvironmentFile", "StateDirectory", "ExecStart"})
 
     def test_benches_run_as_the_units(self) -> None:
-        """What benches tell the allocator stands in both units."""
+        """The benches' settings of the allocator stand in both units."""
         for name in ("vaultd.service", "vaultd@.service"):
             lines = (CONTRIB / "systemd" / name).read_text("utf-8").splitlines()
             for word, value in ALLOCATOR.items():
                 self.assertIn(f"Environment={word}={value}", lines)
 
     def test_units_say_why(self) -> None:
-        """Both units of the server ask it to say more."""
+        """Both units of the server start it with `--verbose`."""
         for name in ("vaultd.service", "vaultd@.service"):
             start = re.findall(r"^ExecStart=(.*)$", (CONTRIB / "systemd" / name).read_text("utf-8"), re.MULTILINE)
             self.assertEqual([line.split()[-1] for line in start], ["--verbose"])
@@ -184,7 +184,7 @@ class Contrib(unittest.TestCase):
             self.assertIn(word, said)
 
     def client_words(self) -> List[str]:
-        """The commands and options that the client has by its own help, but for help and version."""
+        """The commands and options that the client has by its own help, except help and version."""
         commands = re.findall(r"^    ([a-z]+)  ", helped(), re.MULTILINE)
         self.assertGreater(len(commands), 10)
         shown = helped() + "".join(helped(command) for command in commands)

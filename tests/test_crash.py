@@ -43,7 +43,7 @@ class Designer(threading.Thread):
         return "/plant/hall/" + self.name
 
     def notice(self, sentence: str) -> None:
-        """Nothing is left under way by a client that isn't killed, so each notice is odd."""
+        """A client that isn't killed leaves nothing under way, so each notice is odd."""
         self.odd.append(sentence)
 
     def run(self) -> None:
@@ -53,7 +53,7 @@ class Designer(threading.Thread):
                 number += 1
                 self.one(SHARED if number % 3 == 0 else self.own(), b"%s %d" % (self.name.encode(), number))
             self.client.close()
-        except Exception as error:  # what ends a client is the test's to tell
+        except Exception as error:  # the test reports whatever ends a client
             self.odd.append(repr(error))
 
     def one(self, part: str, content: bytes) -> None:

@@ -43,7 +43,7 @@ NAME = re.compile(r"(?<![}\w])(?:[A-Za-z]\w*_\w+|[A-Z][a-z]+[A-Z]\w*)")
 FOREIGN = {"writes_back", "shift_remove", "RT_JOBS", "sched_vcpu_pack", "fence_scsi", "fence_mpath", "try_it"}
 # Words before a program's name in a command.
 BEFORE = ("runuser", "-u", "vaultd-watch", "--", "sudo", "/usr/bin/python3", "python3")
-# What a program says, and no command.
+# Messages of programs, which are no commands.
 MESSAGES = ("vault in use", "vault in use: ..", "vault exists")
 SUBCOMMANDS = ("create", "serve", "inspect", "check", "script")
 
@@ -182,7 +182,7 @@ class Pages(unittest.TestCase):
         self.assertEqual(FOREIGN - seen, set())
 
     def test_clauses_of_the_theorem_are_there(self) -> None:
-        """Each clause that a promise names behind functions is one of theirs."""
+        """Each clause that a promise names after functions is one of theirs."""
         clauses = clauses_of_functions()
         seen = 0
         for row in text_of(TOP / "docs" / "THEOREM.md").splitlines():

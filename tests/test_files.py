@@ -26,7 +26,7 @@ OPTIONAL = ("platformdirs", "rich", "rich.table", "rich.console", "rich.text", "
 
 
 def can_mount() -> bool:
-    """Whether this process may mount something where only it sees that."""
+    """Whether this process may mount something that only it sees."""
     tried = subprocess.run(["unshare", "-m", "mount", "-t", "tmpfs", "tmpfs", "/mnt"], capture_output=True, check=False) if shutil.which(
         "unshare") else None
     return tried is not None and tried.returncode == 0
@@ -44,7 +44,7 @@ class Disk(WithStore):
 
     @unittest.skipUnless(can_mount(), "may not mount anything")
     def test_full(self) -> None:
-        """A put is refused, what came of the file is taken away, and nothing is saved; the next put goes through."""
+        """A put is refused, the part that was written is removed, and nothing is saved; the next put goes through."""
         self.as_program()
         self.fill(b"bore 80", 300_000)
         claim = self.anna.checkout(["w:" + PART]).claim
@@ -169,7 +169,7 @@ class Shown(WithStore):
 
 
 class Libraries(WithStore):
-    """Where platformdirs, rich and tqdm are missing, all goes on; only filelock is needed."""
+    """Without platformdirs, rich and tqdm all works; only filelock is needed."""
 
     def without(self, missing: Sequence[str], *words: str, seconds: float = 1.0) -> "subprocess.Popen[bytes]":
         """The program, on a terminal without these libraries; what takes longer than this many seconds is shown."""
@@ -195,7 +195,7 @@ class Libraries(WithStore):
         return said.decode()
 
     def test_missing(self) -> None:
-        """Progress is told in sentences, and a history in lines. The client's files are where they were."""
+        """Progress is shown in sentences, and a history in lines. The client's files are where they were."""
         self.as_program()
         self.fill(b"bore 80", 5_000_000)
         claim = self.anna.checkout(["w:" + PART]).claim
@@ -213,13 +213,13 @@ class Libraries(WithStore):
 
 
 class Remotes:
-    """The same of remotes."""
+    """The same for remotes."""
 
     class Disk(test_rclone.Shared.OverRclone):
-        """Tests of a full and of a read-only remote alone."""
+        """Only tests of a full and of a read-only remote."""
 
         def test_full(self) -> None:
-            """The server of files can't write what is longer, which is what a full disk is to it."""
+            """The file server can't write longer files, as if its disk were full."""
             self.fill(b"bore 80", 300_000)
             self.remote.stop()
             self.limited(200_000)

@@ -217,14 +217,14 @@ class Roles(WithDoor):
                          ["OK session", "OK held c1", "OK list 1 engine", "OK versions 0", "ERR 40", "OK note -", "OK left"])
 
     def test_new_questions(self) -> None:
-        """Who holds what anybody may ask; drafts are their owner's."""
+        """Anybody may ask who holds what; drafts are their owner's."""
         questions = [b"show c1\n", b"claims /engine\n", b"drafts c1\n", f"draft c1 {PART}\n".encode(), b"wait c1\n"]
         self.assertEqual(self.conversation("guest", b"hello guest\n" + b"".join(questions) + b"quit\n"),
                          ["OK session", f"OK claim c1 ben held w:{PART}", "OK claims 1 c1", "ERR 31", "ERR 31", "OK held c1", "OK left"])
         self.assertEqual(self.recorder.lines, [b"hello guest\n", *questions, b"quit\n"])
 
     def test_drafts_that_were_given(self) -> None:
-        """Who may only look reads the drafts of a check-out that was given to that name, and still changes nothing of it."""
+        """A name that may only look can read the drafts of a check-out that was given to it, and still changes nothing of it."""
         self.assertEqual(self.conversation("eva", b"hello ben\ngive c1 guest\nquit\n"), ["OK session", "OK given", "OK left"])
         text = f"hello guest\ndrafts c1\ndraft c1 {PART}\nsave c1 {PART} 01\ncheckin c1\nabandon c1\ngive c1 anna\nnote c1 00\nquit\n".encode()
         self.assertEqual(self.conversation("guest", text), ["OK session", f"OK drafts 1 {PART}", "OK content 00", *5 * ["ERR 31"], "OK left"])
@@ -318,7 +318,7 @@ class Logged(WithDoor):
         self.fail(self.door.logged())
 
     def test_asked_of(self) -> None:
-        """`vaultd-log` says who took, gave away, abandoned and checked in a place, of each line of the log."""
+        """For each line of the log, `vaultd-log` says who took, gave away, abandoned or checked in a place."""
         self.conversation("anna", b"hello anna\nmake /a\ncheckout w:/a\nextend c2 r:/engine\ngive c2 ben\nabandon c2\ncheckout r:/a\nquit\n")
         self.conversation("eva", b"hello ben\nsave c1 /engine/block/piston 01\ncheckin c1\nabandon c2\nquit\n")
         self.assertEqual(self.asked("/a"), [
@@ -421,7 +421,7 @@ class Alone(unittest.TestCase):
         self.assertEqual((process.returncode, b"/nowhere/log can't be opened" in said), (1, True))
 
     def test_system_log(self) -> None:
-        """Each line goes to the system's log, too; where there is none, that is said once."""
+        """Each line goes to the system's log, too; if there is none, that is said once."""
         path = str(self.door.folder / "syslog")
         with socket.socket(socket.AF_UNIX, socket.SOCK_DGRAM) as system:
             system.bind(path)

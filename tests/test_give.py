@@ -46,7 +46,7 @@ class Give(Knowing):
         self.assertEqual(self.notices, [])
 
     def test_given_back(self) -> None:
-        """What she put is hers to check in again, and the client still knows for what it was asked."""
+        """Once it is given back, she can put and check in again, and her client still knows what it was asked for."""
         self.anna.put(PART, b"x")
         self.anna.give(self.claim, "ben")
         with self.assertRaises(Misused):
@@ -84,7 +84,7 @@ class Give(Knowing):
 
 
 class Note(Knowing):
-    """A note is written, read by anyone and taken away, whatever breaks."""
+    """A note is written, read by anyone and removed, whatever breaks."""
 
     def test_noted(self) -> None:
         self.assertEqual(self.anna.note(self.claim), b"")

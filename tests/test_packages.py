@@ -91,7 +91,7 @@ class Packages(unittest.TestCase):
 
     @unittest.skipUnless(shutil.which("lintian"), "needs lintian")
     def test_lintian(self) -> None:
-        """The tool that reads packages over finds no error."""
+        """lintian finds no error in the packages."""
         said = self.said("lintian", "--fail-on", "error", "--allow-root", *map(str, self.packages))
         self.assertEqual([line for line in said.splitlines() if line.startswith("E:")], [])
 

@@ -71,7 +71,7 @@ class WithPage(unittest.TestCase):
         return [hashlib.sha256(Path(file).read_bytes()).hexdigest() for file in self.server.files]
 
     def text(self, path: str) -> str:
-        """What a page says, without its marks."""
+        """The text of a page, without its markup."""
         return re.sub(r"\s+", " ", html.unescape(re.sub(r"<[^>]*>", " ", self.page.page(path).partition("<body")[2])))
 
     def stream(self, path: str) -> Stream:
@@ -101,7 +101,7 @@ class Reading(WithPage):
             self.assertEqual(re.findall(FROM_ELSEWHERE, body) if path in KINDS else [], [])
 
     def test_a_part(self) -> None:
-        """Its versions have number, time, author, size, name and note; a content that is no card has its size alone."""
+        """Its versions have number, time, author, size, name and note; a content that is no card has only its size."""
         self.check_in(b"v2")
         self.anna.checkout(["w:" + PART])
         text = self.text(PART)
@@ -176,7 +176,7 @@ class Reading(WithPage):
         self.assertEqual([self.page.get(path)[0] for path in ("/~/static", "/~/engine", "/designers/anna/static", "/~", "/~/")], [404] * 5)
 
     def test_nothing_is_changed(self) -> None:
-        """After every kind of request the files are the same bytes, and the server got questions alone, in the page's own name."""
+        """After every kind of request the files are the same bytes, and the server got only questions, in the page's own name."""
         self.anna.checkout(["w:" + PART])
         self.anna.checkout(["r:/"])
         before = self.files()

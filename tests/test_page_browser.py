@@ -110,7 +110,7 @@ class Kinds(WithOffice):
                     self.browser.picture(PICTURES / f"{name}-{window}.png")
 
     def test_strangers_words(self) -> None:
-        """Names, cards and notes stand there as they were written, and what turns the direction of writing is spelled."""
+        """Names, cards and notes stand there as they were written, and what turns the direction of writing is shown escaped."""
         self.fill()
         self.open("/gripper/base/flange")
         self.assertIn("<img src=x onerror=alert(3)>", self.words("#line"))

@@ -157,7 +157,7 @@ class Order(Tries):
 
 
 class Damage(Tries):
-    """Damage is named by its file and offset, and isn't mended."""
+    """Damage is named by its file and offset, and isn't repaired."""
 
     def test_damage(self) -> None:
         address = f"127.0.0.1:{free_port()}"
@@ -257,7 +257,7 @@ class OtherFaults(Tries):
     def test_little_memory(self) -> None:
         """A script that gets no memory says so. One that fits is done, under the same limit."""
         for rest, wanted in ((b"\n@1 hello anna\n", (0, "@1 OK session 1\n", "")), (b"#" * 15000000, fault("memory"))):
-            # What `rt try` builds has AddressSanitizer, which would end it here without this word.
+            # What `rt try` builds has AddressSanitizer, which would end the program here without this setting.
             process = subprocess.Popen([VAULTD, "script"], stdin=subprocess.PIPE, stdout=subprocess.PIPE, stderr=subprocess.PIPE,
                                        env={**os.environ, "ASAN_OPTIONS": "allocator_may_return_null=1"})
             assert process.stdin is not None

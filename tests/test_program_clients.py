@@ -223,7 +223,7 @@ class Stops(Tries):
             self.check(f"told before {sign.name}", f"places {number + 1}, versions 0, claims {number}," in out and " h1 " not in out, out)
 
     def test_copies_of_a_busy_server(self) -> None:
-        """Copies of files that a server writes to open."""
+        """Copies that are made of the files while a server writes to them can be opened."""
         server = self.serve()
         copies = 0
         with server.connect() as client:

@@ -131,7 +131,7 @@ class Shared:
                 self.parts.write_new(self.parts.get(PART), back)
 
         def test_away(self) -> None:
-            """No server, a server that stops in between, other words for it, and a path that isn't the store."""
+            """No server, and a path where the store isn't any more."""
             self.put_version()
             self.remote.stop()
             self.assertIn("rclone says", self.refused())
@@ -146,7 +146,7 @@ class Shared:
             self.assertEqual(self.names_what_is_there(), 2)
 
         def test_stopped_in_between(self) -> None:
-            """The server stops while it is sent bytes."""
+            """The server stops while bytes are sent to it."""
             self.fill(b"bore 80", 20_000_000)
             self.remote.stop()
             self.remote.start("--bwlimit", "4M")
@@ -169,7 +169,7 @@ class Shared:
             self.assertEqual(self.names_what_is_there(), 1)
 
         def test_killed_at_steps(self) -> None:
-            """At each run of rclone, before it, and at what else a put does."""
+            """The client is killed at every seventh step of a put: at runs of rclone, and at what else a put does."""
             self.as_program()
             stepper = Stepper(self.environment())
             self.addCleanup(stepper.close)
@@ -212,7 +212,7 @@ class Shared:
             self.assertEqual((len(self.entries()), self.entries("incoming")), (3, []))
 
         def test_swept(self) -> None:
-            """What is old is taken away, and what a killed client left; what is young stays."""
+            """What is old is removed, and what a killed client left; what is young stays."""
             old, store = self.put_version(), self.parts.setting.store()
             assert store is not None
             os.utime(self.path_of(old), (1000, 1000))

@@ -53,7 +53,7 @@ class Reasons(Tries):
     """Each action, and a real cause why it fails."""
 
     def both(self, line: str, reason: str, *words: str, before: Sequence[str] = (), **given: object) -> None:
-        """A fault without a word, and with its reason."""
+        """A fault without `--verbose`, and then with it and its reason."""
         for more, wanted in ((), line + "\n"), (("--verbose",), f"{line}\n{reason}\n"):
             if before:
                 done = subprocess.run([*before, VAULTD, *words, *more], capture_output=True, text=True, timeout=20, check=False)
@@ -81,7 +81,7 @@ class Reasons(Tries):
                 self.both(FAULTS["in use"], '"b", locked: another program has locked it', *words)
 
     def test_read(self) -> None:
-        """A folder is opened for reading, and isn't read."""
+        """A folder can be opened for reading, but not read."""
         self.new_vault()
         os.mkdir("folder")
         for words in (["inspect", "folder", "b"], ["inspect", "a", "folder"], ["check", "folder", "b"]):
@@ -190,7 +190,7 @@ class Serving(Tries):
             self.same(f"its end {words}", server.end(), (1, "listening\n", ""))
 
     def says(self, said: str, words: Sequence[str], path: str, cause: str) -> None:
-        """A broken vault is told in its line, and with the word also why."""
+        """A broken vault is reported in its line, and with `--verbose` also why."""
         if words:
             wanted = rf'listening on [^\n]*\ndevice fault\n"{re.escape(path)}", written at \d+: {re.escape(cause)}\n'
             self.check("the fault and its reason", re.fullmatch(wanted, said) is not None, said)

@@ -53,7 +53,7 @@ class Addresses(unittest.TestCase):
                 read_address(word)
 
     def test_nothing_is_an_option(self) -> None:
-        """Behind two dashes stand the host and a command that is always the same; before them a user has its own option."""
+        """The host and a command that is always the same stand after two dashes; before these a user has its own option."""
         words = ssh_words("ssh:vault@[::1]", 22, 10)
         self.assertEqual(words[-7:], ["-p", "22", "-l", "vault", "--", "::1", GATE])
         self.assertEqual(ssh_words("ssh:hall", 0, 10)[-3:], ["--", "hall", GATE])
@@ -108,7 +108,7 @@ class ThroughTheDoor(unittest.TestCase):
         self.assertEqual(self.came(), before + 2)
 
     def test_sentences(self) -> None:
-        """Who isn't let in is told so at once, in a sentence with what to do."""
+        """Whoever isn't let in hears so at once, in a sentence that says what to do."""
         make_key(self.door.folder / "stranger")
         (self.door.folder / "nobody_known").touch()
         self.door.know_host("another_known", self.door.folder / "stranger.pub")
@@ -135,7 +135,7 @@ class ThroughTheDoor(unittest.TestCase):
         self.one_sentence(self.vault("--as", "anna@" + self.server_word, "tree", status=1), "has no gate to the vault")
 
     def test_ssh_is_killed(self) -> None:
-        """Where ssh is killed, the client comes again."""
+        """If ssh is killed, the client connects again."""
         client = self.client()
         client.make("/engine")
         assert client.link.connection is not None and isinstance(client.link.connection.stream, SshStream)
@@ -145,7 +145,7 @@ class ThroughTheDoor(unittest.TestCase):
         client.close()
 
     def test_two_addresses(self) -> None:
-        """Through the second gate, where nobody listens at the first; a key that isn't let in at one is told where it isn't at the other, either."""
+        """Through the second gate, if nobody listens at the first. If neither lets a key speak for the name, the client says so."""
         nobody = f"ssh:127.0.0.1:{free_port()}"
         self.assertEqual(self.vault("hello", f"anna@{nobody},{self.server_word}"),
                          f"You are anna at {nobody} and {self.server_word}. {self.server_word} answers.\n")
@@ -166,7 +166,7 @@ class ThroughTheDoor(unittest.TestCase):
         client.close()
 
     def test_key_is_taken_away(self) -> None:
-        """Where the key is taken away while a command is under way, its fate isn't known, and isn't forgotten."""
+        """If the key is removed while a command is under way, the command's fate isn't known, and the command isn't forgotten."""
         client = self.client(patience=3)
         client.make("/engine")
         kept = self.door.folder / "authorized_keys"
@@ -216,7 +216,7 @@ class Day(test_tutorial.Pages):
 
 
 def forget_all(path: Path) -> None:
-    """Leaves nothing in a file."""
+    """Empties a file."""
     path.write_text("", "ascii")
 
 

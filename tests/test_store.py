@@ -65,7 +65,7 @@ class PutAndGet(WithStore):
         self.assertEqual((self.root / "back").read_bytes(), content)
 
     def test_the_same_bytes_again(self) -> None:
-        """They are there once, and young again; of another's file, which can't be touched, the same bytes take the place."""
+        """They are there once, as the same file, and young again."""
         card = self.put_version()
         os.utime(self.path_of(card), (1, 1))
         number = self.path_of(card).stat().st_ino
@@ -75,7 +75,7 @@ class PutAndGet(WithStore):
         self.assertEqual((self.entries(), self.entries("incoming")), ([card.sha256], []))
 
     def test_swept_right_behind(self) -> None:
-        """Bytes that were old, and are taken away between the put and its end, are put once more."""
+        """Bytes that were old, and are removed between the put and its end, are put once more."""
         card = self.put_version()
         self.anna.link.read("list /")
         self.cutter.after.append(b"save")
@@ -84,7 +84,7 @@ class PutAndGet(WithStore):
         self.assertEqual(self.entries(), [card.sha256])
 
     def test_a_file_that_changes_meanwhile(self) -> None:
-        """Nothing is saved of it; the bytes that were copied are named by nobody."""
+        """Nothing is saved of it, and nobody names the bytes that were copied."""
         claim = self.anna.checkout(["w:" + PART]).claim
 
         def meter(_what: str, _size: int) -> "Changing":
@@ -236,7 +236,7 @@ class Faults(WithStore):
         self.assertEqual(self.anna.checkin(claim), 0)
 
     def test_away(self) -> None:
-        """Where its disk isn't mounted an empty folder stands in its place, and nothing is written into that."""
+        """If its disk isn't mounted, an empty folder stands in its place, and nothing is written into that."""
         self.put_version()
         self.store.rename(self.root / "unmounted")
         self.store.mkdir()
@@ -250,7 +250,7 @@ class Faults(WithStore):
         self.put_version()
 
     def test_full(self) -> None:
-        """By a limit of how long files may grow, which is what a full disk is to a program."""
+        """By a limit of how long files may grow, which looks like a full disk to a program."""
         self.as_program()
         self.fill(b"bore 80", 300_000)
         claim = self.anna.checkout(["w:" + PART]).claim
@@ -389,7 +389,7 @@ class Together(WithStore):
         self.names_what_is_there()
 
     def test_server_killed_in_between(self) -> None:
-        """While the bytes are copied, before the draft is saved, and behind it."""
+        """While the bytes are copied, before the draft is saved, and after it."""
         for number, cut in enumerate((None, *self.both())):
             self.fill(b"bore %d" % number)
             claim = self.anna.checkout(["w:" + PART]).claim
@@ -507,7 +507,7 @@ class Program(WithStore):
         self.assertIn("\u2503", self.on_a_terminal("history", PART))
 
     def on_a_terminal(self, *words: str) -> str:
-        """Runs the program on a terminal, where nothing is too quick to be shown."""
+        """Runs the program on a terminal, and has it show progress however quick the work is."""
         start = "import vault.output; vault.output.METER_SECONDS = 0.0; from vault.program import main; raise SystemExit(main())"
         path = os.pathsep.join(str(package / "src") for package in PACKAGES)
         terminal, other = pty.openpty()

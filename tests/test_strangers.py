@@ -185,7 +185,7 @@ class Tools(Border):
         return done.returncode, done.stdout, done.stderr
 
     def test_curl(self) -> None:
-        """It sends the lines by HTTP in each of its versions, and by TLS, and is told nothing."""
+        """It sends the lines by HTTP in each of its versions, and by TLS, and gets no reply."""
         address, posts = f"127.0.0.1:{self.tap.port}/", ("--data-binary", LINES.decode())
         for words, sent in ((posts, LINES), (("--http1.0", *posts), LINES), (("--http2-prior-knowledge", *posts), b"PRI * HTTP/2.0\r\n"),
                             (("--http2", *posts), LINES), (("--http0.9", *posts), LINES), (("--header", f"X-A: {'a' * 5000}", *posts), LINES),
@@ -214,7 +214,7 @@ class Tools(Border):
                 self.check_untouched()
 
     def test_openssl(self) -> None:
-        """Lines stand in the clear in what TLS says first, where a tool lets them: as the name of a protocol."""
+        """Lines stand in the clear in what TLS says first, if a tool lets them: as the name of a protocol."""
         for words in ((), ("-tls1_2",), ("-alpn", "\n" + LINES.decode()), ("-servername", "anna.example")):
             with self.subTest(words=words):
                 since = len(self.tap.heard)
@@ -260,7 +260,7 @@ class FirstLine(Border):
         self.check_untouched()
 
     def test_cut_anywhere(self) -> None:
-        """Also where the first line comes in two pieces, whatever of the rest comes with the second."""
+        """Also if the first line comes in two pieces, whatever of the rest comes with the second."""
         text = b"GET /a HTTP/1.1\n" + LINES
         for place in range(1, len(text)):
             with self.subTest(place=place):
@@ -285,7 +285,7 @@ class FirstLine(Border):
         self.check_untouched()
 
     def test_what_is_heard(self) -> None:
-        """Nothing else is taken for HTTP or TLS: such a line is answered, and so are those behind it."""
+        """Nothing else is taken for HTTP or TLS: such a line is answered, and so are those after it."""
         for text, said in ((b"GET /\nquit\n", b"ERR 10\nERR 11\n"), (b"OPTIONS / RTSP/1.0\nquit\n", b"ERR 10\nERR 11\n"),
                            (b"HTTP/1.1 200 OK\nquit\n", b"ERR 10\nERR 11\n"), (b"get / http/1.1\nquit\n", b"ERR 10\nERR 11\n"),
                            (b"a\x16\nquit\n", b"ERR 10\nERR 11\n"), (b"list /\nGET / HTTP/1.1\nquit\n", b"ERR 11\nERR 10\nERR 11\n"),
@@ -298,13 +298,13 @@ class FirstLine(Border):
 
 
 class FirstLineByTwoThreads(FirstLine):
-    """The same where two threads serve."""
+    """The same with two threads."""
 
     words = ("--threads", "2")
 
 
 class Probes(Border):
-    """What scanners send: HTTP and TLS are ended with no word, all others are told that they are no commands, and a designer is served on."""
+    """What scanners send: HTTP and TLS are ended without a reply, all others hear that they are no commands; a designer is served on."""
 
     def setUp(self) -> None:
         super().setUp()
@@ -403,7 +403,7 @@ class ForGood(unittest.TestCase):
 
 
 class NoPlace(unittest.TestCase):
-    """A server whose one place is taken tells those who have waited for a while, and the client comes again."""
+    """A server whose one place is taken says so to those who have waited for a while, and the client tries again."""
 
     def setUp(self) -> None:
         in_time(self, 60)
@@ -434,7 +434,7 @@ class NoPlace(unittest.TestCase):
         self.assertEqual(told(self.holder, b"list /\n", 1), b"OK list 1 engine\n")
 
     def test_client_comes_again(self) -> None:
-        """With pauses that grow, each told, until a place is free."""
+        """With growing pauses, each of which it announces, until a place is free."""
         leaves = threading.Timer(5, self.holder.close)
         leaves.start()
         self.addCleanup(leaves.join)

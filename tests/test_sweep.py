@@ -41,7 +41,7 @@ class WithFiles(WithStore):
         os.utime(self.path_of(card), (time.time() - seconds,) * 2)
 
     def loose(self, about: bytes, seconds: int = OLD) -> str:
-        """Puts bytes into the store that nobody names, of such an age, and answers their name."""
+        """Puts bytes of this age into the store that nobody names, and answers their name."""
         self.fill(about)
         store = self.parts.store()
         assert store is not None
@@ -84,7 +84,7 @@ class Check(WithFiles):
 
 
 class Sweep(WithFiles):
-    """What nobody names and what is old is taken away, and nothing else."""
+    """What nobody names and is old is removed, and nothing else."""
 
     def sweep(self, *words: str, status: int = 0) -> str:
         """Runs the sweep, and answers what it said."""
@@ -116,7 +116,7 @@ class Sweep(WithFiles):
         self.assertEqual(self.sweep("--days", "15").splitlines()[0], young)
 
     def test_beside_a_server_with_much_to_write(self) -> None:
-        """Versions that a snapshot has, and drafts behind it, are all found."""
+        """Versions that a snapshot has, and drafts after it, are all found."""
         claim = self.anna.checkout(["w:" + PART]).claim
         lines = [f"save {claim} {PART} {number:04x}{'00' * 1022}" for number in range(1100)]
         for first in range(0, len(lines), 50):
@@ -134,7 +134,7 @@ class Sweep(WithFiles):
         listed = store.all
 
         def wanted_again() -> Iterator[InStore]:
-            """The list, behind which the bytes are put."""
+            """The list, after which the bytes are put."""
             found = list(listed())
             parts.put(PART, self.file, claim)
             return iter(found)
@@ -209,7 +209,7 @@ class Kept(WithFiles):
         (self.root / "away").rename(path)
 
     def test_damaged(self) -> None:
-        """What is wrong here is taken away, and the store is asked; where that is wrong, too, nothing is written."""
+        """What is damaged in the cache is removed, and the store is asked. If that fails, too, nothing is written."""
         content = self.get(1, self.cached)
         for bad in (b"", content[:-1], content + b"x", b"x" + content[1:]):
             (self.cache / self.first.sha256).write_bytes(bad)
@@ -222,7 +222,7 @@ class Kept(WithFiles):
         self.assertEqual((os.listdir(self.cache), (self.root / "back").exists()), ([], False))
 
     def test_bounded(self) -> None:
-        """There are never more bytes than may be, and those that were used last stay; a file that is too long isn't kept."""
+        """The cache never has more bytes than its limit, and those that were used last stay; a file that is too long isn't kept."""
         for number in range(3, 16):
             self.fill(b"bore %d" % number)
             self.put_version()
@@ -238,7 +238,7 @@ class Kept(WithFiles):
         self.assertNotIn(long.sha256, os.listdir(self.cache))
 
     def test_no_cache(self) -> None:
-        """Where none can be made, the store alone serves; and one on the store's own disk is left out."""
+        """If no cache can be made, the store alone serves. None is made on the store's own disk."""
         (self.elsewhere / "file").write_bytes(b"")
         self.assertTrue(self.get(1, Parts(self.anna, cache=Cache(self.elsewhere / "file" / "vault"))))
         self.assertTrue(self.get(1, Parts(self.anna, cache=Cache(self.root / "near"))))

@@ -27,14 +27,14 @@ class Waiting(Border):
     """One has what the other waits for."""
 
     def begin(self, *words: str) -> None:
-        """Starts a server at which two are known, of whom the first has all."""
+        """Starts a server with two designers at it. The first holds the whole library."""
         self.serve("--workers", "4", *words)
         self.first = self.comes(b"anna")
         self.second = self.comes(b"ben")
         self.assertEqual(self.said(self.first, b"hold w:/"), b"OK held h1\n")
 
     def comes(self, name: bytes) -> socket.socket:
-        """A connection with a session, to the test's end."""
+        """A connection with a session, which lasts to the test's end."""
         link = self.enterContext(self.linked())
         self.assertRegex(self.said(link, b"hello " + name), b"OK session [1-9]")
         return link
@@ -54,7 +54,7 @@ class Waiting(Border):
 
 
 class Released(Waiting):
-    """Who waits is answered once the claim is held, or gone."""
+    """Whoever waits is answered once the claim is held, or gone."""
 
     def test_behind_the_release(self) -> None:
         self.begin()
@@ -107,7 +107,7 @@ class Released(Waiting):
 
 
 class AtOnce(Waiting):
-    """A wait that is answered as by state."""
+    """A `wait` that is answered as `state` is, while the claim still waits."""
 
     def test_where_its_time_is_over(self) -> None:
         self.begin("--wait", "1")
@@ -159,7 +159,7 @@ class AtOnce(Waiting):
 
 
 class NobodyPolls(Waiting):
-    """Who waits costs nothing."""
+    """A client that waits costs nothing."""
 
     def test_processor_time(self) -> None:
         self.begin("--wait", "30")
@@ -171,7 +171,7 @@ class NobodyPolls(Waiting):
         self.assertLessEqual(self.processor_time() - before, 0.01)
 
     def test_nothing_is_staged(self) -> None:
-        """What another is told meanwhile doesn't wait for who waits, and its session counts just its own commands."""
+        """Meanwhile another client's replies come at once, and the wait isn't answered by them."""
         self.begin()
         self.assertEqual(self.said(self.second, b"hold w:/"), b"OK queued h2 behind h1\n")
         self.second.sendall(b"wait h2\n")

@@ -85,7 +85,7 @@ class Holding(Between):
 
 
 class AtOnce(Between):
-    """A server that answers a `wait` at once, as it does where enough wait already."""
+    """A server that answers a `wait` at once, as it does if enough wait already."""
 
     def answer(self, line: bytes, ask: Callable[[bytes], bytes]) -> bytes:
         return ask(b"state" + line[4:] if line.startswith(b"wait ") else line)
@@ -122,7 +122,7 @@ class Who(WithDesigners):
     """`vault who`."""
 
     def test_who(self) -> None:
-        """Each claim at a place, above it and beneath it, in the order of the line, with all that the server tells."""
+        """Each claim at a place, above it and beneath it, in the order of the queue, with all that the server says."""
         ben = self.client("ben")
         self.anna.checkout(["w:" + PART, "r:/engine"])
         ben.hold(["r:" + ROD])
@@ -173,7 +173,7 @@ class Who(WithDesigners):
         self.assertGreater(again["h1"][1], first["h1"])
 
     def test_what_ends_is_forgotten(self) -> None:
-        """What isn't in the whole line any more isn't remembered, and never more than there may be claims, some times over."""
+        """What isn't in the whole queue any more isn't remembered."""
         for _ in range(3):
             self.anna.abandon(self.anna.checkout(["r:" + PART]).claim)
         self.anna.checkout(["r:" + PART])
@@ -311,7 +311,7 @@ class Ring(WithDesigners):
         self.assertEqual([notice.count("You hold /x, for which ben waits") for notice in output.notices], [0, 1])
 
     def test_lines(self) -> None:
-        """Rings of three, through claims that wait themselves, at places above and beneath; and lines that have none."""
+        """Rings of three, through claims that wait themselves, at places above and beneath; and queues that have none."""
         self.assertEqual(in_words("anna w:/x; ben w:/y; carl w:/z; anna w:/y; ben w:/z; carl w:/x/a", "c6", "carl"),
                          "You hold /z, for which ben waits; ben holds /y, for which anna waits; anna holds /x, for which you wait.")
         self.assertEqual(in_words("anna w:/x; ben w:/x w:/y; anna r:/y", "c3", "anna"),
@@ -344,7 +344,7 @@ class Ring(WithDesigners):
     def test_more_than_there_may_be(self) -> None:
         """A server that lists more claims than any server may have isn't asked for each."""
         class Endless(Between):
-            """Tells of thousands."""
+            """Lists thousands."""
 
             def answer(self, line: bytes, ask: Callable[[bytes], bytes]) -> bytes:
                 claims = " ".join(f"c{number}" for number in range(1, 2001))
@@ -431,7 +431,7 @@ class Mine(WithDesigners):
         self.assertEqual(self.notices, [])
 
     def test_gone(self) -> None:
-        """Numbers that are gone are said one by one, and once; one of which a copy is kept that is no version is said until it is forgotten."""
+        """Check-outs that are gone are listed one by one, and once. One whose copy is no version is listed until it is forgotten."""
         laptop = self.elsewhere()
         for _ in range(3):
             self.anna.checkout(["r:" + PART])
@@ -618,7 +618,7 @@ class Put(WithDesigners):
     """`put` finds the check-out that a draft belongs to."""
 
     def test_gone_ones_are_passed_over(self) -> None:
-        """By one that is gone, and one that is another's now."""
+        """One that is gone, and one that was given away and is gone."""
         laptop = self.elsewhere()
         self.anna.checkout(["w:" + PART])
         laptop.abandon("c1")
@@ -637,7 +637,7 @@ class Put(WithDesigners):
         self.assertEqual(self.anna.get(PART), b"x")
 
     def test_queued(self) -> None:
-        """One that waits is named in the refusal's place: it isn't said that there is none."""
+        """If one waits, the refusal is the server's; the client doesn't say that there is none."""
         self.client("ben").checkout(["w:/engine"])
         self.anna.checkout(["w:" + PART])
         with self.assertRaises(Refused) as refused:
@@ -752,7 +752,7 @@ class WaitTests(WithDesigners):
         self.assertTrue(1 <= len(output.notices) <= 3, output.notices)
 
     def test_the_real_server(self) -> None:
-        """Whether it answers at once, or once the claim is held: it isn't asked again and again, and that it is held is told soon."""
+        """Whether it answers at once, or once the claim is held: it isn't asked again and again, and the client soon says `held`."""
         lets_wait = b"--wait " in subprocess.run([VAULTD, "serve", "--help"], capture_output=True, check=True).stdout
         stands = self.between(Between)
         moments: List[float] = []
@@ -767,7 +767,7 @@ class WaitTests(WithDesigners):
         self.assertLessEqual(stands.sent(b"wait"), 1 if lets_wait else 3)
 
     def test_more_than_may_wait(self) -> None:
-        """At a server that lets nobody wait for an answer, where it is one that can be told so."""
+        """At a server that lets nobody wait for an answer, if it has an option for that."""
         if b"--waits " not in subprocess.run([VAULTD, "serve", "--help"], capture_output=True, check=True).stdout:
             self.skipTest("this server answers each `wait` at once")
         self.server.kill()

@@ -37,7 +37,7 @@ class Names(unittest.TestCase):
             self.assertFalse(usable(name), name)
 
     def test_chosen(self) -> None:
-        """Where a name can't be, or is taken, whatever the capitals and the spelling of umlauts, the part's own stands in or beside it."""
+        """If a name can't be, or is taken in any case or spelling of umlauts, the part's own stands in its place or beside it."""
         taken = {folded("kolben.PRT"), folded(unicodedata.normalize("NFD", "St\u00fcck"))}
         for wanted, chosen in (("Kolben.prt", "Kolben (rod).prt"), ("../x", "rod"), ("St\u00fcck", "St\u00fcck (rod)"), ("STRASSE", "STRASSE"),
                                ("x" * 255, "x" * 255)):
@@ -70,7 +70,7 @@ class WithFolder(WithStore):
         self.got()
 
     def version(self, place: str, name: str, content: bytes) -> None:
-        """Makes a version of a file by such a name, which is written by hand into its card where no file has it."""
+        """Makes a version of a file by such a name, which is written by hand into its card if no file has it."""
         self.file.write_bytes(content)
         claim = self.anna.checkout(["w:" + place]).claim
         put = self.parts.put(place, self.file, claim)
@@ -92,7 +92,7 @@ class WithFolder(WithStore):
         return {state.file: state for state in self.working().states()}
 
     def files(self, folder: Optional[Path] = None) -> Dict[str, bytes]:
-        """The files of a folder but for the client's own."""
+        """The files of a folder, except the client's own."""
         top = folder or self.work
         return {path.relative_to(top).as_posix(): path.read_bytes() for path in sorted(top.rglob("*"))
                 if path.is_file() and ".vault" not in path.relative_to(top).parts}
@@ -110,7 +110,7 @@ class Get(WithFolder):
         self.assertEqual(sorted(os.listdir(self.work / ".vault")), ["folder.json", "lock"])
 
     def test_nothing_changed(self) -> None:
-        """A second get asks for counts alone, and reads no file."""
+        """A second get asks only for counts, and reads no file."""
         time.sleep(0.1)
         self.got()
         self.cutter.lines.clear()
@@ -127,7 +127,7 @@ class Get(WithFolder):
         self.assertEqual(self.got().files, [])
 
     def test_changed_here(self) -> None:
-        """It stays, whether there is a newer version or not; where it has the same bytes as that, it is that."""
+        """It stays, whether there is a newer version or not. If it has the same bytes as that version, it counts as that version."""
         (self.work / NAME).write_bytes(b"mine")
         self.assertEqual(self.got().left, [])
         self.version(PART, NAME, b"bore 81")
@@ -310,7 +310,7 @@ class Status(WithFolder):
     """Who has what checked out."""
 
     def test_by_others(self) -> None:
-        """For change, and held: whoever looks, waits or has another part has it not."""
+        """Whoever holds it for change. Whoever looks, waits or has another part doesn't have it."""
         ben, carl = self.client("ben"), self.client("carl")
         claim = ben.checkout(["w:" + PART]).claim
         carl.checkout(["r:" + ROD])
@@ -362,7 +362,7 @@ class PutAndCheckin(WithFolder):
         self.assertEqual(len(list(self.anna.history(PART))), 2)
 
     def test_two_check_outs(self) -> None:
-        """With two that take it in one has to be named; a queued one, and another designer's, take nothing in."""
+        """If two take it in, one must be named; a queued one, and another designer's, take nothing in."""
         (self.work / NAME).write_bytes(b"mine")
         first = self.anna.checkout(["w:" + PART]).claim
         queued = self.anna.checkout(["w:/engine"]).claim
@@ -372,7 +372,7 @@ class PutAndCheckin(WithFolder):
         self.assertEqual(self.working(self.another()).put().files, [])
 
     def test_a_lost_check_in(self) -> None:
-        """Its answer is lost, and what became of it is found out."""
+        """Its reply is lost, and the client finds out what became of it."""
         for number, cut in enumerate(self.both()):
             self.anna.checkout(["w:" + PART])
             (self.work / NAME).write_bytes(b"mine %d" % number)
@@ -381,7 +381,7 @@ class PutAndCheckin(WithFolder):
             self.assertFalse(self.states()[NAME].changed)
 
     def test_checked_in_by_its_number(self) -> None:
-        """A check-in that the folder wasn't told of: the next get knows the file for that version."""
+        """A check-in that the folder doesn't know of: the next get recognizes the file as that version."""
         claim = self.anna.checkout(["w:" + PART]).claim
         (self.work / NAME).write_bytes(b"mine")
         self.working().put()

@@ -1,4 +1,4 @@
-// What a page lacks for those who see little, hear it read out, or have no mouse. Comes to a list of complaints.
+// What a page lacks for those who see little, hear it read out, or have no mouse. Its value is a list of complaints.
 (() => {
   const found = [];
   const shown = element => element.checkVisibility({checkOpacity: true, checkVisibilityCSS: true});

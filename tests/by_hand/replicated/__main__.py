@@ -1,5 +1,5 @@
 #!/usr/bin/env python3
-"""Two server machines on a replicated file system, tried: storage nodes and machines are network namespaces of this one.
+"""Tries two server machines on a replicated file system. Storage nodes and machines are network namespaces of this one.
 
 usage, as root, on Debian 12:
   python3 tests/by_hand/replicated prepare                    installs what is needed, by apt
@@ -57,7 +57,7 @@ def arguments() -> argparse.Namespace:
 
 
 def outside(options: argparse.Namespace) -> int:
-    """Starts this program again, in namespaces that end with it, and takes its folder away behind."""
+    """Starts this program again, in namespaces that end with it, and removes its folder afterwards."""
     from machines import folder_of_trials
 
     missing = [word for word in NEEDED if not shutil.which(word)]
@@ -67,7 +67,7 @@ def outside(options: argparse.Namespace) -> int:
         return 2
     with folder_of_trials(options.folder) as folder:
         environment = {**os.environ, INSIDE: str(folder), "VAULTD": str(program), "PYTHONDONTWRITEBYTECODE": "1"}
-        # The shell, the first process of its namespace, takes the ends of those that nobody else waits for.
+        # The shell is the first process of its namespace. It reaps the processes that nobody else waits for.
         words = ["setpriv", "--pdeathsig", "KILL", "unshare", "--mount", "--net", "--pid", "--ipc", "--fork", "--kill-child", "--mount-proc",
                  "sh", "-c", '"$@" & wait $!', "sh", sys.executable, str(HERE), *sys.argv[1:]]
         for one in (signal.SIGINT, signal.SIGTERM, signal.SIGHUP):
@@ -82,12 +82,12 @@ def outside(options: argparse.Namespace) -> int:
 
 
 def end(number: int, _frame: object) -> None:
-    """Ends this program in its turn, with all that it started."""
+    """Ends this program in an orderly way, with all that it started."""
     raise SystemExit(128 + number)
 
 
 def table(columns: list[str], rows: list[list[str]]) -> None:
-    """A table, as the pages have it."""
+    """Prints a table, in Markdown as on the pages."""
     print("\n| " + " | ".join(columns) + " |\n" + "|---" * len(columns) + "|")
     for row in rows:
         print("| " + " | ".join(row) + " |")

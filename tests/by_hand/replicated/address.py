@@ -1,4 +1,4 @@
-"""The address that moves: keepalived with contrib's configuration on both machines, tried beside two units."""
+"""Tries the address that moves: keepalived with contrib's configuration on both machines, beside their units."""
 
 import random
 import threading
@@ -12,7 +12,7 @@ ADDRESS = "10.77.0.70"
 
 
 class Keeper:
-    """keepalived on a machine. What its configuration has systemd do is done to the unit."""
+    """keepalived on a machine. When its configuration has systemd restart the server, the unit's server is killed instead."""
 
     def __init__(self, machine: Machine, unit: Unit):
         self.machine, self.unit, self.ended = machine, unit, False
@@ -54,12 +54,12 @@ class Keeper:
 
 
 def answers() -> bool:
-    """Whether a command with an effect is told at the address, asked from outside."""
+    """Whether a command with an effect is acknowledged at the address, asked from outside."""
     return does(ADDRESS, 2).startswith("OK")
 
 
 def moved(trial: Trial, keepers: dict[str, Keeper], how: str) -> str:
-    """One move of the address, timed, and back again: the machine that had it isn't left with it."""
+    """One move of the address, timed. Then the machine that had it comes back, and doesn't keep it."""
     first = next(keeper for keeper in keepers.values() if keeper.has())
     second = next(keeper for keeper in keepers.values() if keeper is not first)
     begin = time.monotonic()
@@ -86,7 +86,7 @@ def moved(trial: Trial, keepers: dict[str, Keeper], how: str) -> str:
 
 
 def moves(cluster: Cluster, seed: str) -> int:
-    """Six moves, by turns."""
+    """Six moves: by a killed server and by a machine that is cut off, in turn."""
     trial = Trial(cluster, "address", 0, 0, random.Random(seed), True)
     trial.serve()
     keepers = {name: Keeper(unit.machine, unit) for name, unit in trial.units.items()}

@@ -1,4 +1,4 @@
-"""What has to be so behind a trial: what was told is there, nobody told beside another, and the three copies are one vault."""
+"""What must hold after a trial: what was acknowledged is there, no two servers acknowledged at one time, and the copies are one vault."""
 
 import hashlib
 import re
@@ -11,13 +11,13 @@ from serving import PORT, VAULTD, Started
 
 
 class Reader:
-    """A connection that asks many things at once."""
+    """Asks a machine's server many things at once."""
 
     def __init__(self, machine: Machine):
         self.machine = machine
 
     def ask(self, lines: list[str]) -> Iterator[str]:
-        """The replies, in turn; each 2,000 lines over a connection of their own."""
+        """The replies, in order. Each 2,000 lines go over a connection of their own."""
         for begin in range(0, len(lines), 2000):
             with socket.create_connection((self.machine.address, PORT), timeout=60) as link, link.makefile("rb") as file:
                 for first in range(begin, min(begin + 2000, len(lines)), 50):
@@ -31,7 +31,7 @@ class Reader:
 
 
 def lost(machine: Machine, told: dict[str, list[int]], size: int) -> tuple[int, int, int]:
-    """How many check-ins were told, how many of these aren't there as they were saved, and how many more are there."""
+    """How many check-ins were acknowledged, how many of these aren't there as they were saved, and how many more are there."""
     counts = dict(zip(told, Reader(machine).ask([f"count {part}" for part in told])))
     missing = more = 0
     wanted: list[tuple[str, str]] = []
@@ -49,14 +49,14 @@ def lost(machine: Machine, told: dict[str, list[int]], size: int) -> tuple[int, 
 
 
 def told_by(started: Started, later: list[Started], effects: list[list[float]]) -> list[float]:
-    """When a start of a server told commands with an effect: those of its machine, from its listening to the next one's there."""
+    """When a server acknowledged commands with an effect: those of its machine, from its start to the next start there."""
     nexts = [other.listening for other in later if other.machine is started.machine and other.listening > started.listening]
     end = min(nexts, default=float("inf"))
     return [told for _, told in effects if started.listening - 0.5 <= told < end]
 
 
 def overlaps(starts: list[Started], effects: dict[str, list[list[float]]]) -> int:
-    """How many pairs of servers told commands with an effect in overlapping time."""
+    """How many pairs of servers acknowledged commands with an effect in overlapping time."""
     spans = []
     for started in starts:
         told = told_by(started, starts, effects[started.machine.name])
@@ -66,7 +66,7 @@ def overlaps(starts: list[Started], effects: dict[str, list[list[float]]]) -> in
 
 
 def behind(times: list[float], starts: list[Started], machine: str) -> int:
-    """How many answers a machine gave while another one's server had begun behind its own: they are worth nothing."""
+    """How many answers a machine gave after another machine's server had started later than its own. They are worth nothing."""
     count = 0
     for told in times:
         begun = [started for started in starts if started.listening < told]
@@ -86,5 +86,5 @@ def copies(cluster: Cluster, folder: str) -> tuple[int, int]:
 
 
 def told_of(results: list[dict[str, Any]]) -> dict[str, list[int]]:
-    """All parts, with what was told of them."""
+    """All parts: how many check-ins of each were acknowledged, and how many were sent."""
     return {part: told for result in results for part, told in result["parts"].items()}

@@ -1,11 +1,11 @@
 #!/usr/bin/env python3
-"""Designers on one machine, who reach the server of that machine alone.
+"""Designers on one machine, who reach only that machine's server.
 
 usage: load.py NAME ADDRESS PORT DESIGNERS BYTES RESULT
 
 Each designer checks out a part of its own, saves and checks in, again and again; one more asks, and takes holds. Each line on standard
 input says what they do from then on: `cycle`, `ask` (only the one who asks goes on), `silent` or `end`. At the end RESULT has, as JSON,
-when each reply was told and which check-ins of which part. A connection that breaks is made again, with a new part.
+when each reply came, and how many check-ins of each part were acknowledged. A connection that breaks is made again, with a new part.
 """
 
 import contextlib
@@ -24,7 +24,7 @@ class Refused(Exception):
 
 
 class Load:
-    """What all designers of a machine share: where the server is, what to do, and what was told."""
+    """What all designers of a machine share: where the server is, what to do, and the replies so far."""
 
     def __init__(self, name: str, address: str, port: int, size: int):
         self.name, self.address, self.port, self.size = name, address, port, size
@@ -36,7 +36,7 @@ class Load:
         self.refusals: Counter[str] = Counter()
 
     def content(self, part: str, version: int) -> str:
-        """What a version of a part is: nobody else writes the same."""
+        """The content of a version of a part. Nobody else writes the same."""
         return content_of(part, version, self.size)
 
 
@@ -71,7 +71,7 @@ class Connection:
         return words
 
     def effect(self, line: str) -> list[str]:
-        """Says what changes something, and notes when that was told."""
+        """Sends a command with an effect, and notes when it was sent and acknowledged."""
         begin = time.monotonic()
         words = self.say(line)
         self.load.effects.append((begin, time.monotonic()))
@@ -126,7 +126,7 @@ class Designer(threading.Thread):
 
 
 class Asker(threading.Thread):
-    """One who asks, and holds: neither is on a disk."""
+    """One who asks questions and takes holds. Neither writes to a disk."""
 
     def __init__(self, load: Load):
         super().__init__(daemon=True)

@@ -1,6 +1,6 @@
 """Storage nodes and server machines: each a network namespace with mounts of its own, on one bridge, and a volume over the nodes.
 
-All of it is made inside namespaces that end with this program (__main__.py), so nothing here takes anything away by hand.
+All of it is made inside namespaces that end with this program (__main__.py), so nothing here needs to be removed.
 """
 
 import contextlib
@@ -24,7 +24,7 @@ NOBODY = "02:00:00:00:00:fe"
 
 
 class Trouble(Exception):
-    """What was to be tried couldn't be, so nothing is known of it."""
+    """The trial couldn't be done as planned, so it shows nothing."""
 
 
 def run(*words: str, check: bool = True, seconds: float = 120) -> str:
@@ -37,7 +37,7 @@ def run(*words: str, check: bool = True, seconds: float = 120) -> str:
 
 
 def until(what: str, asked: Callable[[], bool], seconds: float = 60, every: float = 0.05) -> None:
-    """Waits until it is so."""
+    """Waits until `asked` gives true."""
     end = time.monotonic() + seconds
     while not asked():
         if time.monotonic() > end:
@@ -77,19 +77,19 @@ class Space:
         return subprocess.Popen(self.inside(*words), stdin=stdin, stdout=stdout, stderr=subprocess.STDOUT, text=True, bufsize=1)
 
     def pids(self) -> list[int]:
-        """All that runs in here, but for what holds it."""
+        """All processes in here, except the one that holds the namespace."""
         found = [int(pid) for pid in run("ip", "netns", "pids", self.name).split()]
         return [pid for pid in found if pid != self.holder.pid]
 
     def kill_all(self, but: int = 0) -> None:
-        """Kills all that runs in here, as when the power goes, but for what stands for others."""
+        """Kills all that runs in here, as when the power goes, except the process `but`: the designers' load."""
         for pid in self.pids():
             if pid != but:
                 with contextlib.suppress(ProcessLookupError):
                     os.kill(pid, signal.SIGKILL)
 
     def cut(self) -> None:
-        """No frame comes or goes any more; nobody is told so."""
+        """From now on no network frame comes or goes, and nobody is notified."""
         run("ip", "link", "set", f"p-{self.name}", "nomaster")
 
     def join(self) -> None:
@@ -97,12 +97,12 @@ class Space:
         run("ip", "link", "set", f"p-{self.name}", "master", "bridge0")
 
     def lose(self, other: "Space") -> None:
-        """No frame to this one other arrives any more, nor one of it here."""
+        """From now on no network frame passes between this one and the other, either way."""
         for here, there in ((self, other), (other, self)):
             run("ip", "-n", here.name, "neighbour", "replace", there.address, "lladdr", NOBODY, "dev", f"v-{here.name}", "nud", "permanent")
 
     def find(self, other: "Space") -> None:
-        """Frames to this other one arrive again."""
+        """Frames pass between the two again."""
         for here, there in ((self, other), (other, self)):
             run("ip", "-n", here.name, "neighbour", "delete", there.address, "dev", f"v-{here.name}", check=False)
 
@@ -147,7 +147,7 @@ class Machine(Space):
         self.run("mount", "-t", "glusterfs", "-o", options, what, str(self.mounted))
 
     def unmount(self, but: int = 0) -> None:
-        """Ends all that runs here, and the mount with it."""
+        """Kills all that runs here, except the process `but`, and unmounts the volume."""
         self.kill_all(but)
         self.run("umount", "--lazy", str(self.mounted), check=False)
 
@@ -188,7 +188,7 @@ class Cluster:
         until("all bricks are there", lambda: self.online() == len(self.nodes), every=0.3)
 
     def to_heal(self) -> int:
-        """How many files have copies that may differ; -1 where a node can't say."""
+        """How many files have copies that may differ; -1 if a node can't say."""
         said = self.gluster("volume", "heal", VOLUME, "info", "summary", check=False)
         counts = [int(count) for count in re.findall(r"^Total Number of entries: (\d+)", said, re.MULTILINE)]
         return sum(counts) if len(counts) == len(self.nodes) else -1
@@ -201,7 +201,7 @@ class Cluster:
         return time.monotonic() - begin
 
     def mend(self) -> None:
-        """All links are there, and all nodes run."""
+        """Brings all links and nodes back."""
         for machine in self.machines:
             machine.join()
             for node in self.nodes:
@@ -214,7 +214,7 @@ class Cluster:
 
 
 def name_of(pid: int) -> str:
-    """The name of what runs, or nothing where it ended."""
+    """The name of a process, or nothing if it ended."""
     with contextlib.suppress(OSError):
         return Path(f"/proc/{pid}/comm").read_text("utf-8").strip()
     return ""
@@ -222,7 +222,7 @@ def name_of(pid: int) -> str:
 
 @contextlib.contextmanager
 def folder_of_trials(where: Optional[str]) -> Iterator[Path]:
-    """A new folder, which is taken away behind."""
+    """A new folder, which is removed afterwards."""
     path = Path(tempfile.mkdtemp(prefix="replicated-", dir=where))
     try:
         yield path

@@ -1,4 +1,4 @@
-"""Servers, as the units start them, what stops one at a chosen call, and the designers beside it."""
+"""Servers, started as the units start them; what suspends one at a chosen call; and the designers' load."""
 
 import json
 import os
@@ -27,7 +27,7 @@ class Started:
 
 
 class Unit:
-    """A server on a machine. Where it ends it is started again after a second, as systemd does with contrib/replicated/replicated.conf."""
+    """A server on a machine. If it ends, it is started again after a second, as systemd does with contrib/replicated/replicated.conf."""
 
     def __init__(self, machine: Machine, files: list[str], settles: bool, before: tuple[str, ...] = ()):
         self.machine, self.files, self.settles, self.before = machine, files, settles, before
@@ -60,7 +60,7 @@ class Unit:
         return status
 
     def server(self) -> int:
-        """The server's process, also where another one started it."""
+        """The server's process id, also if strace started it."""
         assert self.process is not None
         pid = self.process.pid
         children = Path(f"/proc/{pid}/task/{pid}/children").read_text("ascii").split() if self.before else []
@@ -100,9 +100,9 @@ def does(address: str, patience: float = 20) -> str:
 
 
 class Stopper:
-    """Stops a server as it comes back from a chosen call, by strace, and keeps a log of its writes and syncs.
+    """Suspends a server as it returns from a chosen call, by strace, and keeps a log of its writes and syncs.
 
-    A signal that strace injects as a call is entered is taken as the call returns; so the server stands between two calls.
+    strace injects the signal as the call is entered. The server takes it as the call returns, so it stands between two calls.
     """
 
     def __init__(self, machine: Machine, pid: int, call: str, when: int, path: Optional[str] = None):
@@ -121,23 +121,23 @@ class Stopper:
         return self.log.read_text("utf-8", "replace").splitlines() if self.log.exists() else []
 
     def wait(self, seconds: float = 60) -> list[str]:
-        """Waits until the server stands, and answers the calls before, the last one last."""
+        """Waits until the server is suspended, and answers the calls before that, in order."""
         until("the server stands at the call", lambda: any("stopped by SIGSTOP" in line for line in self.lines()), seconds, 0.01)
         return self.calls(before=True)
 
     def calls(self, before: bool) -> list[str]:
-        """The calls before the stop, or behind it."""
+        """The calls before the server was suspended, or those after."""
         lines = self.lines()
         at = next((n for n, line in enumerate(lines) if "SIGSTOP" in line), len(lines))
         part = lines[:at] if before else lines[at:]
         return [line for line in part if re.search(r"(pwrite64|fsync)", line)]
 
     def go_on(self) -> None:
-        """The server goes on."""
+        """Lets the server go on."""
         os.kill(self.pid, signal.SIGCONT)
 
     def end(self) -> None:
-        """Lets the server alone."""
+        """Detaches strace from the server."""
         if self.tracer.poll() is None:
             self.tracer.send_signal(signal.SIGINT)
             try:
@@ -147,7 +147,7 @@ class Stopper:
 
 
 class Designers:
-    """The load of one machine, load.py, told what to do."""
+    """The load of one machine: load.py, which takes orders on its input."""
 
     def __init__(self, machine: Machine, result: Path, designers: int, size: int):
         self.machine, self.result = machine, result
@@ -156,13 +156,13 @@ class Designers:
                                      stdin=subprocess.PIPE, stdout=subprocess.DEVNULL)
 
     def do(self, what: str) -> None:
-        """`cycle`, `ask`, `silent`."""
+        """Orders `cycle`, `ask` or `silent`."""
         assert self.process.stdin is not None
         self.process.stdin.write(what + "\n")
         self.process.stdin.flush()
 
     def end(self) -> dict[str, Any]:
-        """Ends them, and answers what they were told."""
+        """Ends them, and answers the replies that they noted."""
         self.do("end")
         try:
             self.process.wait(30)
@@ -172,7 +172,7 @@ class Designers:
 
 
 def filled(folder: Path, cycles: int) -> None:
-    """A vault in a folder of this machine, with so many versions of 1,000 bytes."""
+    """A vault in a folder of this machine, with this many versions of 1,000 bytes."""
     files = [str(folder / name) for name in "ab"]
     subprocess.run([VAULTD, "create", *files], check=True, stdout=subprocess.DEVNULL)
     with subprocess.Popen([VAULTD, "serve", *files, f"127.0.0.1:{PORT}"], stdout=subprocess.PIPE) as server:

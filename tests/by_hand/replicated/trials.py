@@ -1,4 +1,4 @@
-"""The trials: what is done to a server of a replicated vault, and what has to be so behind it."""
+"""The trials: what is done to a server of a replicated vault, and what must hold afterwards."""
 
 import random
 import shutil
@@ -98,7 +98,7 @@ class Trial:
         self.wait(least, most)
 
     def wait(self, least: float, most: float) -> None:
-        """Waits for some time between."""
+        """Waits for a random time between these."""
         time.sleep(self.chance.uniform(least, most))
 
     def begin(self, done: str) -> None:
@@ -113,14 +113,14 @@ class Trial:
             self.outcome.took = unit.starts[-1].listening - self.begun
 
     def stop_at(self, call: str, when: int, path: Optional[str] = None) -> tuple[Stopper, list[str]]:
-        """Stops the first server behind a call, under load, and answers the calls before. Nobody may be at work."""
+        """Suspends the first server after a call, under load, and answers the calls before. No designer may be at work yet."""
         stopper = Stopper(self.first, self.units[self.first.name].starts[-1].pid, call, when, path)
         self.stoppers.append(stopper)
         self.do("cycle", self.first)
         return stopper, stopper.wait()
 
     def reach(self) -> int:
-        """From now on only so many nodes are reached by the first machine: one, two, none and all by turns."""
+        """From now on the first machine reaches only some nodes: one, two, none or all, in turn. Answers how many."""
         count, self.alike = (1, 2, 0, 3)[self.turn % 4], True
         for node in self.chance.sample(self.cluster.nodes, len(self.cluster.nodes) - count):
             self.first.lose(node)
@@ -131,18 +131,18 @@ class Trial:
         return sorted((started for unit in self.every for started in unit.starts), key=lambda started: started.listening)
 
     def back(self) -> None:
-        """All links and nodes are there again, and the first server goes on where it stands."""
+        """Brings all links and nodes back, and lets a suspended server go on."""
         self.cluster.mend()
         for stopper in self.stoppers:
             stopper.go_on()
 
     def serving(self) -> dict[str, str]:
-        """What each machine's server says to a command with an effect, where one listens."""
+        """The reply of each server that listens to a command with an effect, by its machine."""
         return {name: does(unit.machine.address) for name, unit in self.units.items() if unit.listens()}
 
     def settle_down(self) -> Machine:
-        """Mends all, lets all work, and answers the machine that serves at the end. A broken server is ended, as by hand, where no
-        other serves."""
+        """Mends all, lets all work, and answers the machine that serves at the end. If only broken servers are left, they are killed,
+        as somebody would by hand."""
         self.back()
         self.work(1.0, 1.5)
         said = self.serving()
@@ -183,7 +183,7 @@ class Trial:
         self.opened_anew(told)
 
     def opened_anew(self, told: dict[str, list[int]]) -> None:
-        """Ends all, heals, compares the copies, and asks a new server. Where only a write was cut short, they are alike before they heal."""
+        """Ends all, heals, compares the copies, and asks a new server. If only a write was cut short, they are alike before they heal."""
         for unit in self.every:
             unit.stop()
         if self.alike and judge.copies(self.cluster, self.folder)[0] > 1:
@@ -204,7 +204,7 @@ class Trial:
             self.outcome.faults.append(f"{lost} told check-ins lost behind healing")
 
     def close(self) -> None:
-        """Ends all of the trial, and takes the vault away."""
+        """Ends all of the trial, and removes the vault."""
         for stopper in self.stoppers:
             stopper.end()
         for unit in self.every:
@@ -472,7 +472,7 @@ KINDS: dict[str, tuple[Kind, int]] = {
 
 
 def try_one(cluster: Cluster, kind: str, number: int, turn: int, seed: str, settles: bool) -> Outcome:
-    """One trial, by its seed; what couldn't be tried counts as failed."""
+    """One trial, by its seed. One that couldn't be done counts as failed."""
     trial = Trial(cluster, kind, number, turn, random.Random(f"{seed} {number} {kind}"), settles)
     try:
         KINDS[kind][0](trial)
