@@ -105,7 +105,7 @@ class Backup(WithVault):
             self.tool("backup", str(kept), "--keep", wrong, status=2)
 
     def test_keep_where_none_was_made(self) -> None:
-        """A backup that fails takes none away."""
+        """A backup that fails removes none."""
         kept = self.folder / "kept"
         for _ in range(2):
             self.tool("backup", str(kept))
@@ -124,7 +124,7 @@ class Backup(WithVault):
 
 
 def damage(file: Path, gate: int, behind: int, content: bytes) -> None:
-    """Writes bytes somewhere behind a gate."""
+    """Overwrites bytes at some distance after a gate."""
     data = bytearray(file.read_bytes())
     data[gate + behind:gate + behind + len(content)] = content
     file.write_bytes(bytes(data))
@@ -160,7 +160,7 @@ class Salvage(WithVault):
         self.assertIn("places 4, versions 0, claims 1, drafts 1", report)
 
     def test_a_frame(self) -> None:
-        """The frame of the check-out is damaged: it and the draft behind it are given up, the places are not."""
+        """The frame of the check-out is damaged: it and the draft after it are given up, the places are not."""
         damage(self.first, gates(self.first)[3], 5, b"\x09")
         said, report = self.salvaged()
         self.assertIn("a draft of 7 bytes for place 3 in c1", said)
@@ -249,7 +249,7 @@ class Board(WithVault):
     """The page."""
 
     def claims(self, page: str) -> List[str]:
-        """The claims of the line, each as text."""
+        """The claims of the queue, each as text."""
         items = page.partition('<ol class="line">')[2].partition("</ol>\n")[0].split('<li id="line:')[1:]
         return [re.sub(r"\s+", " ", html.unescape(re.sub(r"<[^>]*>", "", item.partition(">")[2]))).strip() for item in items]
 
@@ -290,7 +290,7 @@ class Board(WithVault):
             self.assertEqual(set(page_line.numbers(page_line.before(claims)[number])), waits_for, claim.name)
 
     def test_a_note(self) -> None:
-        """A note of the report is shown as text, and is no item; what turns the direction of writing is spelled."""
+        """A note of the report is shown as text, and is no item; what turns the direction of writing is shown escaped."""
         report = files.Report("file a: open\nfile b: closed\nplaces 2, versions 0, claims 1, drafts 0\n"
                               "c1 anna queued behind c2 w:/e r:/e/b note 3c623ee280ae\n")
         claim = report.claims()[0]
@@ -375,6 +375,12 @@ class CheckOver(unittest.TestCase):
         shutil.copy(TOP / "tools" / "check-over", self.folder / "tools")
         self.assertIn("clone has no library of vault_model, lock_modes", self.said("clone", "lock_queue", status=2, tool="plant-over"))
         self.assertIn("usage", self.said("clone", status=1, tool="plant-over"))
+
+    def test_edits_together(self) -> None:
+        (self.folder / "crates" / "lock_queue" / "src").mkdir()
+        self.assertIn("there is no crates/nothing/src", self.said("clone", "nothing", status=2, tool="try-together"))
+        self.assertIn("lock_queue has no edit more", self.said("clone", "lock_queue", "more", status=2, tool="try-together"))
+        self.assertIn("usage", self.said("clone", status=1, tool="try-together"))
 
 
 class Planted(unittest.TestCase):
