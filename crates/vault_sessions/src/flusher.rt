@@ -87,16 +87,12 @@ impl<'a, D: Device, S: Tally, T: Tally, A: Allocator + Copy, G: Gate, H: Wait + 
                 return Err(flushed);
             }
             let was_quiet = desk.is_quiet();
+            let work = &shared.work;
             desk = match left {
-                None => shared
-                    .work
-                    .wait_while(self.rt, desk, |desk| desk.sleeps(was_quiet)),
-                Some(left) => {
-                    let waited = shared
-                        .work
-                        .wait_timeout_while(self.rt, desk, left, |desk| desk.sleeps(was_quiet));
-                    waited.0
-                }
+                None => work.wait_while(self.rt, desk, |desk| desk.sleeps(was_quiet)),
+                Some(left) => work
+                    .wait_timeout_while(self.rt, desk, left, |desk| desk.sleeps(was_quiet))
+                    .0,
             };
         }
         Ok(Due::Nothing)
