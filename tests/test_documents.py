@@ -196,6 +196,17 @@ class Pages(unittest.TestCase):
                             self.assertIn(clause, clauses.get(function, {clause}))
         self.assertGreater(seen, 60)
 
+    def test_definitions_are_in_their_modules(self) -> None:
+        """A cell "crate, Module, Module" names files of that crate's specs/."""
+        seen = 0
+        for page in (TOP / "docs" / "DEFINITIONS.md", TOP / "docs" / "THEOREM.md"):
+            for crate, modules in re.findall(r"(?:\| |; )((?:[a-z]+_)+[a-z]+), ((?:[A-Z]\w+(?:, )?)+)", text_of(page)):
+                for module in modules.removesuffix(", ").split(", "):
+                    seen += 1
+                    with self.subTest(page=name_of(page), crate=crate, module=module):
+                        self.assertTrue((TOP / "crates" / crate / "specs" / f"{module}.antt").exists())
+        self.assertGreater(seen, 40)
+
     def test_each_crate_has_its_row(self) -> None:
         page = text_of(TOP / "docs" / "ARCHITECTURE.md")
         named = {word for row in re.findall(r"^\| ([a-z_, ]+) \|", page, re.MULTILINE) for word in row.split(", ")}
