@@ -82,8 +82,8 @@ def measured(program: str, folder: str, port: int, lists: int) -> tuple[int, int
             client.ask("list /", 1)
         before, begin = resident(server.pid), time.monotonic()
         for client in clients:
-            for _ in range(lists // AT_ONCE):
-                client.ask("list /", AT_ONCE)
+            for asked in range(0, lists, AT_ONCE):
+                client.ask("list /", min(AT_ONCE, lists - asked))
         return before, resident(server.pid), time.monotonic() - begin
     finally:
         for client in clients:
@@ -103,9 +103,9 @@ def main() -> None:
     parser.add_argument("--port", type=int, default=7373)
     options = parser.parse_args()
     program, folder = prepared(options)
-    # One was asked to warm up, and whole portions are asked for.
+    # One was asked to warm up.
     lists = (LISTS - 1 if not options.tiny else 2 * AT_ONCE)
-    head(program, f"{CONNECTIONS} connections, each told {lists // AT_ONCE * AT_ONCE:,} lists of {NAMES} names")
+    head(program, f"{CONNECTIONS} connections, each told {lists:,} lists of {NAMES} names")
     earlier: Optional[str] = options.before
     rows = [row("before", measured(os.path.abspath(earlier), folder, options.port, lists))] if earlier else []
     rows.append(row("now", measured(program, folder, options.port + 1, lists)))
