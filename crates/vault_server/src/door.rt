@@ -196,11 +196,14 @@ impl<A: Allocator + Copy, H: Wait + Clock> Door<'_, A, H> {
     // Notes a failed accept. Accepting fails for good after more than `MAX_FAULTS` in a row. But where descriptors or memory are short,
     // they come free when other connections end: that is waited for as long as it takes.
     fn fail<G: Gate>(&self, queue: &mut Queue<A>, error: io::Error, gate: &G) {
-        queue.faults = queue.faults.saturating_add(1);
         let is_want = error
             .raw_os_error()
             .is_some_and(|code| WANTS.contains(&code));
-        if queue.faults > MAX_FAULTS && !is_want {
+        if is_want {
+            return;
+        }
+        queue.faults = queue.faults.saturating_add(1);
+        if queue.faults > MAX_FAULTS {
             queue.closed = Some(Err(ServerError::Accept));
             gate.accepts_no_more(error);
         }

@@ -25,14 +25,14 @@ pub stands_for : {A : Type 0} (next : Next A) (r0 r w0 w : Option (List ℕ)) (s
     (outs : List (Out A)) (session : ℕ) (share : Totals) → StandsIn next r0 r w0 w s0 inflow kept is_long outs session share → session ≡ session_of 0 outs
 stands_for (Takes turn) r0 r w0 w s0 inflow kept is_long outs session share h = h.session_is
 stands_for (GivenUp ended) r0 r w0 w s0 inflow kept is_long outs session share h = h.session_is
-stands_for (Done ended) r0 r w0 w s0 inflow kept is_long outs session share h = h.session_is
+stands_for (Done ended left) r0 r w0 w s0 inflow kept is_long outs session share h = h.0.session_is
 stands_for Open r0 r w0 w s0 inflow kept is_long outs session share h = absurd h
 
 -- where no step is left it has ended
 pub done_ended : {A : Type 0} (next : Next A) → is_done next ≡ true → has_ended next ≡ true
 done_ended (Takes turn) e = absurd (cc)
 done_ended (GivenUp ended) e = refl
-done_ended (Done ended) e = refl
+done_ended (Done ended left) e = refl
 done_ended Open e = refl
 
 -- what may be counted with some lost may be with more

@@ -23,15 +23,15 @@ pub record IsDone {A : Type 0} (ended : Ended) (reader_old reader_new writer_old
   pub quit : QuitsBy ended outs
   pub counted : CountsAll counts outs ended share
 
--- what it has come to, by what comes next; its next turn is out only within a step
+-- what it has come to, by what comes next; one that is done has the last leave of its session; its next turn is out only within a step
 abbrev pub StandsIn : {A : Type 0} → Next A → (reader_old reader_new writer_old writer_new : Option (List ℕ)) → Totals → Inflow → List ℕ → Bool
     → List (Out A) → ℕ → Totals → Type 0
 StandsIn (Takes turn) reader_old reader_new writer_old writer_new counts inflow kept is_long outs session share =
     Stands turn reader_old reader_new writer_old writer_new counts inflow kept is_long outs session share
 StandsIn {A} (GivenUp ended) reader_old reader_new writer_old writer_new counts inflow kept is_long outs session share =
     Stands {A = A} (Over ended) reader_old reader_new writer_old writer_new counts inflow kept is_long outs session share
-StandsIn (Done ended) reader_old reader_new writer_old writer_new counts inflow kept is_long outs session share =
-    IsDone ended reader_old reader_new writer_old writer_new counts outs session share
+StandsIn (Done ended left) reader_old reader_new writer_old writer_new counts inflow kept is_long outs session share =
+    IsDone ended reader_old reader_new writer_old writer_new counts outs session share × (left ≡ session)
 StandsIn Open reader_old reader_new writer_old writer_new counts inflow kept is_long outs session share = ⊥
 
 -- the same for a conversation
@@ -44,12 +44,12 @@ TalksOn next reader_old reader_new writer_old writer_new counts talk =
 abbrev pub is_done : {A : Type 0} → Next A → Bool
 is_done (Takes turn) = false
 is_done (GivenUp ended) = false
-is_done (Done ended) = true
+is_done (Done ended left) = true
 is_done Open = true
 
 -- whether it is over or was given up
 abbrev pub has_ended : {A : Type 0} → Next A → Bool
 has_ended (Takes turn) = false
 has_ended (GivenUp ended) = true
-has_ended (Done ended) = true
+has_ended (Done ended left) = true
 has_ended Open = true

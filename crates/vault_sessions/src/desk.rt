@@ -341,13 +341,11 @@ impl<D: Device, S: Tally, T: Tally, A: Allocator + Copy> Desk<D, S, T, A> {
     // came for a while or the journal is long (`begins_snapshot`). Else what is staged is committed, once there is nobody left to wait
     // for (`others_in`). A commit is due as well if a worker waits for room: entries are discarded before it.
     pub(crate) fn due<C: Clock>(
-        &mut self,
+        &self,
         clock: &C,
         gathering: &mut Gathering,
         silence: &mut Silence,
-    ) -> Due
-        ensures { self.new ≡ self.old }
-    {
+    ) -> Due {
         let snapshot = self.snapshot_in(clock, silence);
         if snapshot == Some(Duration::ZERO) {
             return Due::Snapshot;
@@ -359,8 +357,13 @@ impl<D: Device, S: Tally, T: Tally, A: Allocator + Copy> Desk<D, S, T, A> {
         if let Some(left) = self.others_in(clock, gathering) {
             return Due::In(left);
         }
-        self.pace.makes_room();
         Due::Commit(self.vault.durable())
+    }
+
+    // Discards the oldest kept entry, as `retire`, for those who asked for room: they have as much as there is.
+    pub(crate) fn makes_room(&mut self) -> Retired {
+        self.pace.makes_room();
+        self.retire()
     }
 
     // How long it is until a snapshot is begun, if no command comes until then. None: none is wanted, it is put off, or the desk is

@@ -14,6 +14,7 @@ ghost use Rattle.vault_sessions.specs.declared.dialogue.Awaits.TheVariants as aw
 use crate::connection::Connection;
 use crate::conversation::Conversation;
 use crate::gate::Gate;
+use crate::last_leave::LastLeave;
 use crate::report::{Ended, Finished};
 use crate::tally::{Share, Tally};
 use crate::turn::{Next, Telling, Turn, tell};
@@ -224,7 +225,7 @@ impl<C: Connection, S: Tally, T: Tally, A: Allocator + Copy> Dialogue<C, S, T, A
             Next::Takes(Turn::Wait(_)) => Awaits::Reply,
             Next::Takes(Turn::Tell(_)) => Awaits::Telling,
             Next::Takes(Turn::Over(_)) | Next::GivenUp(_) => Awaits::Leave,
-            Next::Done(_) | Next::Open => Awaits::Nothing,
+            Next::Done(_, _) | Next::Open => Awaits::Nothing,
         }
     }
 
@@ -278,7 +279,7 @@ fn put_back<A: Allocator>(place: &mut Next<A>, next: Next<A>)
         Next::Open => {}
         Next::Takes(_turn) => unreachable!(),
         Next::GivenUp(_) => unreachable!(),
-        Next::Done(_) => unreachable!(),
+        Next::Done(_, _) => unreachable!(),
     }
 }
 
@@ -304,7 +305,7 @@ fn advance<D: Device, S: Tally, T: Tally, A: Allocator + Copy, G: Gate, H: Wait,
         Next::Takes(Turn::Tell(telling)) => tell_on(connection, telling),
         Next::Takes(Turn::Over(ended)) => leave(worker, waits, talk, ended, false),
         Next::GivenUp(ended) => leave(worker, waits, talk, ended, true),
-        Next::Done(ended) => (Next::Done(ended), Step::Over),
+        Next::Done(ended, left) => (Next::Done(ended, left), Step::Over),
         Next::Open => (Next::Open, Step::Over),
     }
 }
@@ -397,20 +398,27 @@ fn leave<D: Device, S: Tally, T: Tally, A: Allocator + Copy, G: Gate, H: Wait>(
     ensures over { (result.1 ≡ steps.Over) ↔ (is_done result.0 ≡ true) }
 {
     if talk.session == 0 {
-        return (Next::Done(ended), Step::Over);
+        return (Next::Done(ended, LastLeave::of_none()), Step::Over);
     }
     if waits {
-        worker.leave(&talk.answers, talk.session, &mut talk.share);
-        return (Next::Done(ended), Step::Over);
+        let left = worker.leave(&talk.answers, talk.session, &mut talk.share);
+        return (Next::Done(ended, left), Step::Over);
     }
     let left = worker.try_leave(&talk.answers, talk.session, &mut talk.share);
-    if let Err(Outside::Busy) = left {
-        if is_given_up {
-            return (Next::GivenUp(ended), Step::Waits);
-        }
-        return (Next::Takes(Turn::Over(ended)), Step::Waits);
+    let cause = match left {
+        Ok(left) => return (Next::Done(ended, left), Step::Over),
+        Err(cause) => cause,
+    };
+    if cause.outside() != Outside::Busy {
+        return (
+            Next::Done(ended, LastLeave::refused(&cause, talk.session)),
+            Step::Over,
+        );
     }
-    (Next::Done(ended), Step::Over)
+    if is_given_up {
+        return (Next::GivenUp(ended), Step::Waits);
+    }
+    (Next::Takes(Turn::Over(ended)), Step::Waits)
 }
 
 // How a conversation ends if it is given up at this turn.
@@ -485,7 +493,7 @@ fn give_up<D: Device, S: Tally, T: Tally, A: Allocator + Copy, G: Gate, H: Wait>
     match next {
         Next::Takes(turn) => Next::GivenUp(end_turn(worker, turn)),
         Next::GivenUp(ended) => Next::GivenUp(ended),
-        Next::Done(ended) => Next::Done(ended),
+        Next::Done(ended, left) => Next::Done(ended, left),
         Next::Open => Next::Open,
     }
 }
@@ -501,7 +509,7 @@ fn end<A: Allocator>(next: Next<A>) -> Ended
     match next {
         Next::Takes(_turn) => unreachable!(),
         Next::GivenUp(ended) => ended,
-        Next::Done(ended) => ended,
+        Next::Done(ended, _) => ended,
         Next::Open => Ended::Read,
     }
 }

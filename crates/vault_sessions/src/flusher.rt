@@ -104,7 +104,7 @@ impl<'a, D: Device, S: Tally, T: Tally, A: Allocator + Copy, G: Gate, H: Wait + 
         let shared = self.shared;
         let mut had_one = false;
         for _ in self.rt.forever() {
-            let retired = shared.desk.lock(self.rt).retire();
+            let retired = shared.desk.lock(self.rt).makes_room();
             if retired == Retired::Nothing {
                 return had_one;
             }

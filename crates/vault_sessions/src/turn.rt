@@ -4,6 +4,7 @@ ghost use Rattle.vault_sessions.specs.Serving.{session_after as session_after_ou
 ghost use Rattle.vault_sessions.specs.Talking.{TellsOn, StoppedBy};
 
 use crate::connection::Connection;
+use crate::last_leave::LastLeave;
 use crate::report::{Ended, Out};
 use crate::waits::PendingWait;
 use group_commit::Ticket;
@@ -43,8 +44,8 @@ pub(crate) enum Next<A: Allocator> {
     Takes(Turn<A>),
     // It was given up, and ended so. If there is a further step, an open session gets a last leave.
     GivenUp(Ended),
-    // Nothing.
-    Done(Ended),
+    // Nothing. The open session, if there was one, has its last leave, or can't get one.
+    Done(Ended, LastLeave),
     // Its turn is taken out, and comes back in a moment.
     Open,
 }

@@ -15,6 +15,7 @@ use crate::cause::Cause;
 use crate::connection::Connection;
 use crate::conversation::Conversation;
 use crate::gate::{Gate, Point};
+use crate::last_leave::LastLeave;
 use crate::looked::Looked;
 use crate::report::{Ended, Out};
 use crate::shared::Shared;
@@ -375,24 +376,26 @@ impl<D: Device, S: Tally, T: Tally, A: Allocator + Copy, G: Gate, H: Wait> Worke
     }
 
     /// Stages a last leave of the session that the answers leave open, and forgets its ticket. Else it says why none is staged. If
-    /// there is no room for it yet, it may be tried again; for any other reason, the session stays open.
+    /// there is no room for it yet, it may be tried again; for any other cause, the session stays open.
     pub(crate) fn try_leave(
         &self,
         answers: &Answers<A>,
         session: u32,
         share: &mut Share<S, T>,
-    ) -> Result<(), Outside>
+    ) -> Result<LastLeave, Cause>
         requires { session ≡ session_of 0 answers.now.outs }
+        ensures left { IfOk result (λ left. left ≡ session) }
         ensures staged { OnOk result (share.new ≡ record share.old { staged = share.old.staged + 1 }) }
         ensures refused { OnErr result (share.new ≡ share.old) }
         ensures counted { Counts share.old 0 1 share.new }
     {
         match self.stage(session, Command::Leave, share) {
             Ok(ticket) => {
+                let left = LastLeave::staged(&ticket, session);
                 self.forget(ticket);
-                Ok(())
+                Ok(left)
             }
-            Err(cause) => Err(cause.outside()),
+            Err(cause) => Err(cause),
         }
     }
 
@@ -403,27 +406,27 @@ impl<D: Device, S: Tally, T: Tally, A: Allocator + Copy, G: Gate, H: Wait> Worke
         answers: &Answers<A>,
         session: u32,
         share: &mut Share<S, T>,
-    ) -> Result<Ticket<A>, Outside>
+    ) -> Result<Ticket<A>, Cause>
         requires { session ≡ session_of 0 answers.now.outs }
-        ensures ticket { IfOk result (λ ticket. (ticket.session ≡ session_of 0 answers.now.outs) × (ticket.command ≡ Leave)) }
+        ensures ticket { IfOk result (λ ticket. (ticket.session ≡ session) × (ticket.command ≡ Leave)) }
         ensures staged { OnOk result (share.new ≡ record share.old { staged = share.old.staged + 1 }) }
-        ensures refused { IfErr result (λ outside. (outside ≢ Busy) × (share.new ≡ share.old)) }
+        ensures refused { IfErr result (λ cause. (cause ≢ Busy) × (share.new ≡ share.old)) }
     {
         let shared = self.shared;
         let mut desk = shared.desk.lock(self.rt);
         for _ in self.rt.forever() {
-            let outside = match desk.stage_on(session, Command::Leave, share) {
+            let cause = match desk.stage_on(session, Command::Leave, share) {
                 Ok(ticket) => {
                     let wakes = desk.wakes_flusher(false);
                     drop(desk);
                     self.wake(wakes);
                     return Ok(ticket);
                 }
-                Err(cause) => cause.outside(),
+                Err(cause) => cause,
             };
-            if outside != Outside::Busy {
+            if cause.outside() != Outside::Busy {
                 drop(desk);
-                return Err(outside);
+                return Err(cause);
             }
             desk.asks_for_room();
             shared.work.notify_one();
@@ -432,13 +435,24 @@ impl<D: Device, S: Tally, T: Tally, A: Allocator + Copy, G: Gate, H: Wait> Worke
         unreachable!()
     }
 
-    // Stages a last leave, and forgets its ticket. Waits for room. If it is refused for another reason, the session stays open.
-    pub(crate) fn leave(&self, answers: &Answers<A>, session: u32, share: &mut Share<S, T>)
+    // Stages a last leave, and forgets its ticket. Waits for room. If it is refused for another cause, the session stays open.
+    pub(crate) fn leave(
+        &self,
+        answers: &Answers<A>,
+        session: u32,
+        share: &mut Share<S, T>,
+    ) -> LastLeave
         requires { session ≡ session_of 0 answers.now.outs }
-        ensures { Counts share.old 0 1 share.new }
+        ensures left { result ≡ session }
+        ensures counted { Counts share.old 0 1 share.new }
     {
-        if let Ok(ticket) = self.stage_leave(answers, session, share) {
-            self.forget(ticket);
+        match self.stage_leave(answers, session, share) {
+            Ok(ticket) => {
+                let left = LastLeave::staged(&ticket, session);
+                self.forget(ticket);
+                left
+            }
+            Err(cause) => LastLeave::refused(&cause, session),
         }
     }
 }

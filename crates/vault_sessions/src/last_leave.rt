@@ -1,0 +1,52 @@
+//! How a conversation left its session at its end.
+ghost use Rattle.std.specs.Prelude.{◌≡◌, ◌≢◌};
+ghost use Rattle.vault_model.specs.declared.commands.Command.TheVariants.{Leave};
+ghost use Rattle.vault_model.specs.declared.replies.Outside.TheVariants.{Busy};
+
+use crate::cause::Cause;
+use group_commit::Ticket;
+use std::alloc::Allocator;
+use std::marker::Model;
+
+/// What a conversation needs to be over: its session has its last leave, or can't get one. It is made only where no session is open, from the
+/// ticket of a leave, or from the cause for which none was staged, other than a full history. Contracts see the session's number, 0
+/// for none.
+#[derive(Drop)]
+pub struct LastLeave {
+    session: u32,
+}
+
+impl Model for LastLeave {
+    ghost use Rattle.std.specs.Prelude.{ℕ};
+
+    ghost Value = { ℕ };
+
+    ghost view = { λ l. l.session };
+}
+
+impl LastLeave {
+    // No session is open.
+    pub(crate) fn of_none() -> LastLeave
+        ensures { result ≡ 0 }
+    {
+        LastLeave { session: 0 }
+    }
+
+    // The session's leave was staged, for this ticket.
+    pub(crate) fn staged<A: Allocator>(ticket: &Ticket<A>, session: u32) -> LastLeave
+        requires { (ticket.now.session ≡ session) × (ticket.now.command ≡ Leave) }
+        ensures { result ≡ session }
+    {
+        let _ = ticket;
+        LastLeave { session }
+    }
+
+    // No leave of the session was staged, for this cause.
+    pub(crate) fn refused(cause: &Cause, session: u32) -> LastLeave
+        requires { cause.now ≢ Busy }
+        ensures { result ≡ session }
+    {
+        let _ = cause;
+        LastLeave { session }
+    }
+}
