@@ -1,6 +1,7 @@
 """A server on real files for tests, what stands between it and a client, and the programs of the packages."""
 
 import contextlib
+import ctypes
 import os
 import resource
 import select
@@ -14,12 +15,13 @@ import time
 import tomllib
 from dataclasses import dataclass, field
 from pathlib import Path
-from typing import Callable, Dict, List, Optional, Sequence, Tuple
+from typing import Callable, Dict, Iterator, List, Optional, Sequence, Tuple
 
 TOP = Path(__file__).resolve().parent.parent
 VAULTD = os.path.abspath(os.environ.get("VAULTD") or str(TOP / "crates" / "vaultd" / "out" / "vaultd"))
 # A folder in memory, where syncs take no time, for tests that don't depend on syncs.
 MEMORY = "/dev/shm" if os.access("/dev/shm", os.W_OK) else None
+PIDFD_GETFD = 438
 PACKAGES = sorted(path.parent for path in (TOP / "python").glob("*/pyproject.toml"))
 sys.path[:0] = [str(package / "src") for package in PACKAGES]
 
@@ -45,6 +47,23 @@ def lay_programs(folder: Path) -> None:
     for name, text in scripts().items():
         (folder / name).write_text(f"#!{sys.executable}\n{text}", "utf-8")
         (folder / name).chmod(0o755)
+
+
+def sockets_of(process: int) -> Iterator[socket.socket]:
+    """The IPv4 sockets of another program, each borrowed while it is looked at."""
+    libc = ctypes.CDLL(None, use_errno=True)
+    pidfd = os.pidfd_open(process)
+    try:
+        for name in os.listdir(f"/proc/{process}/fd"):
+            if os.readlink(f"/proc/{process}/fd/{name}").startswith("socket:"):
+                taken = libc.syscall(PIDFD_GETFD, pidfd, int(name), 0)
+                if taken < 0:
+                    raise OSError(ctypes.get_errno(), "pidfd_getfd")
+                with socket.socket(fileno=taken) as found:
+                    if found.family == socket.AF_INET:
+                        yield found
+    finally:
+        os.close(pidfd)
 
 
 def free_port() -> int:

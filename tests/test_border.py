@@ -10,8 +10,10 @@ import unittest
 from pathlib import Path
 from typing import Iterator, Optional
 
-from servers import MEMORY, VAULTD, free_port
+from servers import MEMORY, VAULTD, free_port, sockets_of
 
+# Linux's number of this option, which typeshed doesn't have.
+TCP_USER_TIMEOUT = 18
 # What would change the vault, if it were served.
 CHANGES = b"hello anna\nmake /engine\nquit\n"
 FOREIGN = {
@@ -154,6 +156,15 @@ class Times(Border):
                 pass
             self.assertLess(time.monotonic(), until)
             self.assertEqual(self.said(greeted, b"list /"), b"OK list 0\n")
+
+    def test_dead_client(self) -> None:
+        """The kernel ends a connection whose client acknowledges nothing that was sent to it for two minutes."""
+        self.serve()
+        with self.linked() as link:
+            self.said(link, b"hello anna")
+            found = [it.getsockopt(socket.IPPROTO_TCP, TCP_USER_TIMEOUT) for it in sockets_of(self.server.pid)
+                     if not it.getsockopt(socket.SOL_SOCKET, socket.SO_ACCEPTCONN)]
+            self.assertEqual(found, [120_000])
 
     def test_trickled_line(self) -> None:
         self.serve("--line", "1")

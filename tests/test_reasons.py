@@ -1,7 +1,6 @@
 """What the program says after a fault with `--verbose`: the file or address, what was done, and what the system said. Without the word it
 says no more than the fault. A server whose vault breaks says so at once."""
 
-import ctypes
 import os
 import re
 import select
@@ -11,11 +10,10 @@ import time
 import unittest
 from typing import List, Sequence, Tuple
 
-from servers import VAULTD, Limits, Server, free_port
+from servers import VAULTD, Limits, Server, free_port, sockets_of
 from test_files import can_mount
 from tries import FAULTS, Tries, lock, run, told
 
-PIDFD_GETFD = 438
 # Root may open files that nobody else may, unless it gives up this capability.
 AS_ANYBODY = ["setpriv", "--bounding-set", "-dac_override,-dac_read_search"] if os.geteuid() == 0 else []
 FULL = "No space left on device (os error 28)"
@@ -36,17 +34,9 @@ def errors_of(process: "subprocess.Popen[bytes]", lines: int, seconds: float = 2
 
 def shut_listener(process: int, port: int) -> None:
     """Shuts a program's listening socket, so that it accepts no more."""
-    libc = ctypes.CDLL(None, use_errno=True)
-    pidfd = os.pidfd_open(process)
-    for name in os.listdir(f"/proc/{process}/fd"):
-        if os.readlink(f"/proc/{process}/fd/{name}").startswith("socket:"):
-            taken = libc.syscall(PIDFD_GETFD, pidfd, int(name), 0)
-            if taken < 0:
-                raise OSError(ctypes.get_errno(), "pidfd_getfd")
-            with socket.socket(fileno=taken) as found:
-                if found.family == socket.AF_INET and found.getsockname()[1] == port and found.getsockopt(socket.SOL_SOCKET, socket.SO_ACCEPTCONN):
-                    found.shutdown(socket.SHUT_RDWR)
-    os.close(pidfd)
+    for found in sockets_of(process):
+        if found.getsockname()[1] == port and found.getsockopt(socket.SOL_SOCKET, socket.SO_ACCEPTCONN):
+            found.shutdown(socket.SHUT_RDWR)
 
 
 class Reasons(Tries):
