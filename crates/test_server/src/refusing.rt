@@ -2,7 +2,7 @@
 //! named. Whichever is refused, the server ends in a way that is allowed, and nothing that was acknowledged to a client is lost.
 
 use crate::filling::CREATION;
-use crate::server::{Client, ENDED, HEAD, Outcome, PLAIN, Serving, served};
+use crate::server::{Client, ENDED, HEAD, Outcome as Came, PLAIN, Serving, served};
 use std::alloc::Global;
 use std::net::{Net, TcpListener, TcpStream};
 use std::process::Abort;
@@ -20,7 +20,7 @@ static REFUSED: Serving = Serving {
         may_say_more: false,
     }],
     hears: &[&[(b"", 1)]],
-    came: Outcome {
+    came: Came {
         totals: Totals { staged: 3, told: 3 },
         calls: CREATION + 4,
         length: HEAD + 12,
