@@ -7,7 +7,7 @@ use std::convert::AsStr;
 use vault_protocol::SCRIPT_HELP;
 
 /// What `--version` says after the program's name.
-const VERSION: &str = "0.8.0";
+const VERSION: &str = "0.9.0";
 
 /// What `create` does, below its help.
 const CREATED: &str = "\
