@@ -85,7 +85,10 @@ pub fn agree(
     first: &[u8],
     second: &[u8],
 ) -> Option<OpenError> {
-    let mut files = Files::with(alloc, first, second)?;
+    let Some(mut files) = Files::with(alloc, first, second) else {
+        verdict.sure(false, "files in memory can't be made");
+        return None;
+    };
     let Some(report) = files.report(alloc) else {
         verdict.sure(false, "files in memory can't be inspected");
         drop(files);

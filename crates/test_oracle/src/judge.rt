@@ -163,7 +163,10 @@ impl Judge {
     fn tell(&mut self, vault: &mut Vault<MemDevice>, session: u32, command: Command) {
         match command.copy(self.alloc) {
             Ok(copy) => self.stage(vault, session, command, copy),
-            Err(_) => drop(command),
+            Err(_) => {
+                drop(command);
+                self.verdict.sure(false, "a command can't be copied");
+            }
         }
     }
 
