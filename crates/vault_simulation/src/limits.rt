@@ -291,6 +291,7 @@ impl Limit {
     /// Reaches it: what passes it must be refused.
     pub(crate) fn judge(self, verdict: &mut Verdict, alloc: Global) {
         let Some(talk) = self.talk(alloc) else {
+            verdict.sure(false, "no book to begin with");
             return;
         };
         let mut asking = Asking {

@@ -52,33 +52,39 @@ fn print_counts(rt: &impl Print, counts: &Counts) -> io::Result<()> {
     Ok(())
 }
 
-/// The outcome of runs up to the first that finds a difference: what was found and covered, the last run's seed, and how many commands it
-/// said.
+/// The outcome of runs up to the first that finds a difference: what was found and covered.
 #[derive(Clone, Copy)]
 struct Outcome {
     verdict: Verdict,
+    /// The last run's seed, and how many commands it said.
     seed: u64,
     said: u32,
+    /// How many runs were made, and how many commands they said together.
+    runs: u64,
+    commands: u64,
 }
 
-/// Makes the run of a seed. The verdict goes on from this one.
-fn run_of(alloc: Global, seed: u64, commands: u32, verdict: Verdict) -> Outcome {
-    match Run::new(alloc, seed, commands, verdict) {
-        Some(mut run) => {
-            run.lives();
-            let (verdict, left) = run.close();
-            let said = commands.saturating_sub(left);
-            Outcome {
-                verdict,
-                seed,
-                said,
-            }
-        }
-        None => Outcome {
+/// Makes the run of a seed. The outcome goes on from this one.
+fn run_of(alloc: Global, seed: u64, commands: u32, before: Outcome) -> Outcome {
+    let Some(mut run) = Run::new(alloc, seed, commands, before.verdict) else {
+        let mut verdict = before.verdict;
+        verdict.sure(false, "no judge to begin with");
+        return Outcome {
             verdict,
             seed,
             said: 0,
-        },
+            ..before
+        };
+    };
+    run.lives();
+    let (verdict, left) = run.close();
+    let said = commands.saturating_sub(left);
+    Outcome {
+        verdict,
+        seed,
+        said,
+        runs: before.runs.saturating_add(1),
+        commands: before.commands.saturating_add(u64::from(said)),
     }
 }
 
@@ -88,10 +94,12 @@ fn outcome_of(alloc: Global, runs: Runs) -> Outcome {
         verdict: Verdict::new(Counts::new()),
         seed: runs.seed,
         said: 0,
+        runs: 0,
+        commands: 0,
     };
     for number in 0..runs.runs {
         let seed = runs.seed.wrapping_add(number);
-        outcome = run_of(alloc, seed, runs.commands, outcome.verdict);
+        outcome = run_of(alloc, seed, runs.commands, outcome);
         if !outcome.verdict.is_sound() {
             return outcome;
         }
@@ -100,27 +108,24 @@ fn outcome_of(alloc: Global, runs: Runs) -> Outcome {
 }
 
 /// Makes and reports random runs, up to the first that finds a difference. Whether none does.
-pub(crate) fn report_random(rt: &impl Print, alloc: Global, runs: Runs) -> io::Result<bool> {
+pub(crate) fn report_random(rt: &impl Print, alloc: Global, asked: Runs) -> io::Result<bool> {
     let Outcome {
         verdict,
         seed,
         said,
-    } = outcome_of(alloc, runs);
+        runs,
+        commands,
+    } = outcome_of(alloc, asked);
     if let Some(difference) = verdict.found {
         println!(rt; "seed {seed}, command {said}: {difference}")?;
         return Ok(false);
     }
-    if runs.prints {
+    if asked.prints {
         print_counts(rt, &verdict.counts)?;
     }
-    let Runs {
-        seed,
-        runs,
-        commands,
-        prints: _,
-    } = runs;
+    let first = asked.seed;
     println!(rt;
-        "random: {runs} runs of {commands} commands each, from seed {seed} on: no difference"
+        "random: {runs} runs with {commands} commands, from seed {first} on: no difference"
     )?;
     Ok(true)
 }

@@ -180,6 +180,7 @@ impl Run {
     /// Lives all lives, until no command is left or a difference is found.
     pub(crate) fn lives(&mut self) {
         let Some(mut vault) = self.begun() else {
+            self.judge.verdict.sure(false, "no vault to begin with");
             return;
         };
         for _ in 0..self.left {

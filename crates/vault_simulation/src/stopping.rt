@@ -25,7 +25,7 @@ impl Run {
         (Left::Crashed(one), Left::Crashed(other))
     }
 
-    // Now and then puts any bytes where a crash may have left any.
+    // Now and then puts any bytes where a crash may have left any. None if out of memory, which is then the difference.
     fn torn(&mut self, files: Files) -> Option<Files> {
         if !self.dice.one_in(4) {
             return Some(files);
@@ -41,6 +41,9 @@ impl Run {
             bytes.second.as_slice(),
         );
         drop(bytes);
+        self.judge
+            .verdict
+            .sure(files.is_some(), "torn files can't be made");
         files
     }
 
