@@ -1,5 +1,6 @@
 """The tools around the files (backup, salvage and board), on real vaults; and those around a check, with what is planted."""
 
+import ast
 import hashlib
 import html
 import os
@@ -384,7 +385,7 @@ class CheckOver(unittest.TestCase):
 
 
 class Planted(unittest.TestCase):
-    """What is planted to be refused or found still applies: an edit or a patch that doesn't tries nothing."""
+    """What is planted to be refused or found still applies: an edit, a patch or a body that doesn't tries nothing."""
 
     def test_edits(self) -> None:
         """Each old text of an edit is there once, after the edit's earlier pairs."""
@@ -414,6 +415,17 @@ class Planted(unittest.TestCase):
                 done = subprocess.run(["patch", "--dry-run", "-s", "-p1", "-d", str(TOP)], stdin=file, capture_output=True, text=True,
                                       timeout=60, check=False)
                 self.assertEqual(done.returncode, 0, done.stdout)
+
+    def test_bodies(self) -> None:
+        """Each call that tools/try-out-of-memory plants a body into is there once, and so is the crate of its tests."""
+        tool = ast.parse((TOP / "tools/try-out-of-memory").read_text("utf-8"))
+        tables = [node.value for node in tool.body if isinstance(node, ast.Assign) and ast.unparse(node.targets[0]) == "CALLS"]
+        calls = ast.literal_eval(tables[0])
+        self.assertGreater(len(calls), 10)
+        for call, file, begins, _, tests in calls:
+            with self.subTest(call=call):
+                self.assertEqual((TOP / "crates" / file).read_text("utf-8").count(begins), 1)
+                self.assertTrue((TOP / "crates" / tests / "src").is_dir())
 
 
 if __name__ == "__main__":
