@@ -5,11 +5,11 @@ use std::alloc::{Allocator, Global};
 use std::process::Abort;
 use test_memory::{Outcome, Refusing, requests};
 use vault_checkout::Book;
-use vault_device::{Device, MemDevice};
-use vault_model::{ClaimId, NoMemory, PlaceId, Standing};
+use vault_device::{Device, MemDevice, Pick};
+use vault_model::{ClaimId, Effect, EffectIn, Name, NoMemory, PlaceId, Standing};
 use vault_store::{
-    Body, BodyError, CreateError, OpenError, Phase, Started, Store, are_of_two_vaults, laws,
-    read_body,
+    Advanced, Body, BodyError, CreateError, OpenError, Phase, Started, Store, are_of_two_vaults,
+    laws, read_body,
 };
 
 // A file with a new vault and a commit of `make /e`, 47 bytes.
@@ -67,11 +67,23 @@ fn is_created<A: Allocator + Copy>(memory: A, first: MemDevice, second: MemDevic
     }
 }
 
-// Whether two devices open as a vault of two places, with a frame of 12 bytes.
-fn is_with_e<A: Allocator + Copy>(memory: A, first: MemDevice, second: MemDevice) -> bool {
+// What a vault has: how many places, and how many bytes of frames. First `WITH_E`, then the same with another project.
+type Counts = (usize, u64);
+
+const E: Counts = (2, 12);
+
+const E_AND_F: Counts = (3, 24);
+
+// Whether two devices open as a vault of this.
+fn opens_as<A: Allocator + Copy>(
+    memory: A,
+    first: MemDevice,
+    second: MemDevice,
+    wanted: Counts,
+) -> bool {
     match Store::open(memory, first, second) {
         Ok((store, book)) => {
-            let is_so = (book.tree().len(), store.journal_len()) == (2, 12);
+            let is_so = (book.tree().len(), store.journal_len()) == wanted;
             drop(store);
             drop(book);
             is_so
@@ -95,20 +107,49 @@ fn opens_without(
     memory.refuse(number);
     match Store::open(memory, first, second) {
         Ok((store, book)) => {
-            let is_done = !memory.has_refused()
-                && (book.tree().len(), store.journal_len()) == (2, 12);
+            let is_done = !memory.has_refused() && (book.tree().len(), store.journal_len()) == E;
             drop(store);
             drop(book);
             Outcome::done(is_done)
         }
         Err(refused) => {
             let is_told = memory.has_refused() && refused.why == OpenError::NoMemory;
-            Outcome::refused(is_with_e(memory, refused.first, refused.second) && is_told)
+            Outcome::refused(opens_as(memory, refused.first, refused.second, E) && is_told)
         }
     }
 }
 
-// Tries to start a snapshot. Without memory nothing is begun.
+// Whether what is under way, or noted, becomes durable.
+fn settles<A: Allocator>(store: &mut Store<MemDevice, A>) -> bool {
+    for _ in 0..8 {
+        match store.advance() {
+            Ok(Advanced::Moved) => {}
+            advanced => return advanced == Ok(Advanced::Settled),
+        }
+    }
+    false
+}
+
+// Whether a project is noted and becomes durable.
+fn commits<A: Allocator>(store: &mut Store<MemDevice, A>, name: Name) -> bool {
+    if !store.room() {
+        return false;
+    }
+    let made: EffectIn<Global> = Effect::Made(PlaceId(0), name);
+    store.note(&made);
+    drop(made);
+    settles(store)
+}
+
+// Whether a crash leaves a vault of this.
+fn leaves<A: Allocator + Copy>(memory: A, store: Store<MemDevice, A>, wanted: Counts) -> bool {
+    let (mut first, mut second) = store.into_devices();
+    first.crash(Pick::Old);
+    second.crash(Pick::Old);
+    opens_as(memory, first, second, wanted)
+}
+
+// Tries to start a snapshot, and makes it. Without memory nothing is begun, and a project is committed as ever.
 fn starts_without(
     rt: &impl Abort,
     memory: &Refusing<Global>,
@@ -117,6 +158,7 @@ fn starts_without(
 ) -> Outcome {
     laws::what_is_noted_is_spelled::<MemDevice>();
     laws::a_crash_leaves_what_is_kept::<MemDevice>();
+    let name = Name::read(b"f").expect(rt, "a name");
     let first = holding(rt, alloc, WITH_E);
     let second = MemDevice::new(alloc).expect(rt, "a device");
     let Ok((mut store, book)) = Store::open(memory, first, second) else {
@@ -125,13 +167,15 @@ fn starts_without(
     memory.refuse(number);
     let started = store.start_snapshot(memory, &book);
     let phase = store.phase();
-    drop(store);
     drop(book);
     let has_refused = memory.has_refused();
     if (started, phase) == (Ok(Started::Yes), Phase::Start) {
-        Outcome::done(!has_refused)
+        let is_made = settles(&mut store);
+        Outcome::done(leaves(memory, store, (2, 0)) && is_made && !has_refused)
     } else {
-        Outcome::refused(has_refused && (started, phase) == (Err(NoMemory), Phase::Idle))
+        let is_idle = (started, phase) == (Err(NoMemory), Phase::Idle);
+        let is_committed = commits(&mut store, name);
+        Outcome::refused(leaves(memory, store, E_AND_F) && is_committed && is_idle && has_refused)
     }
 }
 
