@@ -1,21 +1,30 @@
 //! An honest client that is served beside hostile ones.
 
 use crate::filling::{Start, begun};
+use crate::holding::{TURNS, is_reached_within};
 use crate::server::{PATIENT, shut};
 use std::alloc::Global;
 use std::io::{self, ErrorKind, Read, Write};
 use std::net::{Net, SocketAddr, TcpListener, TcpStream};
 use std::process::Abort;
 use std::sync::Wait;
-use std::sync::atomic::{AtomicBool, Ordering};
+use std::sync::atomic::{AtomicBool, AtomicU64, Ordering};
 use std::thread::{self, Threads};
 use std::time::{Clock, Duration};
 use test_memory::Refusing;
 use vault_server::{ServerError, ServerOptions, run_server_on};
-use vault_sessions::OpenGate;
+use vault_sessions::{Gate, Point};
 
 // How many places there are.
 const WORKERS: usize = 8;
+
+// How many steps a connection takes in a round at most, as slot.rt of vault_server says.
+const STEPS_A_ROUND: u64 = 4;
+
+// How often others may be heard between a command of the honest client and its reply. One thread serves all places. Each other one has
+// a single turn until then: in the round in which the command is staged or, if it comes before the honest one, in the next round. The
+// command is committed between the two. No round has a second turn, since no connection waits for a claim.
+const MOST_HEARD: u64 = WORKERS as u64 * STEPS_A_ROUND;
 
 // How many calls of its connection a hostile client makes before it connects again.
 const CALLS: usize = 20_000;
@@ -23,8 +32,13 @@ const CALLS: usize = 20_000;
 // For how many seconds the honest one waits for a reply.
 const LONGEST_WAIT: u64 = 30;
 
-// For how many milliseconds it lets the hostile ones begin.
-const BEGUN: u64 = 50;
+// How often the hostile ones are heard before it says anything.
+const BEGUN: u64 = 64;
+
+// What it says, and what it hears.
+const SAID: &[u8] = b"hello anna\nmake /e\nlist /\nquit\n";
+
+const TOLD: &str = "OK session 1\nOK place 1\nOK list 1 e\nOK left\n";
 
 // What a hostile client does over and over, until the honest one got its answers.
 struct Hostility {
@@ -83,6 +97,59 @@ static ROWS: [Hostility; 6] = [
         reads: true,
     },
 ];
+
+// Counts how often others are heard: in all, and between a command of the honest client and its reply. The honest one is the first to
+// connect, so its number is 1.
+#[derive(Drop)]
+struct Counting {
+    heard: AtomicU64,
+    // How many commands of the honest one were staged, and how many were answered.
+    staged: AtomicU64,
+    told: AtomicU64,
+    // How often others were heard since its last command was staged, and the most for any of them.
+    since: AtomicU64,
+    most: AtomicU64,
+}
+
+impl Counting {
+    fn new() -> Counting {
+        Counting {
+            heard: AtomicU64::new(0),
+            staged: AtomicU64::new(0),
+            told: AtomicU64::new(0),
+            since: AtomicU64::new(0),
+            most: AtomicU64::new(0),
+        }
+    }
+
+    // Another one is heard.
+    fn hear(&self) {
+        self.heard.fetch_add(1, Ordering::SeqCst);
+        if self.staged.load(Ordering::SeqCst) == self.told.load(Ordering::SeqCst) {
+            return;
+        }
+        let since = self.since.fetch_add(1, Ordering::SeqCst).saturating_add(1);
+        if since > self.most.load(Ordering::SeqCst) {
+            self.most.store(since, Ordering::SeqCst);
+        }
+    }
+}
+
+impl Gate for Counting {
+    fn at(&self, point: Point) {
+        match point {
+            Point::Staged(1) => {
+                self.since.store(0, Ordering::SeqCst);
+                self.staged.fetch_add(1, Ordering::SeqCst);
+            }
+            Point::Told(1) => {
+                self.told.fetch_add(1, Ordering::SeqCst);
+            }
+            Point::Read(number) if number != 1 => self.hear(),
+            _ => {}
+        }
+    }
+}
 
 // Whether a call of a connection went well, or may go well later.
 fn goes_on(called: io::Result<usize>) -> bool {
@@ -146,20 +213,15 @@ fn be_hostile<R: Net<Listener = TcpListener, Stream = TcpStream> + Wait + Abort>
 }
 
 // What an honest client hears beside them, to its end. Nothing, if it heard nothing for too long.
-fn ask<R: Net<Listener = TcpListener, Stream = TcpStream> + Clock + Abort>(
-    rt: &R,
-    global: Global,
-    address: SocketAddr,
-) -> String {
-    let mut stream = TcpStream::connect(rt, address).expect(rt, "a client");
+fn ask(rt: &impl Abort, global: Global, honest: TcpStream, gate: &Counting) -> String {
+    let mut stream = honest;
     let wait = Some(Duration::from_secs(LONGEST_WAIT));
     assert!(rt; stream.set_read_timeout(wait).is_ok());
-    thread::sleep(rt, Duration::from_millis(BEGUN));
     assert!(rt;
-        stream
-            .write_all(b"hello anna\nmake /e\nlist /\nquit\n")
-            .is_ok()
+        is_reached_within(&gate.heard, BEGUN, TURNS),
+        "nobody else is heard"
     );
+    assert!(rt; stream.write_all(SAID).is_ok());
     let told = io::read_to_string(global, &mut stream);
     drop(stream);
     told.unwrap_or(String::new(global))
@@ -168,13 +230,20 @@ fn ask<R: Net<Listener = TcpListener, Stream = TcpStream> + Clock + Abort>(
 // What the honest client hears beside two hostile ones of a row. Then these end, and nobody is accepted any more.
 fn ask_beside<
     R: Net<Listener = TcpListener, Stream = TcpStream> + Threads + Wait + Clock + Sync + Abort,
->(rt: &R, global: Global, listener: &TcpListener, row: &Hostility) -> String {
+>(
+    rt: &R,
+    global: Global,
+    listener: &TcpListener,
+    honest: TcpStream,
+    row: &Hostility,
+    gate: &Counting,
+) -> String {
     let address = listener.local_addr().expect(rt, "an address");
     let is_over = AtomicBool::new(false);
     let (told, _) = thread::join(
         rt,
         || {
-            let told = ask(rt, global, address);
+            let told = ask(rt, global, honest, gate);
             is_over.store(true, Ordering::SeqCst);
             told
         },
@@ -196,6 +265,7 @@ fn serves<H: Net + Threads + Wait + Clock + Sync + Abort>(
     global: Global,
     memory: &Refusing<Global>,
     listener: TcpListener,
+    gate: &Counting,
 ) -> Option<ServerError> {
     let vault = begun(rt, global, memory, Start::New(0));
     let options = ServerOptions {
@@ -208,7 +278,7 @@ fn serves<H: Net + Threads + Wait + Clock + Sync + Abort>(
         full: None,
         per_address: None,
     };
-    let served = run_server_on(rt, memory, listener, vault, &options, &OpenGate);
+    let served = run_server_on(rt, memory, listener, vault, &options, gate);
     match served {
         Ok(served) => {
             drop(served);
@@ -218,7 +288,7 @@ fn serves<H: Net + Threads + Wait + Clock + Sync + Abort>(
     }
 }
 
-// How a server ends, and what the honest client hears beside two hostile ones of a row.
+// How a server ends, and what the honest client hears beside two hostile ones of a row. It connects before they do.
 fn ends_beside<
     R: Net<Listener = TcpListener, Stream = TcpStream> + Threads + Wait + Clock + Sync + Abort,
 >(
@@ -226,30 +296,37 @@ fn ends_beside<
     global: Global,
     memory: &Refusing<Global>,
     row: &Hostility,
+    gate: &Counting,
 ) -> (Option<ServerError>, String) {
     let listener = TcpListener::bind(rt, "127.0.0.1:0").expect(rt, "a listener");
     let again = listener.try_clone().expect(rt, "the same listener");
+    let address = listener.local_addr().expect(rt, "an address");
+    let honest = TcpStream::connect(rt, address).expect(rt, "a client");
     let ended = thread::join(
         rt,
-        || serves(rt, global, memory, listener),
-        || ask_beside(rt, global, &again, row),
+        || serves(rt, global, memory, listener, gate),
+        || ask_beside(rt, global, &again, honest, row, gate),
     );
     drop(again);
     ended
 }
 
+// Beside each row's clients, all commands of the honest one are answered, and none waits while others are heard again and again.
 #[test]
 fn a_client_is_told_all_beside_others_that_go_on_until_then(rt: HostRuntime) {
     let memory = Refusing::new(rt.alloc());
     for row in &ROWS {
-        let (ended, told) = ends_beside(&rt, rt.alloc(), &memory, row);
-        assert_eq!(&rt; ended, Some(ServerError::Accept), "{}", row.name);
-        assert_eq!(&rt;
-            told.as_str(),
-            "OK session 1\nOK place 1\nOK list 1 e\nOK left\n",
-            "{}",
-            row.name
+        let gate = Counting::new();
+        let (ended, heard) = ends_beside(&rt, rt.alloc(), &memory, row, &gate);
+        let (told, most) = (
+            gate.told.load(Ordering::SeqCst),
+            gate.most.load(Ordering::SeqCst),
         );
-        drop(told);
+        drop(gate);
+        assert_eq!(&rt; ended, Some(ServerError::Accept), "{}", row.name);
+        assert_eq!(&rt; heard.as_str(), TOLD, "{}", row.name);
+        drop(heard);
+        assert_eq!(&rt; told, 4, "{}", row.name);
+        assert!(&rt; most <= MOST_HEARD, "{}: {most}", row.name);
     }
 }

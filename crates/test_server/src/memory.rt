@@ -27,6 +27,19 @@ static LATER: [Talk; 1] = [Talk {
     ..PLAIN
 }];
 
+// Without memory for the share the vault comes back as it was, with all entries and the command that isn't durable: with ample memory
+// its flusher then begins the snapshot at once.
+static NO_SHARE: Talk = Talk {
+    name: "a vault that comes back",
+    start: Start::Long,
+    came: Came {
+        entries: 1020,
+        calls: (CREATION + COMMITS * COMMIT, CREATION_BESIDE + SNAPSHOT),
+        ..NOTHING
+    },
+    ..PLAIN
+};
+
 static ASKED: Talk = Talk {
     name: "each request refused",
     says: &[&[(b"hello anna\nmake /e\nlist /\n", 1)]],
@@ -44,28 +57,105 @@ static ASKED: Talk = Talk {
 
 const TOLD: &[u8] = b"OK session 1\nOK place 1\nOK list 1 e\n";
 
-// Whether a refusal shows: no share was made, memory ended the conversation, or a line was answered so.
-fn shows_refusal(came: Option<Came>, heard: &[u8]) -> bool {
-    let Some(came) = came else {
-        return heard.is_empty();
-    };
-    if came.ended == Some(Ended::NoMemory) {
-        return TOLD.starts_with(heard);
+// What a conversation may come to that is refused one request behind the share's: what is heard, how it ends, how many lines are
+// answered, what is counted, and how many calls of the first file there are. Either one line is answered 81, nothing is staged for it,
+// and what comes after it is answered as if it hadn't been said; or memory ends the conversation there. A session that is open in the
+// end gets a last leave.
+static REFUSALS: [(&[u8], Ended, usize, Totals, u64); 8] = [
+    (
+        b"ERR 81\nERR 11\nERR 11\n",
+        Ended::EndOfInput,
+        3,
+        Totals { staged: 2, told: 2 },
+        CREATION,
+    ),
+    (
+        b"OK session 1\nERR 81\nOK list 0\n",
+        Ended::EndOfInput,
+        3,
+        Totals { staged: 3, told: 2 },
+        CREATION,
+    ),
+    (
+        b"OK session 1\nOK place 1\nERR 81\n",
+        Ended::EndOfInput,
+        3,
+        Totals { staged: 3, told: 2 },
+        CREATION + COMMIT,
+    ),
+    // There is no room for a line, or for its answer.
+    (
+        b"",
+        Ended::NoMemory,
+        0,
+        Totals { staged: 0, told: 0 },
+        CREATION,
+    ),
+    // The reply can't be copied for the client.
+    (
+        b"OK session 1\nOK place 1\n",
+        Ended::NoMemory,
+        2,
+        Totals { staged: 4, told: 2 },
+        CREATION + COMMIT,
+    ),
+    // There is no room for the reply's text. The line counts as answered.
+    (
+        b"",
+        Ended::NoMemory,
+        1,
+        Totals { staged: 2, told: 1 },
+        CREATION,
+    ),
+    (
+        b"OK session 1\n",
+        Ended::NoMemory,
+        2,
+        Totals { staged: 3, told: 2 },
+        CREATION + COMMIT,
+    ),
+    (
+        b"OK session 1\nOK place 1\n",
+        Ended::NoMemory,
+        3,
+        Totals { staged: 4, told: 3 },
+        CREATION + COMMIT,
+    ),
+];
+
+// Whether a conversation that was refused a request comes to one of these.
+fn shows_refusal(came: Came, heard: &[u8]) -> bool {
+    for (text, ended, answers, totals, calls) in &REFUSALS {
+        let wanted = Came {
+            ended: Some(*ended),
+            answers: *answers,
+            totals: *totals,
+            entries: totals.staged,
+            calls: (*calls, CREATION_BESIDE),
+            ..NOTHING
+        };
+        if came == wanted && heard == *text {
+            return true;
+        }
     }
-    heard.windows(7).any(|text| text == b"ERR 81\n".as_slice())
+    false
 }
 
-// Tries a conversation over a new vault. Each entry is committed in the worker's own thread.
+// Tries a conversation over a new vault. Each entry is committed in the worker's own thread. Where there was no memory for the share, the
+// conversation over the vault that came back has to be whole.
 fn talks<H: Threads + Wait + Clock + Sync + Abort>(
     rt: &H,
     global: Global,
     memory: &Refusing<Global>,
     request: u64,
 ) -> Outcome {
-    let (came, heard) = talked(rt, global, memory, &ASKED, request);
+    let (has_share, came, heard) = talked(rt, global, memory, &ASKED, request);
     let shows = shows_refusal(came, &heard);
-    let is_whole = came == Some(ASKED.came) && heard.as_slice() == TOLD;
+    let is_whole = came == ASKED.came && heard.as_slice() == TOLD;
     drop(heard);
+    if !has_share {
+        return Outcome::refused(is_whole);
+    }
     if memory.has_refused() {
         Outcome::refused(shows)
     } else {
@@ -81,4 +171,13 @@ fn each_request_of_a_conversation_is_refused(rt: HostRuntime) {
     // The first is for the share.
     let made = requests(|number| talks(&rt, rt.alloc(), &memory, number));
     assert_eq!(rt; made, Some(17), "serve_one");
+}
+
+#[test]
+fn a_vault_comes_back_where_there_is_no_memory_for_a_share(rt: HostRuntime) {
+    let memory = Refusing::new(rt.alloc());
+    let (has_share, came, heard) = talked(&rt, rt.alloc(), &memory, &NO_SHARE, 1);
+    let is_right = !has_share && came == NO_SHARE.came && heard.is_empty();
+    drop(heard);
+    assert!(rt; is_right, "{}: {has_share} {came:?}", NO_SHARE.name);
 }

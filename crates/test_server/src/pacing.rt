@@ -2,8 +2,9 @@
 
 use flusher_pace::{Commit, Gathering, Pace, Silence, begins_snapshot, may_change};
 use group_commit::{FileVersion, Pumped, Started};
-use std::thread;
-use std::time::{Duration, Instant};
+use std::io;
+use std::sync::atomic::{AtomicU64, Ordering};
+use std::time::{Clock, Duration, Instant};
 use vault_lines::read_line_of;
 use vault_model::NoMemory;
 
@@ -165,53 +166,110 @@ static ROWS: [(&str, &[Step]); 7] = [
     ),
 ];
 
+// A clock that stands still until it is moved on, so that no test depends on how long a thread sleeps. It shows milliseconds.
+#[derive(Drop)]
+struct Moved {
+    millis: AtomicU64,
+}
+
+impl Moved {
+    // It shows an hour.
+    fn new() -> Moved {
+        Moved {
+            millis: AtomicU64::new(3_600_000),
+        }
+    }
+
+    // Moves it on by this many milliseconds.
+    fn pass(&self, millis: u64) {
+        self.millis.fetch_add(millis, Ordering::SeqCst);
+    }
+}
+
+impl Clock for Moved {
+    fn monotonic(&self) -> io::Result<Duration> {
+        Ok(Duration::from_millis(self.millis.load(Ordering::SeqCst)))
+    }
+
+    fn since_1970(&self) -> io::Result<Duration> {
+        self.monotonic()
+    }
+}
+
+// Some milliseconds that are still left.
+fn left(millis: u64) -> Option<Duration> {
+    Some(Duration::from_millis(millis))
+}
+
 // A commit that ended now and took this many milliseconds.
-fn commit_of(rt: &HostRuntime, millis: u64) -> Commit {
-    let began = match Instant::now(rt) {
+fn commit_of(clock: &Moved, millis: u64) -> Commit {
+    let began = match Instant::now(clock) {
         Ok(now) => now.checked_sub(Duration::from_millis(millis)),
         Err(_) => None,
     };
-    Commit::since(rt, began)
+    Commit::since(clock, began)
 }
 
 // Whether, after a commit that took a second, a thread waits an eighth of that from one look to the next.
-fn is_eighth_waited(rt: &HostRuntime) -> bool {
-    match Gathering::new().left(rt, &commit_of(rt, 1000), 1, false) {
-        Some(left) => left <= Duration::from_millis(130) && left > Duration::from_millis(1),
-        None => false,
-    }
+fn is_eighth_waited(clock: &Moved) -> bool {
+    let commit = commit_of(clock, 1000);
+    let mut gathering = Gathering::new();
+    let first = gathering.left(clock, &commit, 1, false);
+    clock.pass(124);
+    let rest = gathering.left(clock, &commit, 1, false);
+    clock.pass(2);
+    let second = gathering.left(clock, &commit, 1, false);
+    first == left(125) && rest == left(1) && second == left(124)
 }
 
 // Whether a thread goes on if for a whole part of a commit no entry came and none was acknowledged, but waits if more came, or if a
 // client isn't answered yet. The second look is over after 200 milliseconds, and the last one after 800.
-fn is_waited_for_more(rt: &HostRuntime) -> bool {
-    let commit = commit_of(rt, 800);
+fn is_waited_for_more(clock: &Moved) -> bool {
+    let commit = commit_of(clock, 800);
     let mut gathering = Gathering::new();
-    if gathering.left(rt, &commit, 3, false).is_none() {
+    if gathering.left(clock, &commit, 3, false) != left(100) {
         return false;
     }
-    thread::sleep(rt, Duration::from_millis(250));
+    clock.pass(199);
+    if gathering.left(clock, &commit, 3, false) != left(1) {
+        return false;
+    }
+    clock.pass(51);
     let (mut quiet, mut moved, mut owed) = (gathering, gathering, gathering);
-    quiet.left(rt, &commit, 3, false).is_none()
-        && moved.left(rt, &commit, 4, false).is_some()
-        && owed.left(rt, &commit, 3, true).is_some()
+    quiet.left(clock, &commit, 3, false).is_none()
+        && moved.left(clock, &commit, 4, false) == left(50)
+        && owed.left(clock, &commit, 3, true) == left(50)
 }
 
-// Whether nobody is waited for once a commit of a millisecond has been over for some time: a client that isn't answered holds nobody up
-// for long.
-fn is_waited_for_no_longer(rt: &HostRuntime) -> bool {
-    let commit = commit_of(rt, 1);
-    thread::sleep(rt, Duration::from_millis(10));
-    Gathering::new().left(rt, &commit, 1, true).is_none()
+// Whether nobody is waited for once a commit has been over for as long as it took, or for three milliseconds and a bit if it took less: a
+// client that isn't answered holds nobody up for long.
+fn is_waited_for_no_longer(clock: &Moved) -> bool {
+    let long = commit_of(clock, 800);
+    clock.pass(799);
+    let last = Gathering::new().left(clock, &long, 1, true);
+    clock.pass(2);
+    let none = Gathering::new().left(clock, &long, 1, true);
+    let short = commit_of(clock, 1);
+    clock.pass(3);
+    let still = Gathering::new().left(clock, &short, 1, true);
+    clock.pass(1);
+    let over = Gathering::new().left(clock, &short, 1, true);
+    last == left(1) && none.is_none() && still.is_some() && over.is_none()
 }
 
 #[test]
 fn a_thread_waits_for_a_part_of_a_commit(rt: HostRuntime) {
+    let clock = Moved::new();
     let mut gathering = Gathering::new();
-    assert!(rt; gathering.left(&rt, &Commit::none(), 1, true).is_none());
-    assert!(rt; is_eighth_waited(&rt));
-    assert!(rt; is_waited_for_more(&rt));
-    assert!(rt; is_waited_for_no_longer(&rt));
+    let waits = gathering.left(&clock, &Commit::none(), 1, true).is_some();
+    let is_eighth = is_eighth_waited(&clock);
+    let is_for_more = is_waited_for_more(&clock);
+    let is_no_longer = is_waited_for_no_longer(&clock);
+    drop(clock);
+    assert!(rt; !waits);
+    assert!(rt; is_eighth);
+    assert!(rt; is_for_more);
+    assert!(rt; is_no_longer);
 }
 
 // Whether a snapshot is begun: of a file of this version, with a journal and a snapshot of these numbers of bytes, and whether nobody
@@ -227,13 +285,15 @@ static SNAPSHOTS: [(FileVersion, u64, u64, bool, bool); 7] = [
 ];
 
 // Whether a silence begins at the first look, and anew with each command, and is over after a tenth of a second.
-fn is_silent(rt: &HostRuntime) -> bool {
+fn is_silent(clock: &Moved) -> bool {
     let mut silence = Silence::new();
-    if silence.left(rt, 7).is_none() {
-        return false;
-    }
-    thread::sleep(rt, Duration::from_millis(120));
-    silence.left(rt, 7).is_none() && silence.left(rt, 8).is_some()
+    let first = silence.left(clock, 7);
+    clock.pass(99);
+    let last = silence.left(clock, 7);
+    clock.pass(2);
+    let none = silence.left(clock, 7);
+    let anew = silence.left(clock, 8);
+    first == left(100) && last == left(1) && none.is_none() && anew == left(100)
 }
 
 #[test]
@@ -244,7 +304,10 @@ fn a_snapshot_is_begun_as_the_rows_say(rt: HostRuntime) {
             *begins
         );
     }
-    assert!(rt; is_silent(&rt));
+    let clock = Moved::new();
+    let is_so = is_silent(&clock);
+    drop(clock);
+    assert!(rt; is_so);
 }
 
 // What may change the vault.

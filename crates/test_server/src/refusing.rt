@@ -31,7 +31,8 @@ static REFUSED: Serving = Serving {
 
 const TOLD: &str = "OK session 1\nOK place 1\nOK left\nend\n";
 
-// What the client may hear, line by line: if memory for the first was refused, the others speak for no session.
+// What the client may hear of a server that ends for want of memory, line by line: if memory for the first was refused, the others speak
+// for no session.
 static MAY_BE: [[&str; 3]; 4] = [
     ["OK session 1", "ERR 81", "ERR 81"],
     ["OK place 1", "ERR 81", "ERR 11"],
@@ -49,19 +50,63 @@ fn may_be_heard(heard: &str) -> bool {
     heard.lines().count() <= 4
 }
 
-// Serves one connection, with this request refused. If the client heard of the place, it is in what a crash would leave.
+// What a server may come to that goes on: what the client hears, what is counted, and whether the place is committed. Either one line is
+// answered 81, nothing is staged for it, and what comes after it is answered as if it hadn't been said; or memory ends the connection:
+// before its first line, or where the text of a reply is to be made, which is counted and not heard. A session that is open in the end
+// gets a last leave.
+static GOES_ON: [(&str, Totals, bool); 7] = [
+    (
+        "ERR 81\nERR 11\nERR 11\nend\n",
+        Totals { staged: 2, told: 2 },
+        false,
+    ),
+    (
+        "OK session 1\nERR 81\nOK left\nend\n",
+        Totals { staged: 2, told: 2 },
+        false,
+    ),
+    (
+        "OK session 1\nOK place 1\nERR 81\nend\n",
+        Totals { staged: 3, told: 2 },
+        true,
+    ),
+    ("end\n", Totals { staged: 0, told: 0 }, false),
+    ("end\n", Totals { staged: 2, told: 1 }, false),
+    ("OK session 1\nend\n", Totals { staged: 3, told: 2 }, true),
+    (
+        "OK session 1\nOK place 1\nend\n",
+        Totals { staged: 3, told: 3 },
+        true,
+    ),
+];
+
+// Whether a server that goes on comes to one of these. If the client heard of the place, it is in what a crash would leave.
+fn may_go_on(came: Came, heard: &str) -> bool {
+    for (text, totals, is_kept) in &GOES_ON {
+        let kept = if *is_kept { REFUSED.came } else { ENDED };
+        let wanted = Came {
+            totals: *totals,
+            ..kept
+        };
+        if came == wanted && heard == *text {
+            return true;
+        }
+    }
+    false
+}
+
+// Serves one connection, with this request refused.
 fn serves<
     R: Net<Listener = TcpListener, Stream = TcpStream> + Threads + Wait + Clock + Sync + Abort,
 >(rt: &R, global: Global, memory: &Refusing<Global>, request: u64) -> Outcome {
     let (came, heard, _, _) = served(rt, global, memory, &REFUSED, request);
     let has_refused = memory.has_refused();
-    let is_told = heard.as_str().contains("OK place 1\n");
-    let is_kept = came.length == HEAD + 12 || came.length == HEAD && !is_told;
+    let goes_on = may_go_on(came, heard.as_str());
     let is_so = may_be_heard(heard.as_str());
     let is_whole = came == REFUSED.came && heard.as_str() == TOLD;
     drop(heard);
     match came.error {
-        None if has_refused => Outcome::refused(is_so && is_kept),
+        None if has_refused => Outcome::refused(goes_on),
         None => Outcome::done(is_whole),
         Some(error) => Outcome::refused(has_refused && is_so && error == ServerError::NoMemory),
     }

@@ -447,7 +447,7 @@ static LAST_SERVINGS: [Serving; 6] = [
         has_two_workers: true,
         has_one_thread: true,
         connections: Some(2),
-        idle: Some(300),
+        idle: Some(2_000),
         clients: &[
             Client {
                 says: &[(b"hello anna\nhold w:/\n", 1)],

@@ -224,7 +224,10 @@ fn flushed<
     (share, answered, flushed)
 }
 
-// What a conversation over a vault comes to. None where there is no memory for a share.
+// What all connections and the flusher came to, and the vault.
+type Conversed<D, A> = (Answered, Option<Flushed>, Totals, Vault<D, A>);
+
+// What a conversation over a vault comes to. Where there is no memory for a share, the vault comes back.
 fn converse_over<
     S: Tally + Send + Sync,
     T: Tally + Send + Sync,
@@ -239,7 +242,7 @@ fn converse_over<
     vault: Vault<D, A>,
     talk: &Talk,
     writer: &mut Hearer,
-) -> Option<(Answered, Option<Flushed>, Totals, Vault<D, A>)>
+) -> Result<Conversed<D, A>, Vault<D, A>>
     requires whole { (S.all ≡ S.parts) × (T.all ≡ T.parts) }
     requires staged { (staged.name ≡ S.name) × (staged.parts ≡ S.parts) × (S.all ≡ 3) × (S.opening ≡ length_of vault.view) }
     requires told { (told.name ≡ T.name) × (told.parts ≡ T.parts) × (T.all ≡ 3) × (T.opening ≡ vault.view.told) }
@@ -250,12 +253,9 @@ fn converse_over<
             let share = shares.pop().expect(rt, "a share");
             let (share, answered, flushed) = flushed(rt, alloc, &shared, talk, writer, share);
             let (vault, totals) = gathered(rt, shared, shares, share);
-            Some((answered, flushed, totals, vault))
+            Ok((answered, flushed, totals, vault))
         }
-        Err(vault) => {
-            drop(vault);
-            None
-        }
+        Err(vault) => Err(vault),
     }
 }
 
@@ -296,7 +296,8 @@ fn gathered<S: Tally, T: Tally, D: Device + Drop, A: Allocator + Copy>(
     }
 }
 
-// What a conversation over a vault comes to, while this request for memory is refused. None where there is no memory for a share.
+// What a conversation over a vault comes to, while this request for memory is refused. Where there is no memory for a share, the vault
+// comes back.
 fn converse<'m, H: Threads + Wait + Clock + Sync + Abort>(
     rt: &H,
     memory: &'m Refusing<Global>,
@@ -304,43 +305,71 @@ fn converse<'m, H: Threads + Wait + Clock + Sync + Abort>(
     talk: &Talk,
     writer: &mut Hearer,
     request: u64,
-) -> Option<Came> {
+) -> Result<Came, Begun<'m>> {
     memory.refuse(request);
     let (staged, told) = (Blank::new(3), Blank::new(3));
-    let ((ended, answers), flushed, totals, vault) = converse_over::<
-        Brand,
-        Brand,
-        MemDevice,
-        &'m Refusing<Global>,
-        H,
-    >(rt, memory, staged, told, vault, talk, writer)?;
+    match converse_over::<Brand, Brand, MemDevice, &'m Refusing<Global>, H>(
+        rt, memory, staged, told, vault, talk, writer,
+    ) {
+        Ok(conversed) => Ok(came_of(conversed)),
+        Err(vault) => Err(vault),
+    }
+}
+
+// What it came to, with what the vault and its files say.
+fn came_of(conversed: Conversed<MemDevice, &Refusing<Global>>) -> Came {
+    let ((ended, answers), flushed, totals, vault) = conversed;
     let entries = vault.len();
     let (first, second) = vault.into_devices();
     let calls = (first.calls(), second.calls());
     drop(first);
     drop(second);
-    Some(Came {
+    Came {
         ended,
         answers,
         totals,
         entries,
         flushed,
         calls,
-    })
+    }
 }
 
-/// What a conversation comes to over its vault, and what is heard, while this request for memory is refused.
+// What a conversation comes to over a vault that came back, since there was no memory for a share. There is ample memory now.
+fn converse_again<'m, H: Threads + Wait + Clock + Sync + Abort>(
+    rt: &H,
+    memory: &'m Refusing<Global>,
+    vault: Begun<'m>,
+    talk: &Talk,
+    writer: &mut Hearer,
+) -> Came {
+    match converse(rt, memory, vault, talk, writer, 0) {
+        Ok(came) => came,
+        Err(vault) => {
+            drop(vault);
+            panic!(rt; "no share, with ample memory")
+        }
+    }
+}
+
+/// Whether there is memory for a share while this request for memory is refused, what a conversation then comes to over its vault, and
+/// what is heard. If there is none, the conversation is over the vault that comes back, with ample memory: if that is the same vault, it
+/// comes to the same as if nothing had been refused.
 pub(crate) fn talked<H: Threads + Wait + Clock + Sync + Abort>(
     rt: &H,
     global: Global,
     memory: &Refusing<Global>,
     talk: &Talk,
     request: u64,
-) -> (Option<Came>, Vec<u8>) {
+) -> (bool, Came, Vec<u8>) {
     let vault = begun(rt, global, memory, talk.start);
     let mut writer = Hearer::new(global, talk.devices);
-    let came = converse(rt, memory, vault, talk, &mut writer, request);
-    (came, writer.held)
+    match converse(rt, memory, vault, talk, &mut writer, request) {
+        Ok(came) => (true, came, writer.held),
+        Err(vault) => {
+            let came = converse_again(rt, memory, vault, talk, &mut writer);
+            (false, came, writer.held)
+        }
+    }
 }
 
 /// Asserts that each conversation comes to what its row says, while this request for memory is refused.
@@ -352,9 +381,9 @@ pub(crate) fn come_to_that<H: Threads + Wait + Clock + Sync + Abort>(
     request: u64,
 ) {
     for talk in talks {
-        let (came, heard) = talked(rt, global, memory, talk, request);
-        let is_right = came == Some(talk.came) && is_text(&heard, talk.hears);
-        assert!(rt; is_right, "{}: {came:?}", talk.name);
+        let (has_share, came, heard) = talked(rt, global, memory, talk, request);
+        let is_right = has_share && came == talk.came && is_text(&heard, talk.hears);
+        assert!(rt; is_right, "{}: {has_share} {came:?}", talk.name);
         drop(heard);
     }
 }
