@@ -7,7 +7,7 @@ import socket
 import time
 import unittest
 
-from servers import Limits, Server, free_port
+from servers import MEMORY, Limits, Server, free_port
 from tries import FAULTS, Tries, content_of, fault, heard, lay, run, told
 
 
@@ -240,6 +240,8 @@ class Stops(Tries):
 
 class LongSnapshot(Tries):
     """A vault whose snapshot has more than one piece is opened with all its versions, and refused if one byte is damaged."""
+
+    above = MEMORY
 
     def fill(self) -> None:
         """Makes 3,200 versions of 1,000 bytes."""

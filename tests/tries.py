@@ -98,8 +98,11 @@ def heard(connection: socket.socket) -> bytes:
 class Tries(unittest.TestCase):
     """A folder of its own to work in, for the files a and b of a vault."""
 
+    # The folder that this one is in. None: where temporary files are.
+    above: Optional[str] = None
+
     def setUp(self) -> None:
-        folder = tempfile.TemporaryDirectory(prefix="vault-test-")
+        folder = tempfile.TemporaryDirectory(prefix="vault-test-", dir=self.above)
         self.addCleanup(folder.cleanup)
         self.addCleanup(os.chdir, os.getcwd())
         os.chdir(folder.name)

@@ -21,10 +21,13 @@ const WORKERS: usize = 8;
 // How many steps a connection takes in a round at most, as slot.rt of vault_server says.
 const STEPS_A_ROUND: u64 = 4;
 
-// How often others may be heard between a command of the honest client and its reply. One thread serves all places. Each other one has
-// a single turn until then: in the round in which the command is staged or, if it comes before the honest one, in the next round. The
-// command is committed between the two. No round has a second turn, since no connection waits for a claim.
-const MOST_HEARD: u64 = WORKERS as u64 * STEPS_A_ROUND;
+// For how many rounds a command may wait for its commit: others are waited for a little. A loop that commits at rest alone lets others be
+// heard some 16,000 times meanwhile.
+const ROUNDS: u64 = 8;
+
+// How often others may be heard between a command of the honest client and its reply. One thread serves all places, and each has one turn a
+// round, since no connection waits for a claim.
+const MOST_HEARD: u64 = ROUNDS * WORKERS as u64 * STEPS_A_ROUND;
 
 // How many calls of its connection a hostile client makes before it connects again.
 const CALLS: usize = 20_000;
