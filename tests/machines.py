@@ -70,7 +70,8 @@ def run_in_machine(files: Dict[str, Path], seconds: int) -> Tuple[int, str]:
         work = Path(folder)
         for name, path in files.items():
             shutil.copy2(path, work / name)
-        name = work.name.replace("_", "-")
+        # A machine's name ends with a letter or a digit, and a folder's may not.
+        name = work.name.replace("_", "-") + "0"
         booted = subprocess.run(["timeout", "--kill-after=20", str(seconds + BOOT_SECONDS), "systemd-nspawn", "--quiet", f"--machine={name}",
                                  f"--directory={base()}", "--volatile=overlay", "--register=no", "--keep-unit", "--private-network",
                                  f"--bind={work}:/work", "--console=pipe", "--boot"], stdin=subprocess.DEVNULL, stdout=subprocess.PIPE,
