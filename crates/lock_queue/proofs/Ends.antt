@@ -7,9 +7,9 @@ use Rattle.std.proofs.lemmas.List.Elements.{All-nil, All-cons, All-head, All-tai
 use Rattle.std.proofs.lemmas.Option.{same_Some}
 use Rattle.vault_model.specs.declared.ids.ClaimId.{ClaimId}
 use Rattle.vault_model.specs.Claims.{same_id}
-use Rattle.lock_queue.specs.declared.cell.Seat.{Seat}
-use Rattle.lock_queue.specs.Queue.{seats_without}
-use Rattle.lock_queue.proofs.Taken.{is_its_seat, shorter}
+use Rattle.lock_queue.specs.declared.queue.Request.{Request}
+use Rattle.lock_queue.specs.Queue.{requests_without}
+use Rattle.lock_queue.proofs.Taken.{is_its_request, shorter}
 
 module _ {T : Type 0} (t : T → Bool) where
   abbrev pub Fails : T → Type 0
@@ -62,26 +62,26 @@ all_at P (y ∷ xs) zero x all h = subst P (same_Some y x h) (All-head P y xs al
 all_at P (y ∷ xs) (suc i) x all h = all_at P xs i x (All-tail P y xs all) h
 
 module _ (id : ClaimId) where
-  -- where no seat is removed, none is the claim's
-  none_its : (seats : List Seat) → length seats ≡ length (seats_without id seats) → All (Fails (is_its_seat id)) seats
-  none_its [] h = All-nil (Fails (is_its_seat id))
-  none_its (s ∷ seats) h = by_test (same_id s.id id) refl h (none_its seats)
+  -- where no request is removed, none is the claim's
+  none_its : (requests : List Request) → length requests ≡ length (requests_without id requests) → All (Fails (is_its_request id)) requests
+  none_its [] h = All-nil (Fails (is_its_request id))
+  none_its (s ∷ requests) h = by_test (same_id s.id id) refl h (none_its requests)
     where
-      by_test : (b : Bool) → same_id s.id id ≡ b → suc (length seats) ≡ length (cond (not b) (s ∷ seats_without id seats) (seats_without id seats))
-          → (length seats ≡ length (seats_without id seats) → All (Fails (is_its_seat id)) seats) → All (Fails (is_its_seat id)) (s ∷ seats)
-      by_test true g k ih = let few = shorter id seats in absurd (omega (arith, few, k))
-      by_test false g k ih = All-cons (Fails (is_its_seat id)) s seats g (ih (omega (arith, k)))
+      by_test : (b : Bool) → same_id s.id id ≡ b → suc (length requests) ≡ length (cond (not b) (s ∷ requests_without id requests) (requests_without id requests))
+          → (length requests ≡ length (requests_without id requests) → All (Fails (is_its_request id)) requests) → All (Fails (is_its_request id)) (s ∷ requests)
+      by_test true g k ih = let few = shorter id requests in absurd (omega (arith, few, k))
+      by_test false g k ih = All-cons (Fails (is_its_request id)) s requests g (ih (omega (arith, k)))
 
-  -- where a claim has one seat, none is before it
-  pub none_before : (seats : List Seat) (i : ℕ) (s : Seat) → length seats ≡ suc (length (seats_without id seats)) → slice_get seats i ≡ Some s → same_id s.id id ≡ true → All (Fails (is_its_seat id)) (take i seats)
+  -- where a claim has one request, none is before it
+  pub none_before : (requests : List Request) (i : ℕ) (s : Request) → length requests ≡ suc (length (requests_without id requests)) → slice_get requests i ≡ Some s → same_id s.id id ≡ true → All (Fails (is_its_request id)) (take i requests)
   none_before [] i s one h its = cc
-  none_before (x ∷ seats) zero s one h its = All-nil (Fails (is_its_seat id))
-  none_before (x ∷ seats) (suc i) s one h its = by_test (same_id x.id id) refl one (λ rest. none_before seats i s rest h its)
+  none_before (x ∷ requests) zero s one h its = All-nil (Fails (is_its_request id))
+  none_before (x ∷ requests) (suc i) s one h its = by_test (same_id x.id id) refl one (λ rest. none_before requests i s rest h its)
     where
-      by_test : (b : Bool) → same_id x.id id ≡ b → suc (length seats) ≡ suc (length (cond (not b) (x ∷ seats_without id seats) (seats_without id seats)))
-          → (length seats ≡ suc (length (seats_without id seats)) → All (Fails (is_its_seat id)) (take i seats)) → All (Fails (is_its_seat id)) (x ∷ take i seats)
-      by_test true g k ih = let other = all_at (Fails (is_its_seat id)) seats i s (none_its seats (omega (arith, k))) h in cc
-      by_test false g k ih = All-cons (Fails (is_its_seat id)) x (take i seats) g (ih (omega (arith, k)))
+      by_test : (b : Bool) → same_id x.id id ≡ b → suc (length requests) ≡ suc (length (cond (not b) (x ∷ requests_without id requests) (requests_without id requests)))
+          → (length requests ≡ suc (length (requests_without id requests)) → All (Fails (is_its_request id)) (take i requests)) → All (Fails (is_its_request id)) (x ∷ take i requests)
+      by_test true g k ih = let other = all_at (Fails (is_its_request id)) requests i s (none_its requests (omega (arith, k))) h in cc
+      by_test false g k ih = All-cons (Fails (is_its_request id)) x (take i requests) g (ih (omega (arith, k)))
 
 -- what stands at a position
 pub record HasItem {T : Type 0} (xs : List T) (i : ℕ) : Type 0 where

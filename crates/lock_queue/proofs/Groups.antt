@@ -1,4 +1,4 @@
--- The group of the held seats without one claim's own seat.
+-- The group of the held requests without one claim's own request.
 use Rattle.std.specs.Prelude.{◌≡◌, ℕ, ◌+◌, ◌<◌, Bool, true, false, not, ◌&&◌, List, [], ◌∷◌, ◌++◌, filter, find, Option, None, Some, refl}
 use Rattle.std.proofs.Common.{sym, ap, subst, ◌∙◌, cond, arith}
 use Rattle.std.specs.List.{list_all, AllByRecursion}
@@ -10,8 +10,8 @@ use Rattle.lock_modes.specs.Modes.{compatible}
 use Rattle.lock_modes.specs.Groups.{Counts, members, with_one, group_of, count_of}
 use Rattle.lock_modes.proofs.Tables.{and_both, compatible_symmetric}
 use Rattle.lock_modes.proofs.GroupModes.{list_all-group_of}
-use Rattle.lock_queue.specs.declared.cell.Seat.{Seat}
-use Rattle.lock_queue.specs.Queue.{AreCounted, seat_modes, held_seats, is_held_in_way, other_held, with_own, HasOwn, IsOwn, seats_without, restood}
+use Rattle.lock_queue.specs.declared.queue.Request.{Request}
+use Rattle.lock_queue.specs.Queue.{AreCounted, request_modes, held_requests, is_held_in_way, other_held, with_own, HasOwn, IsOwn, requests_without, restood}
 
 more : (a b : ℕ) → a + 1 ≡ b + 1 → a ≡ b
 more a b e = omega (arith, e)
@@ -39,14 +39,14 @@ count_own g S = omega arith
 count_own g SIX = omega arith
 count_own g X = omega arith
 
-none_held : (id : ClaimId) (mode : Mode) (seats : List Seat) → list_all (λ m. compatible m mode) (seat_modes (other_held id seats)) ≡ true → find (is_held_in_way id mode) seats ≡ None
+none_held : (id : ClaimId) (mode : Mode) (requests : List Request) → list_all (λ m. compatible m mode) (request_modes (other_held id requests)) ≡ true → find (is_held_in_way id mode) requests ≡ None
 none_held id mode [] e = refl
-none_held id mode (s ∷ seats) e = by_tests s.is_held (same_id s.id id) refl (compatible mode s.mode) refl e (none_held id mode seats)
+none_held id mode (s ∷ requests) e = by_tests s.is_held (same_id s.id id) refl (compatible mode s.mode) refl e (none_held id mode requests)
   where
     by_tests : (b c : Bool) → same_id s.id id ≡ c → (k : Bool) → compatible mode s.mode ≡ k
-        → list_all (λ m. compatible m mode) (seat_modes (filter (λ (x : Seat). not (same_id x.id id)) (cond b (s ∷ held_seats seats) (held_seats seats)))) ≡ true
-        → (list_all (λ m. compatible m mode) (seat_modes (other_held id seats)) ≡ true → find (is_held_in_way id mode) seats ≡ None)
-        → cond ((not c && not k) && b) (Some s) (find (is_held_in_way id mode) seats) ≡ None
+        → list_all (λ m. compatible m mode) (request_modes (filter (λ (x : Request). not (same_id x.id id)) (cond b (s ∷ held_requests requests) (held_requests requests)))) ≡ true
+        → (list_all (λ m. compatible m mode) (request_modes (other_held id requests)) ≡ true → find (is_held_in_way id mode) requests ≡ None)
+        → cond ((not c && not k) && b) (Some s) (find (is_held_in_way id mode) requests) ≡ None
     by_tests false true q true h e rest = rest e
     by_tests false true q false h e rest = rest e
     by_tests false false q true h e rest = rest e
@@ -54,37 +54,37 @@ none_held id mode (s ∷ seats) e = by_tests s.is_held (same_id s.id id) refl (c
     by_tests true true q true h e rest = rest (rw q at e)
     by_tests true true q false h e rest = rest (rw q at e)
     by_tests true false q true h e rest =
-        let f : list_all (λ m. compatible m mode) (s.mode ∷ seat_modes (other_held id seats)) ≡ true = rw q at e in
-        rest (and_both (compatible s.mode mode) (list_all (λ m. compatible m mode) (seat_modes (other_held id seats))) f).1
+        let f : list_all (λ m. compatible m mode) (s.mode ∷ request_modes (other_held id requests)) ≡ true = rw q at e in
+        rest (and_both (compatible s.mode mode) (list_all (λ m. compatible m mode) (request_modes (other_held id requests))) f).1
     by_tests true false q false h e rest =
-        let f : list_all (λ m. compatible m mode) (s.mode ∷ seat_modes (other_held id seats)) ≡ true = rw q at e in
-        let here : compatible mode s.mode ≡ true = compatible_symmetric mode s.mode ∙ (and_both (compatible s.mode mode) (list_all (λ m. compatible m mode) (seat_modes (other_held id seats))) f).0 in
+        let f : list_all (λ m. compatible m mode) (s.mode ∷ request_modes (other_held id requests)) ≡ true = rw q at e in
+        let here : compatible mode s.mode ≡ true = compatible_symmetric mode s.mode ∙ (and_both (compatible s.mode mode) (list_all (λ m. compatible m mode) (request_modes (other_held id requests))) f).0 in
         cc
 
 -- what is left of the group without the claim's own mode is the group of the others
-left_group : (id : ClaimId) (own : Option Mode) (seats : List Seat) (others : Counts) → IsOwn id own seats → group_of (seat_modes (held_seats seats)) ≡ with_own own others → others ≡ group_of (seat_modes (other_held id seats))
-left_group id None seats others own e = sym e ∙ own
-left_group id (Some m) seats others own e = with_one_same others (group_of (seat_modes (other_held id seats))) m (sym e ∙ own)
+left_group : (id : ClaimId) (own : Option Mode) (requests : List Request) (others : Counts) → IsOwn id own requests → group_of (request_modes (held_requests requests)) ≡ with_own own others → others ≡ group_of (request_modes (other_held id requests))
+left_group id None requests others own e = sym e ∙ own
+left_group id (Some m) requests others own e = with_one_same others (group_of (request_modes (other_held id requests))) m (sym e ∙ own)
 
--- where the group without the claim's own mode admits a mode, no held seat of another claim is in its way
-pub free_of_others : (id : ClaimId) (own : Option Mode) (mode : Mode) (seats : List Seat) (all held others : Counts) → AreCounted seats all held → IsOwn id own seats → held ≡ with_own own others
-    → list_all (λ m. compatible m mode) (members others) ≡ true → find (is_held_in_way id mode) seats ≡ None
-free_of_others id own mode seats all held others counted is left e =
-    none_held id mode seats (sym (list_all-group_of (λ m. compatible m mode) (seat_modes (other_held id seats)))
-    ∙ (ap (λ g. list_all (λ m. compatible m mode) (members g)) (sym (left_group id own seats others is (sym counted.1 ∙ left))) ∙ e))
+-- where the group without the claim's own mode admits a mode, no held request of another claim is in its way
+pub free_of_others : (id : ClaimId) (own : Option Mode) (mode : Mode) (requests : List Request) (all held others : Counts) → AreCounted requests all held → IsOwn id own requests → held ≡ with_own own others
+    → list_all (λ m. compatible m mode) (members others) ≡ true → find (is_held_in_way id mode) requests ≡ None
+free_of_others id own mode requests all held others counted is left e =
+    none_held id mode requests (sym (list_all-group_of (λ m. compatible m mode) (request_modes (other_held id requests)))
+    ∙ (ap (λ g. list_all (λ m. compatible m mode) (members g)) (sym (left_group id own requests others is (sym counted.1 ∙ left))) ∙ e))
 
-pub has_own : (id : ClaimId) (own : Option Mode) (seats : List Seat) (all held : Counts) → AreCounted seats all held → IsOwn id own seats → HasOwn own held
-has_own id None seats all held counted is = tt
-has_own id (Some m) seats all held counted is = subst (λ (g : Counts). 0 < count_of g m) (sym (counted.1 ∙ is)) (count_own (group_of (seat_modes (other_held id seats))) m)
+pub has_own : (id : ClaimId) (own : Option Mode) (requests : List Request) (all held : Counts) → AreCounted requests all held → IsOwn id own requests → HasOwn own held
+has_own id None requests all held counted is = tt
+has_own id (Some m) requests all held counted is = subst (λ (g : Counts). 0 < count_of g m) (sym (counted.1 ∙ is)) (count_own (group_of (request_modes (other_held id requests))) m)
 
--- the seats without a claim's, and the seats with its standing changed
-abbrev pub NoSeat : ClaimId → List Seat → Type 0
-NoSeat id seats = AllByRecursion (λ (s : Seat). same_id s.id id ≡ false) seats
+-- the requests without a claim's, and the requests with its standing changed
+abbrev pub NoRequest : ClaimId → List Request → Type 0
+NoRequest id requests = AllByRecursion (λ (s : Request). same_id s.id id ≡ false) requests
 
-pub without_none : (id : ClaimId) (seats : List Seat) → NoSeat id seats → seats_without id seats ≡ seats
+pub without_none : (id : ClaimId) (requests : List Request) → NoRequest id requests → requests_without id requests ≡ requests
 without_none id [] all = refl
-without_none id (s ∷ seats) all = rw all.0 (ap (λ xs. s ∷ xs) (without_none id seats all.1))
+without_none id (s ∷ requests) all = rw all.0 (ap (λ xs. s ∷ xs) (without_none id requests all.1))
 
-pub restood_none : (id : ClaimId) (b : Bool) (seats : List Seat) → NoSeat id seats → restood id b seats ≡ seats
+pub restood_none : (id : ClaimId) (b : Bool) (requests : List Request) → NoRequest id requests → restood id b requests ≡ requests
 restood_none id b [] all = refl
-restood_none id b (s ∷ seats) all = rw all.0 (ap (λ xs. s ∷ xs) (restood_none id b seats all.1))
+restood_none id b (s ∷ requests) all = rw all.0 (ap (λ xs. s ∷ xs) (restood_none id b requests all.1))

@@ -2,5 +2,5 @@ pub mod Counts
 mod Taken
 pub mod Ends
 pub mod Groups
-pub mod Seated
+pub mod Requests
 pub mod Sends

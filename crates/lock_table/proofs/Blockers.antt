@@ -15,8 +15,8 @@ use Rattle.lock_table.specs.declared.entry.Entry.{Entry}
 use Rattle.lock_table.specs.declared.again.Again.TheVariants.{Behind}
 use Rattle.lock_table.specs.Locks.{mode_at, AreApart, conflict}
 use Rattle.lock_table.specs.Tables.{entry_of, entries_before, entries_without, is_held_in}
-use Rattle.lock_queue.specs.Queue.{CellSeen}
-use Rattle.lock_table.specs.Queues.{IsWeighing, seats_at, seats_by, blocker_at, blockers_of, is_taken}
+use Rattle.lock_queue.specs.Queue.{QueueSeen}
+use Rattle.lock_table.specs.Queues.{IsWeighing, requests_at, requests_by, blocker_at, blockers_of, is_taken}
 use Rattle.lock_table.proofs.Leaving.{is_id, before_its, before_other, still_waits, all_stay}
 use Rattle.lock_table.proofs.LockConflicts.{lock_from, lock_to}
 use Rattle.std.proofs.lemmas.Option.{same_Some}
@@ -58,14 +58,14 @@ remove_map f [] (suc i) = refl
 remove_map f (x ∷ xs) zero = refl
 remove_map f (x ∷ xs) (suc i) = ap (λ ys. f x ∷ ys) (remove_map f xs i)
 
--- the seats that a claim leaves, read from a copy of the line
-pub leave_law : (table now : List Entry) (cells : List CellSeen) (id : ClaimId) (i : ℕ) → now ≡ table → position (is_its id) table ≡ Some i
-    → ((e : Entry) → slice_get now i ≡ Some e → (p : ℕ) → seats_at cells p ≡ seats_by (is_held_in now) (entries_without now e.id) p) → (p : ℕ) → seats_at cells p ≡ seats_by (is_held_in table) (entries_without table id) p
-leave_law table now cells id i same at left p =
+-- the requests that a claim leaves, read from a copy of the line
+pub leave_law : (table now : List Entry) (queues : List QueueSeen) (id : ClaimId) (i : ℕ) → now ≡ table → position (is_its id) table ≡ Some i
+    → ((e : Entry) → slice_get now i ≡ Some e → (p : ℕ) → requests_at queues p ≡ requests_by (is_held_in now) (entries_without now e.id) p) → (p : ℕ) → requests_at queues p ≡ requests_by (is_held_in table) (entries_without table id) p
+leave_law table now queues id i same at left p =
     let here = located table id i at in
     let own = own_id table id here.entry here.found in
-    let all = subst (λ (t : List Entry). (e : Entry) → slice_get t i ≡ Some e → (q : ℕ) → seats_at cells q ≡ seats_by (is_held_in t) (entries_without t e.id) q) same left in
-    all here.entry here.there p ∙ ap (λ k. seats_by (is_held_in table) (entries_without table k) p) own
+    let all = subst (λ (t : List Entry). (e : Entry) → slice_get t i ≡ Some e → (q : ℕ) → requests_at queues q ≡ requests_by (is_held_in t) (entries_without t e.id) q) same left in
+    all here.entry here.there p ∙ ap (λ k. requests_by (is_held_in table) (entries_without table k) p) own
 
 -- at the index that `position` gives, the claim's entry is removed, and its blocker
 pub taken_out : (table : List Entry) (id : ClaimId) (i : ℕ) → IsDistinct same_id (ids table) → position (is_its id) table ≡ Some i → remove table i ≡ entries_without table id
@@ -142,12 +142,12 @@ all_behind P [] (suc i) all = All-nil P
 all_behind P (x ∷ xs) (suc i) all = all_behind P xs i (All-tail P x xs all)
 
 -- when a claim leaves, those before it and those that didn't wait for it stay right
-pub weighing_left : (table : List Entry) (id : ClaimId) (i : ℕ) → IsDistinct same_id (ids table) → position (is_its id) table ≡ Some i → (blockers : List (Option ClaimId)) (cells : List CellSeen)
-    → blockers ≡ map (blocker_at table) (entries_without table id) → ((p : ℕ) → seats_at cells p ≡ seats_by (is_held_in table) (entries_without table id) p) → IsWeighing (Behind id) (entries_without table id) blockers cells i
-weighing_left table id i distinct at blockers cells were seats = record {
+pub weighing_left : (table : List Entry) (id : ClaimId) (i : ℕ) → IsDistinct same_id (ids table) → position (is_its id) table ≡ Some i → (blockers : List (Option ClaimId)) (queues : List QueueSeen)
+    → blockers ≡ map (blocker_at table) (entries_without table id) → ((p : ℕ) → requests_at queues p ≡ requests_by (is_held_in table) (entries_without table id) p) → IsWeighing (Behind id) (entries_without table id) blockers queues i
+weighing_left table id i distinct at blockers queues were requests = record {
   old = blocker_at table;
   were = were;
-  seats = seats;
+  requests = requests;
   done = subst (λ (xs : List Entry). All (λ (e : Entry). blocker_at table e ≡ blocker_at (entries_without table id) e) xs) (sym (front_is table id i distinct at)) (front_stays table id);
   left = all_behind (λ (e : Entry). is_taken (Behind id) (blocker_at table e) ≡ false → blocker_at table e ≡ blocker_at (entries_without table id) e) (entries_without table id) i
       (all_stay (is_id id) (λ (e : Entry). is_taken (Behind id) (blocker_at table e) ≡ false → blocker_at table e ≡ blocker_at (entries_without table id) e) (λ e h. still_waits (is_id id) table e h) table);

@@ -15,8 +15,8 @@ use Rattle.lock_table.specs.declared.locks.Lock.{Lock}
 use Rattle.lock_table.specs.declared.entry.Entry.{Entry}
 use Rattle.lock_table.specs.Locks.{mode_at, AreApart}
 use Rattle.lock_table.specs.Tables.{IsTable, is_held_in, locks_cover, held_over_in}
-use Rattle.lock_queue.specs.Queue.{CellSeen, first_of, is_cover}
-use Rattle.lock_table.specs.Queues.{AreQueues, seats_at, position_of, earlier}
+use Rattle.lock_queue.specs.Queue.{QueueSeen, first_of, is_cover}
+use Rattle.lock_table.specs.Queues.{AreQueues, requests_at, position_of, earlier}
 use Rattle.lock_table.proofs.Climb.{is_beneath, is_under-beneath}
 use Rattle.lock_table.proofs.JoinedAt.{places}
 use Rattle.lock_table.proofs.Putting.{none_there}
@@ -98,7 +98,7 @@ none_any : (ls : List Lock) → list_any (λ (l : Lock). false && at_least l.mod
 none_any [] = refl
 none_any (l ∷ ls) = none_any ls
 
-module _ (tree : List Place) (rises : Rises tree) (table : List Entry) (cells : List CellSeen) (kept : IsTable table) (queues : AreQueues table cells) (p : ℕ) where
+module _ (tree : List Place) (rises : Rises tree) (table : List Entry) (queues : List QueueSeen) (kept : IsTable table) (are_queues : AreQueues table queues) (p : ℕ) where
   abbrev beneath_of : Option ℕ → Entry → Bool
   beneath_of o e = list_any (λ (l : Lock). option_map_or (λ r. is_under tree r l.place) o false && at_least l.mode S) e.locks
 
@@ -106,19 +106,19 @@ module _ (tree : List Place) (rises : Rises tree) (table : List Entry) (cells : 
   above_law None = sym (first_same (λ (e : Entry). beneath_of None e && is_held_in table e) (λ e. false) (λ e. ap (λ b. b && is_held_in table e) (none_any e.locks)) 0 table ∙ first_none 0 table)
   above_law (Some r) = refl
 
-  here_law : position_of table (first_of is_cover (seats_at cells p)) ≡ first_from (λ (e : Entry). covers_here (mode_at e.locks p) && is_held_in table e) 0 table
-  here_law = ap (λ xs. position_of table (first_of is_cover xs)) (queues.queues p)
+  here_law : position_of table (first_of is_cover (requests_at queues p)) ≡ first_from (λ (e : Entry). covers_here (mode_at e.locks p) && is_held_in table e) 0 table
+  here_law = ap (λ xs. position_of table (first_of is_cover xs)) (are_queues.requests p)
       ∙ queue_first is_cover (λ (e : Entry). covers_here (mode_at e.locks p) && is_held_in table e) (is_held_in table) p (λ e h. rw h refl) (λ e m h. rw h refl) table kept.distinct
 
   -- the first at the place and the first from above give the first
-  pub cover_step : earlier (position_of table (first_of is_cover (seats_at cells p))) (cover_above tree table p) ≡ cover_from tree table p
+  pub cover_step : earlier (position_of table (first_of is_cover (requests_at queues p))) (cover_above tree table p) ≡ cover_from tree table p
   cover_step =
       ap (λ o. earlier o (cover_above tree table p)) here_law
       ∙ (ap (earlier (first_from (λ (e : Entry). covers_here (mode_at e.locks p) && is_held_in table e) 0 table)) (above_law (parent_of tree p))
       ∙ (first_or (λ (e : Entry). covers_here (mode_at e.locks p) && is_held_in table e) (λ (e : Entry). beneath_of (parent_of tree p) e && is_held_in table e) 0 table
       ∙ first_same_all _ (λ (e : Entry). locks_cover tree e.locks p && is_held_in table e) 0 table
       (all_split (λ (e : Entry). AreApart e.locks) _ (λ e apart.
-      or_held (covers_here (mode_at e.locks p)) (beneath_of (parent_of tree p) e) (is_held_in table e) ∙ ap (λ b. b && is_held_in table e) (sym (cover_split tree rises p e.locks apart))) table queues.apart)))
+      or_held (covers_here (mode_at e.locks p)) (beneath_of (parent_of tree p) e) (is_held_in table e) ∙ ap (λ b. b && is_held_in table e) (sym (cover_split tree rises p e.locks apart))) table are_queues.apart)))
 
 pub over_id : (tree : List Place) (table : List Entry) (place : ℕ) → option_and_then (λ i. option_map (λ (e : Entry). e.id) (slice_get table i)) (cover_from tree table place) ≡ held_over_in tree table place
 over_id tree table place = id_found (λ (e : Entry). locks_cover tree e.locks place && is_held_in table e) table

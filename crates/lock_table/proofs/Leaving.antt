@@ -1,4 +1,4 @@
--- Some claims leave the line: what that leaves of entries, seats and what the others wait for.
+-- Some claims leave the line: what that leaves of entries, requests and what the others wait for.
 use Rattle.std.specs.Prelude.{◌≡◌, ℕ, suc, ◌+◌, Bool, true, false, not, List, [], ◌∷◌, ◌++◌, filter, find, Option, None, Some, All, refl}
 use Rattle.std.proofs.Common.{sym, ap, ◌∙◌, cond, arith}
 use Rattle.std.specs.List.{prefix_len}
@@ -11,10 +11,10 @@ use Rattle.vault_model.proofs.Distinct.{IsDistinct-filter}
 use Rattle.vault_model.proofs.Stays.{same_id_is}
 use Rattle.lock_modes.specs.declared.mode.Mode.{Mode}
 use Rattle.lock_table.specs.declared.entry.Entry.{Entry}
-use Rattle.lock_queue.specs.declared.cell.Seat.{Seat}
+use Rattle.lock_queue.specs.declared.queue.Request.{Request}
 use Rattle.lock_table.specs.Locks.{mode_at, conflict}
 use Rattle.lock_table.specs.Tables.{IsTable, first_in_way, entries_before}
-use Rattle.lock_table.specs.Queues.{seats_by, seat_of, blocker_at, waits_for}
+use Rattle.lock_table.specs.Queues.{requests_by, request_of, blocker_at, waits_for}
 
 -- the entries before one, entry by entry
 pub before_its : (x : Entry) (xs : List Entry) (k : ClaimId) → same_id x.id k ≡ true → entries_before (x ∷ xs) k ≡ []
@@ -28,12 +28,12 @@ abbrev pub is_id : ClaimId → ClaimId → Bool
 is_id id k = same_id k id
 
 module _ (gone : ClaimId → Bool) where
-  -- the entries that stay, and their seats
+  -- the entries that stay, and their requests
   abbrev pub stay : List Entry → List Entry
   stay es = filter (λ (e : Entry). not (gone e.id)) es
 
-  abbrev pub seats_stay : List Seat → List Seat
-  seats_stay seats = filter (λ (s : Seat). not (gone s.id)) seats
+  abbrev pub requests_stay : List Request → List Request
+  requests_stay requests = filter (λ (s : Request). not (gone s.id)) requests
 
   pub table_kept : (table : List Entry) → IsTable table → IsTable (stay table)
   table_kept table kept = record {
@@ -41,13 +41,13 @@ module _ (gone : ClaimId → Bool) where
     few = let same = length-filter (λ (x : Entry). not (gone x.id)) table in let bound = count_by-le-length (λ (x : Entry). not (gone x.id)) table in let few = kept.few in omega arith;
   }
 
-  -- the seats that stay are those of the entries that stay
-  pub kept_by : (held : Entry → Bool) (es : List Entry) (p : ℕ) → seats_stay (seats_by held es p) ≡ seats_by held (stay es) p
+  -- the requests that stay are those of the entries that stay
+  pub kept_by : (held : Entry → Bool) (es : List Entry) (p : ℕ) → requests_stay (requests_by held es p) ≡ requests_by held (stay es) p
   kept_by held [] p = refl
   kept_by held (e ∷ es) p = by_tests (mode_at e.locks p) refl (gone e.id) refl (kept_by held es p)
     where
-      by_tests : (o : Option Mode) → mode_at e.locks p ≡ o → (b : Bool) → gone e.id ≡ b → seats_stay (seats_by held es p) ≡ seats_by held (stay es) p
-          → seats_stay (seat_of (held e) e.id o ++ seats_by held es p) ≡ seats_by held (cond (not b) (e ∷ stay es) (stay es)) p
+      by_tests : (o : Option Mode) → mode_at e.locks p ≡ o → (b : Bool) → gone e.id ≡ b → requests_stay (requests_by held es p) ≡ requests_by held (stay es) p
+          → requests_stay (request_of (held e) e.id o ++ requests_by held es p) ≡ requests_by held (cond (not b) (e ∷ stay es) (stay es)) p
       by_tests None h true k ih = ih
       by_tests None h false k ih = rw h ih
       by_tests (Some m) h true k ih = rw k ih

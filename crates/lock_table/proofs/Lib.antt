@@ -16,7 +16,7 @@ pub mod Weighing
 pub mod Queuing
 pub mod Covering
 pub mod Others
-pub mod Seats
+pub mod Requests
 pub mod Shorts
 pub mod Stale
 pub mod Blockers

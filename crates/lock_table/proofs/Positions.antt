@@ -12,10 +12,10 @@ use Rattle.vault_model.proofs.Stays.{same_id_itself}
 use Rattle.lock_modes.specs.declared.mode.Mode.{Mode}
 use Rattle.lock_table.specs.declared.locks.Lock.{Lock}
 use Rattle.lock_table.specs.declared.entry.Entry.{Entry}
-use Rattle.lock_queue.specs.declared.cell.Seat.{Seat}
+use Rattle.lock_queue.specs.declared.queue.Request.{Request}
 use Rattle.lock_table.specs.Locks.{mode_at}
-use Rattle.lock_queue.specs.Queue.{CellSeen, first_of, is_in_way, is_held_in_way}
-use Rattle.lock_table.specs.Queues.{seat_of, seats_at, seats_by, earlier, position_of, earliest}
+use Rattle.lock_queue.specs.Queue.{QueueSeen, first_of, is_in_way, is_held_in_way}
+use Rattle.lock_table.specs.Queues.{request_of, requests_at, requests_by, earlier, position_of, earliest}
 use Rattle.lock_table.proofs.Removals.{ids}
 
 -- where the first entry that passes stands, counted from a number on
@@ -88,23 +88,23 @@ place_found t es distinct = by_id (option_map (λ (e : Entry). e.id) (find t es)
     by_id (Some id) = position_first (λ (e : Entry). same_id e.id id) es
 
 -- the queue of a place finds its claim
-module _ (test : Seat → Bool) (t : Entry → Bool) (held : Entry → Bool) (p : ℕ) (none : (e : Entry) → mode_at e.locks p ≡ None → t e ≡ false)
+module _ (test : Request → Bool) (t : Entry → Bool) (held : Entry → Bool) (p : ℕ) (none : (e : Entry) → mode_at e.locks p ≡ None → t e ≡ false)
     (some : (e : Entry) (m : Mode) → mode_at e.locks p ≡ Some m → test (record { id = e.id; mode = m; is_held = held e }) ≡ t e) where
-  pub queue_found : (es : List Entry) → first_of test (seats_by held es p) ≡ option_map (λ (e : Entry). e.id) (find t es)
+  pub queue_found : (es : List Entry) → first_of test (requests_by held es p) ≡ option_map (λ (e : Entry). e.id) (find t es)
   queue_found [] = refl
   queue_found (e ∷ es) = by_mode (mode_at e.locks p) refl (queue_found es)
     where
-      by_mode : (o : Option Mode) → mode_at e.locks p ≡ o → first_of test (seats_by held es p) ≡ option_map (λ (e : Entry). e.id) (find t es)
-          → first_of test (seat_of (held e) e.id o ++ seats_by held es p) ≡ option_map (λ (e : Entry). e.id) (cond (t e) (Some e) (find t es))
+      by_mode : (o : Option Mode) → mode_at e.locks p ≡ o → first_of test (requests_by held es p) ≡ option_map (λ (e : Entry). e.id) (find t es)
+          → first_of test (request_of (held e) e.id o ++ requests_by held es p) ≡ option_map (λ (e : Entry). e.id) (cond (t e) (Some e) (find t es))
       by_mode None h ih = rw (none e h) ih
       by_mode (Some m) h ih = rw (some e m h) (by_test (t e) ih)
         where
-          by_test : (b : Bool) → first_of test (seats_by held es p) ≡ option_map (λ (e : Entry). e.id) (find t es)
-              → option_map (λ (s : Seat). s.id) (cond b (Some (record { id = e.id; mode = m; is_held = held e })) (find test (seats_by held es p))) ≡ option_map (λ (e : Entry). e.id) (cond b (Some e) (find t es))
+          by_test : (b : Bool) → first_of test (requests_by held es p) ≡ option_map (λ (e : Entry). e.id) (find t es)
+              → option_map (λ (s : Request). s.id) (cond b (Some (record { id = e.id; mode = m; is_held = held e })) (find test (requests_by held es p))) ≡ option_map (λ (e : Entry). e.id) (cond b (Some e) (find t es))
           by_test true ih = refl
           by_test false ih = ih
 
-  pub queue_first : (es : List Entry) → IsDistinct same_id (ids es) → position_of es (first_of test (seats_by held es p)) ≡ first_from t 0 es
+  pub queue_first : (es : List Entry) → IsDistinct same_id (ids es) → position_of es (first_of test (requests_by held es p)) ≡ first_from t 0 es
   queue_first es distinct = ap (position_of es) (queue_found es) ∙ place_found t es distinct
 
 pub first_none : (n : ℕ) (es : List Entry) → first_from (λ e. false) n es ≡ None
@@ -293,9 +293,9 @@ module _ (f : Lock → Option ℕ) (locks : List Lock) (i : ℕ) (first all : Op
   pub earliest_last : length locks ≤ i → first ≡ all
   earliest_last past = sym (earlier_none first) ∙ (ap (λ ls. earlier first (earliest f ls)) (sym (drop_all i locks past)) ∙ so)
 
--- the first seat in the way at a lock's place, and the first granted one of another claim there
-abbrev pub place_in_way : List Entry → List CellSeen → Lock → Option ℕ
-place_in_way table cells l = position_of table (first_of (is_in_way l.mode) (seats_at cells l.place))
+-- the first request in the way at a lock's place, and the first granted one of another claim there
+abbrev pub place_in_way : List Entry → List QueueSeen → Lock → Option ℕ
+place_in_way table queues l = position_of table (first_of (is_in_way l.mode) (requests_at queues l.place))
 
-abbrev pub held_place_in_way : List Entry → List CellSeen → ClaimId → Lock → Option ℕ
-held_place_in_way table cells id l = position_of table (first_of (is_held_in_way id l.mode) (seats_at cells l.place))
+abbrev pub held_place_in_way : List Entry → List QueueSeen → ClaimId → Lock → Option ℕ
+held_place_in_way table queues id l = position_of table (first_of (is_held_in_way id l.mode) (requests_at queues l.place))

@@ -17,11 +17,11 @@ use Rattle.lock_table.specs.declared.locks.Lock.{Lock}
 use Rattle.lock_table.specs.declared.entry.Entry.{Entry}
 use Rattle.lock_table.specs.Locks.{mode_at, AreApart, conflict}
 use Rattle.lock_table.specs.Tables.{IsTable, first_in_way, entry_of, entries_before, entries_without, standing_in, is_held_in, held_in_way, put_first}
-use Rattle.lock_queue.specs.Queue.{CellSeen, seat_modes, held_seats, first_of, is_held_in_way}
-use Rattle.lock_table.specs.Queues.{AreQueues, seats_at, room_at, HaveRoom, seat_of, seats_by, seats_from, modes_by, modes_in, position_of, seat_in_way, held_seat_in_way, blocker_at, blockers_of}
+use Rattle.lock_queue.specs.Queue.{QueueSeen, request_modes, held_requests, first_of, is_held_in_way}
+use Rattle.lock_table.specs.Queues.{AreQueues, requests_at, room_at, HaveRoom, request_of, requests_by, requests_from, modes_by, modes_in, position_of, request_in_way, held_request_in_way, blocker_at, blockers_of}
 use Rattle.lock_table.proofs.Putting.{mode_listed}
 use Rattle.lock_table.proofs.Positions.{first_from, queue_first, any_first, earliest_same, first_same, id_found, first_taken, if_lower}
-use Rattle.lock_table.proofs.Weighing.{FindFirst, all_push, length_from, seats_from-push, queue_law, way_law}
+use Rattle.lock_table.proofs.Weighing.{FindFirst, all_push, length_from, requests_from-push, queue_law, way_law}
 use Rattle.lock_queue.proofs.Counts.{length_modes}
 use Rattle.lock_table.proofs.Leaving.{is_id}
 use Rattle.lock_table.proofs.TablesKept.{table_extended}
@@ -32,61 +32,61 @@ pub pushed : {X Y E : Type 0} (r : Result Y E) (y : Y) (new old : List X) (x : X
 pushed r y new old x e h = rw e at h
 
 -- the queues of a table, weighed one after another
-pub from_queues : (table : List Entry) (cells : List CellSeen) → IsTable table → AreQueues table cells → (p : ℕ) → seats_at cells p ≡ seats_from [] table p
-from_queues table cells kept queues p = queues.queues p ∙ sym (queue_law table p kept.distinct)
+pub from_queues : (table : List Entry) (queues : List QueueSeen) → IsTable table → AreQueues table queues → (p : ℕ) → requests_at queues p ≡ requests_from [] table p
+from_queues table queues kept are_queues p = are_queues.requests p ∙ sym (queue_law table p kept.distinct)
 
-pub queues_none : (cells : List CellSeen) → cells ≡ [] → AreQueues [] cells
-queues_none cells e = rw e (record { queues = λ p. refl; room = λ p. omega arith; apart = All-nil (λ (e : Entry). AreApart e.locks) })
+pub queues_none : (queues : List QueueSeen) → queues ≡ [] → AreQueues [] queues
+queues_none queues e = rw e (record { requests = λ p. refl; room = λ p. omega arith; apart = All-nil (λ (e : Entry). AreApart e.locks) })
 
--- cells that have these seats now, and room for them
-pub queues_seated : (table : List Entry) (cells : List CellSeen) → IsTable table → ((p : ℕ) → seats_at cells p ≡ seats_from [] table p) → ((p : ℕ) → length (seats_at cells p) ≤ room_at cells p)
-    → All (λ (e : Entry). AreApart e.locks) table → AreQueues table cells
-queues_seated table cells kept seats room apart = record { queues = λ p. seats p ∙ queue_law table p kept.distinct; room = room; apart = apart }
+-- queues that have these requests now, and room for them
+pub queues_requested : (table : List Entry) (queues : List QueueSeen) → IsTable table → ((p : ℕ) → requests_at queues p ≡ requests_from [] table p) → ((p : ℕ) → length (requests_at queues p) ≤ room_at queues p)
+    → All (λ (e : Entry). AreApart e.locks) table → AreQueues table queues
+queues_requested table queues kept requests room apart = record { requests = λ p. requests p ∙ queue_law table p kept.distinct; room = room; apart = apart }
 
--- the same seats, with no less room
-pub queues_kept : (table : List Entry) (cells new : List CellSeen) → AreQueues table cells → ((p : ℕ) → seats_at new p ≡ seats_at cells p) → ((p : ℕ) → room_at cells p ≤ room_at new p) → AreQueues table new
-queues_kept table cells new queues same more = record {
-  queues = λ p. same p ∙ queues.queues p;
-  room = λ p. let seats = ap length (same p) in let before = queues.room p in let after = more p in omega (arith, seats, before, after);
-  apart = queues.apart;
+-- the same requests, with no less room
+pub queues_kept : (table : List Entry) (queues new : List QueueSeen) → AreQueues table queues → ((p : ℕ) → requests_at new p ≡ requests_at queues p) → ((p : ℕ) → room_at queues p ≤ room_at new p) → AreQueues table new
+queues_kept table queues new are_queues same more = record {
+  requests = λ p. same p ∙ are_queues.requests p;
+  room = λ p. let requests = ap length (same p) in let before = are_queues.room p in let after = more p in omega (arith, requests, before, after);
+  apart = are_queues.apart;
 }
 
--- fewer claims than the most have a seat at a place
-pub few_seated : (table : List Entry) (cells : List CellSeen) → IsTable table → AreQueues table cells → length table < most_claims → (p : ℕ) → length (seats_at cells p) < most_claims
-few_seated table cells kept queues room p =
-    let same = ap length (from_queues table cells kept queues p) in
+-- fewer claims than the most have a request at a place
+pub few_requested : (table : List Entry) (queues : List QueueSeen) → IsTable table → AreQueues table queues → length table < most_claims → (p : ℕ) → length (requests_at queues p) < most_claims
+few_requested table queues kept are_queues room p =
+    let same = ap length (from_queues table queues kept are_queues p) in
     let bound = length_from [] table p in
     omega (arith, same, bound, room)
 
 -- a claim put last keeps to the room
-pub put_room_kept : (cells new : List CellSeen) (locks : List Lock) (held : Bool) (id : ClaimId) → HaveRoom cells locks → ((p : ℕ) → length (seats_at cells p) ≤ room_at cells p)
-    → ((p : ℕ) → seats_at new p ≡ seats_at cells p ++ seat_of held id (mode_at locks p)) → ((p : ℕ) → room_at cells p ≤ room_at new p) → (p : ℕ) → length (seats_at new p) ≤ room_at new p
-put_room_kept cells new locks held id there room put more p = by_mode (mode_at locks p) refl
+pub put_room_kept : (queues new : List QueueSeen) (locks : List Lock) (held : Bool) (id : ClaimId) → HaveRoom queues locks → ((p : ℕ) → length (requests_at queues p) ≤ room_at queues p)
+    → ((p : ℕ) → requests_at new p ≡ requests_at queues p ++ request_of held id (mode_at locks p)) → ((p : ℕ) → room_at queues p ≤ room_at new p) → (p : ℕ) → length (requests_at new p) ≤ room_at new p
+put_room_kept queues new locks held id there room put more p = by_mode (mode_at locks p) refl
   where
-    by_mode : (o : Option Mode) → mode_at locks p ≡ o → length (seats_at new p) ≤ room_at new p
+    by_mode : (o : Option Mode) → mode_at locks p ≡ o → length (requests_at new p) ≤ room_at new p
     by_mode None e =
-        let same = ap length (put p ∙ ap (λ o. seats_at cells p ++ seat_of held id o) e) in
-        let parts = length-append (seats_at cells p) (seat_of held id None) in
+        let same = ap length (put p ∙ ap (λ o. requests_at queues p ++ request_of held id o) e) in
+        let parts = length-append (requests_at queues p) (request_of held id None) in
         let before = room p in
         let after = more p in
         omega (arith, same, parts, before, after)
     by_mode (Some m) e =
-        let same = ap length (put p ∙ ap (λ o. seats_at cells p ++ seat_of held id o) e) in
-        let parts = length-append (seats_at cells p) (seat_of held id (Some m)) in
-        let before = mode_listed (λ q. length (seats_at cells q) < room_at cells q) locks p there (ap is_some e) in
+        let same = ap length (put p ∙ ap (λ o. requests_at queues p ++ request_of held id o) e) in
+        let parts = length-append (requests_at queues p) (request_of held id (Some m)) in
+        let before = mode_listed (λ q. length (requests_at queues q) < room_at queues q) locks p there (ap is_some e) in
         let after = more p in
         omega (arith, same, parts, before, after)
 
-pub queues_asked : (table : List Entry) (cells reserved new : List CellSeen) (e : Entry) (held : Bool) → IsTable table → IsTable (table ++ e ∷ []) → AreQueues table cells
-    → ((p : ℕ) → seats_at reserved p ≡ seats_at cells p) → ((p : ℕ) → room_at cells p ≤ room_at reserved p) → HaveRoom reserved e.locks → AreApart e.locks → held ≡ is_none (first_in_way table e.locks)
-    → ((p : ℕ) → seats_at new p ≡ seats_at reserved p ++ seat_of held e.id (mode_at e.locks p)) → ((p : ℕ) → room_at reserved p ≤ room_at new p) → AreQueues (table ++ e ∷ []) new
-queues_asked table cells reserved new e held kept longer queues same more there apart h put after =
-    let now = queues_kept table cells reserved queues same more in
-    queues_seated (table ++ e ∷ []) new longer
-    (λ p. put p ∙ (ap (λ xs. xs ++ seat_of held e.id (mode_at e.locks p)) (from_queues table reserved kept now p)
-    ∙ (ap (λ b. seats_from [] table p ++ seat_of b e.id (mode_at e.locks p)) h ∙ sym (seats_from-push table e p))))
+pub queues_asked : (table : List Entry) (queues reserved new : List QueueSeen) (e : Entry) (held : Bool) → IsTable table → IsTable (table ++ e ∷ []) → AreQueues table queues
+    → ((p : ℕ) → requests_at reserved p ≡ requests_at queues p) → ((p : ℕ) → room_at queues p ≤ room_at reserved p) → HaveRoom reserved e.locks → AreApart e.locks → held ≡ is_none (first_in_way table e.locks)
+    → ((p : ℕ) → requests_at new p ≡ requests_at reserved p ++ request_of held e.id (mode_at e.locks p)) → ((p : ℕ) → room_at reserved p ≤ room_at new p) → AreQueues (table ++ e ∷ []) new
+queues_asked table queues reserved new e held kept longer are_queues same more there apart h put after =
+    let now = queues_kept table queues reserved are_queues same more in
+    queues_requested (table ++ e ∷ []) new longer
+    (λ p. put p ∙ (ap (λ xs. xs ++ request_of held e.id (mode_at e.locks p)) (from_queues table reserved kept now p)
+    ∙ (ap (λ b. requests_from [] table p ++ request_of b e.id (mode_at e.locks p)) h ∙ sym (requests_from-push table e p))))
     (put_room_kept reserved new e.locks held e.id there now.room put after)
-    (all_push (λ (x : Entry). AreApart x.locks) table e queues.apart apart)
+    (all_push (λ (x : Entry). AreApart x.locks) table e are_queues.apart apart)
 
 pub modes_fewer : (test : Entry → Bool) (es : List Entry) (p : ℕ) → length (modes_in (filter test es) p) ≤ length (modes_in es p)
 modes_fewer test [] p = omega arith
@@ -105,36 +105,36 @@ pub apart_first : (table : List Entry) (id : ClaimId) (locks : List Lock) → Al
 apart_first table id locks all apart = All-cons (λ (e : Entry). AreApart e.locks) (record { id = id; locks = locks }) (entries_without table id) apart (apart_without table id all)
 
 -- the groups at a place
-pub queue_modes : (held : Entry → Bool) (es : List Entry) (p : ℕ) → seat_modes (seats_by held es p) ≡ modes_in es p
+pub queue_modes : (held : Entry → Bool) (es : List Entry) (p : ℕ) → request_modes (requests_by held es p) ≡ modes_in es p
 queue_modes held [] p = refl
 queue_modes held (e ∷ es) p = by_mode (mode_at e.locks p) (queue_modes held es p)
   where
-    by_mode : (o : Option Mode) → seat_modes (seats_by held es p) ≡ modes_in es p → seat_modes (seat_of (held e) e.id o ++ seats_by held es p) ≡ modes_by o (modes_in es p)
+    by_mode : (o : Option Mode) → request_modes (requests_by held es p) ≡ modes_in es p → request_modes (request_of (held e) e.id o ++ requests_by held es p) ≡ modes_by o (modes_in es p)
     by_mode None ih = ih
     by_mode (Some m) ih = ap (λ ms. m ∷ ms) ih
 
-held_modes : (held : Entry → Bool) (es : List Entry) (p : ℕ) → seat_modes (held_seats (seats_by held es p)) ≡ modes_in (filter held es) p
+held_modes : (held : Entry → Bool) (es : List Entry) (p : ℕ) → request_modes (held_requests (requests_by held es p)) ≡ modes_in (filter held es) p
 held_modes held [] p = refl
 held_modes held (e ∷ es) p = by_test (held e) (mode_at e.locks p) refl (held_modes held es p)
   where
-    by_test : (b : Bool) (o : Option Mode) → mode_at e.locks p ≡ o → seat_modes (held_seats (seats_by held es p)) ≡ modes_in (filter held es) p
-        → seat_modes (held_seats (seat_of b e.id o ++ seats_by held es p)) ≡ modes_in (cond b (e ∷ filter held es) (filter held es)) p
+    by_test : (b : Bool) (o : Option Mode) → mode_at e.locks p ≡ o → request_modes (held_requests (requests_by held es p)) ≡ modes_in (filter held es) p
+        → request_modes (held_requests (request_of b e.id o ++ requests_by held es p)) ≡ modes_in (cond b (e ∷ filter held es) (filter held es)) p
     by_test true None h ih = rw h ih
     by_test true (Some m) h ih = rw h (ap (λ ms. m ∷ ms) ih)
     by_test false None h ih = ih
     by_test false (Some m) h ih = ih
 
-pub all_modes : (table : List Entry) (cells : List CellSeen) → AreQueues table cells → (p : ℕ) → seat_modes (seats_at cells p) ≡ modes_in table p
-all_modes table cells queues p = ap seat_modes (queues.queues p) ∙ queue_modes (is_held_in table) table p
+pub all_modes : (table : List Entry) (queues : List QueueSeen) → AreQueues table queues → (p : ℕ) → request_modes (requests_at queues p) ≡ modes_in table p
+all_modes table queues are_queues p = ap request_modes (are_queues.requests p) ∙ queue_modes (is_held_in table) table p
 
-pub held_ones : (table : List Entry) (cells : List CellSeen) → AreQueues table cells → (p : ℕ) → seat_modes (held_seats (seats_at cells p)) ≡ modes_in (filter (is_held_in table) table) p
-held_ones table cells queues p = ap (λ xs. seat_modes (held_seats xs)) (queues.queues p) ∙ held_modes (is_held_in table) table p
+pub held_ones : (table : List Entry) (queues : List QueueSeen) → AreQueues table queues → (p : ℕ) → request_modes (held_requests (requests_at queues p)) ≡ modes_in (filter (is_held_in table) table) p
+held_ones table queues are_queues p = ap (λ xs. request_modes (held_requests xs)) (are_queues.requests p) ∙ held_modes (is_held_in table) table p
 
 -- the id of the first in the way, by its position
-pub way_id : (cells : List CellSeen) (table : List Entry) (locks : List Lock) → IsDistinct same_id (ids table) → FindFirst cells table
-    → option_and_then (λ i. option_map (λ (e : Entry). e.id) (slice_get table i)) (seat_in_way table cells locks) ≡ first_in_way table locks
-way_id cells table locks distinct found =
-    ap (option_and_then (λ i. option_map (λ (e : Entry). e.id) (slice_get table i))) (way_law cells table locks distinct found) ∙ id_found (λ (e : Entry). conflict locks e.locks) table
+pub way_id : (queues : List QueueSeen) (table : List Entry) (locks : List Lock) → IsDistinct same_id (ids table) → FindFirst queues table
+    → option_and_then (λ i. option_map (λ (e : Entry). e.id) (slice_get table i)) (request_in_way table queues locks) ≡ first_in_way table locks
+way_id queues table locks distinct found =
+    ap (option_and_then (λ i. option_map (λ (e : Entry). e.id) (slice_get table i))) (way_law queues table locks distinct found) ∙ id_found (λ (e : Entry). conflict locks e.locks) table
 
 -- the same for those before a position
 taken_at : (i : ℕ) (xs : List Entry) (j : ℕ) → j < i → slice_get (take i xs) j ≡ slice_get xs j
@@ -147,20 +147,20 @@ way_before : (table : List Entry) (test : Entry → Bool) (i : ℕ) (o : Option 
     → option_map (λ (e : Entry). e.id) (find test (take i table)) ≡ option_and_then (λ j. option_map (λ (e : Entry). e.id) (slice_get (take i table) j)) (if_lower i o)
 way_before table test i o h = sym (id_found test (take i table)) ∙ ap (option_and_then (λ j. option_map (λ (e : Entry). e.id) (slice_get (take i table) j))) (first_taken test i table ∙ ap (if_lower i) h)
 
-pub way_none : (cells : List CellSeen) (table : List Entry) (locks : List Lock) (i : ℕ) → IsDistinct same_id (ids table) → FindFirst cells table → seat_in_way table cells locks ≡ None → first_in_way (take i table) locks ≡ None
-way_none cells table locks i distinct found e = way_before table (λ (x : Entry). conflict locks x.locks) i None (sym (way_law cells table locks distinct found) ∙ e)
+pub way_none : (queues : List QueueSeen) (table : List Entry) (locks : List Lock) (i : ℕ) → IsDistinct same_id (ids table) → FindFirst queues table → request_in_way table queues locks ≡ None → first_in_way (take i table) locks ≡ None
+way_none queues table locks i distinct found e = way_before table (λ (x : Entry). conflict locks x.locks) i None (sym (way_law queues table locks distinct found) ∙ e)
 
-pub way_lower : (cells : List CellSeen) (table : List Entry) (locks : List Lock) (i j : ℕ) → IsDistinct same_id (ids table) → FindFirst cells table → seat_in_way table cells locks ≡ Some j → j < i
+pub way_lower : (queues : List QueueSeen) (table : List Entry) (locks : List Lock) (i j : ℕ) → IsDistinct same_id (ids table) → FindFirst queues table → request_in_way table queues locks ≡ Some j → j < i
     → first_in_way (take i table) locks ≡ option_map (λ (e : Entry). e.id) (slice_get table j)
-way_lower cells table locks i j distinct found e h =
-    way_before table (λ (x : Entry). conflict locks x.locks) i (Some j) (sym (way_law cells table locks distinct found) ∙ e) ∙ rw (test) (ap (option_map (λ (e : Entry). e.id)) (taken_at i table j h))
+way_lower queues table locks i j distinct found e h =
+    way_before table (λ (x : Entry). conflict locks x.locks) i (Some j) (sym (way_law queues table locks distinct found) ∙ e) ∙ rw (test) (ap (option_map (λ (e : Entry). e.id)) (taken_at i table j h))
   where
     test : nat_lt j i ≡ true
     test = grind (arith, nat_tests)
 
-pub way_higher : (cells : List CellSeen) (table : List Entry) (locks : List Lock) (i j : ℕ) → IsDistinct same_id (ids table) → FindFirst cells table → seat_in_way table cells locks ≡ Some j → i ≤ j
+pub way_higher : (queues : List QueueSeen) (table : List Entry) (locks : List Lock) (i j : ℕ) → IsDistinct same_id (ids table) → FindFirst queues table → request_in_way table queues locks ≡ Some j → i ≤ j
     → first_in_way (take i table) locks ≡ None
-way_higher cells table locks i j distinct found e h = way_before table (λ (x : Entry). conflict locks x.locks) i (Some j) (sym (way_law cells table locks distinct found) ∙ e) ∙ rw test refl
+way_higher queues table locks i j distinct found e h = way_before table (λ (x : Entry). conflict locks x.locks) i (Some j) (sym (way_law queues table locks distinct found) ∙ e) ∙ rw test refl
   where
     test : nat_lt j i ≡ false
     test = grind (arith, nat_tests)
@@ -229,9 +229,9 @@ any_between f true false (l ∷ ls) = by_test (f l) (any_between f true false ls
     by_test false ih = ih
 any_between f false h (l ∷ ls) = any_between f false h ls
 
-pub held_way_id : (cells : List CellSeen) (table : List Entry) (id : ClaimId) (locks : List Lock) → IsTable table → AreQueues table cells
-    → option_and_then (λ i. option_map (λ (e : Entry). e.id) (slice_get table i)) (held_seat_in_way table cells id locks) ≡ held_in_way table id locks
-held_way_id cells table id locks kept queues =
+pub held_way_id : (queues : List QueueSeen) (table : List Entry) (id : ClaimId) (locks : List Lock) → IsTable table → AreQueues table queues
+    → option_and_then (λ i. option_map (λ (e : Entry). e.id) (slice_get table i)) (held_request_in_way table queues id locks) ≡ held_in_way table id locks
+held_way_id queues table id locks kept are_queues =
     ap (option_and_then (λ i. option_map (λ (e : Entry). e.id) (slice_get table i))) (held_law ∙ first_same _ (λ (e : Entry). not (same_id e.id id) && conflict locks e.locks && is_held_in table e)
     (λ e. any_between (λ (l : Lock). incompatible (Some l.mode) (mode_at e.locks l.place)) (not (same_id e.id id)) (is_held_in table e) locks) 0 table)
     ∙ id_found (λ (e : Entry). not (same_id e.id id) && conflict locks e.locks && is_held_in table e) table
@@ -239,14 +239,14 @@ held_way_id cells table id locks kept queues =
     passes : Lock → Entry → Bool
     passes l e = not (same_id e.id id) && incompatible (Some l.mode) (mode_at e.locks l.place) && is_held_in table e
 
-    at_lock : (l : Lock) → position_of table (first_of (is_held_in_way id l.mode) (seats_at cells l.place)) ≡ first_from (passes l) 0 table
-    at_lock l = ap (λ xs. position_of table (first_of (is_held_in_way id l.mode) xs)) (queues.queues l.place)
+    at_lock : (l : Lock) → position_of table (first_of (is_held_in_way id l.mode) (requests_at queues l.place)) ≡ first_from (passes l) 0 table
+    at_lock l = ap (λ xs. position_of table (first_of (is_held_in_way id l.mode) xs)) (are_queues.requests l.place)
         ∙ queue_first (is_held_in_way id l.mode) (passes l) (is_held_in table) l.place
         (λ e h. rw h (and_false (not (same_id e.id id)) (is_held_in table e)))
         (λ e m h. rw h refl) table kept.distinct
 
-    held_law : held_seat_in_way table cells id locks ≡ first_from (λ (e : Entry). list_any (λ l. passes l e) locks) 0 table
-    held_law = earliest_same (λ (l : Lock). position_of table (first_of (is_held_in_way id l.mode) (seats_at cells l.place))) (λ (l : Lock). first_from (passes l) 0 table) at_lock locks ∙ any_first passes locks 0 table
+    held_law : held_request_in_way table queues id locks ≡ first_from (λ (e : Entry). list_any (λ l. passes l e) locks) 0 table
+    held_law = earliest_same (λ (l : Lock). position_of table (first_of (is_held_in_way id l.mode) (requests_at queues l.place))) (λ (l : Lock). first_from (passes l) 0 table) at_lock locks ∙ any_first passes locks 0 table
 
 pub none_is : {T : Type 0} (o : Option T) → is_none o ≡ true → None ≡ o
 none_is None e = refl
@@ -302,9 +302,9 @@ pub on_error : {T E P : Type 0} (r : Result T E) → P → OnErr r P
 on_error (Ok x) p = tt
 on_error (Err e) p = p
 
--- how many seats a place has
-pub seats_count : (held : Entry → Bool) (es : List Entry) (p : ℕ) → length (seats_by held es p) ≡ length (modes_in es p)
-seats_count held es p = sym (length_modes (seats_by held es p)) ∙ ap length (queue_modes held es p)
+-- how many requests a place has
+pub requests_count : (held : Entry → Bool) (es : List Entry) (p : ℕ) → length (requests_by held es p) ≡ length (modes_in es p)
+requests_count held es p = sym (length_modes (requests_by held es p)) ∙ ap length (queue_modes held es p)
 
 pub modes_bound : (es : List Entry) (p : ℕ) → length (modes_in es p) ≤ length es
 modes_bound [] p = omega arith
@@ -314,13 +314,13 @@ modes_bound (e ∷ es) p = by_mode (mode_at e.locks p) (modes_bound es p)
     by_mode None ih = omega (arith, ih)
     by_mode (Some m) ih = omega (arith, ih)
 
-pub seats_bound : (held : Entry → Bool) (es : List Entry) (p : ℕ) → length (seats_by held es p) ≤ length es
-seats_bound held es p = let same = seats_count held es p in let bound = modes_bound es p in omega (arith, same, bound)
+pub requests_bound : (held : Entry → Bool) (es : List Entry) (p : ℕ) → length (requests_by held es p) ≤ length es
+requests_bound held es p = let same = requests_count held es p in let bound = modes_bound es p in omega (arith, same, bound)
 
-pub seats_fewer : (f g : Entry → Bool) (gone : ClaimId → Bool) (table : List Entry) (p : ℕ) → length (seats_by f (filter (λ (e : Entry). not (gone e.id)) table) p) ≤ length (seats_by g table p)
-seats_fewer f g gone table p =
-    let one = seats_count f (filter (λ (e : Entry). not (gone e.id)) table) p in
-    let all = seats_count g table p in
+pub requests_fewer : (f g : Entry → Bool) (gone : ClaimId → Bool) (table : List Entry) (p : ℕ) → length (requests_by f (filter (λ (e : Entry). not (gone e.id)) table) p) ≤ length (requests_by g table p)
+requests_fewer f g gone table p =
+    let one = requests_count f (filter (λ (e : Entry). not (gone e.id)) table) p in
+    let all = requests_count g table p in
     let fewer = modes_fewer (λ (e : Entry). not (gone e.id)) table p in
     omega (arith, one, all, fewer)
 
@@ -341,62 +341,62 @@ one_less (e ∷ es) id h = by_test (same_id e.id id) h (one_less es id)
     by_test true g ih = let fewer = filter_fewer (λ (x : Entry). not (same_id x.id id)) es in omega (arith, fewer)
     by_test false g ih = let less = ih g in omega (arith, less)
 
--- room stays when seats are removed
-pub room_left : (cells new : List CellSeen) (locks : List Lock) → ((p : ℕ) → length (seats_at new p) ≤ length (seats_at cells p)) → ((p : ℕ) → room_at cells p ≤ room_at new p) → HaveRoom cells locks → HaveRoom new locks
-room_left cells new [] less more room = All-nil (λ (x : Lock). length (seats_at new x.place) < room_at new x.place)
-room_left cells new (l ∷ ls) less more room =
-    let here = All-head (λ (x : Lock). length (seats_at cells x.place) < room_at cells x.place) l ls room in
-    let seats = less l.place in
+-- room stays when requests are removed
+pub room_left : (queues new : List QueueSeen) (locks : List Lock) → ((p : ℕ) → length (requests_at new p) ≤ length (requests_at queues p)) → ((p : ℕ) → room_at queues p ≤ room_at new p) → HaveRoom queues locks → HaveRoom new locks
+room_left queues new [] less more room = All-nil (λ (x : Lock). length (requests_at new x.place) < room_at new x.place)
+room_left queues new (l ∷ ls) less more room =
+    let here = All-head (λ (x : Lock). length (requests_at queues x.place) < room_at queues x.place) l ls room in
+    let requests = less l.place in
     let rooms = more l.place in
-    All-cons (λ (x : Lock). length (seats_at new x.place) < room_at new x.place) l ls (omega (arith, here, seats, rooms))
-    (room_left cells new ls less more (All-tail (λ (x : Lock). length (seats_at cells x.place) < room_at cells x.place) l ls room))
+    All-cons (λ (x : Lock). length (requests_at new x.place) < room_at new x.place) l ls (omega (arith, here, requests, rooms))
+    (room_left queues new ls less more (All-tail (λ (x : Lock). length (requests_at queues x.place) < room_at queues x.place) l ls room))
 
 -- so it does when a claim leaves
-pub room_without : (table : List Entry) (cells new : List CellSeen) (id : ClaimId) (locks : List Lock) → ((p : ℕ) → seats_at cells p ≡ seats_by (is_held_in table) table p) → ((p : ℕ) → seats_at new p ≡ seats_by (is_held_in table) (entries_without table id) p)
-    → ((p : ℕ) → room_at cells p ≤ room_at new p) → HaveRoom cells locks → HaveRoom new locks
-room_without table cells new id locks before after more room = room_left cells new locks less more room
+pub room_without : (table : List Entry) (queues new : List QueueSeen) (id : ClaimId) (locks : List Lock) → ((p : ℕ) → requests_at queues p ≡ requests_by (is_held_in table) table p) → ((p : ℕ) → requests_at new p ≡ requests_by (is_held_in table) (entries_without table id) p)
+    → ((p : ℕ) → room_at queues p ≤ room_at new p) → HaveRoom queues locks → HaveRoom new locks
+room_without table queues new id locks before after more room = room_left queues new locks less more room
   where
-    less : (p : ℕ) → length (seats_at new p) ≤ length (seats_at cells p)
+    less : (p : ℕ) → length (requests_at new p) ≤ length (requests_at queues p)
     less p =
         let one = ap length (after p) in
         let all = ap length (before p) in
-        let fewer = seats_fewer (is_held_in table) (is_held_in table) (is_id id) table p in
+        let fewer = requests_fewer (is_held_in table) (is_held_in table) (is_id id) table p in
         omega (arith, one, all, fewer)
 
 -- a claim put first keeps to the room
-pub first_room : (cells new : List CellSeen) (locks : List Lock) (id : ClaimId) → HaveRoom cells locks → ((p : ℕ) → length (seats_at cells p) ≤ room_at cells p)
-    → ((p : ℕ) → seats_at new p ≡ seat_of true id (mode_at locks p) ++ seats_at cells p) → ((p : ℕ) → room_at cells p ≤ room_at new p) → (p : ℕ) → length (seats_at new p) ≤ room_at new p
-first_room cells new locks id there room put more p = by_mode (mode_at locks p) refl
+pub first_room : (queues new : List QueueSeen) (locks : List Lock) (id : ClaimId) → HaveRoom queues locks → ((p : ℕ) → length (requests_at queues p) ≤ room_at queues p)
+    → ((p : ℕ) → requests_at new p ≡ request_of true id (mode_at locks p) ++ requests_at queues p) → ((p : ℕ) → room_at queues p ≤ room_at new p) → (p : ℕ) → length (requests_at new p) ≤ room_at new p
+first_room queues new locks id there room put more p = by_mode (mode_at locks p) refl
   where
-    by_mode : (o : Option Mode) → mode_at locks p ≡ o → length (seats_at new p) ≤ room_at new p
+    by_mode : (o : Option Mode) → mode_at locks p ≡ o → length (requests_at new p) ≤ room_at new p
     by_mode None e =
-        let same = ap length (put p ∙ ap (λ o. seat_of true id o ++ seats_at cells p) e) in
+        let same = ap length (put p ∙ ap (λ o. request_of true id o ++ requests_at queues p) e) in
         let before = room p in
         let after = more p in
         omega (arith, same, before, after)
     by_mode (Some m) e =
-        let same = ap length (put p ∙ ap (λ o. seat_of true id o ++ seats_at cells p) e) in
-        let before = mode_listed (λ q. length (seats_at cells q) < room_at cells q) locks p there (ap is_some e) in
+        let same = ap length (put p ∙ ap (λ o. request_of true id o ++ requests_at queues p) e) in
+        let before = mode_listed (λ q. length (requests_at queues q) < room_at queues q) locks p there (ap is_some e) in
         let after = more p in
         omega (arith, same, before, after)
 
 -- the same, read from copies of the line
-pub held_way_read : (cells : List CellSeen) (table : List Entry) (id : ClaimId) (locks : List Lock) → IsTable table → AreQueues table cells → (one other : List Entry) (seen : List CellSeen) → one ≡ table → other ≡ table → seen ≡ cells
-    → option_and_then (λ i. option_map (λ (e : Entry). e.id) (slice_get one i)) (held_seat_in_way other seen id locks) ≡ held_in_way table id locks
-held_way_read cells table id locks kept queues one other seen a b c =
-    ap (λ (xs : List Entry). option_and_then (λ i. option_map (λ (e : Entry). e.id) (slice_get xs i)) (held_seat_in_way other seen id locks)) a
-    ∙ (ap (λ (xs : List Entry). option_and_then (λ i. option_map (λ (e : Entry). e.id) (slice_get table i)) (held_seat_in_way xs seen id locks)) b
-    ∙ (ap (λ (xs : List CellSeen). option_and_then (λ i. option_map (λ (e : Entry). e.id) (slice_get table i)) (held_seat_in_way table xs id locks)) c
-    ∙ held_way_id cells table id locks kept queues))
+pub held_way_read : (queues : List QueueSeen) (table : List Entry) (id : ClaimId) (locks : List Lock) → IsTable table → AreQueues table queues → (one other : List Entry) (seen : List QueueSeen) → one ≡ table → other ≡ table → seen ≡ queues
+    → option_and_then (λ i. option_map (λ (e : Entry). e.id) (slice_get one i)) (held_request_in_way other seen id locks) ≡ held_in_way table id locks
+held_way_read queues table id locks kept are_queues one other seen a b c =
+    ap (λ (xs : List Entry). option_and_then (λ i. option_map (λ (e : Entry). e.id) (slice_get xs i)) (held_request_in_way other seen id locks)) a
+    ∙ (ap (λ (xs : List Entry). option_and_then (λ i. option_map (λ (e : Entry). e.id) (slice_get table i)) (held_request_in_way xs seen id locks)) b
+    ∙ (ap (λ (xs : List QueueSeen). option_and_then (λ i. option_map (λ (e : Entry). e.id) (slice_get table i)) (held_request_in_way table xs id locks)) c
+    ∙ held_way_id queues table id locks kept are_queues))
 
--- as many seats as claims that have a mode there, with the first
-pub put_count : (cells : List CellSeen) (table : List Entry) (id : ClaimId) (locks : List Lock) (p : ℕ) → seats_at cells p ≡ seat_of true id (mode_at locks p) ++ seats_by (is_held_in table) (entries_without table id) p
-    → length (seats_at cells p) ≡ length (modes_in (put_first table id locks) p)
-put_count cells table id locks p put = ap length put ∙ by_mode (mode_at locks p)
+-- as many requests as claims that have a mode there, with the first
+pub put_count : (queues : List QueueSeen) (table : List Entry) (id : ClaimId) (locks : List Lock) (p : ℕ) → requests_at queues p ≡ request_of true id (mode_at locks p) ++ requests_by (is_held_in table) (entries_without table id) p
+    → length (requests_at queues p) ≡ length (modes_in (put_first table id locks) p)
+put_count queues table id locks p put = ap length put ∙ by_mode (mode_at locks p)
   where
-    by_mode : (o : Option Mode) → length (seat_of true id o ++ seats_by (is_held_in table) (entries_without table id) p) ≡ length (modes_by o (modes_in (entries_without table id) p))
-    by_mode None = seats_count (is_held_in table) (entries_without table id) p
-    by_mode (Some m) = ap suc (seats_count (is_held_in table) (entries_without table id) p)
+    by_mode : (o : Option Mode) → length (request_of true id o ++ requests_by (is_held_in table) (entries_without table id) p) ≡ length (modes_by o (modes_in (entries_without table id) p))
+    by_mode None = requests_count (is_held_in table) (entries_without table id) p
+    by_mode (Some m) = ap suc (requests_count (is_held_in table) (entries_without table id) p)
 
 same_length : (table : List Entry) (id : ClaimId) (locks : List Lock) → IsDistinct same_id (ids table) → is_some (entry_of table id) ≡ true → length (put_first table id locks) ≡ length table
 unfolding IsDistinct

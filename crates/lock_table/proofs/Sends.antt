@@ -9,7 +9,7 @@ use Rattle.arrayvec.specs.contracts.cells.Cells as Cells
 use Rattle.arrayvec.specs.contracts.array_vec.ArrayVec as ArrayVec
 use Rattle.arrayvec.specs.contracts.array_vec.ArrayVec.TheInside as ArrayVecInside
 use Rattle.vault_model.proofs.Sends.{fields, claim_id_send}
-use Rattle.lock_queue.proofs.Sends.{cell_send}
+use Rattle.lock_queue.proofs.Sends.{queue_send}
 use Rattle.lock_table.specs.declared.locks.TheConstants.{MAX_LOCKS}
 use Rattle.lock_table.specs.contracts.locks.Lock as Lock
 use Rattle.lock_table.specs.contracts.locks.LockSet as LockSet
@@ -49,5 +49,5 @@ module _ (A : RattleType) (g : Ghosts A.Denot) (s : IsSend A) (f : Frees g g.dea
       let T = TableInside.the_type A g in
       let e = kept_send in
       let i = claim_id_send in
-      let c = cell_send A g s f in
+      let c = queue_send A g s f in
       view_send _ _ _ _ _ (recorded_send _ _ _ T.to_one (struct_send (shape T) (search fields depth 20)))

@@ -11,45 +11,45 @@ use Rattle.vault_model.specs.Claims.{is_short}
 use Rattle.lock_table.specs.declared.entry.Entry.{Entry}
 use Rattle.lock_table.specs.declared.again.Again.TheVariants.{BehindShort}
 use Rattle.lock_table.specs.Tables.{is_held_in, long_entries}
-use Rattle.lock_queue.specs.Queue.{CellSeen, long_seats}
-use Rattle.lock_table.specs.Queues.{AreStale, seats_at, room_at, queue_of, blocker_at, is_taken}
-use Rattle.lock_table.proofs.Putting.{seats_past}
+use Rattle.lock_queue.specs.Queue.{QueueSeen, long_requests}
+use Rattle.lock_table.specs.Queues.{AreStale, requests_at, room_at, queue_of, blocker_at, is_taken}
+use Rattle.lock_table.proofs.Putting.{requests_past}
 use Rattle.lock_table.proofs.Leaving.{kept_by, still_waits, all_stay}
 
--- the places so far have only the seats of long claims, and the later ones have what they had
-pub record IsEmptying (start cells : List CellSeen) (i : ℕ) : Type 0 where
-  pub done : (p : ℕ) → p < i → seats_at cells p ≡ long_seats (seats_at start p)
-  pub left : (p : ℕ) → i ≤ p → seats_at cells p ≡ seats_at start p
-  pub room : (p : ℕ) → room_at start p ≤ room_at cells p
+-- the places so far have only the requests of long claims, and the later ones have what they had
+pub record IsEmptying (start queues : List QueueSeen) (i : ℕ) : Type 0 where
+  pub done : (p : ℕ) → p < i → requests_at queues p ≡ long_requests (requests_at start p)
+  pub left : (p : ℕ) → i ≤ p → requests_at queues p ≡ requests_at start p
+  pub room : (p : ℕ) → room_at start p ≤ room_at queues p
 
-pub emptied_next : (start cells new : List CellSeen) (i : ℕ) → IsEmptying start cells i → seats_at new i ≡ long_seats (seats_at cells i) → ((p : ℕ) → p ≢ i → seats_at new p ≡ seats_at cells p)
-    → ((p : ℕ) → room_at cells p ≤ room_at new p) → IsEmptying start new (i + 1)
-emptied_next start cells new i so here elsewhere more = record {
+pub emptied_next : (start queues new : List QueueSeen) (i : ℕ) → IsEmptying start queues i → requests_at new i ≡ long_requests (requests_at queues i) → ((p : ℕ) → p ≢ i → requests_at new p ≡ requests_at queues p)
+    → ((p : ℕ) → room_at queues p ≤ room_at new p) → IsEmptying start new (i + 1)
+emptied_next start queues new i so here elsewhere more = record {
   done = λ p h. by_place p h (eqb_tells p i);
   left = λ p h. elsewhere p (λ e. absurd (omega (arith, h, e))) ∙ so.left p (omega (arith, h));
   room = λ p. let before = so.room p in let after = more p in omega (arith, before, after);
 }
   where
-    by_place : (p : ℕ) → p < i + 1 → ((eqb p i ≡ true) × (p ≡ i)) ⊎ ((eqb p i ≡ false) × (p ≢ i)) → seats_at new p ≡ long_seats (seats_at start p)
-    by_place p h (inl same) = subst (λ k. seats_at new k ≡ long_seats (seats_at start k)) (sym same.1) (here ∙ ap long_seats (so.left i (omega arith)))
+    by_place : (p : ℕ) → p < i + 1 → ((eqb p i ≡ true) × (p ≡ i)) ⊎ ((eqb p i ≡ false) × (p ≢ i)) → requests_at new p ≡ long_requests (requests_at start p)
+    by_place p h (inl same) = subst (λ k. requests_at new k ≡ long_requests (requests_at start k)) (sym same.1) (here ∙ ap long_requests (so.left i (omega arith)))
     by_place p h (inr other) = elsewhere p other.1 ∙ so.done p (let differ = other.1 in omega (arith, h, differ))
 
-pub emptied_all : (start cells : List CellSeen) (i : ℕ) → IsEmptying start cells i → length start ≤ i → (p : ℕ) → seats_at cells p ≡ long_seats (seats_at start p)
-emptied_all start cells i so end p = by_order (cases_lt p i)
+pub emptied_all : (start queues : List QueueSeen) (i : ℕ) → IsEmptying start queues i → length start ≤ i → (p : ℕ) → requests_at queues p ≡ long_requests (requests_at start p)
+emptied_all start queues i so end p = by_order (cases_lt p i)
   where
-    by_order : (p < i) ⊎ (i ≤ p) → seats_at cells p ≡ long_seats (seats_at start p)
+    by_order : (p < i) ⊎ (i ≤ p) → requests_at queues p ≡ long_requests (requests_at start p)
     by_order (inl before) = so.done p before
     by_order (inr behind) =
-        let none = seats_past start p (omega (arith, end, behind)) in
-        so.left p behind ∙ (none ∙ ap long_seats (sym none))
+        let none = requests_past start p (omega (arith, end, behind)) in
+        so.left p behind ∙ (none ∙ ap long_requests (sym none))
 
 -- when all short claims leave, those that didn't wait for one stay right
-pub stale_long : (table : List Entry) (blockers : List (Option ClaimId)) (cells : List CellSeen) → blockers ≡ map (blocker_at table) (long_entries table)
-    → ((p : ℕ) → seats_at cells p ≡ long_seats (queue_of table p)) → AreStale BehindShort (long_entries table) blockers cells
-stale_long table blockers cells were seats = record {
+pub stale_long : (table : List Entry) (blockers : List (Option ClaimId)) (queues : List QueueSeen) → blockers ≡ map (blocker_at table) (long_entries table)
+    → ((p : ℕ) → requests_at queues p ≡ long_requests (queue_of table p)) → AreStale BehindShort (long_entries table) blockers queues
+stale_long table blockers queues were requests = record {
   old = blocker_at table;
   were = were;
-  seats = λ p. seats p ∙ kept_by is_short (is_held_in table) table p;
+  requests = λ p. requests p ∙ kept_by is_short (is_held_in table) table p;
   right = all_stay is_short (λ (e : Entry). is_taken BehindShort (blocker_at table e) ≡ false → blocker_at table e ≡ blocker_at (long_entries table) e) (still_waits is_short table) table;
 }
 

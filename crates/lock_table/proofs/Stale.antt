@@ -11,13 +11,13 @@ use Rattle.vault_model.proofs.Stays.{same_id_itself}
 use Rattle.lock_table.specs.declared.entry.Entry.{Entry}
 use Rattle.lock_table.specs.declared.again.Again.{Again}
 use Rattle.lock_table.specs.Tables.{first_in_way, entries_before, is_held_in}
-use Rattle.lock_queue.specs.Queue.{CellSeen}
-use Rattle.lock_table.specs.Queues.{AreStale, IsWeighing, seats_at, seats_by, queue_of, held_by, blocker_at, blockers_of, is_taken}
+use Rattle.lock_queue.specs.Queue.{QueueSeen}
+use Rattle.lock_table.specs.Queues.{AreStale, IsWeighing, requests_at, requests_by, queue_of, held_by, blocker_at, blockers_of, is_taken}
 use Rattle.lock_table.proofs.Positions.{drop_is}
 use Rattle.lock_table.proofs.Removals.{ids}
 use Rattle.lock_table.proofs.Others.{rest_apart}
 use Rattle.lock_table.proofs.Queuing.{mapped_at}
-use Rattle.lock_table.proofs.Seats.{seats_same}
+use Rattle.lock_table.proofs.Requests.{requests_same}
 use Rattle.lock_table.proofs.Weighing.{all_push, in_front}
 
 pub all_of : {T : Type 0} (P : T → Type 0) → ((x : T) → P x) → (xs : List T) → All P xs
@@ -37,24 +37,24 @@ map_same f g [] all = refl
 map_same f g (e ∷ es) all =
     ap (λ y. y ∷ map f es) (All-head (λ (x : Entry). f x ≡ g x) e es all) ∙ ap (λ ys. g e ∷ ys) (map_same f g es (All-tail (λ (x : Entry). f x ≡ g x) e es all))
 
-pub weigh_start : (again : Again) (table : List Entry) (blockers : List (Option ClaimId)) (cells : List CellSeen) → AreStale again table blockers cells → IsWeighing again table blockers cells 0
-weigh_start again table blockers cells stale = record {
+pub weigh_start : (again : Again) (table : List Entry) (blockers : List (Option ClaimId)) (queues : List QueueSeen) → AreStale again table blockers queues → IsWeighing again table blockers queues 0
+weigh_start again table blockers queues stale = record {
   old = stale.old;
   were = stale.were;
-  seats = stale.seats;
+  requests = stale.requests;
   done = All-nil (λ (e : Entry). stale.old e ≡ blocker_at table e);
   left = stale.right;
 }
 
-module _ (again : Again) (table : List Entry) (blockers : List (Option ClaimId)) (cells : List CellSeen) (i : ℕ) (weighing : IsWeighing again table blockers cells i) where
+module _ (again : Again) (table : List Entry) (blockers : List (Option ClaimId)) (queues : List QueueSeen) (i : ℕ) (weighing : IsWeighing again table blockers queues i) where
   all_done : length table ≤ i → All (λ (e : Entry). weighing.old e ≡ blocker_at table e) table
   all_done h = subst (λ (es : List Entry). All (λ (e : Entry). weighing.old e ≡ blocker_at table e) es) (take_all i table h) weighing.done
 
   pub done_blockers : length table ≤ i → blockers ≡ blockers_of table
   done_blockers h = weighing.were ∙ map_same weighing.old (blocker_at table) table (all_done h)
 
-  pub done_queues : length table ≤ i → (p : ℕ) → seats_at cells p ≡ queue_of table p
-  done_queues h p = weighing.seats p ∙ seats_same (λ (e : Entry). is_none (weighing.old e)) (is_held_in table) table p
+  pub done_queues : length table ≤ i → (p : ℕ) → requests_at queues p ≡ queue_of table p
+  done_queues h p = weighing.requests p ∙ requests_same (λ (e : Entry). is_none (weighing.old e)) (is_held_in table) table p
       (all_map (λ (e : Entry). weighing.old e ≡ blocker_at table e) (λ (e : Entry). is_none (weighing.old e) ≡ is_held_in table e) (λ e is. ap is_none is) table (all_done h))
 
 apart_front : (before es : List Entry) (e : Entry) → IsDistinct same_id (ids (before ++ e ∷ es)) → All (λ (x : Entry). same_id x.id e.id ≡ false) before
@@ -86,8 +86,8 @@ set_front old (x ∷ before) es e b front behind =
     rw (All-head (λ (x : Entry). same_id x.id e.id ≡ false) x before front)
     (ap (λ ys. old x ∷ ys) (set_front old before es e b (All-tail (λ (x : Entry). same_id x.id e.id ≡ false) x before front) behind))
 
-module _ (again : Again) (table : List Entry) (blockers : List (Option ClaimId)) (cells : List CellSeen) (i : ℕ) (e : Entry) (distinct : IsDistinct same_id (ids table)) (inside : i < length table) (is : e ≡ get_or table i e)
-    (weighing : IsWeighing again table blockers cells i) where
+module _ (again : Again) (table : List Entry) (blockers : List (Option ClaimId)) (queues : List QueueSeen) (i : ℕ) (e : Entry) (distinct : IsDistinct same_id (ids table)) (inside : i < length table) (is : e ≡ get_or table i e)
+    (weighing : IsWeighing again table blockers queues i) where
   pub rest_is : drop i table ≡ e ∷ drop (i + 1) table
   rest_is = drop_is table i e inside is
 
@@ -118,11 +118,11 @@ module _ (again : Again) (table : List Entry) (blockers : List (Option ClaimId))
   pub beside : slice_get blockers i ≡ Some (weighing.old e)
   beside = ap (λ xs. slice_get xs i) weighing.were ∙ mapped_at weighing.old table i e entry_there
 
-  pub keep_step : (b : Option ClaimId) → slice_get blockers i ≡ Some b → is_taken again b ≡ false → IsWeighing again table blockers cells (i + 1)
+  pub keep_step : (b : Option ClaimId) → slice_get blockers i ≡ Some b → is_taken again b ≡ false → IsWeighing again table blockers queues (i + 1)
   keep_step b there kept = record {
     old = weighing.old;
     were = weighing.were;
-    seats = weighing.seats;
+    requests = weighing.requests;
     done = subst (λ (xs : List Entry). All (λ (x : Entry). weighing.old x ≡ blocker_at table x) xs) (sym next_is)
         (all_push (λ (x : Entry). weighing.old x ≡ blocker_at table x) (take i table) e weighing.done here);
     left = All-tail (λ (x : Entry). is_taken again (weighing.old x) ≡ false → weighing.old x ≡ blocker_at table x) e (drop (i + 1) table) rest;
@@ -137,12 +137,12 @@ module _ (again : Again) (table : List Entry) (blockers : List (Option ClaimId))
       here : weighing.old e ≡ blocker_at table e
       here = All-head (λ (x : Entry). is_taken again (weighing.old x) ≡ false → weighing.old x ≡ blocker_at table x) e (drop (i + 1) table) rest (ap (is_taken again) same ∙ kept)
 
-  pub take_step : (blockers' : List (Option ClaimId)) (cells' : List CellSeen) → blockers' ≡ set blockers i (first_in_way (take i table) e.locks)
-      → ((p : ℕ) → seats_at cells' p ≡ seats_by (held_by (λ (x : Entry). is_none (weighing.old x)) e.id (is_none (first_in_way (take i table) e.locks))) table p) → IsWeighing again table blockers' cells' (i + 1)
-  take_step blockers' cells' changed stood = record {
+  pub take_step : (blockers' : List (Option ClaimId)) (queues' : List QueueSeen) → blockers' ≡ set blockers i (first_in_way (take i table) e.locks)
+      → ((p : ℕ) → requests_at queues' p ≡ requests_by (held_by (λ (x : Entry). is_none (weighing.old x)) e.id (is_none (first_in_way (take i table) e.locks))) table p) → IsWeighing again table blockers' queues' (i + 1)
+  take_step blockers' queues' changed stood = record {
     old = now;
     were = changed ∙ (ap (λ b. set blockers i b) way_is ∙ (ap (λ xs. set xs i (blocker_at table e)) weighing.were ∙ placed));
-    seats = λ p. stood p ∙ seats_same (held_by (λ (x : Entry). is_none (weighing.old x)) e.id (is_none (first_in_way (take i table) e.locks))) (λ (x : Entry). is_none (now x)) table p
+    requests = λ p. stood p ∙ requests_same (held_by (λ (x : Entry). is_none (weighing.old x)) e.id (is_none (first_in_way (take i table) e.locks))) (λ (x : Entry). is_none (now x)) table p
         (all_of (λ (x : Entry). held_by (λ (y : Entry). is_none (weighing.old y)) e.id (is_none (first_in_way (take i table) e.locks)) x ≡ is_none (now x)) (λ x. held_now (same_id x.id e.id) x) table);
     done = subst (λ (xs : List Entry). All (λ (x : Entry). now x ≡ blocker_at table x) xs) (sym next_is)
         (all_push (λ (x : Entry). now x ≡ blocker_at table x) (take i table) e

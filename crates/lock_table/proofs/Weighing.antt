@@ -15,11 +15,11 @@ use Rattle.lock_modes.proofs.Tables.{compatible_symmetric}
 use Rattle.lock_modes.proofs.GroupModes.{list_all-group_of}
 use Rattle.lock_table.specs.declared.locks.Lock.{Lock}
 use Rattle.lock_table.specs.declared.entry.Entry.{Entry}
-use Rattle.lock_queue.specs.declared.cell.Seat.{Seat}
+use Rattle.lock_queue.specs.declared.queue.Request.{Request}
 use Rattle.lock_table.specs.Locks.{mode_at, conflict}
 use Rattle.lock_table.specs.Tables.{first_in_way, entries_before, is_held_in}
-use Rattle.lock_queue.specs.Queue.{CellSeen, seat_modes, first_of, is_in_way}
-use Rattle.lock_table.specs.Queues.{seats_at, room_at, HaveRoom, seat_of, seats_by, queue_of, seats_from, position_of, earlier, earliest, seat_in_way, blocker_at, blockers_of}
+use Rattle.lock_queue.specs.Queue.{QueueSeen, request_modes, first_of, is_in_way}
+use Rattle.lock_table.specs.Queues.{requests_at, room_at, HaveRoom, request_of, requests_by, queue_of, requests_from, position_of, earlier, earliest, request_in_way, blocker_at, blockers_of}
 use Rattle.lock_table.proofs.Positions.{first_from, any_first, earliest_same, none_first, place_found, queue_found}
 use Rattle.lock_table.proofs.Removals.{ids}
 
@@ -28,40 +28,40 @@ all_push P [] x all here = All-cons P x [] here (All-nil P)
 all_push P (y ∷ xs) x all here = All-cons P y (xs ++ x ∷ []) (All-head P y xs all) (all_push P xs x (All-tail P y xs all) here)
 
 -- room that was made stays
-pub still_room : (cells new : List CellSeen) (locks : List Lock) → ((p : ℕ) → seats_at new p ≡ seats_at cells p) → ((p : ℕ) → room_at cells p ≤ room_at new p) → HaveRoom cells locks → HaveRoom new locks
-still_room cells new [] same more room = All-nil (λ (x : Lock). length (seats_at new x.place) < room_at new x.place)
-still_room cells new (l ∷ ls) same more room =
-    let here = All-head (λ (x : Lock). length (seats_at cells x.place) < room_at cells x.place) l ls room in
-    let seats = ap length (same l.place) in
+pub still_room : (queues new : List QueueSeen) (locks : List Lock) → ((p : ℕ) → requests_at new p ≡ requests_at queues p) → ((p : ℕ) → room_at queues p ≤ room_at new p) → HaveRoom queues locks → HaveRoom new locks
+still_room queues new [] same more room = All-nil (λ (x : Lock). length (requests_at new x.place) < room_at new x.place)
+still_room queues new (l ∷ ls) same more room =
+    let here = All-head (λ (x : Lock). length (requests_at queues x.place) < room_at queues x.place) l ls room in
+    let requests = ap length (same l.place) in
     let rooms = more l.place in
-    All-cons (λ (x : Lock). length (seats_at new x.place) < room_at new x.place) l ls (omega (arith, here, seats, rooms))
-    (still_room cells new ls same more (All-tail (λ (x : Lock). length (seats_at cells x.place) < room_at cells x.place) l ls room))
+    All-cons (λ (x : Lock). length (requests_at new x.place) < room_at new x.place) l ls (omega (arith, here, requests, rooms))
+    (still_room queues new ls same more (All-tail (λ (x : Lock). length (requests_at queues x.place) < room_at queues x.place) l ls room))
 
-pub seats_from-append : (before xs ys : List Entry) (p : ℕ) → seats_from before (xs ++ ys) p ≡ seats_from before xs p ++ seats_from (before ++ xs) ys p
-seats_from-append before [] ys p = ap (λ b. seats_from b ys p) (sym (append-nil before))
-seats_from-append before (x ∷ xs) ys p =
-    let seat = seat_of (is_none (first_in_way before x.locks)) x.id (mode_at x.locks p) in
-    ap (λ r. seat ++ r) (seats_from-append (before ++ x ∷ []) xs ys p ∙ ap (λ b. seats_from (before ++ x ∷ []) xs p ++ seats_from b ys p) (append_assoc before (x ∷ []) xs))
-    ∙ sym (append_assoc seat (seats_from (before ++ x ∷ []) xs p) (seats_from (before ++ x ∷ xs) ys p))
+pub requests_from-append : (before xs ys : List Entry) (p : ℕ) → requests_from before (xs ++ ys) p ≡ requests_from before xs p ++ requests_from (before ++ xs) ys p
+requests_from-append before [] ys p = ap (λ b. requests_from b ys p) (sym (append-nil before))
+requests_from-append before (x ∷ xs) ys p =
+    let request = request_of (is_none (first_in_way before x.locks)) x.id (mode_at x.locks p) in
+    ap (λ r. request ++ r) (requests_from-append (before ++ x ∷ []) xs ys p ∙ ap (λ b. requests_from (before ++ x ∷ []) xs p ++ requests_from b ys p) (append_assoc before (x ∷ []) xs))
+    ∙ sym (append_assoc request (requests_from (before ++ x ∷ []) xs p) (requests_from (before ++ x ∷ xs) ys p))
 
 -- one more entry
-pub seats_from-push : (table : List Entry) (e : Entry) (p : ℕ) → seats_from [] (table ++ e ∷ []) p ≡ seats_from [] table p ++ seat_of (is_none (first_in_way table e.locks)) e.id (mode_at e.locks p)
-seats_from-push table e p = seats_from-append [] table (e ∷ []) p ∙ ap (λ r. seats_from [] table p ++ r) (append-nil (seat_of (is_none (first_in_way table e.locks)) e.id (mode_at e.locks p)))
+pub requests_from-push : (table : List Entry) (e : Entry) (p : ℕ) → requests_from [] (table ++ e ∷ []) p ≡ requests_from [] table p ++ request_of (is_none (first_in_way table e.locks)) e.id (mode_at e.locks p)
+requests_from-push table e p = requests_from-append [] table (e ∷ []) p ∙ ap (λ r. requests_from [] table p ++ r) (append-nil (request_of (is_none (first_in_way table e.locks)) e.id (mode_at e.locks p)))
 
-seat_length : (held : Bool) (id : ClaimId) (o : Option Mode) → length (seat_of held id o) ≤ 1
-seat_length held id None = omega arith
-seat_length held id (Some m) = omega arith
+request_length : (held : Bool) (id : ClaimId) (o : Option Mode) → length (request_of held id o) ≤ 1
+request_length held id None = omega arith
+request_length held id (Some m) = omega arith
 
-pub length_from : (before es : List Entry) (p : ℕ) → length (seats_from before es p) ≤ length es
+pub length_from : (before es : List Entry) (p : ℕ) → length (requests_from before es p) ≤ length es
 length_from before [] p = omega arith
 length_from before (e ∷ es) p =
-    let seat = seat_of (is_none (first_in_way before e.locks)) e.id (mode_at e.locks p) in
-    let both = length-append seat (seats_from (before ++ e ∷ []) es p) in
-    let one = seat_length (is_none (first_in_way before e.locks)) e.id (mode_at e.locks p) in
+    let request = request_of (is_none (first_in_way before e.locks)) e.id (mode_at e.locks p) in
+    let both = length-append request (requests_from (before ++ e ∷ []) es p) in
+    let one = request_length (is_none (first_in_way before e.locks)) e.id (mode_at e.locks p) in
     let rest = length_from (before ++ e ∷ []) es p in
     omega (arith, both, one, rest)
 
-module _ (table : List Entry) (cells : List CellSeen) (n : ℕ) (e : Entry) (inside : n < length table) (is : e ≡ get_or table n e) (seats : (p : ℕ) → seats_at cells p ≡ seats_from [] (take n table) p) where
+module _ (table : List Entry) (queues : List QueueSeen) (n : ℕ) (e : Entry) (inside : n < length table) (is : e ≡ get_or table n e) (requests : (p : ℕ) → requests_at queues p ≡ requests_from [] (take n table) p) where
   next : take (n + 1) table ≡ take n table ++ e ∷ []
   next = take_more table n e inside ∙ ap (λ x. take n table ++ x ∷ []) (sym is)
 
@@ -73,51 +73,51 @@ module _ (table : List Entry) (cells : List CellSeen) (n : ℕ) (e : Entry) (ins
       length_taken (suc k) [] h = absurd (omega (arith, h))
       length_taken (suc k) (x ∷ xs) h = ap suc (length_taken k xs (omega (arith, h)))
 
-  pub seat_few : (most : ℕ) → length table ≤ most → (p : ℕ) → length (seats_at cells p) < most
-  seat_few most few p =
-      let here = ap length (seats p) in
+  pub request_few : (most : ℕ) → length table ≤ most → (p : ℕ) → length (requests_at queues p) < most
+  request_few most few p =
+      let here = ap length (requests p) in
       let bound = length_from [] (take n table) p in
       omega (arith, here, bound, taken, inside, few)
 
-  pub seat_step : (new : List CellSeen) (held : Bool) → held ≡ is_none (first_in_way (take n table) e.locks) → ((p : ℕ) → seats_at new p ≡ seats_at cells p ++ seat_of held e.id (mode_at e.locks p))
-      → (p : ℕ) → seats_at new p ≡ seats_from [] (take (n + 1) table) p
-  seat_step new held h put p =
-      put p ∙ (ap (λ xs. xs ++ seat_of held e.id (mode_at e.locks p)) (seats p)
-      ∙ (ap (λ b. seats_from [] (take n table) p ++ seat_of b e.id (mode_at e.locks p)) h
-      ∙ (sym (seats_from-push (take n table) e p) ∙ ap (λ xs. seats_from [] xs p) (sym next))))
+  pub request_step : (new : List QueueSeen) (held : Bool) → held ≡ is_none (first_in_way (take n table) e.locks) → ((p : ℕ) → requests_at new p ≡ requests_at queues p ++ request_of held e.id (mode_at e.locks p))
+      → (p : ℕ) → requests_at new p ≡ requests_from [] (take (n + 1) table) p
+  request_step new held h put p =
+      put p ∙ (ap (λ xs. xs ++ request_of held e.id (mode_at e.locks p)) (requests p)
+      ∙ (ap (λ b. requests_from [] (take n table) p ++ request_of b e.id (mode_at e.locks p)) h
+      ∙ (sym (requests_from-push (take n table) e p) ∙ ap (λ xs. requests_from [] xs p) (sym next))))
 
--- the first seat in the way of a mode is that of the first entry
-from_first : (m : Mode) (p : ℕ) (before es : List Entry) → first_of (is_in_way m) (seats_from before es p) ≡ option_map (λ (e : Entry). e.id) (find (λ (e : Entry). incompatible (Some m) (mode_at e.locks p)) es)
+-- the first request in the way of a mode is that of the first entry
+from_first : (m : Mode) (p : ℕ) (before es : List Entry) → first_of (is_in_way m) (requests_from before es p) ≡ option_map (λ (e : Entry). e.id) (find (λ (e : Entry). incompatible (Some m) (mode_at e.locks p)) es)
 from_first m p before [] = refl
 from_first m p before (e ∷ es) = by_mode (mode_at e.locks p) (from_first m p (before ++ e ∷ []) es)
   where
-    by_mode : (o : Option Mode) → first_of (is_in_way m) (seats_from (before ++ e ∷ []) es p) ≡ option_map (λ (e : Entry). e.id) (find (λ (e : Entry). incompatible (Some m) (mode_at e.locks p)) es)
-        → first_of (is_in_way m) (seat_of (is_none (first_in_way before e.locks)) e.id o ++ seats_from (before ++ e ∷ []) es p)
+    by_mode : (o : Option Mode) → first_of (is_in_way m) (requests_from (before ++ e ∷ []) es p) ≡ option_map (λ (e : Entry). e.id) (find (λ (e : Entry). incompatible (Some m) (mode_at e.locks p)) es)
+        → first_of (is_in_way m) (request_of (is_none (first_in_way before e.locks)) e.id o ++ requests_from (before ++ e ∷ []) es p)
         ≡ option_map (λ (e : Entry). e.id) (cond (incompatible (Some m) o) (Some e) (find (λ (e : Entry). incompatible (Some m) (mode_at e.locks p)) es))
     by_mode None ih = ih
     by_mode (Some k) ih = by_test (compatible m k) ih
       where
-        by_test : (b : Bool) → first_of (is_in_way m) (seats_from (before ++ e ∷ []) es p) ≡ option_map (λ (e : Entry). e.id) (find (λ (e : Entry). incompatible (Some m) (mode_at e.locks p)) es)
-            → option_map (λ (s : Seat). s.id) (cond (not b) (Some (record { id = e.id; mode = k; is_held = is_none (first_in_way before e.locks) })) (find (is_in_way m) (seats_from (before ++ e ∷ []) es p)))
+        by_test : (b : Bool) → first_of (is_in_way m) (requests_from (before ++ e ∷ []) es p) ≡ option_map (λ (e : Entry). e.id) (find (λ (e : Entry). incompatible (Some m) (mode_at e.locks p)) es)
+            → option_map (λ (s : Request). s.id) (cond (not b) (Some (record { id = e.id; mode = k; is_held = is_none (first_in_way before e.locks) })) (find (is_in_way m) (requests_from (before ++ e ∷ []) es p)))
             ≡ option_map (λ (e : Entry). e.id) (cond (not b) (Some e) (find (λ (e : Entry). incompatible (Some m) (mode_at e.locks p)) es))
         by_test true ih = ih
         by_test false ih = refl
 
--- in the queues, the first seat in the way of a mode is that of the first entry
-abbrev pub FindFirst : List CellSeen → List Entry → Type 0
-FindFirst cells table = (m : Mode) (p : ℕ) → first_of (is_in_way m) (seats_at cells p) ≡ option_map (λ (e : Entry). e.id) (find (λ (e : Entry). incompatible (Some m) (mode_at e.locks p)) table)
+-- in the queues, the first request in the way of a mode is that of the first entry
+abbrev pub FindFirst : List QueueSeen → List Entry → Type 0
+FindFirst queues table = (m : Mode) (p : ℕ) → first_of (is_in_way m) (requests_at queues p) ≡ option_map (λ (e : Entry). e.id) (find (λ (e : Entry). incompatible (Some m) (mode_at e.locks p)) table)
 
-pub found_from : (cells : List CellSeen) (table : List Entry) → ((p : ℕ) → seats_at cells p ≡ seats_from [] table p) → FindFirst cells table
-found_from cells table seats m p = ap (first_of (is_in_way m)) (seats p) ∙ from_first m p [] table
+pub found_from : (queues : List QueueSeen) (table : List Entry) → ((p : ℕ) → requests_at queues p ≡ requests_from [] table p) → FindFirst queues table
+found_from queues table requests m p = ap (first_of (is_in_way m)) (requests p) ∙ from_first m p [] table
 
-pub found_by : (cells : List CellSeen) (table : List Entry) (held : Entry → Bool) → ((p : ℕ) → seats_at cells p ≡ seats_by held table p) → FindFirst cells table
-found_by cells table held seats m p = ap (first_of (is_in_way m)) (seats p)
+pub found_by : (queues : List QueueSeen) (table : List Entry) (held : Entry → Bool) → ((p : ℕ) → requests_at queues p ≡ requests_by held table p) → FindFirst queues table
+found_by queues table held requests m p = ap (first_of (is_in_way m)) (requests p)
     ∙ queue_found (is_in_way m) (λ (e : Entry). incompatible (Some m) (mode_at e.locks p)) held p (λ e h. rw h refl) (λ e k h. rw h refl) table
 
--- where cells have the queues of a line, the earliest seat in the way is that of the first entry in the way
-pub way_law : (cells : List CellSeen) (table : List Entry) (locks : List Lock) → IsDistinct same_id (ids table) → FindFirst cells table → seat_in_way table cells locks ≡ first_from (λ (e : Entry). conflict locks e.locks) 0 table
-way_law cells table locks distinct found =
-    earliest_same (λ (l : Lock). position_of table (first_of (is_in_way l.mode) (seats_at cells l.place))) (λ (l : Lock). first_from (λ (e : Entry). incompatible (Some l.mode) (mode_at e.locks l.place)) 0 table)
+-- where the queues are those of a line, the earliest request in the way is that of the first entry in the way
+pub way_law : (queues : List QueueSeen) (table : List Entry) (locks : List Lock) → IsDistinct same_id (ids table) → FindFirst queues table → request_in_way table queues locks ≡ first_from (λ (e : Entry). conflict locks e.locks) 0 table
+way_law queues table locks distinct found =
+    earliest_same (λ (l : Lock). position_of table (first_of (is_in_way l.mode) (requests_at queues l.place))) (λ (l : Lock). first_from (λ (e : Entry). incompatible (Some l.mode) (mode_at e.locks l.place)) 0 table)
     (λ l. ap (position_of table) (found l.mode l.place) ∙ place_found (λ (e : Entry). incompatible (Some l.mode) (mode_at e.locks l.place)) table distinct) locks
     ∙ any_first (λ (l : Lock) (e : Entry). incompatible (Some l.mode) (mode_at e.locks l.place)) locks 0 table
 
@@ -125,17 +125,17 @@ none_mapped : {S T : Type 0} (f : S → T) (o : Option S) → is_none (option_ma
 none_mapped f None = refl
 none_mapped f (Some x) = refl
 
-admits_all : (m : Mode) (seats : List Seat) → list_all (λ member. compatible member m) (seat_modes seats) ≡ is_none (find (is_in_way m) seats)
+admits_all : (m : Mode) (requests : List Request) → list_all (λ member. compatible member m) (request_modes requests) ≡ is_none (find (is_in_way m) requests)
 admits_all m [] = refl
-admits_all m (s ∷ seats) = ap (λ b. b && list_all (λ member. compatible member m) (seat_modes seats)) (compatible_symmetric s.mode m) ∙ by_test (compatible m s.mode) (admits_all m seats)
+admits_all m (s ∷ requests) = ap (λ b. b && list_all (λ member. compatible member m) (request_modes requests)) (compatible_symmetric s.mode m) ∙ by_test (compatible m s.mode) (admits_all m requests)
   where
-    by_test : (b : Bool) → list_all (λ member. compatible member m) (seat_modes seats) ≡ is_none (find (is_in_way m) seats) → (b && list_all (λ member. compatible member m) (seat_modes seats)) ≡ is_none (cond (not b) (Some s) (find (is_in_way m) seats))
+    by_test : (b : Bool) → list_all (λ member. compatible member m) (request_modes requests) ≡ is_none (find (is_in_way m) requests) → (b && list_all (λ member. compatible member m) (request_modes requests)) ≡ is_none (cond (not b) (Some s) (find (is_in_way m) requests))
     by_test true ih = ih
     by_test false ih = refl
 
--- a group of seats admits a mode where no seat is in its way
-group_admits : (m : Mode) (seats : List Seat) → list_all (λ member. compatible member m) (members (group_of (seat_modes seats))) ≡ is_none (first_of (is_in_way m) seats)
-group_admits m seats = list_all-group_of (λ member. compatible member m) (seat_modes seats) ∙ (admits_all m seats ∙ sym (none_mapped (λ (s : Seat). s.id) (find (is_in_way m) seats)))
+-- a group of requests admits a mode where no request is in its way
+group_admits : (m : Mode) (requests : List Request) → list_all (λ member. compatible member m) (members (group_of (request_modes requests))) ≡ is_none (first_of (is_in_way m) requests)
+group_admits m requests = list_all-group_of (λ member. compatible member m) (request_modes requests) ∙ (admits_all m requests ∙ sym (none_mapped (λ (s : Request). s.id) (find (is_in_way m) requests)))
 
 none_earlier : (a b : Option ℕ) → is_none (earlier a b) ≡ (is_none a && is_none b)
 none_earlier None b = refl
@@ -151,16 +151,16 @@ all_same f g same [] = refl
 all_same f g same (l ∷ ls) = ap (λ b. b && list_all f ls) (same l) ∙ ap (λ b. g l && b) (all_same f g same ls)
 
 -- the groups admit locks exactly where no entry is in their way
-pub admit_law : (cells : List CellSeen) (table : List Entry) (locks : List Lock) → FindFirst cells table
-    → list_all (λ (l : Lock). list_all (λ member. compatible member l.mode) (members (group_of (seat_modes (seats_at cells l.place))))) locks ≡ is_none (first_in_way table locks)
-admit_law cells table locks found =
+pub admit_law : (queues : List QueueSeen) (table : List Entry) (locks : List Lock) → FindFirst queues table
+    → list_all (λ (l : Lock). list_all (λ member. compatible member l.mode) (members (group_of (request_modes (requests_at queues l.place))))) locks ≡ is_none (first_in_way table locks)
+admit_law queues table locks found =
     all_same _ (λ l. is_none (first_from (λ (e : Entry). incompatible (Some l.mode) (mode_at e.locks l.place)) 0 table)) at_lock locks
     ∙ (none_all (λ l. first_from (λ (e : Entry). incompatible (Some l.mode) (mode_at e.locks l.place)) 0 table) locks
     ∙ (ap is_none (any_first (λ (l : Lock) (e : Entry). incompatible (Some l.mode) (mode_at e.locks l.place)) locks 0 table)
     ∙ (none_first (λ (e : Entry). conflict locks e.locks) table ∙ sym (none_mapped (λ (e : Entry). e.id) (find (λ (e : Entry). conflict locks e.locks) table)))))
   where
-    at_lock : (l : Lock) → list_all (λ member. compatible member l.mode) (members (group_of (seat_modes (seats_at cells l.place)))) ≡ is_none (first_from (λ (e : Entry). incompatible (Some l.mode) (mode_at e.locks l.place)) 0 table)
-    at_lock l = group_admits l.mode (seats_at cells l.place) ∙ (ap is_none (found l.mode l.place)
+    at_lock : (l : Lock) → list_all (λ member. compatible member l.mode) (members (group_of (request_modes (requests_at queues l.place)))) ≡ is_none (first_from (λ (e : Entry). incompatible (Some l.mode) (mode_at e.locks l.place)) 0 table)
+    at_lock l = group_admits l.mode (requests_at queues l.place) ∙ (ap is_none (found l.mode l.place)
         ∙ (none_mapped (λ (e : Entry). e.id) (find (λ (e : Entry). incompatible (Some l.mode) (mode_at e.locks l.place)) table)
         ∙ sym (none_first (λ (e : Entry). incompatible (Some l.mode) (mode_at e.locks l.place)) table)))
 
@@ -177,20 +177,20 @@ in_front (b ∷ before) es e distinct = rw (apart before distinct.0) (more (in_f
     more : entries_before (before ++ e ∷ es) e.id ≡ before → take (1 + prefix_len (λ (x : Entry). not (same_id x.id e.id)) (before ++ e ∷ es)) (b ∷ before ++ e ∷ es) ≡ b ∷ before
     more ih = let one : 1 + prefix_len (λ (x : Entry). not (same_id x.id e.id)) (before ++ e ∷ es) ≡ suc (prefix_len (λ (x : Entry). not (same_id x.id e.id)) (before ++ e ∷ es)) = omega arith in rw one (ap (λ xs. b ∷ xs) ih)
 
-queue_from : (before es : List Entry) (p : ℕ) → IsDistinct same_id (ids (before ++ es)) → seats_from before es p ≡ seats_by (is_held_in (before ++ es)) es p
+queue_from : (before es : List Entry) (p : ℕ) → IsDistinct same_id (ids (before ++ es)) → requests_from before es p ≡ requests_by (is_held_in (before ++ es)) es p
 queue_from before [] p distinct = refl
 queue_from before (e ∷ es) p distinct =
-    ap (λ r. seat_of (is_none (first_in_way before e.locks)) e.id (mode_at e.locks p) ++ r) (rest (queue_from (before ++ e ∷ []) es p (subst (λ xs. IsDistinct same_id (ids xs)) (sym regroup) distinct)))
-    ∙ ap (λ b. seat_of (is_none (first_in_way b e.locks)) e.id (mode_at e.locks p) ++ seats_by (is_held_in (before ++ e ∷ es)) es p) (sym (in_front before es e distinct))
+    ap (λ r. request_of (is_none (first_in_way before e.locks)) e.id (mode_at e.locks p) ++ r) (rest (queue_from (before ++ e ∷ []) es p (subst (λ xs. IsDistinct same_id (ids xs)) (sym regroup) distinct)))
+    ∙ ap (λ b. request_of (is_none (first_in_way b e.locks)) e.id (mode_at e.locks p) ++ requests_by (is_held_in (before ++ e ∷ es)) es p) (sym (in_front before es e distinct))
   where
     regroup : (before ++ e ∷ []) ++ es ≡ before ++ e ∷ es
     regroup = append_assoc before (e ∷ []) es
 
-    rest : seats_from (before ++ e ∷ []) es p ≡ seats_by (is_held_in ((before ++ e ∷ []) ++ es)) es p → seats_from (before ++ e ∷ []) es p ≡ seats_by (is_held_in (before ++ e ∷ es)) es p
-    rest ih = ih ∙ ap (λ xs. seats_by (is_held_in xs) es p) regroup
+    rest : requests_from (before ++ e ∷ []) es p ≡ requests_by (is_held_in ((before ++ e ∷ []) ++ es)) es p → requests_from (before ++ e ∷ []) es p ≡ requests_by (is_held_in (before ++ e ∷ es)) es p
+    rest ih = ih ∙ ap (λ xs. requests_by (is_held_in xs) es p) regroup
 
--- seated one after another, the claims of a line have their queues
-pub queue_law : (table : List Entry) (p : ℕ) → IsDistinct same_id (ids table) → seats_from [] table p ≡ queue_of table p
+-- put last one after another, the claims of a line have their queues
+pub queue_law : (table : List Entry) (p : ℕ) → IsDistinct same_id (ids table) → requests_from [] table p ≡ queue_of table p
 queue_law table p distinct = queue_from [] table p distinct
 
 -- what each waits for, entry after entry

@@ -9,56 +9,56 @@ use Rattle.lock_modes.specs.Modes.{compatible}
 use Rattle.lock_modes.specs.Groups.{Counts, group_of}
 use Rattle.lock_table.specs.declared.locks.Lock.{Lock}
 use Rattle.lock_table.specs.declared.entry.Entry.{Entry}
-use Rattle.lock_queue.specs.declared.cell.Seat.{Seat}
+use Rattle.lock_queue.specs.declared.queue.Request.{Request}
 use Rattle.lock_table.specs.declared.again.Again.{Again}
 use Rattle.lock_table.specs.declared.again.Again.TheVariants.{Behind, BehindShort, Everyone}
 use Rattle.lock_table.specs.Locks.{mode_at, AreApart, conflict}
 use Rattle.lock_table.specs.Tables.{first_in_way, entries_before, is_held_in}
-use Rattle.lock_queue.specs.Queue.{CellSeen, first_of, is_in_way, is_held_in_way}
+use Rattle.lock_queue.specs.Queue.{QueueSeen, first_of, is_in_way, is_held_in_way}
 
--- the queue at a place, and the room there; a place behind the last cell has neither
-abbrev pub seats_of : Option CellSeen → List Seat
-seats_of None = []
-seats_of (Some c) = c.seats
+-- the queue at a place, and the room there; a place behind the last queue has neither
+abbrev pub requests_of : Option QueueSeen → List Request
+requests_of None = []
+requests_of (Some c) = c.requests
 
-abbrev pub room_of : Option CellSeen → ℕ
+abbrev pub room_of : Option QueueSeen → ℕ
 room_of None = 0
 room_of (Some c) = c.room
 
-abbrev pub seats_at : List CellSeen → ℕ → List Seat
-seats_at cells p = seats_of (slice_get cells p)
+abbrev pub requests_at : List QueueSeen → ℕ → List Request
+requests_at queues p = requests_of (slice_get queues p)
 
-abbrev pub room_at : List CellSeen → ℕ → ℕ
-room_at cells p = room_of (slice_get cells p)
+abbrev pub room_at : List QueueSeen → ℕ → ℕ
+room_at queues p = room_of (slice_get queues p)
 
--- each of these locks has room for one more seat at its place
-abbrev pub HaveRoom : List CellSeen → List Lock → Type 0
-HaveRoom cells locks = All (λ (l : Lock). length (seats_at cells l.place) < room_at cells l.place) locks
+-- each of these locks has room for one more request at its place
+abbrev pub HaveRoom : List QueueSeen → List Lock → Type 0
+HaveRoom queues locks = All (λ (l : Lock). length (requests_at queues l.place) < room_at queues l.place) locks
 
--- the seat of a claim at a place, if it has a mode there
-abbrev pub seat_of : Bool → ClaimId → Option Mode → List Seat
-seat_of held id None = []
-seat_of held id (Some m) = record { id = id; mode = m; is_held = held } ∷ []
+-- the request of a claim at a place, if it has a mode there
+abbrev pub request_of : Bool → ClaimId → Option Mode → List Request
+request_of held id None = []
+request_of held id (Some m) = record { id = id; mode = m; is_held = held } ∷ []
 
--- the seats of some entries at a place; a test says which are granted
-abbrev pub seats_by : (Entry → Bool) → List Entry → ℕ → List Seat
-seats_by held [] p = []
-seats_by held (e ∷ es) p = seat_of (held e) e.id (mode_at e.locks p) ++ seats_by held es p
+-- the requests of some entries at a place; a test says which are granted
+abbrev pub requests_by : (Entry → Bool) → List Entry → ℕ → List Request
+requests_by held [] p = []
+requests_by held (e ∷ es) p = request_of (held e) e.id (mode_at e.locks p) ++ requests_by held es p
 
--- the queue at a place: a seat for each entry that has a mode there
-abbrev pub queue_of : List Entry → ℕ → List Seat
-queue_of table p = seats_by (is_held_in table) table p
+-- the queue at a place: a request for each entry that has a mode there
+abbrev pub queue_of : List Entry → ℕ → List Request
+queue_of table p = requests_by (is_held_in table) table p
 
 -- the same, entry after entry, each weighed against those before it
-abbrev pub seats_from : List Entry → List Entry → ℕ → List Seat
-seats_from before [] p = []
-seats_from before (e ∷ es) p =
-    seat_of (is_none (first_in_way before e.locks)) e.id (mode_at e.locks p) ++ seats_from (before ++ e ∷ []) es p
+abbrev pub requests_from : List Entry → List Entry → ℕ → List Request
+requests_from before [] p = []
+requests_from before (e ∷ es) p =
+    request_of (is_none (first_in_way before e.locks)) e.id (mode_at e.locks p) ++ requests_from (before ++ e ∷ []) es p
 
--- the cells have the seats of these entries, each granted or not
-pub record AreSeated (table : List Entry) (cells : List CellSeen) : Type 0 where
+-- the queues have the requests of these entries, each granted or not
+pub record HaveRequests (table : List Entry) (queues : List QueueSeen) : Type 0 where
   pub held : Entry → Bool
-  pub seats : (p : ℕ) → seats_at cells p ≡ seats_by held table p
+  pub requests : (p : ℕ) → requests_at queues p ≡ requests_by held table p
 
 -- a test with another answer for one claim; and whether a test agrees with the blocker kept for an entry
 abbrev pub held_by : (Entry → Bool) → ClaimId → Bool → Entry → Bool
@@ -74,11 +74,11 @@ blocker_at table e = first_in_way (entries_before table e.id) e.locks
 abbrev pub blockers_of : List Entry → List (Option ClaimId)
 blockers_of table = map (blocker_at table) table
 
--- the invariant of a table's cells: each place has the queue of the entries, with memory for it; and no entry has two locks at a place
-pub record AreQueues (table : List Entry) (cells : List CellSeen) : Type 0 where
+-- the invariant of a table's queues: each place has the queue of the entries, with memory for it; and no entry has two locks at a place
+pub record AreQueues (table : List Entry) (queues : List QueueSeen) : Type 0 where
   -- invariant 4 of src/lib.rt without the groups, which each queue keeps; and invariant 1 for each entry
-  pub queues : (p : ℕ) → seats_at cells p ≡ queue_of table p
-  pub room : (p : ℕ) → length (seats_at cells p) ≤ room_at cells p
+  pub requests : (p : ℕ) → requests_at queues p ≡ queue_of table p
+  pub room : (p : ℕ) → length (requests_at queues p) ≤ room_at queues p
   pub apart : All (λ (e : Entry). AreApart e.locks) table
 
 -- a claim waits for one of those that are gone
@@ -96,32 +96,32 @@ is_taken Everyone o = true
 abbrev pub waits_where : (Entry → Bool) → ClaimId → (Entry → Option ClaimId) → Entry → Option ClaimId
 waits_where test id old e = if test e then Some id else old e
 
--- a seat is the entry's, waiting, and in the way of a mode; some of these seats is; some seat at the place of one of these locks is
-abbrev pub is_queued_at : Mode → Seat → Entry → Bool
+-- a request is the entry's, waiting, and in the way of a mode; some of these requests is; some request at the place of one of these locks is
+abbrev pub is_queued_at : Mode → Request → Entry → Bool
 is_queued_at m s e = (not s.is_held && not (compatible m s.mode)) && same_id e.id s.id
 
-abbrev pub is_queued_in : Mode → List Seat → Entry → Bool
-is_queued_in m seats e = list_any (λ (s : Seat). is_queued_at m s e) seats
+abbrev pub is_queued_in : Mode → List Request → Entry → Bool
+is_queued_in m requests e = list_any (λ (s : Request). is_queued_at m s e) requests
 
-abbrev pub is_queued_against : List CellSeen → List Lock → Entry → Bool
-is_queued_against cells locks e = list_any (λ (l : Lock). is_queued_in l.mode (seats_at cells l.place) e) locks
+abbrev pub is_queued_against : List QueueSeen → List Lock → Entry → Bool
+is_queued_against queues locks e = list_any (λ (l : Lock). is_queued_in l.mode (requests_at queues l.place) e) locks
 
 -- what an entry waits for, when these locks now come before it: their claim, if the entry was waiting and they are in its way
 abbrev pub waits_behind : List Entry → ClaimId → List Lock → Entry → Option ClaimId
 waits_behind table id locks e = if is_some (blocker_at table e) && conflict locks e.locks then Some id else blocker_at table e
 
--- the kept blockers are the entries' old ones, the seats' standings agree with them, and those that aren't weighed again are right
-pub record AreStale (again : Again) (table : List Entry) (blockers : List (Option ClaimId)) (cells : List CellSeen) : Type 0 where
+-- the kept blockers are the entries' old ones, the requests' standings agree with them, and those that aren't weighed again are right
+pub record AreStale (again : Again) (table : List Entry) (blockers : List (Option ClaimId)) (queues : List QueueSeen) : Type 0 where
   pub old : Entry → Option ClaimId
   pub were : blockers ≡ map old table
-  pub seats : (p : ℕ) → seats_at cells p ≡ seats_by (λ (e : Entry). is_none (old e)) table p
+  pub requests : (p : ℕ) → requests_at queues p ≡ requests_by (λ (e : Entry). is_none (old e)) table p
   pub right : All (λ (e : Entry). is_taken again (old e) ≡ false → old e ≡ blocker_at table e) table
 
 -- the blockers of the claims so far are right, and so are those of the later claims that aren't weighed again
-pub record IsWeighing (again : Again) (table : List Entry) (blockers : List (Option ClaimId)) (cells : List CellSeen) (i : ℕ) : Type 0 where
+pub record IsWeighing (again : Again) (table : List Entry) (blockers : List (Option ClaimId)) (queues : List QueueSeen) (i : ℕ) : Type 0 where
   pub old : Entry → Option ClaimId
   pub were : blockers ≡ map old table
-  pub seats : (p : ℕ) → seats_at cells p ≡ seats_by (λ (e : Entry). is_none (old e)) table p
+  pub requests : (p : ℕ) → requests_at queues p ≡ requests_by (λ (e : Entry). is_none (old e)) table p
   pub done : All (λ (e : Entry). old e ≡ blocker_at table e) (take i table)
   pub left : All (λ (e : Entry). is_taken again (old e) ≡ false → old e ≡ blocker_at table e) (drop i table)
 
@@ -158,10 +158,10 @@ earliest f [] = None
 earliest f (l ∷ ls) = earlier (f l) (earliest f ls)
 
 -- the position of the first claim in the way of these locks, in any queue
-abbrev pub seat_in_way : List Entry → List CellSeen → List Lock → Option ℕ
-seat_in_way table cells locks = earliest (λ (l : Lock). position_of table (first_of (is_in_way l.mode) (seats_at cells l.place))) locks
+abbrev pub request_in_way : List Entry → List QueueSeen → List Lock → Option ℕ
+request_in_way table queues locks = earliest (λ (l : Lock). position_of table (first_of (is_in_way l.mode) (requests_at queues l.place))) locks
 
 -- the same for the first granted claim other than this one
-abbrev pub held_seat_in_way : List Entry → List CellSeen → ClaimId → List Lock → Option ℕ
-held_seat_in_way table cells id locks =
-    earliest (λ (l : Lock). position_of table (first_of (is_held_in_way id l.mode) (seats_at cells l.place))) locks
+abbrev pub held_request_in_way : List Entry → List QueueSeen → ClaimId → List Lock → Option ℕ
+held_request_in_way table queues id locks =
+    earliest (λ (l : Lock). position_of table (first_of (is_held_in_way id l.mode) (requests_at queues l.place))) locks

@@ -19,10 +19,10 @@
 #![tactic(auto)]
 
 mod again;
-mod cells;
 mod entry;
 pub mod laws;
 mod locks;
+mod queues;
 mod table;
 mod waits;
 

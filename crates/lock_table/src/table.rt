@@ -4,19 +4,19 @@ ghost use Rattle.std.specs.List.{remove};
 ghost use Rattle.std.specs.Option.{option_map};
 ghost use Rattle.vault_model.specs.Claims.{same_id, is_short, standing_by};
 ghost use Rattle.vault_model.specs.Limits.{most_claims};
-ghost use Rattle.lock_queue.specs.declared.cell.Seat.{Seat};
+ghost use Rattle.lock_queue.specs.declared.queue.Request.{Request};
 ghost use Rattle.lock_table.specs.declared.entry.Entry.{Entry};
-ghost use Rattle.lock_table.specs.Queues.{AreQueues, is_taken, blocker_at, blockers_of, seats_at, room_at, seats_by, queue_of, group_in, held_group_in, waits_behind};
+ghost use Rattle.lock_table.specs.Queues.{AreQueues, is_taken, blocker_at, blockers_of, requests_at, room_at, requests_by, queue_of, group_in, held_group_in, waits_behind};
 ghost use Rattle.lock_table.specs.Tables.{IsTable, first_in_way, entry_of, entries_before, entries_without, long_entries, blocker_in, standing_in, is_held_in, held_in_way, extension_by, put_first, extended_by, held_over_in};
 
 use crate::again::Again;
-use crate::cells::{
+use crate::entry::KeptEntry;
+use crate::queues::{
     admit, cover_at, earlier_of, group_at, held_at, held_in_way, index_of, position_of, put_last,
     reserve, take_out, take_short_out,
 };
-use crate::entry::KeptEntry;
 use crate::waits::{first_behind, id_at, wait_behind, weigh_again};
-use crate::{Extension, LockSet, cells};
+use crate::{Extension, LockSet, queues};
 use design_tree::Tree;
 use lock_modes::Group;
 use lock_queue::{PlaceQueue, is_short};
@@ -33,7 +33,7 @@ pub struct Table<A: Allocator = Global> {
     /// The blocker of each entry, at the entry's position; none where it is granted.
     blockers: Vec<Option<ClaimId>, A>,
     /// The queue and the two groups of each place, by its number, up to the highest number ever locked.
-    cells: Vec<PlaceQueue<A>, A>,
+    queues: Vec<PlaceQueue<A>, A>,
 }
 
 impl<A: Allocator> Model for Table<A> {
@@ -48,7 +48,7 @@ impl<A: Allocator> Model for Table<A> {
     ghost view = { λ t. t.entries.items };
 
     // Invariants 2 and 3 of lib.rt, then 4, then 5.
-    ghost invariant = { λ t. IsTable t.entries.items × AreQueues t.entries.items t.cells.items
+    ghost invariant = { λ t. IsTable t.entries.items × AreQueues t.entries.items t.queues.items
         × (t.blockers.items ≡ blockers_of t.entries.items) };
 }
 
@@ -65,19 +65,19 @@ fn standing_by(blocker: Option<ClaimId>) -> Standing
 fn leave<A: Allocator>(
     entries: &[KeptEntry<A>],
     blockers: &[Option<ClaimId>],
-    cells: &mut Vec<PlaceQueue<A>, A>,
+    queues: &mut Vec<PlaceQueue<A>, A>,
     index: usize,
 )
     requires there { index < length entries.now }
     requires table { IsTable entries.now }
-    requires queues { (p : ℕ) → seats_at cells.old.items p ≡ queue_of entries.now p }
+    requires queues { (p : ℕ) → requests_at queues.old.items p ≡ queue_of entries.now p }
     requires blockers { blockers.now ≡ blockers_of entries.now }
-    ensures seats { (e : Entry) → slice_get entries.now index ≡ Some e → (p : ℕ)
-        → seats_at cells.new.items p ≡ seats_by (is_held_in entries.now) (entries_without entries.now e.id) p }
-    ensures room { (p : ℕ) → room_at cells.old.items p ≤ room_at cells.new.items p }
+    ensures requests { (e : Entry) → slice_get entries.now index ≡ Some e → (p : ℕ)
+        → requests_at queues.new.items p ≡ requests_by (is_held_in entries.now) (entries_without entries.now e.id) p }
+    ensures room { (p : ℕ) → room_at queues.old.items p ≤ room_at queues.new.items p }
 {
     let entry = &entries[index];
-    take_out(cells, entry.id(), entry.locks(), blockers[index].is_none());
+    take_out(queues, entry.id(), entry.locks(), blockers[index].is_none());
 }
 
 // Removes the item at a position, and puts another one first.
@@ -93,23 +93,23 @@ fn move_first<T: Drop, A: Allocator>(items: &mut Vec<T, A>, index: usize, item: 
 fn take_away<A: Allocator>(
     entries: &mut Vec<KeptEntry<A>, A>,
     blockers: &mut Vec<Option<ClaimId>, A>,
-    cells: &mut Vec<PlaceQueue<A>, A>,
+    queues: &mut Vec<PlaceQueue<A>, A>,
     id: ClaimId,
     index: usize,
 )
     requires table { IsTable entries.old.items }
-    requires queues { AreQueues entries.old.items cells.old.items }
+    requires queues { AreQueues entries.old.items queues.old.items }
     requires blockers { blockers.old.items ≡ blockers_of entries.old.items }
     requires there { position (λ (e : Entry). same_id e.id id) entries.old.items ≡ Some index }
     ensures done { entries.new.items ≡ entries_without entries.old.items id }
     ensures table { IsTable entries.new.items }
-    ensures queues { AreQueues entries.new.items cells.new.items }
+    ensures queues { AreQueues entries.new.items queues.new.items }
     ensures blockers { blockers.new.items ≡ blockers_of entries.new.items }
 {
-    leave(entries, blockers, cells, index);
+    leave(entries, blockers, queues, index);
     let _ = entries.remove(index);
     let _ = blockers.remove(index);
-    weigh_again(entries, blockers, cells, Again::Behind(id), index);
+    weigh_again(entries, blockers, queues, Again::Behind(id), index);
 }
 
 // Removes the entry at a position and its blocker, if the claim is short.
@@ -153,31 +153,31 @@ fn keep_long<A: Allocator>(
 fn take_short_away<A: Allocator>(
     entries: &mut Vec<KeptEntry<A>, A>,
     blockers: &mut Vec<Option<ClaimId>, A>,
-    cells: &mut Vec<PlaceQueue<A>, A>,
+    queues: &mut Vec<PlaceQueue<A>, A>,
 )
     requires table { IsTable entries.old.items }
-    requires queues { AreQueues entries.old.items cells.old.items }
+    requires queues { AreQueues entries.old.items queues.old.items }
     requires blockers { blockers.old.items ≡ blockers_of entries.old.items }
     ensures done { entries.new.items ≡ long_entries entries.old.items }
     ensures table { IsTable entries.new.items }
-    ensures queues { AreQueues entries.new.items cells.new.items }
+    ensures queues { AreQueues entries.new.items queues.new.items }
     ensures blockers { blockers.new.items ≡ blockers_of entries.new.items }
 {
-    take_short_out(cells);
+    take_short_out(queues);
     keep_long(entries, blockers);
-    weigh_again(entries, blockers, cells, Again::BehindShort, 0);
+    weigh_again(entries, blockers, queues, Again::BehindShort, 0);
 }
 
 fn put_first<A: Allocator + Copy>(
     entries: &mut Vec<KeptEntry<A>, A>,
     blockers: &mut Vec<Option<ClaimId>, A>,
-    cells: &mut Vec<PlaceQueue<A>, A>,
+    queues: &mut Vec<PlaceQueue<A>, A>,
     id: ClaimId,
     locks: LockSet,
     again: Again,
 ) -> Result<(), NoMemory>
     requires table { IsTable entries.old.items }
-    requires queues { AreQueues entries.old.items cells.old.items }
+    requires queues { AreQueues entries.old.items queues.old.items }
     requires blockers { blockers.old.items ≡ blockers_of entries.old.items }
     requires there { is_some (entry_of entries.old.items id) ≡ true }
     requires enough { All (λ (e : Entry). is_taken again (waits_behind entries.old.items id locks e) ≡ false
@@ -185,19 +185,19 @@ fn put_first<A: Allocator + Copy>(
         (entries_without entries.old.items id) }
     ensures done { OnOk result (entries.new.items ≡ put_first entries.old.items id locks) }
     ensures table { IsTable entries.new.items }
-    ensures queues { AreQueues entries.new.items cells.new.items }
+    ensures queues { AreQueues entries.new.items queues.new.items }
     ensures blockers { blockers.new.items ≡ blockers_of entries.new.items }
     ensures unchanged { OnErr result (entries.new.items ≡ entries.old.items) }
 {
     let index = index_of(entries, id).unwrap();
     let kept = KeptEntry::new(*entries.allocator(), id, &locks)?;
-    reserve(cells, &locks)?;
-    leave(entries, blockers, cells, index);
-    cells::put_first(cells, id, &locks);
+    reserve(queues, &locks)?;
+    leave(entries, blockers, queues, index);
+    queues::put_first(queues, id, &locks);
     move_first(entries, index, kept);
     move_first(blockers, index, None);
-    wait_behind(entries, blockers, cells, id, &locks);
-    weigh_again(entries, blockers, cells, again, 0);
+    wait_behind(entries, blockers, queues, id, &locks);
+    weigh_again(entries, blockers, queues, again, 0);
     Ok(())
 }
 
@@ -209,18 +209,18 @@ impl<A: Allocator + Copy> Table<A> {
         let alloc = *self.entries.allocator();
         let entries = Vec::from_clones(alloc, &self.entries)?;
         let blockers = Vec::from_slice(alloc, &self.blockers)?;
-        let mut cells = Vec::new(alloc);
+        let mut queues = Vec::new(alloc);
         for index in 0..entries.len() {
             let entry = &entries[index];
             let locks = entry.locks();
-            reserve(&mut cells, locks)?;
-            let is_held = admit(&cells, locks);
-            put_last(&mut cells, entry.id(), locks, is_held);
+            reserve(&mut queues, locks)?;
+            let is_held = admit(&queues, locks);
+            put_last(&mut queues, entry.id(), locks, is_held);
         }
         Ok(Table {
             entries,
             blockers,
-            cells,
+            queues,
         })
     }
 
@@ -231,7 +231,7 @@ impl<A: Allocator + Copy> Table<A> {
         Ok(Table {
             entries: Vec::new(alloc),
             blockers: Vec::new(alloc),
-            cells: Vec::new(alloc),
+            queues: Vec::new(alloc),
         })
     }
 
@@ -255,9 +255,9 @@ impl<A: Allocator + Copy> Table<A> {
         let kept = KeptEntry::new(*self.entries.allocator(), id, &locks)?;
         self.entries.reserve(1)?;
         self.blockers.reserve(1)?;
-        reserve(&mut self.cells, &locks)?;
-        let blocker = first_behind(&self.entries, &self.cells, &locks);
-        put_last(&mut self.cells, id, &locks, blocker.is_none());
+        reserve(&mut self.queues, &locks)?;
+        let blocker = first_behind(&self.entries, &self.queues, &locks);
+        put_last(&mut self.queues, id, &locks, blocker.is_none());
         self.entries.push(kept).unwrap();
         self.blockers.push(blocker).unwrap();
         Ok(standing_by(blocker))
@@ -285,7 +285,7 @@ impl<A: Allocator + Copy> Table<A> {
         let entries = &mut self.entries;
         let blockers = &mut self.blockers;
         let again = Again::Behind(id);
-        put_first(entries, blockers, &mut self.cells, id, locks, again)?;
+        put_first(entries, blockers, &mut self.queues, id, locks, again)?;
         Ok(Extension::Done)
     }
 
@@ -298,8 +298,8 @@ impl<A: Allocator + Copy> Table<A> {
     {
         let entries = &mut self.entries;
         let blockers = &mut self.blockers;
-        let cells = &mut self.cells;
-        put_first(entries, blockers, cells, id, locks, Again::Everyone)?;
+        let queues = &mut self.queues;
+        put_first(entries, blockers, queues, id, locks, Again::Everyone)?;
         Ok(())
     }
 }
@@ -323,7 +323,7 @@ impl<A: Allocator> Table<A> {
             return;
         };
         let entries = &mut self.entries;
-        take_away(entries, &mut self.blockers, &mut self.cells, id, index);
+        take_away(entries, &mut self.blockers, &mut self.queues, id, index);
     }
 
     /// Removes all short claims from the table, as a restart does.
@@ -333,7 +333,7 @@ impl<A: Allocator> Table<A> {
     pub fn release_short(&mut self)
         ensures { self.new ≡ long_entries self.old }
     {
-        take_short_away(&mut self.entries, &mut self.blockers, &mut self.cells);
+        take_short_away(&mut self.entries, &mut self.blockers, &mut self.queues);
     }
 
     // The blocker kept for a claim, if the claim is there.
@@ -376,7 +376,7 @@ impl<A: Allocator> Table<A> {
     {
         let index = index_of(&self.entries, id).unwrap();
         let own = self.entries[index].locks();
-        let first = held_in_way(&self.entries, &self.cells, id, own, locks);
+        let first = held_in_way(&self.entries, &self.queues, id, own, locks);
         id_at(&self.entries, first)
     }
 
@@ -386,11 +386,11 @@ impl<A: Allocator> Table<A> {
         ensures { result ≡ held_over_in tree.now self.now place }
     {
         let entries = self.entries.as_slice();
-        let cells = self.cells.as_slice();
-        let mut first = position_of(entries, cover_at(cells, place));
+        let queues = self.queues.as_slice();
+        let mut first = position_of(entries, cover_at(queues, place));
         let mut at = place;
         while let Some(parent) = tree.parent(at) {
-            first = earlier_of(entries, first, cover_at(cells, parent));
+            first = earlier_of(entries, first, cover_at(queues, parent));
             at = parent;
         }
         id_at(entries, first)
@@ -400,13 +400,13 @@ impl<A: Allocator> Table<A> {
     pub fn group_at(&self, place: PlaceId) -> Group
         ensures { result ≡ group_in self.now place }
     {
-        group_at(&self.cells, place)
+        group_at(&self.queues, place)
     }
 
     /// The group of the granted claims at a place.
     pub fn held_at(&self, place: PlaceId) -> Group
         ensures { result ≡ held_group_in self.now place }
     {
-        held_at(&self.cells, place)
+        held_at(&self.queues, place)
     }
 }

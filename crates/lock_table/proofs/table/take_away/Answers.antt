@@ -7,7 +7,7 @@ use Rattle.lock_table.specs.Tables.{IsTable, entries_without, is_held_in}
 use Rattle.lock_table.specs.Queues.{AreQueues, IsWeighing, queue_of, blockers_of, blocker_at}
 use Rattle.lock_table.proofs.Leaving.{is_id, table_kept}
 use Rattle.lock_table.proofs.Blockers.{leave_law, taken_out, taken_beside, weighing_left}
-use Rattle.lock_table.proofs.Queuing.{located, seats_fewer, apart_without}
+use Rattle.lock_table.proofs.Queuing.{located, requests_fewer, apart_without}
 use Rattle.lock_table.proofs.table.take_away.Goals as goal
 
 pub leave-requires-clause-there : goal.leave-requires-clause-there
@@ -20,7 +20,7 @@ pub leave-requires-clause-table : goal.leave-requires-clause-table
 leave-requires-clause-table g c = subst (λ (t : List Entry). IsTable t) (sym c.deref.ensures.value) c.requires.table
 
 pub leave-requires-clause-queues : goal.leave-requires-clause-queues
-leave-requires-clause-queues g c = λ p. c.requires.queues.queues p ∙ ap (λ (t : List Entry). queue_of t p) (sym c.deref.ensures.value)
+leave-requires-clause-queues g c = λ p. c.requires.queues.requests p ∙ ap (λ (t : List Entry). queue_of t p) (sym c.deref.ensures.value)
 
 pub leave-requires-clause-blockers : goal.leave-requires-clause-blockers
 leave-requires-clause-blockers g c = c.deref-2.ensures.value ∙ (c.requires.blockers ∙ ap (λ (t : List Entry). blockers_of t) (sym c.deref.ensures.value))
@@ -47,9 +47,9 @@ weigh_again-requires-clause-weighing g c =
     let table = c.args.entries.now.items in
     let done : c.remove.new.self.items ≡ entries_without table c.args.id = c.remove.ensures.items ∙ taken_out table c.args.id c.args.index c.requires.table.distinct c.requires.there in
     let beside = c.remove-2.ensures.items ∙ taken_beside table c.args.blockers.now.items c.args.id c.args.index c.requires.table.distinct c.requires.there c.requires.blockers in
-    let left = leave_law table c.deref.result.now c.leave.new.cells.items c.args.id c.args.index c.deref.ensures.value c.requires.there c.leave.ensures.seats in
-    subst (λ (t : List Entry). IsWeighing (Behind c.args.id) t c.remove-2.new.self.items c.leave.new.cells.items c.args.index) (sym (c.deref-3.ensures.value ∙ done))
-    (weighing_left table c.args.id c.args.index c.requires.table.distinct c.requires.there c.remove-2.new.self.items c.leave.new.cells.items beside left)
+    let left = leave_law table c.deref.result.now c.leave.new.queues.items c.args.id c.args.index c.deref.ensures.value c.requires.there c.leave.ensures.requests in
+    subst (λ (t : List Entry). IsWeighing (Behind c.args.id) t c.remove-2.new.self.items c.leave.new.queues.items c.args.index) (sym (c.deref-3.ensures.value ∙ done))
+    (weighing_left table c.args.id c.args.index c.requires.table.distinct c.requires.there c.remove-2.new.self.items c.leave.new.queues.items beside left)
 
 pub returns-clause-done : goal.returns-clause-done
 returns-clause-done g c = c.remove.ensures.items ∙ taken_out c.args.entries.now.items c.args.id c.args.index c.requires.table.distinct c.requires.there
@@ -65,12 +65,12 @@ returns-clause-queues g c =
     let table = c.args.entries.now.items in
     let done : c.remove.new.self.items ≡ entries_without table c.args.id = c.remove.ensures.items ∙ taken_out table c.args.id c.args.index c.requires.table.distinct c.requires.there in
     let same : c.deref-3.result.now ≡ c.remove.new.self.items = c.deref-3.ensures.value in
-    subst (λ (t : List Entry). AreQueues t c.weigh_again.new.cells.items) (sym done) (record {
-      queues = λ p. c.weigh_again.ensures.queues p ∙ ap (λ (t : List Entry). queue_of t p) (same ∙ done);
+    subst (λ (t : List Entry). AreQueues t c.weigh_again.new.queues.items) (sym done) (record {
+      requests = λ p. c.weigh_again.ensures.queues p ∙ ap (λ (t : List Entry). queue_of t p) (same ∙ done);
       room = λ p.
           let now = ap length (c.weigh_again.ensures.queues p ∙ ap (λ (t : List Entry). queue_of t p) (same ∙ done)) in
-          let fewer = seats_fewer (is_held_in (entries_without table c.args.id)) (is_held_in table) (is_id c.args.id) table p in
-          let old = ap length (c.requires.queues.queues p) in
+          let fewer = requests_fewer (is_held_in (entries_without table c.args.id)) (is_held_in table) (is_id c.args.id) table p in
+          let old = ap length (c.requires.queues.requests p) in
           let room = c.requires.queues.room p in
           let more = c.leave.ensures.room p in
           let last = c.weigh_again.ensures.room p in

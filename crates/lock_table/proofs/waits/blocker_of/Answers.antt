@@ -3,7 +3,7 @@ use Rattle.std.proofs.Common.{ap, sym, subst, ◌∙◌, rules}
 use Rattle.std.proofs.lemmas.Option.{same_Some}
 use Rattle.lock_table.specs.declared.entry.Entry.{Entry}
 use Rattle.lock_table.specs.Tables.{first_in_way}
-use Rattle.lock_table.specs.Queues.{seat_in_way}
+use Rattle.lock_table.specs.Queues.{request_in_way}
 use Rattle.lock_table.proofs.Putting.{read_at}
 use Rattle.lock_table.proofs.Weighing.{found_by}
 use Rattle.lock_table.proofs.Queuing.{way_none, way_lower, way_higher}
@@ -16,7 +16,7 @@ returns-in_err-first g c = λ e there.
     let none : c.in_way.result ≡ None = search rules in
     let nothing : c.from_residual.result ≡ None = search rules in
     subst (λ (y : Entry). c.from_residual.result ≡ first_in_way (take c.args.index c.args.entries.now) y.locks) same
-    (nothing ∙ sym (way_none c.args.cells.now c.args.entries.now x.locks c.args.index c.requires.distinct (found_by c.args.cells.now c.args.entries.now c.requires.seated.held c.requires.seated.seats) (sym (c.in_way.ensures ∙ ap (seat_in_way c.args.entries.now c.args.cells.now) c.locks.ensures) ∙ none)))
+    (nothing ∙ sym (way_none c.args.queues.now c.args.entries.now x.locks c.args.index c.requires.distinct (found_by c.args.queues.now c.args.entries.now c.requires.requested.held c.requires.requested.requests) (sym (c.in_way.ensures ∙ ap (request_in_way c.args.entries.now c.args.queues.now) c.locks.ensures) ∙ none)))
 
 pub returns-then-first-index : goal.returns-then-first-index
 returns-then-first-index g c = λ e there.
@@ -24,7 +24,7 @@ returns-then-first-index g c = λ e there.
     let same = same_Some x e (sym (read_at c.args.entries.now c.args.index x c.requires.there c.index-entries-index.is) ∙ there) in
     let some : c.in_way.result ≡ Some c.in_ok-first.first = search rules in
     subst (λ (y : Entry). c.id_at.result ≡ first_in_way (take c.args.index c.args.entries.now) y.locks) same
-    (c.id_at.ensures ∙ sym (way_lower c.args.cells.now c.args.entries.now x.locks c.args.index c.in_ok-first.first c.requires.distinct (found_by c.args.cells.now c.args.entries.now c.requires.seated.held c.requires.seated.seats) (sym (c.in_way.ensures ∙ ap (seat_in_way c.args.entries.now c.args.cells.now) c.locks.ensures) ∙ some) c.if-first-index.true))
+    (c.id_at.ensures ∙ sym (way_lower c.args.queues.now c.args.entries.now x.locks c.args.index c.in_ok-first.first c.requires.distinct (found_by c.args.queues.now c.args.entries.now c.requires.requested.held c.requires.requested.requests) (sym (c.in_way.ensures ∙ ap (request_in_way c.args.entries.now c.args.queues.now) c.locks.ensures) ∙ some) c.if-first-index.true))
 
 pub returns : goal.returns
 returns g c = λ e there.
@@ -32,4 +32,4 @@ returns g c = λ e there.
     let same = same_Some x e (sym (read_at c.args.entries.now c.args.index x c.requires.there c.index-entries-index.is) ∙ there) in
     let some : c.in_way.result ≡ Some c.in_ok-first.first = search rules in
     subst (λ (y : Entry). None ≡ first_in_way (take c.args.index c.args.entries.now) y.locks) same
-    (sym (way_higher c.args.cells.now c.args.entries.now x.locks c.args.index c.in_ok-first.first c.requires.distinct (found_by c.args.cells.now c.args.entries.now c.requires.seated.held c.requires.seated.seats) (sym (c.in_way.ensures ∙ ap (seat_in_way c.args.entries.now c.args.cells.now) c.locks.ensures) ∙ some) c.if-first-index.false))
+    (sym (way_higher c.args.queues.now c.args.entries.now x.locks c.args.index c.in_ok-first.first c.requires.distinct (found_by c.args.queues.now c.args.entries.now c.requires.requested.held c.requires.requested.requests) (sym (c.in_way.ensures ∙ ap (request_in_way c.args.entries.now c.args.queues.now) c.locks.ensures) ∙ some) c.if-first-index.false))

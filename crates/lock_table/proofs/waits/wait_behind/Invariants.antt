@@ -8,6 +8,6 @@ use Rattle.lock_table.proofs.waits.wait_behind.Given as goal
 -- those at the places of the locks so far wait, and those at the places of the locks that are left will
 abbrev pub invariant-loop-lock : goal.invariant-loop-lock
 invariant-loop-lock g l = record {
-  waiting : (old : Entry → Option ClaimId) → l.fn.blockers.items ≡ map old l.fn.entries → IsWaiting l.fn.id l.fn.entries (waits_where (is_queued_against l.fn.cells l.lock-items) l.fn.id old) (is_queued_against l.fn.cells (drop l.lock-index l.lock-items)) l.blockers.items;
+  waiting : (old : Entry → Option ClaimId) → l.fn.blockers.items ≡ map old l.fn.entries → IsWaiting l.fn.id l.fn.entries (waits_where (is_queued_against l.fn.queues l.lock-items) l.fn.id old) (is_queued_against l.fn.queues (drop l.lock-index l.lock-items)) l.blockers.items;
   many : length l.blockers.items ≡ length l.fn.entries;
 }

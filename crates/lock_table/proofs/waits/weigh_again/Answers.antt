@@ -19,10 +19,10 @@ loop-index-preserved g c = record {
 }
 
 pub returns-clause-blockers : goal.returns-clause-blockers
-returns-clause-blockers g c = done_blockers c.args.again c.args.entries.now c.loop-index.blockers.items c.loop-index.cells.items c.loop-index.index c.loop-index.invariant.weighing c.loop-index-test.false
+returns-clause-blockers g c = done_blockers c.args.again c.args.entries.now c.loop-index.blockers.items c.loop-index.queues.items c.loop-index.index c.loop-index.invariant.weighing c.loop-index-test.false
 
 pub returns-clause-queues : goal.returns-clause-queues
-returns-clause-queues g c = done_queues c.args.again c.args.entries.now c.loop-index.blockers.items c.loop-index.cells.items c.loop-index.index c.loop-index.invariant.weighing c.loop-index-test.false
+returns-clause-queues g c = done_queues c.args.again c.args.entries.now c.loop-index.blockers.items c.loop-index.queues.items c.loop-index.index c.loop-index.invariant.weighing c.loop-index-test.false
 
 pub returns-clause-room : goal.returns-clause-room
 returns-clause-room g c = c.loop-index.invariant.room

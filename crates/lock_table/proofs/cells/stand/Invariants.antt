@@ -1,8 +1,0 @@
-use Rattle.std.specs.Prelude.{drop}
-use Rattle.lock_modes.specs.declared.mode.Mode.{Mode}
-use Rattle.lock_queue.specs.Queue.{restood}
-use Rattle.lock_table.proofs.Putting.{IsTurning}
-use Rattle.lock_table.proofs.cells.stand.Given as goal
-
-abbrev pub invariant-loop-lock : goal.invariant-loop-lock
-invariant-loop-lock g l = IsTurning (λ (m : Mode). restood l.fn.id l.fn.is_held) l.fn.cells.items l.lock-items l.cells.items (drop l.lock-index l.lock-items)

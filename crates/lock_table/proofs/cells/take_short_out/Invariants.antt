@@ -1,5 +1,0 @@
-use Rattle.lock_table.proofs.Shorts.{IsEmptying}
-use Rattle.lock_table.proofs.cells.take_short_out.Given as goal
-
-abbrev pub invariant-loop-index : goal.invariant-loop-index
-invariant-loop-index g l = IsEmptying l.fn.cells.items l.cells.items l.index

@@ -1,0 +1,23 @@
+use Rattle.std.specs.Prelude.{List}
+use Rattle.std.proofs.Common.{ap, sym, subst}
+use Rattle.lock_queue.specs.declared.queue.Request.{Request}
+use Rattle.lock_queue.specs.Queue.{first_of, is_held_in_way, IsOwn}
+use Rattle.lock_table.proofs.Putting.{requests_seen, requests_unseen}
+use Rattle.lock_table.proofs.queues.held_in_way_at.Goals as goal
+
+pub held_in_way-requires : goal.held_in_way-requires
+held_in_way-requires g c =
+    let found = c.in-Some.ensures.lookup in
+    let requests = requests_seen c.args.queues.now c.number.result c.args.lock.place c.in-Some.queue.now c.number.ensures found.0 found.1 in
+    subst (λ (xs : List Request). IsOwn c.args.id c.args.own xs) requests c.requires
+
+pub returns-in-Some : goal.returns-in-Some
+returns-in-Some g c =
+    let found = c.in-Some.ensures.lookup in
+    let requests = requests_seen c.args.queues.now c.number.result c.args.lock.place c.in-Some.queue.now c.number.ensures found.0 found.1 in
+    cc
+
+pub returns-in-None : goal.returns-in-None
+returns-in-None g c =
+    let requests = requests_unseen c.args.queues.now c.number.result c.args.lock.place c.number.ensures c.in-None.ensures.lookup.0 in
+    ap (first_of (is_held_in_way c.args.id c.args.lock.mode)) (sym requests)

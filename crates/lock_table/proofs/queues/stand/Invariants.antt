@@ -1,0 +1,8 @@
+use Rattle.std.specs.Prelude.{drop}
+use Rattle.lock_modes.specs.declared.mode.Mode.{Mode}
+use Rattle.lock_queue.specs.Queue.{restood}
+use Rattle.lock_table.proofs.Putting.{IsTurning}
+use Rattle.lock_table.proofs.queues.stand.Given as goal
+
+abbrev pub invariant-loop-lock : goal.invariant-loop-lock
+invariant-loop-lock g l = IsTurning (λ (m : Mode). restood l.fn.id l.fn.is_held) l.fn.queues.items l.lock-items l.queues.items (drop l.lock-index l.lock-items)
