@@ -5,11 +5,11 @@ use std::time::{Clock, Duration, Instant};
 // The least number of looks for the clients that the last commit answered. They are an eighth of that commit's time apart.
 const LOOKS: u32 = 8;
 
-// The least time between two looks, in microseconds: a client on the same machine needs as long to come back.
-const LEAST: u64 = 100;
+// The shortest part (the time between two looks), in microseconds: a client on the same machine needs as long to come back.
+const MIN_PART: u64 = 100;
 
-// The longest time that a thread looks, in microseconds, unless the commit took longer than this.
-const MOST: u64 = 3200;
+// The longest time that a thread goes on looking, in microseconds, unless the commit took longer than this.
+const MAX_LOOKING: u64 = 3200;
 
 /// When a commit ended, the time between two looks, and the number of looks.
 #[derive(Debug, Clone, Copy, PartialEq, Eq)]
@@ -27,7 +27,7 @@ impl Commit {
     pub fn none() -> Commit {
         Commit {
             ended: None,
-            part: Duration::from_micros(LEAST),
+            part: Duration::from_micros(MIN_PART),
             looks: LOOKS,
         }
     }
@@ -100,7 +100,7 @@ impl Gathering {
 // The number of looks, with this part between two: after a short commit they go on for eight times as long as it took, but for a few
 // milliseconds at most.
 fn looks_of(took: Duration, part: Duration) -> u32 {
-    let most = Duration::from_micros(MOST);
+    let most = Duration::from_micros(MAX_LOOKING);
     let eight = took.saturating_mul(LOOKS);
     let whole = if eight < most { eight } else { most };
     match whole.as_micros().checked_div(part.as_micros()) {
@@ -111,7 +111,7 @@ fn looks_of(took: Duration, part: Duration) -> u32 {
 
 // The time between two looks after a commit that took this long.
 fn part_of(took: Duration) -> Duration {
-    let least = Duration::from_micros(LEAST);
+    let least = Duration::from_micros(MIN_PART);
     match took.checked_div(LOOKS) {
         Some(part) if part > least => part,
         _ => least,

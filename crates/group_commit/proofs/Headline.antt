@@ -23,7 +23,7 @@ use Rattle.group_commit.specs.Seen.{VaultSeen, snapshot_length}
 use Rattle.group_commit.specs.Pasts.{IsPast, beginning}
 use Rattle.group_commit.specs.Positions.{HasTold}
 use Rattle.group_commit.specs.Ticket.{Told as Receipt, entry_in}
-use Rattle.group_commit.specs.Recovered.{world_after, events_until, IsOneRun, history_of, life_begins, place_of, IsRecovered, IsKeptThrough, ReceiptsAreFoundAgain}
+use Rattle.group_commit.specs.Recovered.{world_after, events_until, IsOneRun, history_of, life_begins, position_of_entry, IsRecovered, IsKeptThrough, ReceiptsAreFoundAgain}
 use Rattle.group_commit.proofs.Guarded.{history_is_guarded}
 use Rattle.group_commit.proofs.Sound.{IsSound, first_stays, run_sound, run-append, first_part, second_part}
 use Rattle.group_commit.proofs.Stays.{StandsSettled, stays}
@@ -32,7 +32,7 @@ use Rattle.group_commit.proofs.Recovery.{prefix_is}
 use Rattle.group_commit.proofs.Prefixes.{get_take, get_drop, get_behind, no_short}
 use Rattle.group_commit.proofs.Pasts.{IsFound, IsFoundIn, found_between, found_by_stop, opened_as, of_a_vault, reaches, begins_sound, past_sound, one_run, until_first}
 
--- a vault is the durable one after this many entries of a life: all that are settled, and maybe more
+-- a vault is the durable one after this many entries of a life: all that are durable, and maybe more
 record IsCut (open_gate : Bool) (w : World) (left : Vault) : Type 0 where
   n : ℕ
   choice : (n ≡ w.settled) ⊎ (IsTrue open_gate × (n ≡ w.sealed))
@@ -117,7 +117,7 @@ module _ {D : Type 0} (disk : D → Disk) (law : CrashLeavesWhatIsKept disk) (on
         }
 
     entry_found : (n : ℕ) (seen : VaultSeen D) (told : Receipt) → slice_get (now ∷ past) n ≡ Some seen → HasTold seen.view told → (open_gate : Bool) (x y : List ℕ) (r : IsRecovered one open_gate x y)
-        → slice_get (take r.cut (history_of one)) (place_of one n told) ≡ Some (Given (entry_in told))
+        → slice_get (take r.cut (history_of one)) (position_of_entry one n told) ≡ Some (Given (entry_in told))
     entry_found n seen told at has open_gate x y r =
         let whole : seen.view.retired + (told.position - seen.view.retired) ≡ told.position = omega (arith, has.not_retired) in
         subst (λ (k : ℕ). slice_get (take r.cut (history_of one)) (life_begins one n + k) ≡ Some (Given (entry_in told))) whole

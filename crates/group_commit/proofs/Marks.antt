@@ -98,7 +98,7 @@ told_at_most : (l : List Kept) → told_in l ≤ length l
 told_at_most [] = omega arith
 told_at_most (x ∷ xs) = let k : told_in xs ≤ length xs = told_at_most xs in let one = at_most_one (is_told x.mark) in omega arith
 
--- an open entry isn't told
+-- an open entry isn't acknowledged
 pub told_below_length : (l : List Kept) (p : ℕ) → mark_at l p ≡ Some Open → told_in l < length l
 told_below_length [] p h = absurd (cc)
 told_below_length (x ∷ xs) zero h = let e : ◌≡◌ {A = ℕ} (cond (is_told x.mark) 1 0) 0 = told_of_open x h in let k : told_in xs ≤ length xs = told_at_most xs in omega arith

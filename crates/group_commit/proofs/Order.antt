@@ -14,11 +14,11 @@ goes_on phase next busy o = record { retired_settled = o.retired_settled; settle
 begins : {all retired settled sealed : ℕ} (phase next : Phase) → InOrder all retired settled sealed phase → InOrder all retired settled all next
 begins phase next o = record { retired_settled = o.retired_settled; settled_all = o.settled_all; sealed_all = omega arith; sealing = λ _. o.settled_all }
 
--- it ends, and settles what is sealed
+-- it ends, and what is sealed becomes durable
 ends : {all retired settled sealed : ℕ} (phase : Phase) → is_idle phase ≡ false → InOrder all retired settled sealed phase → InOrder all retired sealed sealed Idle
 ends phase busy o = record { retired_settled = omega (arith, o.retired_settled, o.sealing busy); settled_all = o.sealed_all; sealed_all = o.sealed_all; sealing = λ e. absurd (cc) }
 
--- all is settled without a commit
+-- all becomes durable without a commit
 settles : {all retired settled sealed : ℕ} (phase : Phase) → InOrder all retired settled sealed phase → InOrder all retired all sealed Idle
 settles phase o = record { retired_settled = omega (arith, o.retired_settled, o.settled_all); settled_all = omega arith; sealed_all = o.sealed_all; sealing = λ e. absurd (cc) }
 
@@ -42,7 +42,7 @@ order_row all retired settled sealed Filled waiting length o = goes_on Filled Re
 order_row all retired settled sealed Ready waiting length o = goes_on Ready SnapOpening refl o
 order_row all retired settled sealed SnapOpening waiting length o = ends SnapOpening refl o
 
--- the order where a row moves on and settles nothing yet
+-- the order where a row moves on and makes nothing durable yet
 order_next : (all retired settled sealed : ℕ) (phase : Phase) (waiting : Waiting) (length : ℕ) → InOrder all retired settled sealed phase →
     let r = row phase waiting length in InOrder all retired settled (cond r.seals all sealed) r.next
 order_next all retired settled sealed Idle Nothing length o = o
@@ -72,7 +72,7 @@ order_fault all retired settled sealed phase waiting length o = by_call (row pha
 pub order_start : (all retired settled sealed : ℕ) (phase : Phase) → InOrder all retired settled sealed phase → InOrder all retired settled all Start
 order_start all retired settled sealed phase o = begins phase Start o
 
--- after a row no fewer entries are settled than before
+-- after a row no fewer entries are durable than before
 pub more_settled : (all retired settled sealed : ℕ) (phase : Phase) (waiting : Waiting) (length : ℕ) → InOrder all retired settled sealed phase
     → settled ≤ settled_by (row phase waiting length).settles settled sealed all
 more_settled all retired settled sealed Idle Nothing length o = omega arith

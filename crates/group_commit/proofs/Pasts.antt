@@ -79,7 +79,7 @@ one_pump w middle view first second = record {
 abbrev pub IsFound : Bool → View → Vault → Type 0
 IsFound open_gate v left = (left ≡ durable (view_at v v.settled)) ⊎ (IsTrue open_gate × (left ≡ durable (view_at v v.sealed)))
 
--- a stop inside a pump counts as that pump or as none, then a crash
+-- a crash inside a pump counts as that pump or as none, and then a crash
 pump_or_none : (p : Phase) (v : View) (left : Vault) → IsFound (may_open p) (record v { phase = p }) left
     → MayLeave (record v { phase = p }) left ⊎ MayLeave (view_acted snapshot_length (record v { phase = p }) Pump) left
 pump_or_none Idle v left found = inl found
@@ -119,13 +119,13 @@ found_inside seen x y left = elim left [
 ]
 
 module _ {D : Type 0} (disk : D → Disk) (law : CrashLeavesWhatIsKept disk) (one_gate : OneGateIsOpened disk) (one_vault : OneVault) where
-  -- a stop between two calls
+  -- a crash between two calls
   pub found_between : (seen : VaultSeen D) (x y : List ℕ) → IsOfAVault disk seen → IsCrash disk seen x y → IsFoundIn (is_opening seen.view.phase) seen.view x y
   found_between seen x y is crash =
       let left = (images_stand disk seen law one_gate is.stands).stands x y crash in
       record { left = left.0; found = left.1; stands = left.2 }
 
-  -- a stop inside a pump
+  -- a crash inside a pump
   pub found_by_stop : (seen : VaultSeen D) (x y : List ℕ) → IsStopInside disk seen x y → IsFoundIn (may_open seen.view.phase) seen.view x y
   found_by_stop seen x y stop = found_inside seen x y (stop.moments x y stop.honest stop.left)
 

@@ -143,7 +143,7 @@ row_fails v busy = ((vault_under_way v busy).seals, (vault_under_way v busy).cal
 pub row_still : (v : View) → (vault_row v).call ≡ NoCall → (row_of (state_of v)).call ≡ NoCall
 row_still v e = ⊎_elim (λ idle. (vault_idle v idle).still e) (λ busy. absurd ((vault_under_way v busy).calls e)) (idle_or_busy v.phase)
 
--- a vault whose store made the step, with the settled and the sealed length of its row
+-- a vault whose store made the step, with the durable and the sealed length of its row
 module _ {D : Type 0} (disk : D → Disk) (seen : VaultSeen D) (book : Vault) (k : IsSoundVault disk seen book) (store : StoreSeen D) where
   abbrev after_step : ℕ → ℕ → Bool → VaultSeen D
   after_step settled sealed broken = record { view = record seen.view { settled = settled; sealed = sealed; phase = store.phase; broken = broken }; life = seen.life; store = store }
@@ -291,7 +291,7 @@ module _ {D : Type 0} (disk : D → Disk) (seen : VaultSeen D) (book : Vault) (k
   row_answers : (r : Row) → vault_row seen.view ≡ r → r.answer ≡ (vault_row seen.view).answer
   row_answers r e = ap (λ (x : Row). x.answer) (sym e)
 
-  -- it rested, and all is settled
+  -- it rested, and all is durable
   pub rested : Made (Ok answers.Idle) → seen.view.settled ≡ length_of seen.view → IsPump disk seen (after_pump seen.view.settled seen.view.sealed) (Ok answers.Idle)
   rested made all =
       let r = row_rests seen.view (answered answers.Idle made) all in
@@ -306,7 +306,7 @@ module _ {D : Type 0} (disk : D → Disk) (seen : VaultSeen D) (book : Vault) (k
   all_at_once : seen.view.phase ≡ Idle → AnswersAlike (Ok answers.Idle) (Ok answers.Settled)
   all_at_once idle = record { renewed = sym (ap is_snapshot idle); under = λ e. e; gains = λ _. no_frame idle }
 
-  -- it rested, and the rest is settled without a commit
+  -- it rested, and the rest becomes durable without a commit
   pub settled_all : Made (Ok answers.Idle) → seen.view.settled ≢ length_of seen.view → IsPump disk seen (after_pump (length_of seen.view) seen.view.sealed) (Ok answers.Settled)
   settled_all made some =
       let r = row_settles_all seen.view k.sound (answered answers.Idle made) some in
@@ -325,7 +325,7 @@ module _ {D : Type 0} (disk : D → Disk) (seen : VaultSeen D) (book : Vault) (k
   last_of : is_idle seen.view.phase ≡ false → AnswersAlike (Ok answers.Settled) (Ok answers.Settled)
   last_of busy = record { renewed = ap is_snapshot k.stands.phase; under = λ e. e; gains = frame_is busy }
 
-  -- the commit or the snapshot is settled
+  -- the commit or the snapshot is durable
   last_settled : (r : ((is_idle seen.view.phase ≡ false) × ((vault_row seen.view).settles ≡ TheSealed) × ((vault_row seen.view).seals ≡ false) × ((vault_row seen.view).answer ≡ answers.Settled))) → seen.view.sealed ≡ (view_acted snapshot_length seen.view Pump).settled
   last_settled r = ap (λ x. settled_by x seen.view.settled seen.view.sealed (length_of seen.view)) (sym r.1)
 

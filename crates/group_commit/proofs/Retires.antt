@@ -77,7 +77,7 @@ gone_one base gone x = ap (replay base) (members-append gone (x ∷ [])) ∙ rep
 abbrev pub retired : {D : Type 0} → VaultSeen D → Vault → List Kept → VaultSeen D
 retired seen base kept = record seen { view = record seen.view { base = base; kept = kept; retired = seen.view.retired + 1 } }
 
--- where the counts of retired and of settled entries differ, fewer are retired
+-- where the counts of retired and of durable entries differ, fewer are retired
 pub settled_more : {D : Type 0} (disk : D → Disk) (seen : VaultSeen D) (book : Vault) → IsSoundVault disk seen book → seen.view.retired ≢ seen.view.settled → seen.view.retired < seen.view.settled
 settled_more disk seen book k h = let o : seen.view.retired ≤ seen.view.settled = k.sound.order.retired_settled in omega (arith, h, o)
 

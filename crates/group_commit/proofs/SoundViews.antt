@@ -58,7 +58,7 @@ staged_sound v session command room s =
       busy = s.busy;
     }
 
--- the numbers and the phase of a step: no fewer entries are settled, and all stays in order
+-- the numbers and the phase of a step: no fewer entries are durable, and all stays in order
 steps_sound : (v : View) (settled sealed : ℕ) (phase : Phase) (broken : Bool) → InOrder (length_of v) v.retired settled sealed phase → v.settled ≤ settled
     → (broken ≡ true → is_idle phase ≡ false) → IsSoundView v → IsSoundView (record v { settled = settled; sealed = sealed; phase = phase; broken = broken })
 steps_sound v settled sealed phase broken order more busy s = record {
@@ -123,7 +123,7 @@ forgotten_sound v place was s =
     let most : v.told ≤ v.retired + told_in v.kept = s.told_most in
     marked_sound Forgotten v.told v place (λ e. cc) (λ e. absurd (cc)) (mark_below v.kept place Open was) (omega arith) (omega arith) s
 
--- the number told fits, with one more
+-- the number of acknowledged entries (`told`) fits, with one more
 pub told_fits : (v : View) (place : ℕ) → mark_at v.kept place ≡ Some Open → IsSoundView v → v.told < length_of v
 told_fits v place was s =
     let most : v.told ≤ v.retired + told_in v.kept = s.told_most in

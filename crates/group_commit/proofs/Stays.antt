@@ -25,7 +25,7 @@ get_cut [] ys k x h e = absurd (omega arith)
 get_cut (z ∷ xs) ys zero x h e = e
 get_cut (z ∷ xs) ys (suc k) x h e = get_cut xs ys k x (omega arith) e
 
--- a crash keeps what is settled, and no more than there is
+-- a crash keeps what is durable, and no more than there is
 pub keeps_settled : (w : World) (gate : GateLeft) → IsSound w → w.settled ≤ kept_by w gate
 keeps_settled w StaysClosed s = omega arith
 keeps_settled w IsOpen s = by_phase (is_opening w.phase) refl
@@ -46,7 +46,7 @@ pub length-history_to : (w : World) (n : ℕ) → n ≤ length w.life → length
 length-history_to w n h =
     length-append w.earlier (members (take n w.life)) ∙ ap (λ k. length w.earlier + k) (length-map (take n w.life) (λ (kept : Kept). Given kept.entry) ∙ length-take-le n w.life h)
 
--- what is settled stands for good
+-- what is durable stands for good
 pub record StandsSettled (w : World) (place : ℕ) (entry : Entry) : Type 0 where
   pub stands : slice_get (history w) place ≡ Some (Given entry)
   pub below : place < length w.earlier + w.settled

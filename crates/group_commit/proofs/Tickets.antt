@@ -53,7 +53,7 @@ pub forget_kept : {D : Type 0} (disk : D → Disk) (seen now : VaultSeen D) (boo
 forget_kept disk seen now book claim place kept same at closed k =
     subst (λ l. IsSoundVault disk (forgotten seen l) book) (sym closed) (forget_here disk seen book claim place (subst (λ s. IsOpenAt s claim place) (sym same) at) k)
 
--- told
+-- an entry acknowledged
 abbrev told : {D : Type 0} → VaultSeen D → List Kept → VaultSeen D
 told seen kept = record seen { view = record seen.view { kept = kept; told = seen.view.told + 1 } }
 
@@ -76,7 +76,7 @@ one_more_fits disk seen now book claim place same at k =
     let fits : length_of seen.view < 2 ^ 64 = k.fits in
     omega arith
 
--- what a told ticket gives
+-- what the ticket of an acknowledged entry gives
 abbrev pub IsTelling : {D : Type 0} → VaultSeen D → VaultSeen D → TicketSeen → Told → Type 0
 IsTelling old new claim receipt =
     (claim.life ≡ old.life)

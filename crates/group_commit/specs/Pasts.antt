@@ -26,7 +26,7 @@ pub record Makes {D : Type 0} (act : Act) (old new : VaultSeen D) : Type 0 where
 abbrev pub IsAnswered : {D : Type 0} → VaultSeen D → VaultSeen D → Type 0
 IsAnswered old new = (new ≡ old) ⊎ ((act : Act) × Makes act old new)
 
--- A stop (crash) at some moment inside a pump left these files. Without it, the pump would have made the other vault; at each moment
+-- A crash at some moment inside a pump left these files. Without it, the pump would have made the other vault; at each moment
 -- until then, what `Vault::pump` promises holds.
 pub record IsStopInside {D : Type 0} (disk : D → Disk) (seen : VaultSeen D) (x y : List ℕ) : Type 0 where
   pub other : VaultSeen D
@@ -36,7 +36,7 @@ pub record IsStopInside {D : Type 0} (disk : D → Disk) (seen : VaultSeen D) (x
   pub left : MayBeLeft (disk (first_of seen.store)) (disk (second_of seen.store)) (disk (first_of other.store))
       (disk (second_of other.store)) x y
 
--- a crash at any moment of a pump leaves the files of a stop inside it
+-- a crash at any moment of a pump leaves the files of a crash inside it (`IsStopInside`)
 abbrev pub StopsInside : {D : Type 0} → (D → Disk) → VaultSeen D → VaultSeen D → Type 0
 StopsInside disk old new =
     (x y : List ℕ) → AreHonest disk old.store

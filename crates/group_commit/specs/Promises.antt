@@ -26,7 +26,7 @@ pub record ImagesStand {D : Type 0} (disk : D → Disk) (seen : VaultSeen D) : T
   pub gate : AreHonest disk seen.store → is_opening seen.view.phase ≡ true → seen.view.broken ≡ false
       → IsOneGate (disk (gated seen.view.phase seen.store.active seen.store.spare)) (gate_at seen.store seen.view.phase)
 
--- what a crash inside a call leaves is read as the vault after the entries settled before or, where a gate may be opened, after the
+-- what a crash inside a call leaves is read as the vault after the entries durable before or, where a gate may be opened, after the
 -- sealed ones
 abbrev pub MomentsStand : {D : Type 0} → (D → Disk) → VaultSeen D → VaultSeen D → Type 0
 MomentsStand disk old new =

@@ -26,12 +26,12 @@ use Rattle.group_commit.specs.Pasts.{IsStopInside, IsStop, IsOpenedOn, IsNext, I
 abbrev pub world_after : Vault → List Event → World
 world_after first events = run snapshot_length (world_of first) events
 
--- the events of a stop: a crash, and before it at most the pump under way, where the crash came inside one
+-- the events of a crash (`IsStop`): the crash, and before it at most the pump under way, where the crash came inside one
 abbrev pub AreOfStop : {D : Type 0} → {disk : D → Disk} → {seen : VaultSeen D} → {x y : List ℕ} → IsStop disk seen x y → List Event → Type 0
 AreOfStop (inl between) events = (gate : GateLeft) × (events ≡ Crash gate ∷ [])
 AreOfStop (inr inside) events = (gate : GateLeft) × ((events ≡ Crash gate ∷ []) ⊎ (events ≡ Within Pump ∷ Crash gate ∷ []))
 
--- the events of what came next: none where a call changed nothing, its one act, or those of the stop
+-- the events of what came next: none where a call changed nothing, its one act, or those of the crash
 abbrev pub AreOfNext : {D : Type 0} → {disk : D → Disk} → {old new : VaultSeen D} → IsNext disk old new → List Event → Type 0
 AreOfNext (inl (inl same)) events = events ≡ []
 AreOfNext (inl (inr made)) events = events ≡ Within made.0 ∷ []
@@ -82,7 +82,7 @@ life_begins {D} {disk} {now} {past} {is} one n =
     length (world_after (beginning now past) (events_until disk now past is one.events one.calls n)).earlier
 
 -- These files stand for a vault, opening finds nothing wrong with them, and recovery gives it: the durable vault after one prefix of the
--- single history, up to the settled entries or, where a gate may be open, up to the sealed ones.
+-- single history, up to the durable entries or, where a gate may be open, up to the sealed ones.
 pub record IsRecovered {D : Type 0} {disk : D → Disk} {now : VaultSeen D} {past : List (VaultSeen D)} {is : IsPast disk now past}
     (one : IsOneRun disk now past is) (open_gate : Bool) (x y : List ℕ) : Type 0 where
   pub vault : Vault
@@ -95,7 +95,7 @@ pub record IsRecovered {D : Type 0} {disk : D → Disk} {now : VaultSeen D} {pas
       (cut ≡ length w.earlier + now.view.settled) ⊎ (IsTrue open_gate × (cut ≡ length w.earlier + now.view.sealed))
   pub within : cut ≤ length (history_of one)
   pub prefix : vault ≡ durable (replay (beginning now past) (take cut (history_of one)))
-  -- each entry acknowledged at any point of the past stands in that prefix, at its place, with its reply
+  -- each entry acknowledged at any point of the past stands in that prefix, at its position, with its reply
   pub told : (n place : ℕ) (seen : VaultSeen D) (kept : Kept) (at : slice_get (now ∷ past) n ≡ Some seen)
       → slice_get seen.view.kept place ≡ Some kept → kept.mark ≡ Told
       → slice_get (take cut (history_of one)) (life_begins one n + (seen.view.retired + place)) ≡ Some (Given kept.entry)
@@ -120,19 +120,19 @@ abbrev pub EachPastIsKept : {D : Type 0} → (D → Disk) → VaultSeen D → Ty
 EachPastIsKept {D} disk now = (past : List (VaultSeen D)) (is : IsPast disk now past) → IsKeptThrough disk now past is
 
 -- where in the history of a past the entry of a receipt stands: in the life of the nth vault that was seen, at the receipt's position
-abbrev pub place_of : {D : Type 0} → {disk : D → Disk} → {now : VaultSeen D} → {past : List (VaultSeen D)} → {is : IsPast disk now past}
+abbrev pub position_of_entry : {D : Type 0} → {disk : D → Disk} → {now : VaultSeen D} → {past : List (VaultSeen D)} → {is : IsPast disk now past}
     → IsOneRun disk now past is → ℕ → Receipt → ℕ
-place_of {D} {disk} {now} {past} {is} one n told = life_begins one n + told.position
+position_of_entry {D} {disk} {now} {past} {is} one n told = life_begins one n + told.position
 
 -- A receipt whose entry the nth vault showed as acknowledged is found again, over this past: after any crash now, that entry stands in
--- the prefix that recovery gives, at its place, with its session, its number, its command and its reply.
+-- the prefix that recovery gives, at its position, with its session, its number, its command and its reply.
 pub record IsFoundAgain {D : Type 0} (disk : D → Disk) (now : VaultSeen D) (past : List (VaultSeen D)) (is : IsPast disk now past)
     (n : ℕ) (told : Receipt) : Type 0 where
   pub kept : IsKeptThrough disk now past is
   pub between : (x y : List ℕ) (crash : IsCrash disk now x y)
-      → slice_get (take (kept.between x y crash).cut (history_of kept.one)) (place_of kept.one n told) ≡ Some (Given (entry_in told))
+      → slice_get (take (kept.between x y crash).cut (history_of kept.one)) (position_of_entry kept.one n told) ≡ Some (Given (entry_in told))
   pub inside : (x y : List ℕ) (stop : IsStopInside disk now x y)
-      → slice_get (take (kept.inside x y stop).cut (history_of kept.one)) (place_of kept.one n told) ≡ Some (Given (entry_in told))
+      → slice_get (take (kept.inside x y stop).cut (history_of kept.one)) (position_of_entry kept.one n told) ≡ Some (Given (entry_in told))
 
 -- so is each receipt whose entry was seen as acknowledged at any point of a past
 abbrev pub ReceiptsAreFoundAgain : {D : Type 0} → (D → Disk) → VaultSeen D → Type 0

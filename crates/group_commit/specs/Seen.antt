@@ -39,7 +39,7 @@ effects_between v from to = effects (view_at v from) (take (to - from) (drop (fr
 abbrev pub effects_from : View → ℕ → List Effect
 effects_from v from = effects (view_at v from) (drop (from - v.retired) v.kept)
 
--- What the store has to keep for a view: the durable vault after the settled entries, the one after those in frames, and the one
+-- What the store has to keep for a view: the durable vault after the durable entries, the one after those in frames, and the one
 -- after all, with the effects between them.
 abbrev pub state_of : View → StoreState
 state_of v = record {

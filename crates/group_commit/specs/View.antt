@@ -99,7 +99,7 @@ view_acted snapshot v (Tell position) = record v { kept = with_mark Told v.kept 
 view_acted snapshot v (Forget position) = record v { kept = with_mark Forgotten v.kept (position - v.retired) }
 view_acted snapshot v Retire = record v { base = after_first v.base v.kept; kept = drop 1 v.kept; retired = v.retired + 1 }
 
--- what a crash may leave of a vault with this view: the durable vault after the settled entries or, while a gate is being
+-- what a crash may leave of a vault with this view: the durable vault after the durable entries or, while a gate is being
 -- opened, after those or the sealed ones
 abbrev pub MayLeave : View → Vault → Type 0
 MayLeave v left = (left ≡ durable (view_at v v.settled)) ⊎ (IsTrue (is_opening v.phase) × (left ≡ durable (view_at v v.sealed)))

@@ -12,7 +12,7 @@ use Rattle.vault_store.specs.Phases.{Row, row, NoCall, settled_by, after_fault, 
 use Rattle.group_commit.specs.Phases.{waiting}
 
 -- the vault with which the first life began, the members of earlier lives, the entries of the present life with their marks,
--- and, counted from its start, how many of them are settled, sealed and retired; the phase; whether a device call failed
+-- and, counted from its start, how many of them are durable (`settled`), sealed and retired; the phase; whether a device call failed
 pub record World : Type 0 where
   pub first : Vault
   pub earlier : List Member
@@ -106,7 +106,7 @@ pub data GateLeft : Type 0 where
   StaysClosed : GateLeft
   IsOpen : GateLeft
 
--- how many entries of the present life a crash keeps: the settled ones, or the sealed ones where a gate was being opened and
+-- how many entries of the present life a crash keeps: the durable ones, or the sealed ones where a gate was being opened and
 -- is found open
 abbrev pub kept_by : World → GateLeft → ℕ
 kept_by w StaysClosed = w.settled

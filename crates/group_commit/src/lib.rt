@@ -18,7 +18,7 @@
 //!    under way.
 //! 4. Acknowledged entries are durable, and `told` counts them, retired ones too.
 //! 5. At most 4,096 entries are kept.
-//! 6. The store keeps the durable vaults after the settled entries, after the sealed ones and after all.
+//! 6. The store keeps the durable vaults after the durable entries, after the sealed ones and after all.
 //! 7. After a failed device call, a commit or a snapshot stays under way for good.
 //!
 //! Only tested: runs over devices in memory (a full buffer, a full history, a snapshot, a failed write), each request for memory

@@ -8,7 +8,7 @@ use std::marker::Model;
 use std::snapshot::Snapshot;
 use vault_model::ReplyIn;
 
-/// Stands for an open entry of a vault's history. It can't be dropped: it ends by being told or forgotten.
+/// Stands for an open entry of a vault's history. It can't be dropped: it ends by being acknowledged or forgotten.
 pub struct Ticket<A: Allocator = Global> {
     life: u64,
     position: u64,

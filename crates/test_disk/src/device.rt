@@ -68,7 +68,7 @@ fn picks(rt: HostRuntime) {
     }
 }
 
-/// What is written over `abc`, the pick of a crash, and what it leaves.
+/// What is written over `abc`, what a crash keeps of it (`Pick`), and the bytes left.
 static PICKS: [(&[Write], Pick, &[u8]); 23] = [
     (&[], Pick::Old, b"abc"),
     (&[], Pick::New, b"abc"),

@@ -18,7 +18,7 @@ const GATE_SHUT: &[u8] = &[0, 0, 0, 0, 7, 1, 0, 0, 0, 0, 1, 0x65, 0];
 
 const GATE_OPEN: &[u8] = &[1, 0, 0, 0, 7, 1, 0, 0, 0, 0, 1, 0x65, 0];
 
-/// The number of commit steps done, the pick of the crash after them (if any), and the bytes left.
+/// The number of commit steps done, what the crash after them (if any) keeps, and the bytes left.
 static LEFT: [(u8, Option<Pick>, &[u8]); 7] = [
     (1, None, GATE_SHUT),
     (1, Some(Pick::Old), &[0]),

@@ -106,7 +106,7 @@ pub struct Counts {
     tallies: [u64; 66],
 }
 
-fn place_of_phase(phase: Phase) -> usize {
+fn index_of_phase(phase: Phase) -> usize {
     match phase {
         Phase::Idle => 20,
         Phase::Written => 21,
@@ -121,7 +121,7 @@ fn place_of_phase(phase: Phase) -> usize {
     }
 }
 
-fn place_of_left(left: Left) -> usize {
+fn index_of_left(left: Left) -> usize {
     match left {
         Left::Crashed(Pick::Old) => 30,
         Left::Crashed(Pick::New) => 31,
@@ -132,7 +132,7 @@ fn place_of_left(left: Left) -> usize {
     }
 }
 
-fn place_of_refusal(refusal: Refusal) -> usize {
+fn index_of_refusal(refusal: Refusal) -> usize {
     match refusal {
         Refusal::NoSession => 45,
         Refusal::Joined => 46,
@@ -151,7 +151,7 @@ fn place_of_refusal(refusal: Refusal) -> usize {
     }
 }
 
-fn place_of_reply(reply: &Reply) -> usize {
+fn index_of_reply(reply: &Reply) -> usize {
     match reply {
         Reply::Place(_) => 36,
         Reply::Held(_) => 37,
@@ -168,7 +168,7 @@ fn place_of_reply(reply: &Reply) -> usize {
         Reply::Shown(_) => 63,
         Reply::ClaimsAt(_) => 64,
         Reply::DraftsOf(_) => 65,
-        Reply::Refused(refusal) => place_of_refusal(*refusal),
+        Reply::Refused(refusal) => index_of_refusal(*refusal),
         _ => 44,
     }
 }
@@ -179,8 +179,8 @@ impl Counts {
         Counts { tallies: [0; 66] }
     }
 
-    fn up_at(&mut self, place: usize) {
-        if let Some(tally) = self.tallies.get_mut(place) {
+    fn up_at(&mut self, index: usize) {
+        if let Some(tally) = self.tallies.get_mut(index) {
             *tally = tally.saturating_add(1);
         }
     }
@@ -192,15 +192,15 @@ impl Counts {
 
     /// Counts a reply to a command.
     pub(crate) fn reply(&mut self, reply: &Reply) {
-        self.up_at(place_of_reply(reply));
+        self.up_at(index_of_reply(reply));
     }
 
     /// Counts the end of a life in a phase, after which the devices kept this.
     pub(crate) fn stop(&mut self, phase: Phase, first: Left, second: Left) {
         self.up(Met::Stop);
-        self.up_at(place_of_phase(phase));
-        self.up_at(place_of_left(first));
-        self.up_at(place_of_left(second));
+        self.up_at(index_of_phase(phase));
+        self.up_at(index_of_left(first));
+        self.up_at(index_of_left(second));
     }
 
     /// The counts, in the order of `COUNTED`.

@@ -31,7 +31,7 @@ static REFUSED: Serving = Serving {
 
 const TOLD: &str = "OK session 1\nOK place 1\nOK left\nend\n";
 
-// What the client may hear of a server that ends for want of memory, line by line: if memory for the first was refused, the others speak
+// What the client may hear of a server that ends out of memory, line by line: if memory for the first was refused, the others speak
 // for no session.
 static MAY_BE: [[&str; 3]; 4] = [
     ["OK session 1", "ERR 81", "ERR 81"],

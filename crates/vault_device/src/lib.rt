@@ -7,9 +7,9 @@
 //! Stands on: no crate of this repository. Must not know: what the bytes mean.
 //!
 //! Invariants, of `Memory`, behind `MemDevice`:
-//! 1. What is shown, settled and filled is what the history of its events leads to.
-//! 2. The events since the last sync or crash lead from the settled length to the shown one.
-//! 3. The first `clean` bytes are the same in what is settled and what is shown.
+//! 1. What is shown, durable and filled is what the history of its events leads to.
+//! 2. The events since the last sync or crash lead from the durable length to the shown one.
+//! 3. The first `clean` bytes are the same in what is durable and what is shown.
 //! 4. There is room for a sync and for a crash, so neither takes memory.
 //!
 //! Only tested: a real file is written, synced, opened again and read; a write fails where the file was opened for reading.

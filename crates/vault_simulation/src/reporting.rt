@@ -20,7 +20,7 @@ pub(crate) struct Runs {
     pub(crate) prints: bool,
 }
 
-/// The parts of the long run: its start, and the file whose device calls it is stopped inside.
+/// The parts of the long run: its start, and the file whose device calls it is crashed inside.
 const STOPS: [(&str, Start, File); 4] = [
     ("spare empty, file a", Start::EmptySpare, File::First),
     ("spare empty, file b", Start::EmptySpare, File::Second),
@@ -143,7 +143,7 @@ fn print_covered(rt: &impl Print, words: &str, covered: &Covered) -> io::Result<
     )
 }
 
-/// Reports the long run from one start, stopped inside each device call of one file.
+/// Reports the long run from one start, crashed inside each device call of one file.
 fn report_stops(
     rt: &impl Print,
     alloc: Global,
@@ -157,7 +157,7 @@ fn report_stops(
     said(rt, &verdict, words)
 }
 
-/// Reports the long run from both starts, stopped inside each device call. Whether there is no difference.
+/// Reports the long run from both starts, crashed inside each device call. Whether there is no difference.
 pub(crate) fn report_all_stops(rt: &impl Print, alloc: Global) -> io::Result<bool> {
     let mut sound = true;
     for (words, start, which) in STOPS {

@@ -32,7 +32,7 @@ const BROKEN: [Step; 5] = [
     Step::Retire,
 ];
 
-/// The device call that the long run is stopped inside. The count includes the calls of its opening.
+/// The device call that the long run is crashed inside. The count includes the calls of its opening.
 #[derive(Clone, Copy)]
 pub(crate) struct Cut {
     pub(crate) start: Start,
@@ -259,7 +259,7 @@ fn stopped_each(verdict: &mut Verdict, alloc: Global, cut: Cut) -> Vec<Stop> {
     stops
 }
 
-/// Judges the long run, stopped inside a call, with all pairs. Whether the call is made.
+/// Judges the long run, crashed inside a call, with all pairs. Whether the call is made.
 pub(crate) fn judge_cut(
     verdict: &mut Verdict,
     alloc: Global,
@@ -276,7 +276,7 @@ pub(crate) fn judge_cut(
     made
 }
 
-/// Judges the long run from this start, stopped inside each device call of a file. Gives what was covered.
+/// Judges the long run from this start, crashed inside each device call of a file. Gives what was covered.
 pub(crate) fn judge_calls(
     verdict: &mut Verdict,
     alloc: Global,
