@@ -409,7 +409,7 @@ fn leave<D: Device, S: Tally, T: Tally, A: Allocator + Copy, G: Gate, H: Wait>(
         Ok(left) => return (Next::Done(ended, left), Step::Over),
         Err(cause) => cause,
     };
-    if cause.outside() != Outside::Busy {
+    if cause.outside() == Outside::Broken {
         return (
             Next::Done(ended, LastLeave::refused(&cause, talk.session)),
             Step::Over,

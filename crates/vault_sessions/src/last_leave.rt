@@ -1,16 +1,15 @@
 //! How a conversation left its session at its end.
-ghost use Rattle.std.specs.Prelude.{◌≡◌, ◌≢◌};
+ghost use Rattle.std.specs.Prelude.{◌≡◌};
 ghost use Rattle.vault_model.specs.declared.commands.Command.TheVariants.{Leave};
-ghost use Rattle.vault_model.specs.declared.replies.Outside.TheVariants.{Busy};
+ghost use Rattle.vault_model.specs.declared.replies.Outside.TheVariants.{Broken};
 
 use crate::cause::Cause;
 use group_commit::Ticket;
 use std::alloc::Allocator;
 use std::marker::Model;
 
-/// What a conversation needs to be over: its session has its last leave, or can't get one. It is made only where no session is open, from the
-/// ticket of a leave, or from the cause for which none was staged, other than a full history. Contracts see the session's number, 0
-/// for none.
+/// What a conversation needs to be over: its session has its last leave, or can't get one. It is made only where no session is open,
+/// from the ticket of a leave, or from a cause that says that the vault is broken. Contracts see the session's number, 0 for none.
 #[derive(Drop)]
 pub struct LastLeave {
     session: u32,
@@ -41,9 +40,9 @@ impl LastLeave {
         LastLeave { session }
     }
 
-    // No leave of the session was staged, for this cause.
+    // No leave of the session can be staged: the vault is broken.
     pub(crate) fn refused(cause: &Cause, session: u32) -> LastLeave
-        requires { cause.now ≢ Busy }
+        requires { cause.now ≡ Broken }
         ensures { result ≡ session }
     {
         let _ = cause;

@@ -7,7 +7,7 @@ ghost use Rattle.vault_sessions.specs.Talking.{HeardPart, IsHeard, StagesBy, Fit
 ghost use Rattle.vault_sessions.specs.declared.report.Out.{Out};
 ghost use Rattle.vault_sessions.specs.declared.tally.Totals.{Totals};
 ghost use Rattle.vault_sessions.specs.declared.turn.Turn.TheVariants as turns;
-ghost use Rattle.vault_model.specs.declared.replies.Outside.TheVariants.{BadLine, Busy};
+ghost use Rattle.vault_model.specs.declared.replies.Outside.TheVariants.{BadLine, Broken};
 ghost use Rattle.vault_model.specs.declared.commands.Command.TheVariants.{Await, Leave};
 
 use crate::answers::Answers;
@@ -376,7 +376,7 @@ impl<D: Device, S: Tally, T: Tally, A: Allocator + Copy, G: Gate, H: Wait> Worke
     }
 
     /// Stages a last leave of the session that the answers leave open, and forgets its ticket. Else it says why none is staged. If
-    /// there is no room for it yet, it may be tried again; for any other cause, the session stays open.
+    /// the vault is broken, the session stays open; for any other cause it may be tried again.
     pub(crate) fn try_leave(
         &self,
         answers: &Answers<A>,
@@ -399,8 +399,7 @@ impl<D: Device, S: Tally, T: Tally, A: Allocator + Copy, G: Gate, H: Wait> Worke
         }
     }
 
-    // Stages a leave of the session that the answers leave open, and waits while there is no room. If none is staged for another
-    // reason, it says which.
+    // Stages a leave of the session that the answers leave open, and waits while there is no room. None is staged in a broken vault.
     fn stage_leave(
         &self,
         answers: &Answers<A>,
@@ -410,7 +409,7 @@ impl<D: Device, S: Tally, T: Tally, A: Allocator + Copy, G: Gate, H: Wait> Worke
         requires { session ≡ session_of 0 answers.now.outs }
         ensures ticket { IfOk result (λ ticket. (ticket.session ≡ session) × (ticket.command ≡ Leave)) }
         ensures staged { OnOk result (share.new ≡ record share.old { staged = share.old.staged + 1 }) }
-        ensures refused { IfErr result (λ cause. (cause ≢ Busy) × (share.new ≡ share.old)) }
+        ensures refused { IfErr result (λ cause. (cause ≡ Broken) × (share.new ≡ share.old)) }
     {
         let shared = self.shared;
         let mut desk = shared.desk.lock(self.rt);
@@ -424,7 +423,7 @@ impl<D: Device, S: Tally, T: Tally, A: Allocator + Copy, G: Gate, H: Wait> Worke
                 }
                 Err(cause) => cause,
             };
-            if cause.outside() != Outside::Busy {
+            if cause.outside() == Outside::Broken {
                 drop(desk);
                 return Err(cause);
             }
@@ -435,7 +434,7 @@ impl<D: Device, S: Tally, T: Tally, A: Allocator + Copy, G: Gate, H: Wait> Worke
         unreachable!()
     }
 
-    // Stages a last leave, and forgets its ticket. Waits for room. If it is refused for another cause, the session stays open.
+    // Stages a last leave, and forgets its ticket. Waits for room. If the vault is broken, the session stays open.
     pub(crate) fn leave(
         &self,
         answers: &Answers<A>,
