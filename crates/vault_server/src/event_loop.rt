@@ -134,7 +134,8 @@ impl<D: Device, S: Tally, T: Tally, A: Allocator + Copy, G: Gate, H: Wait + Cloc
         slots: &mut Vec<Slot<S, T, A>, A>,
     ) {
         let mut tried = CommitTry::NotNow;
-        let mut pause = Pause::Long;
+        // A snapshot may be due before anybody comes.
+        let mut pause = Pause::Nothing;
         let mut moves = 0;
         for _ in self.worker.rt.forever() {
             self.look(poll, events, slots, pause);
