@@ -16,7 +16,7 @@ pub const CREATION: u64 = 8;
 pub const CREATION_BESIDE: u64 = 2;
 
 /// The most entries that a history keeps.
-pub const MOST_KEPT: u64 = 4096;
+pub const MAX_KEPT: u64 = 4096;
 
 /// A vault to begin with.
 #[derive(Clone, Copy)]
@@ -122,7 +122,7 @@ fn is_staged<'a>(
 
 // Whether lines can be staged and made durable until there is no room for another.
 fn is_full<'a>(vault: &mut Begun<'a>, memory: &'a Refusing<Global>) -> bool {
-    for _entry in 0..MOST_KEPT {
+    for _entry in 0..MAX_KEPT {
         if !is_staged(vault, memory, 0, b"list /") {
             return false;
         }

@@ -27,7 +27,7 @@ const ROUNDS: u64 = 8;
 
 // How often others may be heard between a command of the honest client and its reply. One thread serves all places, and each has one turn a
 // round, since no connection waits for a claim.
-const MOST_HEARD: u64 = ROUNDS * WORKERS as u64 * STEPS_A_ROUND;
+const MAX_HEARD: u64 = ROUNDS * WORKERS as u64 * STEPS_A_ROUND;
 
 // How many calls of its connection a hostile client makes before it connects again.
 const CALLS: usize = 20_000;
@@ -330,6 +330,6 @@ fn a_client_is_told_all_beside_others_that_go_on_until_then(rt: HostRuntime) {
         assert_eq!(&rt; heard.as_str(), TOLD, "{}", row.name);
         drop(heard);
         assert_eq!(&rt; told, 4, "{}", row.name);
-        assert!(&rt; most <= MOST_HEARD, "{}: {most}", row.name);
+        assert!(&rt; most <= MAX_HEARD, "{}: {most}", row.name);
     }
 }

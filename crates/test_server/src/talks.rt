@@ -1,7 +1,7 @@
 //! Conversations on one connection, and on several, one after the other; a flusher with nothing to do, and one that makes a snapshot.
 
 use crate::devices::{Devices, Piece};
-use crate::filling::{COMMITS, CREATION, CREATION_BESIDE, MOST_KEPT, Start};
+use crate::filling::{COMMITS, CREATION, CREATION_BESIDE, MAX_KEPT, Start};
 use crate::talk::{COMMIT, Came, Flusher, NOTHING, PLAIN, SNAPSHOT, Talk, come_to_that};
 use test_memory::Refusing;
 use vault_sessions::{Ended, Flushed, Totals};
@@ -105,7 +105,7 @@ static TALKS: [Talk; 13] = [
             ended: Some(Ended::Quit),
             answers: 3,
             totals: Totals { staged: 2, told: 2 },
-            entries: MOST_KEPT + 2,
+            entries: MAX_KEPT + 2,
             ..NOTHING
         },
         ..PLAIN

@@ -16,7 +16,7 @@ const VERSION: u16 = 1000;
 const ABOVE: u8 = 3;
 
 // An upper bound on the bytes of a row's file.
-const MOST: usize = 17_000_000;
+const MAX_BYTES: usize = 17_000_000;
 
 // An upper bound on the bytes of a file whose snapshot is one byte longer than any vault's.
 const LONGEST_FILE: usize = 40_000_000;
@@ -120,7 +120,7 @@ fn device_of(rt: &impl Abort, alloc: Global, long: &Long) -> MemDevice {
         put_part(rt, &mut bytes, long, b'a'.saturating_add(part));
     }
     put(rt, &mut bytes, &[0, long.behind, 0]);
-    assert!(rt; bytes.len() < MOST);
+    assert!(rt; bytes.len() < MAX_BYTES);
     let mut head = Vec::new(alloc);
     put(rt, &mut head, b"\x01LLVAULT\0\0\0");
     put(rt, &mut head, &[long.version, 0, 0, 0, 0, 0, 0, 0, 1]);

@@ -72,6 +72,8 @@ pub(crate) fn spoil(verdict: &mut Verdict, dice: &mut Dice, alloc: Global, files
         first: mut one,
         second: mut other,
     } = files.bytes(alloc);
+    let are_read = !one.is_empty() || !other.is_empty();
+    verdict.sure(are_read, "no bytes of the files to spoil");
     pair(dice, one.as_slice(), &mut other);
     spoil_one(dice, &mut one);
     spoil_one(dice, &mut other);
