@@ -35,14 +35,6 @@ WantedBy=default.target
 BOOT_SECONDS = 60
 
 
-def wanting() -> str:
-    """What is missing for a machine, or nothing."""
-    if os.getuid() != 0:
-        return "needs root, for a machine of its own"
-    missing = [name for name in ("debootstrap", "systemd-nspawn") if shutil.which(name) is None]
-    return f"needs {', '.join(missing)}: run tools/prepare" if missing else ""
-
-
 def base() -> Path:
     """The machine's root, which no run writes into. If it isn't there yet, this takes two minutes, and the network."""
     root = CACHE / f"{RELEASE}-4"

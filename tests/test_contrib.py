@@ -95,7 +95,6 @@ class Contrib(unittest.TestCase):
         server.start(Limits(file_bytes=len(before[0])))
         self.said(serves, address, "5", status=1)
 
-    @unittest.skipUnless(shutil.which("systemd-analyze"), "needs systemd-analyze")
     def test_replicated_units(self) -> None:
         """The unit with its additions for two machines, and the mount."""
         units = self.root / "units"
@@ -110,7 +109,6 @@ class Contrib(unittest.TestCase):
         self.assertEqual(self.said("systemd-analyze", "verify", "--man=no", str(units / "vaultd.service"),
                                    str(units / "var-lib-vaultd.mount")), "")
 
-    @unittest.skipUnless(shutil.which("systemd-analyze"), "needs systemd-analyze")
     def test_units(self) -> None:
         """All units are accepted as they are installed, and the server's are rated as the page on operating says."""
         self.install()
@@ -129,7 +127,6 @@ class Contrib(unittest.TestCase):
             rating = found.group(1) if found else ""
             self.assertIn(f"rates {rating} of 10", (TOP / "docs" / "OPERATING.md").read_text("utf-8"))
 
-    @unittest.skipUnless(shutil.which("systemd-analyze"), "needs systemd-analyze")
     def test_unit_of_the_page(self) -> None:
         """It is accepted, rated as the page on operating says, and its program takes the words that it gives."""
         self.install()
@@ -170,7 +167,6 @@ class Contrib(unittest.TestCase):
             start = re.findall(r"^ExecStart=(.*)$", (CONTRIB / "systemd" / name).read_text("utf-8"), re.MULTILINE)
             self.assertEqual([line.split()[-1] for line in start], ["--verbose"])
 
-    @unittest.skipUnless(shutil.which("man"), "needs man")
     def test_manual(self) -> None:
         """No page has a warning, and each names every command and option of its program."""
         for page in sorted((CONTRIB / "man").iterdir()):

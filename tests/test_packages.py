@@ -1,8 +1,8 @@
 """The two packages for Debian: what is in them, and a Debian of its own in which they are installed, used by the commands of the pages on
 operating and on several vaults, and removed."""
 
+import os
 import re
-import shutil
 import subprocess
 import tempfile
 import unittest
@@ -41,7 +41,6 @@ def block_of(first: str) -> str:
     return found[0]
 
 
-@unittest.skipUnless(shutil.which("dpkg-shlibdeps"), "needs dpkg-dev")
 class Packages(unittest.TestCase):
     """The packages of the program that is tested."""
 
@@ -89,7 +88,6 @@ class Packages(unittest.TestCase):
         self.assertEqual(wanted - set(names), set())
         self.assertEqual(len(names), len(set(held) - {path for path in held if path.endswith("/")}))
 
-    @unittest.skipUnless(shutil.which("lintian"), "needs lintian")
     def test_lintian(self) -> None:
         """lintian finds no error in the packages."""
         said = self.said("lintian", "--fail-on", "error", "--allow-root", *map(str, self.packages))
@@ -108,7 +106,7 @@ class Packages(unittest.TestCase):
         self.assertEqual(len(blocks()), len(known))
         self.assertEqual(blocks(SCALE), [block_of(PLANT)])
 
-    @unittest.skipIf(machines.wanting(), machines.wanting())
+    @unittest.skipUnless(os.getuid() == 0, "needs root, for a machine of its own")
     def test_in_a_machine(self) -> None:
         """Installed, used, and removed, with systemd as the first process and its journal."""
         files: Dict[str, Path] = {package.name: package for package in self.packages}

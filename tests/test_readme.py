@@ -6,7 +6,6 @@ program stands in for it.
 
 import os
 import re
-import shutil
 import tempfile
 import unittest
 from pathlib import Path
@@ -54,7 +53,6 @@ class Readme(unittest.TestCase):
             finally:
                 shell.run("kill $! 2> /dev/null; kill $(cat " + folder + "/vault/pid 2> /dev/null) 2> /dev/null", 0)
 
-    @unittest.skipUnless(shutil.which("rt"), "needs the kit")
     def test_unproved(self) -> None:
         self.assertEqual(len(BLOCKS), 2)
         self.run_block(0, "tools/prepare")

@@ -7,7 +7,6 @@ four pairs of files at each of 8,000 moments (default 150), over six snapshots (
 
 import os
 import random
-import shutil
 import subprocess
 import sys
 import tempfile
@@ -25,7 +24,6 @@ SNAPSHOTS = int(os.environ.get("VAULT_SNAPSHOTS", "2"))
 IMAGES = 4
 
 
-@unittest.skipUnless(shutil.which("strace"), "needs strace")
 class Stops(unittest.TestCase):
     """One recording, and many files."""
 

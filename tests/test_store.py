@@ -3,7 +3,6 @@
 import hashlib
 import os
 import pty
-import shutil
 import subprocess
 import sys
 import threading
@@ -263,7 +262,6 @@ class Faults(WithStore):
         self.assertIn(b"back can't be written", said)
         self.assertFalse((self.root / "back").exists())
 
-    @unittest.skipUnless(shutil.which("setpriv") or os.geteuid(), "needs setpriv where root runs it")
     def test_read_only(self) -> None:
         self.as_program()
         claim = self.anna.checkout(["w:" + PART]).claim

@@ -767,9 +767,7 @@ class WaitTests(WithDesigners):
         self.assertLessEqual(stands.sent(b"wait"), 1 if lets_wait else 3)
 
     def test_more_than_may_wait(self) -> None:
-        """At a server that lets nobody wait for an answer, if it has an option for that."""
-        if b"--waits " not in subprocess.run([VAULTD, "serve", "--help"], capture_output=True, check=True).stdout:
-            self.skipTest("this server answers each `wait` at once")
+        """At a server that lets nobody wait for an answer."""
         self.server.kill()
         self.server.words = ("--workers", "16", "--waits", "0")
         self.server.start()
