@@ -1,5 +1,5 @@
 #!/usr/bin/env python3
-"""What the gate adds to a command, and how much memory it takes: a server alone, and the same server through one gate, by turns.
+"""What the ssh gate adds to a command, and how much memory it takes: a server alone, and the same server through one gate, by turns.
 
 The gate runs as sshd starts it, on one socket, with a file and a socket as its logs; ssh itself has no part in the figures.
 
@@ -63,7 +63,7 @@ def shown(seconds: List[float]) -> List[str]:
 
 
 def main() -> int:
-    parser = arguments("What the gate adds to a command, and its memory.")
+    parser = arguments("What the ssh gate adds to a command, and its memory.")
     parser.add_argument("--runs", type=int, default=5)
     options = parser.parse_args()
     program, folder = prepared(options)

@@ -32,7 +32,7 @@ RUN_BY = {("README.md", "console"): "test_readme", ("docs/OPERATING.md", "sh"): 
           ("docs/TUTORIAL.md", "console"): "test_tutorial", ("docs/SCALE.md", "console"): "test_tutorial",
           ("docs/SCALE.md", "sh"): "test_packages", ("docs/PROTOCOL.md", ""): "test_documents", ("bench/README.md", "sh"): "test_documents"}
 # Blocks that no test runs, by how they begin.
-NOT_RUN = {("docs/SIMULATION.md", "cd crates/vault_simulation"): "needs the prover, and minutes; the gate runs the crate by its args",
+NOT_RUN = {("docs/SIMULATION.md", "cd crates/vault_simulation"): "needs the prover, and minutes; CI runs the crate by its args",
            ("contrib/replicated/README.md", "./volume vault"): "needs three nodes: tests/by_hand/replicated makes them",
            ("contrib/replicated/README.md", "cd /usr/share/vaultd/replicated"): "needs two machines: tests/by_hand/replicated makes them"}
 # Programs of bench/ that no test runs.
@@ -41,6 +41,8 @@ BENCH_NOT_RUN = {"bench/line.py": "proves the crates of a commit from nothing"}
 NAME = re.compile(r"(?<![}\w])(?:[A-Za-z]\w*_\w+|[A-Z][a-z]+[A-Z]\w*)")
 # Names from elsewhere: of the language's library and tools, of the kernel, of a cluster's fences; and one of an example.
 FOREIGN = {"writes_back", "shift_remove", "RT_JOBS", "sched_vcpu_pack", "fence_scsi", "fence_mpath", "try_it"}
+# Options of the kit that its help doesn't have.
+OF_THE_KIT = {"--allow-holes", "--short-goals"}
 # Words before a program's name in a command.
 BEFORE = ("runuser", "-u", "vaultd-watch", "--", "sudo", "/usr/bin/python3", "python3")
 # Messages of programs, which are no commands.
@@ -227,6 +229,21 @@ class Pages(unittest.TestCase):
         print(f"options of {seen} calls", file=sys.stderr)
         self.assertGreater(seen, 20)
 
+    def test_options_that_stand_alone(self) -> None:
+        """An option in a span without its program is one of some program of this tree, or of the kit."""
+        tools = [str(path.relative_to(TOP)) for folder in ("tools", "bench", "tests/by_hand", "contrib") for path in (TOP / folder).rglob("*")
+                 if path.is_file() and path.suffix in ("", ".py", ".md")]
+        known = {option for name in ("vaultd", *scripts()) for option in options_of(name)}
+        known |= {option for name in tools for option in OPTION.findall(text_of(TOP / name))} | set(OPTION.findall(said(["rt", "help"])))
+        seen = 0
+        for page in PAGES:
+            for span in SPAN.findall(FENCE.sub("", text_of(page))):
+                for option in OPTION.findall(span) if span.startswith("--") else []:
+                    seen += 1
+                    with self.subTest(page=name_of(page), span=span):
+                        self.assertIn(option, known | OF_THE_KIT)
+        self.assertGreater(seen, 40)
+
 
 def blocks_of(page: Path) -> Iterator[Tuple[str, str]]:
     """The blocks of commands of a page, each with its language."""
@@ -313,7 +330,6 @@ class Commands(unittest.TestCase):
             words = command.removeprefix("$ ").replace("/var/log/vaultd-gate.log", log.name).split()
             self.assertEqual(said([*program(words[0]), *words[1:]]), wanted)
 
-    @unittest.skipUnless(shutil.which("gcc") and shutil.which("strace"), "needs gcc and strace")
     def test_programs_of_bench(self) -> None:
         """Each line of the page, at a hundredth of its size."""
         (_, block), = blocks_of(TOP / "bench" / "README.md")

@@ -1,4 +1,4 @@
-"""The gate: whatever is sent, a key speaks for its own name, does what it may, and has its lines in the log. Behind a real sshd."""
+"""The ssh gate: whatever is sent, a key speaks for its own name, does what it may, and has its lines in the log. Behind a real sshd."""
 
 import os
 import random

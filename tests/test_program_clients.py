@@ -1,6 +1,7 @@
 """The built program as a server of odd clients: late, deaf, silent, many; with few descriptors, stopped, and copied while it writes."""
 
 import os
+import re
 import select
 import signal
 import socket
@@ -66,11 +67,14 @@ class Clients(Tries):
             deaf.sendall(b"list /e\n" * 3000)
             for number, client in enumerate((one, two, three)):
                 told(client, f"hello d{number}\n".encode(), 1)
-            for number in range(20):
+            made = 0
+            for _ in range(20):
                 for client in (one, two, three):
                     began = time.time()
-                    said = told(client, b"count /e\nhold r:/e\n", 2)
-                    self.check("served beside a deaf client", said.startswith(b"ERR 22\nOK held h") and time.time() - began < 2, said)
+                    made += 1
+                    said = told(client, b"count /e\nhold r:/e\nmake /e%d\n" % made, 3)
+                    served = re.fullmatch(rb"ERR 22\nOK held h\d+\nOK place \d+\n", said)
+                    self.check("served beside a deaf client", bool(served) and time.time() - began < 10, said)
             deaf.shutdown(socket.SHUT_WR)
             replies = heard(deaf).split(b"\n")
             whole = len(replies) == 3001 and all(b"x" * 30 in reply for reply in replies[:-1])
