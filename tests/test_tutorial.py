@@ -17,6 +17,8 @@ SHOWN_PORTS = ("7070", "7071")
 SHOWN_STORE = "/srv/vault-store"
 PROMPT = re.compile(r"(?P<who>anna|ben|)\$ (?P<line>.*)")
 DONE = "line-is-done"
+# What the shell says of a job that it found killed before it was told to wait for it.
+NOTICE = re.compile(r"bash: line \d+: +\d+ Killed ")
 
 
 class Shell:
@@ -53,7 +55,7 @@ class Shell:
                 break
             if said == DONE + "\n":
                 ended = True
-            else:
+            elif not NOTICE.match(said):
                 printed.append(said.rstrip("\n"))
         return printed
 
