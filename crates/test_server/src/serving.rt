@@ -279,7 +279,7 @@ static SERVINGS: [Serving; 7] = [
 static MORE_SERVINGS: [Serving; 7] = [
     // Each lock acquisition makes one step: a commit with an effect takes four, of one device call each, and one without takes one.
     Serving {
-        name: "one pump a holding",
+        name: "one pump per lock acquisition",
         clients: &[Client {
             says: &[(b"hello anna\nmake /e\nquit\n", 1)],
             may_say_more: false,
