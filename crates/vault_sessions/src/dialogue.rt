@@ -382,7 +382,7 @@ fn tell_on<A: Allocator, C: Connection>(connection: &mut C, telling: Telling<A>)
     }
 }
 
-// Stages a last leave of the open session, if there is one.
+// Stages a last leave of the open session, if there is one. Only a full history puts it off: a leave asks for no memory.
 fn leave<D: Device, S: Tally, T: Tally, A: Allocator + Copy, G: Gate, H: Wait>(
     worker: &Worker<'_, D, S, T, A, G, H>,
     waits: bool,
