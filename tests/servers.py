@@ -2,6 +2,7 @@
 
 import contextlib
 import ctypes
+import itertools
 import os
 import resource
 import select
@@ -22,6 +23,8 @@ VAULTD = os.path.abspath(os.environ.get("VAULTD") or str(TOP / "crates" / "vault
 # A folder in memory, where syncs take no time, for tests that don't depend on syncs.
 MEMORY = "/dev/shm" if os.access("/dev/shm", os.W_OK) else None
 PIDFD_GETFD = 438
+# How many of the module's own ports were tried.
+TAKEN = itertools.count()
 PACKAGES = sorted(path.parent for path in (TOP / "python").glob("*/pyproject.toml"))
 sys.path[:0] = [str(package / "src") for package in PACKAGES]
 
@@ -67,10 +70,13 @@ def sockets_of(process: int) -> Iterator[socket.socket]:
 
 
 def free_port() -> int:
-    """A port that nobody listens on."""
-    with socket.socket() as listener:
-        listener.bind(("127.0.0.1", 0))
-        return int(listener.getsockname()[1])
+    """A port that nobody listens on: of those that tests/run gave to this module, or any."""
+    first, count = (int(word) for word in os.environ.get("VAULT_TEST_PORTS", "0 1").split())
+    for _ in range(count):
+        with socket.socket() as listener, contextlib.suppress(OSError):
+            listener.bind(("127.0.0.1", first and first + next(TAKEN) % count))
+            return int(listener.getsockname()[1])
+    raise AssertionError(f"no port is free from {first} on")
 
 
 @dataclass(frozen=True)

@@ -232,7 +232,7 @@ class Pages(unittest.TestCase):
     def test_options_that_stand_alone(self) -> None:
         """An option in a span without its program is one of some program of this tree, or of the kit."""
         tools = [str(path.relative_to(TOP)) for folder in ("tools", "bench", "tests/by_hand", "contrib") for path in (TOP / folder).rglob("*")
-                 if path.is_file() and path.suffix in ("", ".py", ".md")]
+                 if path.is_file() and path.suffix in ("", ".py")]
         known = {option for name in ("vaultd", *scripts()) for option in options_of(name)}
         known |= {option for name in tools for option in OPTION.findall(text_of(TOP / name))} | set(OPTION.findall(said(["rt", "help"])))
         seen = 0

@@ -74,7 +74,7 @@ class Clients(Tries):
                     made += 1
                     said = told(client, b"count /e\nhold r:/e\nmake /e%d\n" % made, 3)
                     served = re.fullmatch(rb"ERR 22\nOK held h\d+\nOK place \d+\n", said)
-                    self.check("served beside a deaf client", bool(served) and time.time() - began < 10, said)
+                    self.check("served beside a deaf client", bool(served) and time.time() - began < 5, said)
             deaf.shutdown(socket.SHUT_WR)
             replies = heard(deaf).split(b"\n")
             whole = len(replies) == 3001 and all(b"x" * 30 in reply for reply in replies[:-1])
