@@ -25,6 +25,50 @@ impl Model for Cause {
     ghost view = { λ c. c.outside };
 }
 
+/// Why a vault didn't stage a command: only its refusal makes one. So one that says that memory was refused is of a vault that isn't broken.
+#[derive(Drop)]
+pub(crate) struct NotStaged {
+    outside: Outside,
+}
+
+impl Model for NotStaged {
+    ghost use Rattle.vault_model.specs.declared.replies.Outside.{Outside};
+
+    ghost Value = { Outside };
+
+    ghost view = { λ n. n.outside };
+}
+
+impl NotStaged {
+    // This vault refused the command.
+    pub(crate) fn of_vault<D: Device, A: Allocator>(
+        vault: &Vault<D, A>,
+        outside: Outside,
+    ) -> NotStaged
+        requires { IsReason vault.now outside }
+        ensures { result ≡ outside }
+    {
+        let _ = vault;
+        NotStaged { outside }
+    }
+
+    // The cause, as the client would get it.
+    pub(crate) fn outside(&self) -> Outside
+        ensures { result ≡ self.now }
+    {
+        self.outside
+    }
+
+    // The same, for the answer to a line.
+    pub(crate) fn into_cause(self) -> Cause
+        ensures { result ≡ self }
+    {
+        Cause {
+            outside: self.outside,
+        }
+    }
+}
+
 impl Cause {
     /// The cause, as the client gets it.
     pub fn outside(&self) -> Outside
@@ -49,15 +93,6 @@ impl Cause {
         Cause {
             outside: Outside::NoMemory,
         }
-    }
-
-    // This vault refused the line's command.
-    pub(crate) fn of_vault<D: Device, A: Allocator>(vault: &Vault<D, A>, outside: Outside) -> Cause
-        requires { IsReason vault.now outside }
-        ensures { result ≡ outside }
-    {
-        let _ = vault;
-        Cause { outside }
     }
 
     // This vault doesn't know what became of this ticket's command.

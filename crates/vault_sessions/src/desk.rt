@@ -15,7 +15,7 @@ ghost use Rattle.vault_sessions.specs.Pumping.{IsPumped, IsAtRest};
 ghost use Rattle.vault_sessions.specs.Waiting.{IsQueued, IsStandingQueued};
 ghost use Rattle.vault_sessions.specs.declared.flusher.Flushed.TheVariants as Flushed;
 
-use crate::cause::Cause;
+use crate::cause::{Cause, NotStaged};
 use crate::flusher::Flushed;
 use crate::looked::Looked;
 use crate::tally::{Share, Tally};
@@ -79,7 +79,7 @@ impl<D: Device, S: Tally, T: Tally, A: Allocator> Model for Desk<D, S, T, A> {
 }
 
 impl<D: Device, S: Tally, T: Tally, A: Allocator + Copy> Desk<D, S, T, A> {
-    /// Gives a session's command a place in the history, and counts the ticket in the share. A refusal hands the command back.
+    /// Gives a session's command a position in the history, and counts the ticket in the share. A refusal hands the command back.
     pub fn stage(
         &mut self,
         session: u32,
@@ -226,7 +226,7 @@ impl<D: Device, S: Tally, T: Tally, A: Allocator + Copy> Desk<D, S, T, A> {
         session: u32,
         command: CommandIn<A>,
         share: &mut Share<S, T>,
-    ) -> Result<Ticket<A>, Cause>
+    ) -> Result<Ticket<A>, NotStaged>
         ensures ok { IfOk result
             (λ ticket. (ticket.session ≡ session) × (ticket.command ≡ command)
             × (share.new ≡ record share.old { staged = share.old.staged + 1 })) }
@@ -243,7 +243,7 @@ impl<D: Device, S: Tally, T: Tally, A: Allocator + Copy> Desk<D, S, T, A> {
             }
             Err((outside, command)) => {
                 drop(command);
-                Err(Cause::of_vault(&self.vault, outside))
+                Err(NotStaged::of_vault(&self.vault, outside))
             }
         }
     }

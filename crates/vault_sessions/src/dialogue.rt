@@ -405,13 +405,13 @@ fn leave<D: Device, S: Tally, T: Tally, A: Allocator + Copy, G: Gate, H: Wait>(
         return (Next::Done(ended, left), Step::Over);
     }
     let left = worker.try_leave(&talk.answers, talk.session, &mut talk.share);
-    let cause = match left {
+    let why = match left {
         Ok(left) => return (Next::Done(ended, left), Step::Over),
-        Err(cause) => cause,
+        Err(why) => why,
     };
-    if cause.outside() == Outside::Broken {
+    if why.outside() == Outside::Broken {
         return (
-            Next::Done(ended, LastLeave::refused(&cause, talk.session)),
+            Next::Done(ended, LastLeave::refused(&why, talk.session)),
             Step::Over,
         );
     }

@@ -3,13 +3,13 @@ ghost use Rattle.std.specs.Prelude.{◌≡◌};
 ghost use Rattle.vault_model.specs.declared.commands.Command.TheVariants.{Leave};
 ghost use Rattle.vault_model.specs.declared.replies.Outside.TheVariants.{Broken};
 
-use crate::cause::Cause;
+use crate::cause::NotStaged;
 use group_commit::Ticket;
 use std::alloc::Allocator;
 use std::marker::Model;
 
 /// What a conversation needs to be over: its session has its last leave, or can't get one. It is made only where no session is open,
-/// from the ticket of a leave, or from a cause that says that the vault is broken. Contracts see the session's number, 0 for none.
+/// from the ticket of a leave, or from the refusal of a vault that is broken. Contracts see the session's number, 0 for none.
 #[derive(Drop)]
 pub struct LastLeave {
     session: u32,
@@ -41,11 +41,11 @@ impl LastLeave {
     }
 
     // No leave of the session can be staged: the vault is broken.
-    pub(crate) fn refused(cause: &Cause, session: u32) -> LastLeave
-        requires { cause.now ≡ Broken }
+    pub(crate) fn refused(why: &NotStaged, session: u32) -> LastLeave
+        requires { why.now ≡ Broken }
         ensures { result ≡ session }
     {
-        let _ = cause;
+        let _ = why;
         LastLeave { session }
     }
 }

@@ -4,7 +4,7 @@
 //! connection has its answer at its place, a receipt shows the line's command, and what is written is the texts of the answers
 //! (`serve_one`). A conversation is a `Dialogue`, which owns its connection and goes by steps. Each step keeps this, whoever takes it,
 //! with no premise on the caller, and `finish` gives it once the dialogue has ended. `serve_one` is a loop over these steps. An answer
-//! that speaks of the vault's state was made from a vault in that state (`Cause`). The shares of all workers sum to what the history
+//! that speaks of the vault's state was made from a vault in that state (`Cause`, `NotStaged`). The shares of all workers sum to what the history
 //! grew by (`gather`). A pump, the start of a snapshot and the retiring of an entry are one act of the vault each, and change no tally
 //! (`Desk`). For `run_flusher`, `Flusher`, `Shared::close` and `Worker::forget` only safety is proved.
 //! Stands on: group_commit, flusher_pace, vault_lines, line_inlet, and what they stand on. Must not know: what a command does, what a

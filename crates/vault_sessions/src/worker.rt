@@ -11,7 +11,7 @@ ghost use Rattle.vault_model.specs.declared.replies.Outside.TheVariants.{BadLine
 ghost use Rattle.vault_model.specs.declared.commands.Command.TheVariants.{Await, Leave};
 
 use crate::answers::Answers;
-use crate::cause::Cause;
+use crate::cause::{Cause, NotStaged};
 use crate::connection::Connection;
 use crate::conversation::Conversation;
 use crate::gate::{Gate, Point};
@@ -253,7 +253,7 @@ impl<D: Device, S: Tally, T: Tally, A: Allocator + Copy, G: Gate, H: Wait> Worke
         }
     }
 
-    // Stages a command, and wakes the flusher if it is to be woken. If there is no room, it wakes the flusher too.
+    // Stages a command, as `try_stage` does. A refusal is the cause for an answer.
     fn stage(
         &self,
         session: u32,
@@ -265,6 +265,24 @@ impl<D: Device, S: Tally, T: Tally, A: Allocator + Copy, G: Gate, H: Wait> Worke
             × (share.new ≡ record share.old { staged = share.old.staged + 1 })) }
         ensures err { IfErr result (λ cause. (cause ≢ BadLine) × (share.new ≡ share.old)) }
     {
+        match self.try_stage(session, command, share) {
+            Ok(ticket) => Ok(ticket),
+            Err(why) => Err(why.into_cause()),
+        }
+    }
+
+    // Stages a command, and wakes the flusher if it is to be woken. If there is no room, it wakes the flusher too.
+    fn try_stage(
+        &self,
+        session: u32,
+        command: CommandIn<A>,
+        share: &mut Share<S, T>,
+    ) -> Result<Ticket<A>, NotStaged>
+        ensures ok { IfOk result
+            (λ ticket. (ticket.session ≡ session) × (ticket.command ≡ command)
+            × (share.new ≡ record share.old { staged = share.old.staged + 1 })) }
+        ensures err { IfErr result (λ why. (why ≢ BadLine) × (share.new ≡ share.old)) }
+    {
         let shared = self.shared;
         let may_change = may_change(&command);
         let mut desk = shared.desk.lock(self.rt);
@@ -275,13 +293,13 @@ impl<D: Device, S: Tally, T: Tally, A: Allocator + Copy, G: Gate, H: Wait> Worke
                 self.wake(wakes);
                 Ok(ticket)
             }
-            Err(cause) => {
-                if cause.outside() == Outside::Busy {
+            Err(why) => {
+                if why.outside() == Outside::Busy {
                     desk.asks_for_room();
                     shared.work.notify_one();
                 }
                 drop(desk);
-                Err(cause)
+                Err(why)
             }
         }
     }
@@ -382,20 +400,20 @@ impl<D: Device, S: Tally, T: Tally, A: Allocator + Copy, G: Gate, H: Wait> Worke
         answers: &Answers<A>,
         session: u32,
         share: &mut Share<S, T>,
-    ) -> Result<LastLeave, Cause>
+    ) -> Result<LastLeave, NotStaged>
         requires { session ≡ session_of 0 answers.now.outs }
         ensures left { IfOk result (λ left. left ≡ session) }
         ensures staged { OnOk result (share.new ≡ record share.old { staged = share.old.staged + 1 }) }
         ensures refused { OnErr result (share.new ≡ share.old) }
         ensures counted { Counts share.old 0 1 share.new }
     {
-        match self.stage(session, Command::Leave, share) {
+        match self.try_stage(session, Command::Leave, share) {
             Ok(ticket) => {
                 let left = LastLeave::staged(&ticket, session);
                 self.forget(ticket);
                 Ok(left)
             }
-            Err(cause) => Err(cause),
+            Err(why) => Err(why),
         }
     }
 
@@ -405,27 +423,27 @@ impl<D: Device, S: Tally, T: Tally, A: Allocator + Copy, G: Gate, H: Wait> Worke
         answers: &Answers<A>,
         session: u32,
         share: &mut Share<S, T>,
-    ) -> Result<Ticket<A>, Cause>
+    ) -> Result<Ticket<A>, NotStaged>
         requires { session ≡ session_of 0 answers.now.outs }
         ensures ticket { IfOk result (λ ticket. (ticket.session ≡ session) × (ticket.command ≡ Leave)) }
         ensures staged { OnOk result (share.new ≡ record share.old { staged = share.old.staged + 1 }) }
-        ensures refused { IfErr result (λ cause. (cause ≡ Broken) × (share.new ≡ share.old)) }
+        ensures refused { IfErr result (λ why. (why ≡ Broken) × (share.new ≡ share.old)) }
     {
         let shared = self.shared;
         let mut desk = shared.desk.lock(self.rt);
         for _ in self.rt.forever() {
-            let cause = match desk.stage_on(session, Command::Leave, share) {
+            let why = match desk.stage_on(session, Command::Leave, share) {
                 Ok(ticket) => {
                     let wakes = desk.wakes_flusher(false);
                     drop(desk);
                     self.wake(wakes);
                     return Ok(ticket);
                 }
-                Err(cause) => cause,
+                Err(why) => why,
             };
-            if cause.outside() == Outside::Broken {
+            if why.outside() == Outside::Broken {
                 drop(desk);
-                return Err(cause);
+                return Err(why);
             }
             desk.asks_for_room();
             shared.work.notify_one();
@@ -451,7 +469,7 @@ impl<D: Device, S: Tally, T: Tally, A: Allocator + Copy, G: Gate, H: Wait> Worke
                 self.forget(ticket);
                 left
             }
-            Err(cause) => LastLeave::refused(&cause, session),
+            Err(why) => LastLeave::refused(&why, session),
         }
     }
 }
