@@ -3,21 +3,8 @@
 use std::sync::atomic::{AtomicBool, AtomicU64, Ordering};
 use std::time::{Clock, Duration};
 use std::{io, thread};
+use test_sessions::{TURNS, is_reached_within};
 use vault_sessions::{Gate, Point};
-
-/// How many turns a test waits for something that has to come.
-pub const TURNS: u64 = 1_000_000_000;
-
-/// Whether a count is reached within this number of turns.
-pub(crate) fn is_reached_within(count: &AtomicU64, least: u64, turns: u64) -> bool {
-    for _ in 0..turns {
-        if count.load(Ordering::SeqCst) >= least {
-            return true;
-        }
-        thread::yield_now();
-    }
-    false
-}
 
 /// Points, and how often each was passed at least.
 pub type Passed = &'static [(Point, u64)];

@@ -1,7 +1,5 @@
 //! An honest client that is served beside hostile ones.
 
-use crate::filling::{Start, begun};
-use crate::holding::{TURNS, is_reached_within};
 use crate::server::{PATIENT, shut};
 use std::alloc::Global;
 use std::io::{self, ErrorKind, Read, Write};
@@ -12,6 +10,7 @@ use std::sync::atomic::{AtomicBool, AtomicU64, Ordering};
 use std::thread::{self, Threads};
 use std::time::{Clock, Duration};
 use test_memory::Refusing;
+use test_sessions::{TURNS, created, is_reached_within};
 use vault_server::{ServerError, ServerOptions, run_server_on};
 use vault_sessions::{Gate, Point};
 
@@ -270,7 +269,7 @@ fn serves<H: Net + Threads + Wait + Clock + Sync + Abort>(
     listener: TcpListener,
     gate: &Counting,
 ) -> Option<ServerError> {
-    let vault = begun(rt, global, memory, Start::New(0));
+    let vault = created(global, memory, 0).expect(rt, "a new vault");
     let options = ServerOptions {
         workers: WORKERS,
         threads: 1,

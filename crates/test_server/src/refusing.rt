@@ -1,7 +1,6 @@
 //! A server whose requests for memory are refused, one in each run. Which request has which number depends on the threads, so none is
 //! named. Whichever is refused, the server ends in a way that is allowed, and nothing that was acknowledged to a client is lost.
 
-use crate::filling::CREATION;
 use crate::server::{Client, ENDED, HEAD, Outcome as Came, PLAIN, Serving, served};
 use std::alloc::Global;
 use std::net::{Net, TcpListener, TcpStream};
@@ -10,6 +9,7 @@ use std::sync::Wait;
 use std::thread::Threads;
 use std::time::Clock;
 use test_memory::{Outcome, Refusing, requests};
+use test_sessions::CREATION;
 use vault_server::ServerError;
 use vault_sessions::Totals;
 

@@ -2,9 +2,7 @@
 
 ghost use Rattle.std.specs.Prelude.{◌<◌, ◌≤◌, IfSome};
 
-use crate::devices::{Devices, Piece, Sender};
-use crate::filling::{Begun, CREATION, Start, begun};
-use crate::holding::{Holding, Rule, TURNS};
+use crate::holding::{Holding, Rule};
 use libc::net::{SHUT_RD, listen, shutdown};
 use std::alloc::Global;
 use std::io;
@@ -15,6 +13,7 @@ use std::sync::Wait;
 use std::thread::{self, Threads};
 use std::time::{Clock, Duration};
 use test_memory::Refusing;
+use test_sessions::{Begun, CREATION, Devices, Piece, Sender, TURNS, created};
 use vault_device::{Device, MemDevice, Pick};
 use vault_server::{Full, Patience, ServerError, ServerOptions, run_server, run_server_on};
 use vault_sessions::{Point, Totals};
@@ -235,7 +234,7 @@ fn comes_to<H: Net + Threads + Wait + Clock + Sync + Abort>(
     gate: &Holding<'_, H>,
     request: u64,
 ) -> Outcome {
-    let vault = begun(rt, global, memory, Start::New(serving.failing));
+    let vault = created(global, memory, serving.failing).expect(rt, "a new vault");
     let (workers, connections) = (serving.workers(), serving.connections);
     memory.refuse(request);
     let served = match serving.options() {

@@ -1,7 +1,5 @@
 //! A server over TCP on this machine: what it answers, which threads wait for which, and what ends a connection.
 
-use crate::devices::{Piece, is_text};
-use crate::filling::CREATION;
 use crate::holding::Rule;
 use crate::server::{Client, ENDED, HEAD, Outcome, PLAIN, Serving, served};
 use std::alloc::Global;
@@ -11,6 +9,7 @@ use std::sync::Wait;
 use std::thread::Threads;
 use std::time::Clock;
 use test_memory::Refusing;
+use test_sessions::{CREATION, Piece, is_text};
 use vault_server::ServerError;
 use vault_sessions::{Point, Totals};
 

@@ -1,10 +1,10 @@
 //! Connections that wait for a claim: until it is granted, for how long, beside how many others, and until who ends.
 
-use crate::filling::CREATION;
 use crate::holding::Rule;
 use crate::server::{Client, ENDED, Outcome, PLAIN, Serving};
 use crate::serving::comes_as_said;
 use test_memory::Refusing;
+use test_sessions::CREATION;
 use vault_server::ServerError;
 use vault_sessions::{Point, Totals};
 

@@ -1,5 +1,5 @@
 use Rattle.group_commit.specs.View.{length_of}
-use Rattle.test_server.proofs.pair.come_to_that.Given as goal
+use Rattle.test_sessions.proofs.pair.come_to_that.Given as goal
 
 abbrev pub ghosts-over-S-Ledger : goal.ghosts-over-S-Ledger
 ghosts-over-S-Ledger g a = record { name = a.staged.name; parts = a.staged.parts }

@@ -1,19 +1,12 @@
 //! Vaults to begin with: a new one, one without room, one for which a snapshot is wanted, and one that version 1 wrote.
 
+use crate::creation::{Begun, created};
 use group_commit::{Pumped, Vault};
 use std::alloc::Global;
 use std::process::Abort;
 use test_memory::Refusing;
 use vault_device::{Device, MemDevice};
 use vault_lines::read_line_of;
-
-/// A vault whose memory may be refused.
-pub type Begun<'a> = Vault<MemDevice, &'a Refusing<Global>>;
-
-/// How many device calls make a new vault: on the first file, and on the second.
-pub const CREATION: u64 = 8;
-
-pub const CREATION_BESIDE: u64 = 2;
 
 /// The most entries that a history keeps.
 pub const MAX_KEPT: u64 = 4096;
@@ -39,29 +32,11 @@ pub(crate) fn begun<'a>(
     start: Start,
 ) -> Begun<'a> {
     match start {
-        Start::New(failing) => created(rt, global, memory, failing),
+        Start::New(failing) => created(global, memory, failing).expect(rt, "a new vault"),
         Start::Full => full(rt, global, memory),
         Start::Long => long(rt, global, memory),
         Start::Version1 => opened(rt, global, memory),
     }
-}
-
-// A new vault. The nth device call after its creation is to fail.
-fn created<'a>(
-    rt: &impl Abort,
-    global: Global,
-    memory: &'a Refusing<Global>,
-    failing: u64,
-) -> Begun<'a> {
-    let mut first = MemDevice::new(global).expect(rt, "a file");
-    let second = MemDevice::new(global).expect(rt, "a file");
-    if failing > 0 {
-        first.fail_at(failing.saturating_add(CREATION));
-    }
-    let Ok(vault) = Vault::create(memory, first, second, 1) else {
-        panic!(rt; "no new vault");
-    };
-    vault
 }
 
 // The vault with anna's check-out of `/e`, as version 1 wrote it.
@@ -132,7 +107,7 @@ fn is_full<'a>(vault: &mut Begun<'a>, memory: &'a Refusing<Global>) -> bool {
 
 // A vault without room.
 fn full<'a>(rt: &impl Abort, global: Global, memory: &'a Refusing<Global>) -> Begun<'a> {
-    let mut vault = created(rt, global, memory, 0);
+    let mut vault = created(global, memory, 0).expect(rt, "a new vault");
     assert!(rt; is_full(&mut vault, memory), "a full history");
     vault
 }
@@ -173,7 +148,7 @@ fn is_filled<'a>(vault: &mut Begun<'a>, memory: &'a Refusing<Global>, draft: &[u
 fn long<'a>(rt: &impl Abort, global: Global, memory: &'a Refusing<Global>) -> Begun<'a> {
     let mut draft = vec![in global; b'7'; DRAFT.len() + 2048].expect(rt, "memory");
     draft[..DRAFT.len()].copy_from_slice(DRAFT);
-    let mut vault = created(rt, global, memory, 0);
+    let mut vault = created(global, memory, 0).expect(rt, "a new vault");
     assert!(rt; is_filled(&mut vault, memory, &draft), "a long journal");
     drop(draft);
     vault

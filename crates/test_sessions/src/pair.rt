@@ -4,8 +4,8 @@ ghost use Rattle.std.specs.Prelude.{◌≡◌};
 ghost use Rattle.group_commit.specs.View.{length_of};
 ghost use denote.Param.Send.{Frees};
 
+use crate::creation::{Begun, created};
 use crate::devices::{Devices, Hearer, Piece, Sender};
-use crate::filling::{Begun, Start, begun};
 use group_commit::Vault;
 use std::alloc::{Allocator, Global};
 use std::marker::Brand;
@@ -267,7 +267,7 @@ fn come_to_that<'m, H: Threads + Wait + Clock + Sync + Abort>(
 fn two_side_by_side(rt: HostRuntime) {
     let memory = Refusing::new(rt.alloc());
     for pair in &PAIRS {
-        let vault = begun(&rt, rt.alloc(), &memory, Start::New(0));
+        let vault = created(rt.alloc(), &memory, 0).expect(&rt, "a new vault");
         let is_so = come_to_that(&rt, rt.alloc(), &memory, vault, pair);
         assert!(rt; is_so, "{}", pair.name);
     }

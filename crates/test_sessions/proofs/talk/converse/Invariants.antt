@@ -1,5 +1,5 @@
 use Rattle.group_commit.specs.View.{length_of}
-use Rattle.test_server.proofs.talk.converse.Given as goal
+use Rattle.test_sessions.proofs.talk.converse.Given as goal
 
 abbrev pub ghosts-converse_over-S-Ledger : goal.ghosts-converse_over-S-Ledger
 ghosts-converse_over-S-Ledger g a = record { name = a.staged.name; parts = a.staged.parts }

@@ -2,7 +2,7 @@ use denote.Param.{param, copied}
 use denote.Param.Send.{sendable}
 use Rattle.std.proofs.Crossing.{crosses}
 use Rattle.vault_sessions.proofs.Sends.{shared_sync}
-use Rattle.test_server.proofs.talk.flushed.Goals as goal
+use Rattle.test_sessions.proofs.talk.flushed.Goals as goal
 
 pub join-flushed-requires-send-F : goal.join-flushed-requires-send-F
 join-flushed-requires-send-F g c κs _ =

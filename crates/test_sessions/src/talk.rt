@@ -4,9 +4,10 @@ ghost use Rattle.std.specs.Prelude.{◌≡◌};
 ghost use Rattle.group_commit.specs.View.{length_of};
 ghost use denote.Param.Send.{Frees};
 
+use crate::creation::{Begun, CREATION, CREATION_BESIDE};
 use crate::devices::{Devices, Hearer, Piece, Sender, is_text};
-use crate::filling::{Begun, CREATION, CREATION_BESIDE, Start, begun};
-use crate::holding::{TURNS, is_reached_within};
+use crate::filling::{Start, begun};
+use crate::turns::{TURNS, is_reached_within};
 use group_commit::Vault;
 use std::alloc::{Allocator, Global};
 use std::marker::Brand;

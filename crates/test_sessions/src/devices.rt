@@ -46,7 +46,7 @@ impl Cursor {
 }
 
 /// Whether a text is exactly these pieces.
-pub(crate) fn is_text(text: &[u8], pieces: &'static [Piece]) -> bool {
+pub fn is_text(text: &[u8], pieces: &'static [Piece]) -> bool {
     let mut wanted = Cursor::new(pieces);
     for byte in text.chunks(1) {
         if wanted.next(1) != byte {
@@ -78,7 +78,7 @@ pub struct Sender {
 
 impl Sender {
     /// A reader of this kind that gives these bytes.
-    pub(crate) fn new(pieces: &'static [Piece], devices: Devices) -> Sender {
+    pub fn new(pieces: &'static [Piece], devices: Devices) -> Sender {
         Sender {
             left: Cursor::new(pieces),
             is_bumpy: matches!(devices, Devices::Bumpy(_)),
@@ -114,7 +114,7 @@ pub struct Hearer {
 
 impl Hearer {
     /// A writer of this kind.
-    pub(crate) fn new(alloc: Global, devices: Devices) -> Hearer {
+    pub fn new(alloc: Global, devices: Devices) -> Hearer {
         Hearer {
             held: Vec::new(alloc),
             most: if devices == Devices::Dripping {

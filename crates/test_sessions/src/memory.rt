@@ -1,7 +1,8 @@
 //! The allocations of a conversation, refused in turn, and that of a snapshot.
 
+use crate::creation::{CREATION, CREATION_BESIDE};
 use crate::devices::{Devices, Piece};
-use crate::filling::{COMMITS, CREATION, CREATION_BESIDE, Start};
+use crate::filling::{COMMITS, Start};
 use crate::talk::{COMMIT, Came, Flusher, NOTHING, PLAIN, SNAPSHOT, Talk, come_to_that, talked};
 use std::alloc::Global;
 use std::process::Abort;
