@@ -43,17 +43,17 @@ CrashesOpen =
 abbrev pub HistoryIsLegal : Type 0
 HistoryIsLegal = AfterEveryRun (λ snapshot w. IsLegal new_vault (history w))
 
--- this entry stands at a place of the history in its present life, and was acknowledged
-pub record IsToldAt (w : World) (place : ℕ) (entry : Entry) : Type 0 where
-  pub stands : slice_get (history w) place ≡ Some (Given entry)
-  pub lives : length w.earlier ≤ place
-  pub told : mark_at w.life (place - length w.earlier) ≡ Some Told
+-- this entry stands at a position of the history in its present life, and was acknowledged
+pub record IsToldAt (w : World) (position : ℕ) (entry : Entry) : Type 0 where
+  pub stands : slice_get (history w) position ≡ Some (Given entry)
+  pub lives : length w.earlier ≤ position
+  pub told : mark_at w.life (position - length w.earlier) ≡ Some Told
 
--- what was acknowledged at any point of a run stands at its place, with its reply, after any more events, crashes too
+-- what was acknowledged at any point of a run stands at its position, with its reply, after any more events, crashes too
 abbrev pub ToldStays : Type 0
-ToldStays = (snapshot : Vault → ℕ) (events more : List Event) (place : ℕ) (entry : Entry) → IsRun snapshot new_world (events ++ more)
-    → IsToldAt (run snapshot new_world events) place entry
-    → slice_get (history (run snapshot new_world (events ++ more))) place ≡ Some (Given entry)
+ToldStays = (snapshot : Vault → ℕ) (events more : List Event) (position : ℕ) (entry : Entry) → IsRun snapshot new_world (events ++ more)
+    → IsToldAt (run snapshot new_world events) position entry
+    → slice_get (history (run snapshot new_world (events ++ more))) position ≡ Some (Given entry)
 
 -- acknowledged entries are durable
 abbrev pub ToldIsSettled : Type 0

@@ -114,7 +114,7 @@ abbrev pub TornGateOpen : Type 0
 TornGateOpen = Shows (half_committed ++ Crash IsOpen ∷ look_again) half_calls half_answers
     (Session 1 ∷ Place 1 ∷ Place 2 ∷ Session 1 ∷ Children (codes "e" ∷ codes "f" ∷ []) ∷ [])
 
--- what was acknowledged before the crash stands at its place after it
+-- what was acknowledged before the crash stands at its position after it
 abbrev pub ToldStands : Type 0
 ToldStands =
     slice_get (history (after_events (half_committed ++ Crash StaysClosed ∷ look_again))) 1

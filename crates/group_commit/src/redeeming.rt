@@ -12,17 +12,17 @@ use vault_model::NoMemory;
 
 impl<D: Device, A: Allocator + Copy> Vault<D, A> {
     // Where the open entry that a ticket names is kept.
-    fn open_place(&self, ticket: &Ticket<A>) -> Option<usize>
-        ensures some { IfSome result (λ place. NamesOpen self.now ticket.now × (place ≡ ticket.now.position - self.now.view.retired)
-            × (place < length self.now.view.kept)) }
+    fn open_position(&self, ticket: &Ticket<A>) -> Option<usize>
+        ensures some { IfSome result (λ position. NamesOpen self.now ticket.now × (position ≡ ticket.now.position - self.now.view.retired)
+            × (position < length self.now.view.kept)) }
         ensures none { IfNone result (NamesOpen self.now ticket.now → ⊥) }
     {
         if ticket.life() != self.life || ticket.position() < self.retired {
             return None;
         }
-        let place = (ticket.position() - self.retired) as usize;
-        match self.kept.mark_at(place) {
-            Some(Mark::Open) => Some(place),
+        let position = (ticket.position() - self.retired) as usize;
+        match self.kept.mark_at(position) {
+            Some(Mark::Open) => Some(position),
             _ => None,
         }
     }
@@ -33,7 +33,7 @@ impl<D: Device, A: Allocator + Copy> Vault<D, A> {
         ensures told { IsRedeemed self.old self.new ticket result }
         ensures answered { IsAnswered self.old self.new }
     {
-        let Some(place) = self.open_place(&ticket) else {
+        let Some(position) = self.open_position(&ticket) else {
             return Redeemed::Stranger(ticket);
         };
         if ticket.position() >= self.settled {
@@ -43,9 +43,9 @@ impl<D: Device, A: Allocator + Copy> Vault<D, A> {
                 Redeemed::NotYet(ticket)
             };
         }
-        match self.kept.reply_at(place) {
+        match self.kept.reply_at(position) {
             Ok(reply) => {
-                self.kept.close(place, Mark::Told);
+                self.kept.close(position, Mark::Told);
                 self.told += 1;
                 Redeemed::Told(ticket.into_receipt(reply))
             }
@@ -58,12 +58,12 @@ impl<D: Device, A: Allocator + Copy> Vault<D, A> {
         ensures closed { IsForgotten self.old self.new ticket result }
         ensures answered { IsAnswered self.old self.new }
     {
-        let Some(place) = self.open_place(&ticket) else {
+        let Some(position) = self.open_position(&ticket) else {
             ticket.discard();
             return Forgotten::Stranger;
         };
         ticket.discard();
-        self.kept.close(place, Mark::Forgotten);
+        self.kept.close(position, Mark::Forgotten);
         Forgotten::Here
     }
 }

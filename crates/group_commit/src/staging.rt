@@ -1,4 +1,4 @@
-//! A command gets its place in the history.
+//! A command gets its position in the history.
 ghost use Rattle.std.specs.Prelude.{◌≡◌, ◌++◌, IfOk, IfErr, OnOk, OnErr};
 ghost use Rattle.vault_model.specs.Step.{step};
 ghost use Rattle.group_commit.specs.History.{entry_of};
@@ -20,7 +20,7 @@ use vault_device::Device;
 use vault_model::{CommandIn, NoMemory, Outside};
 
 impl<D: Device, A: Allocator + Copy> Vault<D, A> {
-    /// Gives a session's command a place in the history, and a ticket for its reply. A refusal hands the command back, and
+    /// Gives a session's command a position in the history, and a ticket for its reply. A refusal hands the command back, and
     /// nothing changes. No device call.
     pub fn stage(
         &mut self,

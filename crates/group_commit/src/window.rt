@@ -79,30 +79,30 @@ impl<A: Allocator + Copy> Window<A> {
         matches!(self.mark_at(0), Some(Mark::Open))
     }
 
-    /// What became of the ticket of the entry at a place.
-    pub fn mark_at(&self, place: usize) -> Option<Mark>
-        ensures { result ≡ mark_at self.now place }
+    /// What became of the ticket of the entry at a position.
+    pub fn mark_at(&self, position: usize) -> Option<Mark>
+        ensures { result ≡ mark_at self.now position }
     {
-        match self.entries.get(place) {
+        match self.entries.get(position) {
             Some(entry) => Some(entry.mark()),
             None => None,
         }
     }
 
-    /// Closes the entry at a place.
-    pub fn close(&mut self, place: usize, mark: Mark)
-        requires { place < length self.old }
-        ensures { self.new ≡ with_mark mark self.old place }
+    /// Closes the entry at a position.
+    pub fn close(&mut self, position: usize, mark: Mark)
+        requires { position < length self.old }
+        ensures { self.new ≡ with_mark mark self.old position }
     {
-        self.entries[place].close(mark);
+        self.entries[position].close(mark);
     }
 
-    /// A copy of the reply at a place.
-    pub fn reply_at(&self, place: usize) -> Result<ReplyIn<A>, NoMemory>
-        requires { place < length self.now }
-        ensures { IfOk result (λ reply. (kept : Kept) → slice_get self.now place ≡ Some kept → reply ≡ kept.entry.reply) }
+    /// A copy of the reply at a position.
+    pub fn reply_at(&self, position: usize) -> Result<ReplyIn<A>, NoMemory>
+        requires { position < length self.now }
+        ensures { IfOk result (λ reply. (kept : Kept) → slice_get self.now position ≡ Some kept → reply ≡ kept.entry.reply) }
     {
         let alloc = self.allocator();
-        self.entries[place].reply(alloc)
+        self.entries[position].reply(alloc)
     }
 }

@@ -7,9 +7,9 @@ use Rattle.group_commit.proofs.vault.Vault.forget.Goals as goal
 
 pub invariant_of-self : goal.invariant_of-self
 invariant_of-self g c = (
-  forget_kept g.D.Device.disk (seen_of c.self.inside) c.args.self.now c.self.inside.book c.args.ticket c.in-Some.place c.close.new.self c.self.view_is c.in-Some.ensures.some c.close.ensures c.self.invariant.0,
-  gone_forgotten c.self.inside.bygone.items c.self.inside.kept c.close.new.self c.in-Some.place c.self.inside.retired c.self.inside.told c.close.ensures
-      (open_here (seen_of c.self.inside) c.args.self.now c.args.ticket c.in-Some.place c.self.view_is c.in-Some.ensures.some) c.self.invariant.1,
+  forget_kept g.D.Device.disk (seen_of c.self.inside) c.args.self.now c.self.inside.book c.args.ticket c.in-Some.position c.close.new.self c.self.view_is c.in-Some.ensures.some c.close.ensures c.self.invariant.0,
+  gone_forgotten c.self.inside.bygone.items c.self.inside.kept c.close.new.self c.in-Some.position c.self.inside.retired c.self.inside.told c.close.ensures
+      (open_here (seen_of c.self.inside) c.args.self.now c.args.ticket c.in-Some.position c.self.view_is c.in-Some.ensures.some) c.self.invariant.1,
 )
 
 pub returns-clause-answered : goal.returns-clause-answered

@@ -5,9 +5,9 @@ use Rattle.group_commit.proofs.WindowReads.{reply_read}
 use Rattle.group_commit.proofs.window.Window.reply_at.Goals as goal
 
 pub index-requires : goal.index-requires
-index-requires g c = subst (λ (n : ℕ). c.args.place < n) (sym c.self.inside.entries.ok.0) (subst (λ (l : List Kept). c.args.place < length l) (sym c.self.view_is) c.requires)
+index-requires g c = subst (λ (n : ℕ). c.args.position < n) (sym c.self.inside.entries.ok.0) (subst (λ (l : List Kept). c.args.position < length l) (sym c.self.view_is) c.requires)
 
 pub returns : goal.returns
 returns g c =
-    subst (λ (l : List Kept). IfOk c.reply.result (λ r. (kept : Kept) → slice_get l c.args.place ≡ Some kept → r ≡ kept.entry.reply)) c.self.view_is
-    (reply_read c.reply.result c.self.inside.entries.items c.args.place c.index.result.now c.reply.ensures c.index.ensures)
+    subst (λ (l : List Kept). IfOk c.reply.result (λ r. (kept : Kept) → slice_get l c.args.position ≡ Some kept → r ≡ kept.entry.reply)) c.self.view_is
+    (reply_read c.reply.result c.self.inside.entries.items c.args.position c.index.result.now c.reply.ensures c.index.ensures)
