@@ -22,7 +22,7 @@ use vaultd_tasks::{
 const LIFE: u64 = 1;
 
 /// How many seconds a connection must have been silent before it is ended for another one that waits for a place.
-const LEAST_SILENCE: u32 = 60;
+const MIN_SILENCE: u32 = 60;
 
 /// This number of seconds.
 fn seconds(count: u32) -> Duration {
@@ -115,7 +115,7 @@ fn options_of(serving: &Serving<'_>) -> ServerOptions
         refuses_foreign: true,
         full: Some(Full {
             wait: seconds(serving.full),
-            silence: seconds(LEAST_SILENCE),
+            silence: seconds(MIN_SILENCE),
         }),
         per_address: serving.per_address,
     }

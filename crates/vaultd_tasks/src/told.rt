@@ -71,7 +71,7 @@ fn advice_of(failure: Failure) -> &'static str {
             "docs/OPERATING.md, 'A damaged file': copy both files away first"
         }
         Failure::NoVault => {
-            "docs/OPERATING.md, 'When the machine stops': a create was stopped, or these aren't a vault's files"
+            "docs/OPERATING.md, 'Statuses and messages': a create was stopped, these aren't a vault's files, or first bytes are damaged"
         }
         Failure::TwoVaults => {
             "docs/OPERATING.md, 'Files of two vaults': give each vault its own two files"
