@@ -23,7 +23,7 @@ SEED = int(os.environ.get("VAULT_SEED", "34"))
 MOMENTS = int(os.environ.get("VAULT_MOMENTS", "200"))
 SECONDS = float(os.environ.get("VAULT_SECONDS", "60"))
 # A kill and a start take some tenths of a second: even a slow machine does this many.
-LEAST_KILLS = int(min(MOMENTS, SECONDS / 3))
+MIN_KILLS = int(min(MOMENTS, SECONDS / 3))
 DESIGNERS = ("anna", "ben", "carl", "dora")
 SHARED = "/plant/hall/crane"
 
@@ -111,7 +111,7 @@ class Crash(unittest.TestCase):
         for designer in designers:
             designer.start()
         kills = self.kill_at_moments(random.Random(SEED))
-        self.assertGreaterEqual(kills, LEAST_KILLS, f"the server was killed {kills} times in {SECONDS} seconds")
+        self.assertGreaterEqual(kills, MIN_KILLS, f"the server was killed {kills} times in {SECONDS} seconds")
         for designer in designers:
             designer.stop.set()
         for designer in designers:

@@ -216,6 +216,17 @@ class Pages(unittest.TestCase):
         self.assertEqual(built - named, set())
         self.assertEqual({word for word in named if "_" in word} - built, set())
 
+    def test_number_of_edits(self) -> None:
+        """README says how many wrong bodies CI tries."""
+        found = re.search(r"(\d+) must-fail edits", text_of(TOP / "README.md"))
+        self.assertEqual(int(found[1]) if found else None, len(list(TOP.glob("crates/*/must-fail/*.edit"))))
+
+    def test_headings_that_the_program_names(self) -> None:
+        """The sections that `vaultd check` sends its reader to are there."""
+        named = set(re.findall(r"docs/OPERATING\.md, '([^']+)'", (TOP / "crates/vaultd_tasks/src/told.rt").read_text("utf-8")))
+        self.assertGreater(len(named), 2)
+        self.assertLessEqual(named, set(re.findall(r"^#+ (.+)$", text_of(TOP / "docs/OPERATING.md"), re.MULTILINE)))
+
     def test_options_are_those_of_the_programs(self) -> None:
         seen = 0
         for page in PAGES:

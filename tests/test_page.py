@@ -72,7 +72,8 @@ class WithPage(unittest.TestCase):
 
     def text(self, path: str) -> str:
         """The text of a page, without its markup."""
-        return re.sub(r"\s+", " ", html.unescape(re.sub(r"<[^>]*>", " ", self.page.page(path).partition("<body")[2])))
+        _, start, body = self.page.page(path).partition("<body")
+        return re.sub(r"\s+", " ", html.unescape(re.sub(r"<[^>]*>", " ", start + body)))
 
     def stream(self, path: str) -> Stream:
         """An open page's stream."""

@@ -1,6 +1,6 @@
 """Both ways from a clone to a running server: runs each line of README, and compares what it prints with what stands below it.
 
-The program is built only if VAULT_BUILDS is set, since that takes minutes without proofs, and half an hour with them. Else the tested
+The program is built only if VAULT_BUILDS is set, since that takes minutes without proofs, and an hour with them. Else the tested
 program stands in for it.
 """
 
@@ -13,7 +13,7 @@ from pathlib import Path
 from servers import TOP, VAULTD, free_port
 from test_tutorial import Shell, steps
 
-BUILD_SECONDS = 1800
+BUILD_SECONDS = 3600
 BUILDS = bool(os.environ.get("VAULT_BUILDS"))
 # What makes the proved program, and what a block says once the other one is made.
 PROVES = "(cd crates/vaultd && rt run -- script < stdin > /dev/null) && PATH=$PWD/crates/vaultd/out:$PATH"

@@ -388,7 +388,7 @@ class Planted(unittest.TestCase):
     """What is planted to be refused or found still applies: an edit, a patch or a body that doesn't tries nothing."""
 
     def test_edits(self) -> None:
-        """Each old text of an edit is there once, after the edit's earlier pairs."""
+        """Each old text of an edit is there once, after the edit's earlier pairs, and something else takes its place."""
         edits = sorted([*TOP.glob("crates/*/must-fail/*.edit"), *TOP.glob("crates/*/edits/*.edit")])
         self.assertGreater(len(edits), 500)
         for edit in edits:
@@ -396,14 +396,17 @@ class Planted(unittest.TestCase):
                 texts: Dict[Path, str] = {}
                 file, old = Path(), ""
                 for line in edit.read_text("utf-8").splitlines():
-                    word, _, text = line.partition(": ")
+                    word, _, text = line.partition(":")
+                    text = text.removeprefix(" ")
                     if word == "file":
                         file = edit.parents[1] / text.strip()
                         texts.setdefault(file, file.read_text("utf-8"))
                     elif word == "old":
                         self.assertEqual(texts[file].count(text), 1, text)
                         old = text
-                    elif word == "new":
+                    else:
+                        self.assertEqual(word, "new", "a text is one line")
+                        self.assertNotEqual(text, old, "nothing changes")
                         texts[file] = texts[file].replace(old, text)
 
     def test_patches(self) -> None:
