@@ -19,7 +19,7 @@
 #include <time.h>
 #include <unistd.h>
 
-enum { MOST = 200, ROOM = 1 << 14 };
+enum { MAX_CONNECTIONS = 200, ROOM = 1 << 14 };
 static const char reply[] = "OK held c1 OK session OK saved OK checked in 1\n";
 static int sync_us;
 
@@ -41,9 +41,9 @@ static int listening(int port) {
 static void quickly(int link) { int one = 1; setsockopt(link, IPPROTO_TCP, TCP_NODELAY, &one, sizeof one); }
 
 static void one_thread(int port) {
-    static struct pollfd waits[MOST];
+    static struct pollfd waits[MAX_CONNECTIONS];
     static char in[ROOM];
-    static int due[MOST];
+    static int due[MAX_CONNECTIONS];
     int count = 1, told = 0;
     waits[0] = (struct pollfd){.fd = listening(port), .events = POLLIN};
     for (double over = 0, took = 0;;) {
@@ -53,7 +53,7 @@ static void one_thread(int port) {
         struct timespec rest = {.tv_nsec = left <= 0 ? 0 : left >= 1 ? 999999999 : (long)(left * 1e9)};
         if (left > 0) {
             if (ppoll(waits, count, &rest, NULL) <= 0) continue;
-            if (waits[0].revents && count < MOST) {
+            if (waits[0].revents && count < MAX_CONNECTIONS) {
                 waits[count] = (struct pollfd){.fd = accept(waits[0].fd, NULL, NULL), .events = POLLIN};
                 quickly(waits[count++].fd);
             }

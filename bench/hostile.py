@@ -34,8 +34,8 @@ from measure import arguments, head, prepared, table
 HOSTILE = 8
 PROCESSES = 2
 WORKERS = 64
-LEAST_RATE = 1000.0
-LONGEST_WAIT = 0.05
+MIN_RATE = 1000.0
+MAX_WAIT = 0.05
 # The most replies of a connection.
 LINES = 4096
 HONEST_LINES = 4000
@@ -341,7 +341,7 @@ def places(program: str, folder: str, options: argparse.Namespace) -> list[str]:
 
 def is_met(waits: Waits) -> bool:
     """Whether the honest client was served as it should be."""
-    return waits.rate >= LEAST_RATE and waits.waits[-1] <= LONGEST_WAIT
+    return waits.rate >= MIN_RATE and waits.waits[-1] <= MAX_WAIT
 
 
 def answers(program: str, folder: str, options: argparse.Namespace) -> list[str]:

@@ -23,7 +23,7 @@
 #include <time.h>
 #include <unistd.h>
 
-enum { CLIENTS = 256, STEPS = 24, BUFFER = 1 << 14, MOST = 4000000 };
+enum { CLIENTS = 256, STEPS = 24, BUFFER = 1 << 14, MAX_CYCLES = 4000000 };
 enum kind { SETUP, CYCLE, TAKE, UNTIL, LEAVE };
 static const char *kinds[] = {"setup", "cycle", "take", "until", "leave"};
 struct step { enum kind kind; char *expect, *send; };
@@ -37,7 +37,7 @@ struct client {
 };
 static struct client clients[CLIENTS];
 static struct pollfd waits[CLIENTS];
-static float took_us[MOST];
+static float took_us[MAX_CYCLES];
 static int planned, client_count, port, renew, started, ready_count;
 static size_t cycles, repeats, most;
 static double pause_s, zero, ends;
@@ -141,7 +141,7 @@ static void take_reply(struct client *c) {
     if (s->kind == TAKE && sscanf(c->in, "%*s %*s %63s", c->kept) != 1) stop("no third word", c->in);
     int more = ++c->at < c->count && c->step[c->at].kind != LEAVE;
     if (!more && s->kind != LEAVE) {
-        if (cycles < MOST) took_us[cycles++] = (now() - c->began) * 1e6, c->done++;
+        if (cycles < MAX_CYCLES) took_us[cycles++] = (now() - c->began) * 1e6, c->done++;
         if (!renew || c->sent < renew) c->at = c->first;
     }
     if (c->at == c->count) close(c->socket), join(c);
@@ -176,7 +176,7 @@ int main(int count, char **words) {
     if (ready_count < client_count) stop("setup", "not done in 60 s");
     started = 1, zero = now(), ends = zero + atof(words[5]);
     for (struct client *c = clients; c < clients + client_count; c++) go_on(c);
-    while (now() < ends && cycles < most && cycles < MOST) turn(now());
+    while (now() < ends && cycles < most && cycles < MAX_CYCLES) turn(now());
     double seconds = now() - zero;
     int least = clients[0].done, greatest = least;
     for (struct client *c = clients; c < clients + client_count; c++) {

@@ -12,7 +12,7 @@ several runs.
 
 usage, at the top of the repository:  python3 bench/snapshot.py [--program PROGRAM] [--folder FOLDER] [--connections 1,16,64] [--runs N]
                                       [--port P] [--start] [--tiny]
---folder says on which disk the vault lies. --start also tells how long the start of a snapshot takes, by strace, in runs of their own.
+--folder says on which disk the vault lies. --start also tells how long the starts of two snapshots take, by strace, in runs of their own.
 """
 import os
 import re
@@ -22,9 +22,10 @@ import statistics
 import subprocess
 import threading
 import time
+from contextlib import contextmanager
 
 from measure import ALLOCATOR, arguments, head, megabytes, prepared, run_once, sized, table
-from opening import file_of, made, name, number, saved
+from opening import file_of, name, number, saved
 from server import status_of
 
 WORKERS = 64
@@ -35,6 +36,9 @@ SAVE = 1035
 # The most records of a save in a frame. The frames leave room for 14 saves before a snapshot is begun.
 FRAME = 253
 LEFT = 14
+# How many saves after them make the next snapshot wanted, and the seconds of silence in which the server begins it.
+LATER = 1100
+PAUSE = 0.5
 
 
 def places():
@@ -144,21 +148,22 @@ def written(path, limit=60):
     raise SystemExit("no snapshot was written")
 
 
-def traced_by(tracer):
-    """The program that strace runs: a signal to strace itself is held back while it writes to a file."""
-    with open(f"/proc/{tracer}/task/{tracer}/children", encoding="utf-8") as file:
-        return int(file.read().split()[0])
-
-
-def one_run(program, files, content, options, connections, before=()):
-    """How long a snapshot took, the waits of the commands that were under way in it, and the server's greatest memory, in two ways."""
-    with open(files[0], "wb") as file:
-        file.write(content)
-    open(files[1], "wb").close()
+@contextmanager
+def serving(program, files, options, before=()):
+    """A server over these files, which listens. It has ended behind it."""
     words = [*before, program, "serve", *files, f"127.0.0.1:{options.port}", "--workers", str(WORKERS)]
     with subprocess.Popen(words, stdout=subprocess.PIPE, env=os.environ | ALLOCATOR) as server:
         if server.stdout.readline().strip() != b"listening":
             raise SystemExit("the server didn't start")
+        yield server
+
+
+def one_run(program, files, content, options, connections):
+    """How long a snapshot took, the waits of the commands that were under way in it, and the server's greatest memory, in two ways."""
+    with open(files[0], "wb") as file:
+        file.write(content)
+    open(files[1], "wb").close()
+    with serving(program, files, options) as server:
         stop = threading.Event()
         clients = [Client(options.port, number_of, stop) for number_of in range(1, connections + 1)]
         share = Share(server.pid, stop)
@@ -171,9 +176,8 @@ def one_run(program, files, content, options, connections, before=()):
         for client in clients:
             client.join()
             client.socket.close()
-        memory = (status_of(server.pid)[0], share.most) if not before else None
-        os.kill(traced_by(server.pid) if before else server.pid, signal.SIGTERM)
-        server.wait()
+        memory = status_of(server.pid)[0], share.most
+        server.terminate()
     waits = [end - begin for client in clients for begin, end in client.waits if begin < ended and end > began]
     return ended - began, waits, memory
 
@@ -197,26 +201,45 @@ def first_reply(program, files, options):
     return took
 
 
-def start_by_strace(program, files, content, options, folder):
-    """How long it takes from the sync that makes a commit durable to the first write of the snapshot after it."""
+def traced_by(tracer):
+    """The program that strace runs: a signal to strace itself is held back while it writes to a file."""
+    with open(f"/proc/{tracer}/task/{tracer}/children", encoding="utf-8") as file:
+        return int(file.read().split()[0])
+
+
+def starts_by_strace(program, files, content, options, folder):
+    """How long the starts of two snapshots of one server take: each from the call before it in its thread to the first write of the snapshot."""
     told = os.path.join(folder, "strace.out")
-    traced = ["strace", "-f", "-ttt", "-T", "-y", "-e", "trace=fsync,fdatasync,write,pwrite64", "-o", told]
-    one_run(program, files, content, options, 1, traced)
-    active, spare = map(os.path.realpath, files)
-    settled, waiting = 0.0, None
+    calls = "fsync,fdatasync,write,pwrite64,read,recvfrom,sendto,epoll_wait"
+    with open(files[0], "wb") as file:
+        file.write(content)
+    open(files[1], "wb").close()
+    with serving(program, files, options, ["strace", "-f", "-ttt", "-T", "-y", "-e", f"trace={calls}", "-o", told]) as tracer:
+        client = Client(options.port, 1, threading.Event())
+        for _ in range(LEFT + LATER):
+            client.say(client.line)
+        time.sleep(PAUSE)
+        client.socket.close()
+        os.kill(traced_by(tracer.pid), signal.SIGTERM)
+    return starts_in(told, [os.path.realpath(file) for file in files])
+
+
+def starts_in(told, files):
+    """How long the starts took, by what strace told. Snapshots are written to the second file and to the first by turns."""
+    found, ended = [], {}
     with open(told, encoding="utf-8", errors="replace") as file:
         for line in file:
-            begun = re.match(r"(\d+)\s+(\d+\.\d+) (\w+)\(\d+<([^>]*)>", line)
-            ended = re.match(r"(\d+)\s+(\d+\.\d+) <\.\.\. f\w*sync resumed>", line)
-            if begun and "write" in begun.group(3) and begun.group(4) == spare:
-                return float(begun.group(2)) - settled
-            if begun and "sync" in begun.group(3) and begun.group(4) == active:
-                took = re.search(r"<(\d+\.\d+)>$", line)
-                waiting = None if took else begun.group(1)
-                settled = float(begun.group(2)) + float(took.group(1)) if took else settled
-            elif ended and ended.group(1) == waiting:
-                settled = float(ended.group(2))
-    raise SystemExit("strace saw no snapshot")
+            call = re.match(r"(\d+)\s+(\d+\.\d+) (?:<\.\.\. )?(\w+)(?: resumed>|\(\d+<([^>]*)>)", line)
+            if not call:
+                continue
+            thread, at, name, path = call.groups()
+            if "write" in name and path == files[1 - len(found) % 2]:
+                found.append(float(at) - ended[thread])
+            took = re.search(r"<(\d+\.\d+)>$", line)
+            ended[thread] = float(at) + float(took.group(1)) if took and path else float(at)
+    if len(found) < 2:
+        raise SystemExit(f"strace saw {len(found)} snapshots, and not two")
+    return found[:2]
 
 
 def middle(values):
@@ -228,7 +251,7 @@ def main():
     parser.add_argument("--connections", default="1,16,64", help="numbers of connections, with commas between")
     parser.add_argument("--runs", type=int, default=10, help="runs of each row, 10 where it isn't given")
     parser.add_argument("--port", type=int, default=7171)
-    parser.add_argument("--start", action="store_true", help="how long the start of a snapshot takes, too, by strace")
+    parser.add_argument("--start", action="store_true", help="how long the starts of two snapshots take, too, by strace")
     options = parser.parse_args()
     program, folder = prepared(options)
     files = [os.path.join(folder, f"vault.{which}") for which in "ab"]
@@ -249,8 +272,8 @@ def main():
     table(("Connections", "Whole snapshot, least and median", "Commands that waited for it", "Longest wait and 99th percentile",
            "Resident memory at most, and of the greatest weight", "The server's own, and of the greatest weight"), rows())
     if options.start:
-        starts = [start_by_strace(program, files, content, options, folder) for _ in range(runs)]
-        table(("The start of a snapshot, under the lock", "Least and median"), [("by strace, one connection", middle(starts))])
+        starts = zip(*(starts_by_strace(program, files, content, options, folder) for _ in range(runs)))
+        table(("The start of a snapshot, under the lock, by strace", "Least and median"), zip(("the first", "the second"), map(middle, starts)))
     one_run(program, files, content, options, 1)
     first = [first_reply(program, files, options) for _ in range(runs)]
     opened = [run_once(program, ["inspect", *files]) for _ in range(runs)]

@@ -13,7 +13,7 @@
 #include <time.h>
 #include <unistd.h>
 
-enum { MOST = 1 << 18 };
+enum { MAX_CALLS = 1 << 18 };
 enum name { FSYNC = 1, PWRITE, RECV, SEND };
 struct call { double began, ended; int name, result, processor, unused; };
 static struct call *calls;
@@ -28,15 +28,15 @@ static double now(void) {
 static void __attribute__((constructor)) begin(void) {
     const char *path = getenv("TRACE");
     int file = path ? open(path, O_RDWR | O_CREAT | O_TRUNC, 0600) : -1;
-    if (file < 0 || ftruncate(file, MOST * sizeof *calls)) return;
-    void *there = mmap(NULL, MOST * sizeof *calls, PROT_READ | PROT_WRITE, MAP_SHARED | MAP_POPULATE, file, 0);
+    if (file < 0 || ftruncate(file, MAX_CALLS * sizeof *calls)) return;
+    void *there = mmap(NULL, MAX_CALLS * sizeof *calls, PROT_READ | PROT_WRITE, MAP_SHARED | MAP_POPULATE, file, 0);
     calls = there == MAP_FAILED ? NULL : there;
     close(file);
 }
 
 static long note(enum name name, double began, long result) {
-    int at = calls ? atomic_fetch_add(&count, 1) : MOST;
-    if (at < MOST) calls[at] = (struct call){began, now(), name, result, sched_getcpu(), 0};
+    int at = calls ? atomic_fetch_add(&count, 1) : MAX_CALLS;
+    if (at < MAX_CALLS) calls[at] = (struct call){began, now(), name, result, sched_getcpu(), 0};
     return result;
 }
 
