@@ -17,6 +17,7 @@ from html.parser import HTMLParser
 from pathlib import Path
 from typing import Any, Dict, List, Tuple
 
+from page_server import until
 from servers import MEMORY, TOP, VAULTD, Server, program
 
 from vault import Client
@@ -382,6 +383,75 @@ class CheckOver(unittest.TestCase):
         self.assertIn("there is no crates/nothing/src", self.said("clone", "nothing", status=2, tool="try-together"))
         self.assertIn("lock_queue has no edit more", self.said("clone", "lock_queue", "more", status=2, tool="try-together"))
         self.assertIn("usage", self.said("clone", status=1, tool="try-together"))
+
+
+class Gate(unittest.TestCase):
+    """CI's parts, in the place of each a short script: what the gate makes of their counts and of how they end."""
+
+    PARTS = ("tools/check-python", "tools/requests", "tools/try-refused", "tests/run", "rt")
+    PASSED = "echo '2 passed, 0 failed'"
+
+    def setUp(self) -> None:
+        folder = tempfile.TemporaryDirectory(prefix="vault-test-")
+        self.addCleanup(folder.cleanup)
+        self.folder = Path(folder.name)
+        for name in self.PARTS:
+            self.write(name, self.PASSED)
+        self.write("vaultd", "exit")
+        self.write("rt", "echo 'rt: vaultd proved'", "sleep 2", self.PASSED)
+        shutil.copy(os.path.join(TOP, "tools", "gate"), self.folder / "tools" / "gate")
+
+    def write(self, name: str, *lines: str) -> None:
+        """A script in the place of a part."""
+        script = self.folder / name
+        script.parent.mkdir(exist_ok=True)
+        script.write_text("\n".join(("#!/bin/sh", *lines, "")), "utf-8")
+        script.chmod(0o755)
+
+    def started(self) -> "subprocess.Popen[str]":
+        """The gate over these parts."""
+        return subprocess.Popen([str(self.folder / "tools" / "gate")], stdout=subprocess.PIPE, stderr=subprocess.STDOUT, text=True,
+                                env={**os.environ, "PATH": f"{self.folder}:{os.environ['PATH']}", "VAULTD": str(self.folder / "vaultd")})
+
+    def ended(self) -> Tuple[int, List[str]]:
+        """The gate's status, and its lines."""
+        gate = self.started()
+        said, _ = gate.communicate(timeout=60)
+        return gate.returncode, said.splitlines()
+
+    def test_counts(self) -> None:
+        """Each part counts once; the tests count as two parts where they begin beside the proofs."""
+        status, lines = self.ended()
+        parts = lines.count("2 passed, 0 failed")
+        self.assertIn(parts, (5, 6))
+        self.assertEqual((status, lines[-1]), (0, f"{2 * parts} passed, 0 failed"))
+
+    def test_one_that_fails(self) -> None:
+        """Its count and its status are the gate's; programs aren't refused then, and the others run."""
+        self.write("tools/check-python", "echo '1 passed, 1 failed'", "exit 3")
+        status, lines = self.ended()
+        parts = lines.count("2 passed, 0 failed")
+        self.assertIn(parts, (3, 4))
+        self.assertEqual((status, lines[-1]), (3, f"{2 * parts + 1} passed, 1 failed"))
+
+    def test_one_that_breaks_off(self) -> None:
+        """A part without a count is a failure."""
+        self.write("rt", "echo 'rt: vaultd proved'", "kill -KILL $$")
+        status, lines = self.ended()
+        self.assertIn("ci: rt ci did not end in its time, or broke off", lines)
+        self.assertEqual(status, 137)
+        self.assertRegex(lines[-1], r"^\d+ passed, 1 failed$")
+
+    def test_ended(self) -> None:
+        """An ended gate leaves no part running."""
+        self.write("rt", f"echo $$ > {self.folder}/number", "exec sleep 60")
+        gate = self.started()
+        until(lambda: (self.folder / "number").exists(), 10)
+        gate.terminate()
+        gate.communicate(timeout=10)
+        number = (self.folder / "number").read_text("utf-8").strip()
+        until(lambda: not Path("/proc", number).exists(), 10)
+        self.assertEqual(gate.returncode, 143)
 
 
 class Planted(unittest.TestCase):
