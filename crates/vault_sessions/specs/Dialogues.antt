@@ -1,5 +1,5 @@
 -- What holds of a dialogue between two steps. This project's own.
-use Rattle.std.specs.Prelude.{◌≡◌, ℕ, ◌≤◌, Bool, true, false, List, length, Option}
+use Rattle.std.specs.Prelude.{◌≡◌, ℕ, ◌≤◌, Bool, true, false, List, length, Option, Some, None}
 use Rattle.line_inlet.specs.Inflow.{Inflow}
 use Rattle.vault_sessions.specs.Serving.{most_lines, HeardAll, SpeaksFor, session_of, WritesAll, QuitsBy, CountsAll}
 use Rattle.vault_sessions.specs.Talking.{Stands}
@@ -33,6 +33,11 @@ StandsIn {A} (GivenUp ended) reader_old reader_new writer_old writer_new counts 
 StandsIn (Done ended left) reader_old reader_new writer_old writer_new counts inflow kept is_long outs session share =
     IsDone ended reader_old reader_new writer_old writer_new counts outs session share × (left ≡ session)
 StandsIn Open reader_old reader_new writer_old writer_new counts inflow kept is_long outs session share = ⊥
+
+-- it left this session, and has the last leave of it
+abbrev pub HasLeft : Option ℕ → ℕ → Type 0
+HasLeft (Some left) session = left ≡ session
+HasLeft None session = ⊥
 
 -- the same for a conversation
 abbrev pub TalksOn : {S T A : Type 0} {s : TallyGhosts S} {t : TallyGhosts T} → Next A → (reader_old reader_new writer_old writer_new : Option (List ℕ))

@@ -12,19 +12,19 @@ use vault_lines::LONGEST_LINE;
 #[derive(Drop)]
 pub struct Conversation<S: Tally, T: Tally, A: Allocator> {
     /// The number of its connection.
-    pub connection: u32,
+    pub(crate) connection: u32,
     /// The bytes that were read, and not taken into a line yet.
-    pub inlet: Inlet,
+    pub(crate) inlet: Inlet,
     /// The bytes of the line that is being heard.
-    pub line: Vec<u8, A>,
+    pub(crate) line: Vec<u8, A>,
     /// Whether the line is too long, so that some of its bytes are left out.
-    pub is_long: bool,
+    pub(crate) is_long: bool,
     /// The answers, in order.
-    pub answers: Answers<A>,
+    pub(crate) answers: Answers<A>,
     /// The session that it speaks for, or 0.
-    pub session: u32,
+    pub(crate) session: u32,
     /// What it counted.
-    pub share: Share<S, T>,
+    pub(crate) share: Share<S, T>,
     ghost room: { longest_line ≤ vec_capacity line },
 }
 

@@ -14,6 +14,7 @@ ghost use Rattle.vault_sessions.specs.Looking.{IsFor, IsLooked, CountsLooked};
 ghost use Rattle.vault_sessions.specs.Pumping.{IsPumped, IsAtRest};
 ghost use Rattle.vault_sessions.specs.Waiting.{IsQueued, IsStandingQueued};
 ghost use Rattle.vault_sessions.specs.declared.flusher.Flushed.TheVariants as Flushed;
+ghost use Rattle.vault_sessions.specs.declared.desk.Due.TheVariants as Due;
 
 use crate::cause::{Cause, NotStaged};
 use crate::flusher::Flushed;
@@ -232,6 +233,8 @@ impl<D: Device, S: Tally, T: Tally, A: Allocator + Copy> Desk<D, S, T, A> {
             × (share.new ≡ record share.old { staged = share.old.staged + 1 })) }
         ensures err { IfErr result (λ cause. (cause ≢ BadLine) × (share.new ≡ share.old)) }
         ensures reason { IfErr result (λ cause. IsReason self.old.vault cause) }
+        ensures open { self.new.closed ≡ self.old.closed }
+        ensures answered { IsAnswered self.old.vault self.new.vault }
     {
         let moves = may_move(&command);
         match self.stage(session, command, share) {
@@ -253,6 +256,8 @@ impl<D: Device, S: Tally, T: Tally, A: Allocator + Copy> Desk<D, S, T, A> {
         ensures looked { IsLooked self.old.vault ticket result }
         ensures of_ticket { IsFor ticket result }
         ensures counted { CountsLooked share.old result share.new }
+        ensures open { self.new.closed ≡ self.old.closed }
+        ensures answered { IsAnswered self.old.vault self.new.vault }
     {
         match self.redeem(ticket, share) {
             Redeemed::Told(receipt) => Looked::Told(receipt),
@@ -345,7 +350,9 @@ impl<D: Device, S: Tally, T: Tally, A: Allocator + Copy> Desk<D, S, T, A> {
         clock: &C,
         gathering: &mut Gathering,
         silence: &mut Silence,
-    ) -> Due {
+    ) -> Due
+        ensures nothing { result ≡ Due.Nothing → self.now.vault.view.broken ≡ false → IsAtRest self.now.vault.view }
+    {
         let snapshot = self.snapshot_in(clock, silence);
         if snapshot == Some(Duration::ZERO) {
             return Due::Snapshot;
@@ -361,7 +368,11 @@ impl<D: Device, S: Tally, T: Tally, A: Allocator + Copy> Desk<D, S, T, A> {
     }
 
     // Discards the oldest kept entry, as `retire`, for those who asked for room: they have as much as there is.
-    pub(crate) fn makes_room(&mut self) -> Retired {
+    pub(crate) fn makes_room(&mut self) -> Retired
+        ensures retired { IsRetired self.old.vault self.new.vault result }
+        ensures open { self.new.closed ≡ self.old.closed }
+        ensures answered { IsAnswered self.old.vault self.new.vault }
+    {
         self.pace.makes_room();
         self.retire()
     }

@@ -1,9 +1,9 @@
 //! One connection's conversation, from its first byte to its report: the code that serves is the code that is proved.
-ghost use Rattle.std.specs.Prelude.{◌≡◌, ◌≤◌, ◌↔◌, ℕ, Bool, true, false, List, Option, IfOk, IfErr, length};
+ghost use Rattle.std.specs.Prelude.{◌≡◌, ◌≤◌, ◌↔◌, ◌||◌, ℕ, Bool, true, false, List, Option, IfOk, IfErr, length};
 ghost use Rattle.line_inlet.specs.Inflow.{Inflow};
 ghost use Rattle.vault_sessions.specs.Serving.{most_lines, HeardAll, SpeaksFor, session_of, CountsAll, WritesAll, QuitsBy};
 ghost use Rattle.vault_sessions.specs.Talking.{Stands, StandsAt};
-ghost use Rattle.vault_sessions.specs.Dialogues.{IsDone, StandsIn, TalksOn, is_done, has_ended};
+ghost use Rattle.vault_sessions.specs.Dialogues.{IsDone, StandsIn, TalksOn, HasLeft, is_done, has_ended};
 ghost use Rattle.vault_sessions.specs.declared.report.Out.{Out};
 ghost use Rattle.vault_sessions.specs.declared.tally.Totals.{Totals};
 ghost use Rattle.vault_sessions.specs.declared.turn.Turn.TheVariants as turns;
@@ -144,7 +144,8 @@ impl<C: Connection, S: Tally, T: Tally, A: Allocator + Copy> Dialogue<C, S, T, A
     ) -> Step
         ensures began { self.new.began ≡ self.old.began }
         ensures over { (result ≡ steps.Over) ↔ (self.new.is_over ≡ true) }
-        ensures ended { result ≡ steps.Over → self.new.has_ended ≡ true }
+        ensures ended { self.new.has_ended ≡ (self.new.is_over || self.old.has_ended) }
+        ensures silent { self.old.has_ended ≡ true → (self.new.remaining ≡ self.old.remaining) × (self.new.contents ≡ self.old.contents) }
     {
         self.step_on(worker, false)
     }
@@ -158,7 +159,8 @@ impl<C: Connection, S: Tally, T: Tally, A: Allocator + Copy> Dialogue<C, S, T, A
     ) -> Step
         ensures began { self.new.began ≡ self.old.began }
         ensures over { (result ≡ steps.Over) ↔ (self.new.is_over ≡ true) }
-        ensures ended { result ≡ steps.Over → self.new.has_ended ≡ true }
+        ensures ended { self.new.has_ended ≡ (self.new.is_over || self.old.has_ended) }
+        ensures silent { self.old.has_ended ≡ true → (self.new.remaining ≡ self.old.remaining) × (self.new.contents ≡ self.old.contents) }
     {
         let next = mem::replace(&mut self.next, Next::Open);
         let (next, step) = advance(worker, waits, &mut self.talk, &mut self.connection, next);
@@ -170,6 +172,7 @@ impl<C: Connection, S: Tally, T: Tally, A: Allocator + Copy> Dialogue<C, S, T, A
     pub fn give_up<D: Device, G: Gate, H: Wait>(&mut self, worker: &Worker<'_, D, S, T, A, G, H>)
         ensures same { (self.new.began ≡ self.old.began) × (self.new.is_over ≡ self.old.is_over) }
         ensures ended { self.new.has_ended ≡ true }
+        ensures silent { (self.new.remaining ≡ self.old.remaining) × (self.new.contents ≡ self.old.contents) }
     {
         let next = mem::replace(&mut self.next, Next::Open);
         let next = give_up(worker, next);
@@ -240,6 +243,7 @@ impl<C: Connection, S: Tally, T: Tally, A: Allocator + Copy> Dialogue<C, S, T, A
         ensures written { WritesAll result.1.ended self.began.contents self.contents result.1.answers.outs }
         ensures quit { QuitsBy result.1.ended result.1.answers.outs }
         ensures counted { CountsAll self.began.counted result.1.answers.outs result.1.ended result.1.share }
+        ensures left { self.is_over ≡ true → HasLeft result.1.left (session_of 0 result.1.answers.outs) }
         ensures kept { result.1.answers.is_kept ≡ self.began.keeps }
     {
         let Dialogue {
@@ -249,7 +253,7 @@ impl<C: Connection, S: Tally, T: Tally, A: Allocator + Copy> Dialogue<C, S, T, A
             began: _,
             counted: _,
         } = self;
-        let ended = end(next);
+        let (ended, left) = end(next);
         let Conversation {
             connection: _,
             inlet: _,
@@ -265,6 +269,7 @@ impl<C: Connection, S: Tally, T: Tally, A: Allocator + Copy> Dialogue<C, S, T, A
                 answers,
                 share,
                 ended,
+                left,
             },
         )
     }
@@ -297,6 +302,9 @@ fn advance<D: Device, S: Tally, T: Tally, A: Allocator + Copy, G: Gate, H: Wait,
         → TalksOn result.0 reader_old (C.remaining connection.new) writer_old (C.contents connection.new) counts talk.new }
     ensures same { (C.names connection.new ≡ C.names connection.old) × (talk.new.answers.is_kept ≡ talk.old.answers.is_kept) }
     ensures over { (result.1 ≡ steps.Over) ↔ (is_done result.0 ≡ true) }
+    ensures ended { has_ended result.0 ≡ (is_done result.0 || has_ended next) }
+    ensures silent { has_ended next ≡ true
+        → (C.remaining connection.new ≡ C.remaining connection.old) × (C.contents connection.new ≡ C.contents connection.old) }
 {
     match next {
         Next::Takes(Turn::Hear) => hear(worker, talk, connection),
@@ -321,6 +329,7 @@ fn hear<D: Device, S: Tally, T: Tally, A: Allocator + Copy, G: Gate, H: Wait, C:
         → TalksOn result.0 reader_old (C.remaining connection.new) writer_old (C.contents connection.new) counts talk.new }
     ensures same { (C.names connection.new ≡ C.names connection.old) × (talk.new.answers.is_kept ≡ talk.old.answers.is_kept) }
     ensures over { (result.1 ≡ steps.Over) ↔ (is_done result.0 ≡ true) }
+    ensures ended { has_ended result.0 ≡ is_done result.0 }
 {
     match worker.hear(talk, connection) {
         Turn::Hear => (Next::Takes(Turn::Hear), Step::Dry),
@@ -340,6 +349,7 @@ fn stage_kept<D: Device, S: Tally, T: Tally, A: Allocator + Copy, G: Gate, H: Wa
         → TalksOn result.0 reader_old reader_new writer_old writer_new counts talk.new }
     ensures kept { talk.new.answers.is_kept ≡ talk.old.answers.is_kept }
     ensures over { (result.1 ≡ steps.Over) ↔ (is_done result.0 ≡ true) }
+    ensures ended { has_ended result.0 ≡ is_done result.0 }
 {
     match worker.stage_kept(talk, kept, waits) {
         Turn::Keep(kept) => (Next::Takes(Turn::Keep(kept)), Step::Waits),
@@ -359,6 +369,7 @@ fn settle<D: Device, S: Tally, T: Tally, A: Allocator + Copy, G: Gate, H: Wait>(
         → TalksOn result.0 reader_old reader_new writer_old writer_new counts talk.new }
     ensures kept { talk.new.answers.is_kept ≡ talk.old.answers.is_kept }
     ensures over { (result.1 ≡ steps.Over) ↔ (is_done result.0 ≡ true) }
+    ensures ended { has_ended result.0 ≡ is_done result.0 }
 {
     match worker.settle(talk, ticket, waits) {
         Turn::Wait(ticket) => (Next::Takes(Turn::Wait(ticket)), Step::Waits),
@@ -374,6 +385,7 @@ fn tell_on<A: Allocator, C: Connection>(connection: &mut C, telling: Telling<A>)
         → StandsIn result.0 reader_old (C.remaining connection.new) writer_old (C.contents connection.new) counts inflow kept is_long outs session share }
     ensures same { C.names connection.new ≡ C.names connection.old }
     ensures over { (result.1 ≡ steps.Over) ↔ (is_done result.0 ≡ true) }
+    ensures ended { has_ended result.0 ≡ is_done result.0 }
 {
     let (turn, _) = tell(connection, telling);
     match turn {
@@ -396,6 +408,7 @@ fn leave<D: Device, S: Tally, T: Tally, A: Allocator + Copy, G: Gate, H: Wait>(
         → TalksOn result.0 reader_old reader_new writer_old writer_new counts talk.new }
     ensures kept { talk.new.answers.is_kept ≡ talk.old.answers.is_kept }
     ensures over { (result.1 ≡ steps.Over) ↔ (is_done result.0 ≡ true) }
+    ensures ended { has_ended result.0 ≡ (is_done result.0 || is_given_up) }
 {
     if talk.session == 0 {
         return (Next::Done(ended, LastLeave::of_none()), Step::Over);
@@ -498,18 +511,22 @@ fn give_up<D: Device, S: Tally, T: Tally, A: Allocator + Copy, G: Gate, H: Wait>
     }
 }
 
-// How it ended.
-fn end<A: Allocator>(next: Next<A>) -> Ended
+// How it ended, and how it left its session.
+fn end<A: Allocator>(next: Next<A>) -> (Ended, Option<LastLeave>)
     requires { has_ended next ≡ true }
-    ensures { (reader_old reader_new writer_old writer_new : Option (List ℕ)) (counts : Totals) (inflow : Inflow) (kept : List ℕ) (is_long : Bool)
+    ensures done { (reader_old reader_new writer_old writer_new : Option (List ℕ)) (counts : Totals) (inflow : Inflow) (kept : List ℕ) (is_long : Bool)
         (outs : List (Out A)) (session : ℕ) (share : Totals)
         → StandsIn next reader_old reader_new writer_old writer_new counts inflow kept is_long outs session share
-        → IsDone {A = A} result reader_old reader_new writer_old writer_new counts outs session share }
+        → IsDone {A = A} result.0 reader_old reader_new writer_old writer_new counts outs session share }
+    ensures left { (reader_old reader_new writer_old writer_new : Option (List ℕ)) (counts : Totals) (inflow : Inflow) (kept : List ℕ) (is_long : Bool)
+        (outs : List (Out A)) (session : ℕ) (share : Totals)
+        → StandsIn next reader_old reader_new writer_old writer_new counts inflow kept is_long outs session share
+        → is_done next ≡ true → HasLeft result.1 (session_of 0 outs) }
 {
     match next {
         Next::Takes(_turn) => unreachable!(),
-        Next::GivenUp(ended) => ended,
-        Next::Done(ended, _) => ended,
-        Next::Open => Ended::Read,
+        Next::GivenUp(ended) => (ended, None),
+        Next::Done(ended, left) => (ended, Some(left)),
+        Next::Open => (Ended::Read, None),
     }
 }

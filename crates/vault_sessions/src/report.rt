@@ -2,6 +2,7 @@
 
 use crate::answers::Answers;
 use crate::cause::Cause;
+use crate::last_leave::LastLeave;
 use crate::tally::{Share, Tally};
 use group_commit::Receipt;
 use std::alloc::{Allocator, Global};
@@ -52,4 +53,6 @@ pub struct Finished<S: Tally, T: Tally, A: Allocator = Global> {
     pub share: Share<S, T>,
     /// Why it ended.
     pub ended: Ended,
+    /// How it left its session. None if it was given up before that.
+    pub left: Option<LastLeave>,
 }

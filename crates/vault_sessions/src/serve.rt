@@ -118,6 +118,7 @@ fn report_of<S: Tally, T: Tally, A: Allocator + Copy>(
         answers,
         share,
         ended,
+        left: _,
     } = finished;
     match answers.into_values() {
         Some(outs) => Report { outs, share, ended },
@@ -132,7 +133,7 @@ fn converse<D: Device, S: Tally, T: Tally, A: Allocator + Copy, G: Gate, H: Wait
     dialogue: &mut Dialogue<C, S, T, A>,
 )
     ensures began { dialogue.new.began ≡ dialogue.old.began }
-    ensures ended { dialogue.new.has_ended ≡ true }
+    ensures over { (dialogue.new.is_over ≡ true) × (dialogue.new.has_ended ≡ true) }
 {
     for _ in worker.rt.forever() {
         match dialogue.step_on(worker, true) {

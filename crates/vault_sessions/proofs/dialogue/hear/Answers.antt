@@ -9,4 +9,5 @@ returns-in_default g c = record {
   stands = λ r0 w0 s0 h. rw c.hear.ensures.same.0 (c.hear.ensures.stands r0 w0 _ s0 h);
   same = (c.hear.ensures.same.1, c.hear.ensures.kept);
   over = search rules;
+  ended = search rules;
 }

@@ -6,4 +6,5 @@ returns-in_default g c = record {
   stands = c.settle.ensures.stands;
   kept = c.settle.ensures.kept;
   over = search rules;
+  ended = search rules;
 }

@@ -6,4 +6,5 @@ returns-in_default g c = record {
   stands = c.stage_kept.ensures.stands;
   kept = c.stage_kept.ensures.kept;
   over = search rules;
+  ended = search rules;
 }

@@ -14,4 +14,5 @@ returns-in_default g c = record {
       rw c.tell-turn.ensures.same.0 (told_on c.args.telling c.tell-turn.result.0 r0 _ w0 _ _ s0 inflow kept is_long outs session share c.tell-turn.ensures.told h);
   same = c.tell-turn.ensures.same.1;
   over = search rules;
+  ended = search rules;
 }
