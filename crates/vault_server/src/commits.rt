@@ -17,7 +17,8 @@ pub(crate) struct CommitToken;
 /// One thread's part in committing.
 #[derive(Drop)]
 pub(crate) struct Committer<'a, D: Device, S: Tally, T: Tally, A: Allocator, G: Gate, H> {
-    flusher: Flusher<'a, D, S, T, A, G, H>,
+    /// What it commits by.
+    pub flusher: Flusher<'a, D, S, T, A, G, H>,
     token: &'a Mutex<CommitToken>,
     gathering: Gathering,
     silence: Silence,
@@ -102,11 +103,5 @@ impl<'a, D: Device, S: Tally, T: Tally, A: Allocator + Copy, G: Gate, H: Wait + 
         } else {
             CommitTry::InVain
         }
-    }
-
-    /// Lets the next commit wait for `coming` lines, too, beside the clients that this one answers: lines that came while it committed,
-    /// and aren't heard yet.
-    pub fn expect(&self, coming: u64) {
-        self.flusher.expects_more(coming);
     }
 }

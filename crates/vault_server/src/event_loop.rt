@@ -187,7 +187,7 @@ impl<D: Device, S: Tally, T: Tally, A: Allocator + Copy, G: Gate, H: Wait + Cloc
         tried: CommitTry,
     ) {
         if tried == CommitTry::Committed {
-            committer.expect(lines_of(slots));
+            committer.flusher.expects_more(lines_of(slots));
         }
         if tried.may_settle() {
             ring_others(self.bells, self.number);
@@ -246,10 +246,12 @@ impl<D: Device, S: Tally, T: Tally, A: Allocator + Copy, G: Gate, H: Wait + Cloc
         Some(first?.saturating_duration_since(self.now()?))
     }
 
-    // How long a silence ends a connection now, if somebody waits for a place and none is free. None: no connection is ended.
+    // How long a silence ends a connection now, if somebody waits for a place, and none is free or becomes so. None: no connection is
+    // ended.
     fn pressing_silence(&self, slots: &Vec<Slot<S, T, A>, A>) -> Option<Duration> {
         let silence = self.silence?;
-        if self.crowd.presses() && !slots.iter().any(|slot| slot.is_free()) {
+        let frees = |slot: &Slot<S, T, A>| slot.is_free() || slot.is_leaving();
+        if self.crowd.presses() && !slots.iter().any(frees) {
             Some(silence)
         } else {
             None

@@ -1,5 +1,6 @@
 //! A place for one connection at a time, among those that a thread serves.
 ghost use Rattle.std.specs.Prelude.{◌≡◌, true};
+ghost use Rattle.vault_server.specs.declared.slot.Slot.TheVariants as slots;
 
 use crate::server::Connection;
 use crate::stream::{Drain, Drained, Wire};
@@ -134,22 +135,28 @@ impl<S: Tally, T: Tally, A: Allocator + Copy> Slot<S, T, A> {
                 other
             }
         };
-        self.put(worker, served);
+        self.put_back(served);
     }
 
-    // Puts in what it holds from now on.
-    fn put<D: Device, G: Gate, H: Wait>(
-        &mut self,
-        worker: &Worker<'_, D, S, T, A, G, H>,
-        slot: Slot<S, T, A>,
-    ) {
-        let _ = mem::replace(self, slot).into_share(worker);
+    // Puts back what it holds from now on.
+    fn put_back(&mut self, slot: Slot<S, T, A>)
+        requires { self.old ≡ slots.Open }
+        ensures { self.new ≡ slot }
+    {
+        match mem::replace(self, slot) {
+            Slot::Open => {}
+            Slot::Free(_share) => unreachable!(),
+            Slot::Served(_served) => unreachable!(),
+            Slot::Drained(_drain, _share) => unreachable!(),
+        }
     }
 
-    /// The kernel has news of its connection, and says whether its client sends no more.
+    /// The kernel has news of its connection, and says whether its client sends no more. That is nothing to a connection that waits for
+    /// the server alone: it is looked at in a step that comes after.
     pub fn wake(&mut self, is_ending: bool) {
+        let is_outside = self.is_outside();
         if let Slot::Served(served) = self {
-            served.is_ready = true;
+            served.is_ready = served.is_ready || is_outside;
             served.is_ending = served.is_ending || is_ending;
             served.dialogue.wake(is_ending);
         }
@@ -180,6 +187,14 @@ impl<S: Tally, T: Tally, A: Allocator + Copy> Slot<S, T, A> {
         if let Slot::Served(served) = self {
             let awaits = served.dialogue.awaits();
             served.is_ready = served.is_ready || matches!(awaits, Awaits::Reply | Awaits::Leave);
+        }
+    }
+
+    /// Whether its connection was ended, and still waits for room for a last leave.
+    pub fn is_leaving(&self) -> bool {
+        match self {
+            Slot::Served(served) => served.dialogue.awaits() == Awaits::Leave,
+            Slot::Free(_) | Slot::Drained(_, _) | Slot::Open => false,
         }
     }
 
@@ -240,7 +255,7 @@ impl<S: Tally, T: Tally, A: Allocator + Copy> Slot<S, T, A> {
             },
         };
         if progress == Progress::Over {
-            self.end(worker, now)
+            self.end(now)
         } else {
             progress
         }
@@ -249,13 +264,9 @@ impl<S: Tally, T: Tally, A: Allocator + Copy> Slot<S, T, A> {
     // Goes on with a connection that is over. It is a function of its own, since it takes room on the stack for a whole slot.
     #[cold]
     #[inline(never)]
-    fn end<D: Device, G: Gate, H: Wait>(
-        &mut self,
-        worker: &Worker<'_, D, S, T, A, G, H>,
-        now: Option<Instant>,
-    ) -> Progress {
+    fn end(&mut self, now: Option<Instant>) -> Progress {
         let left = mem::replace(self, Slot::Open).over(now);
-        self.put(worker, left);
+        self.put_back(left);
         if self.is_free() {
             Progress::Over
         } else {
@@ -461,6 +472,7 @@ fn parts_of<S: Tally, T: Tally, A: Allocator + Copy>(
         answers,
         share,
         ended,
+        left: _,
     } = finished;
     drop(answers);
     (wire, share, ended)
