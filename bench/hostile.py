@@ -1,10 +1,11 @@
 #!/usr/bin/env python3
 """How an honest client fares beside eight clients that do their worst.
 
-The honest client asks `list /` over and over, each line once the one before it was answered, and connects anew after 4,000 lines. Its
-wait for the first reply of a connection includes connecting. The eight others are threads of two further processes. With --assert the
-exit status is 1 if it got fewer than 1,000 answers a second, or waited for one longer than 50 ms; this holds on four cores that do
-nothing else. Beside other load the figures are a hint, and the line above the table says how much load there was.
+The honest client says `hello`, and then asks `list /` over and over, each line once the one before it was answered, and connects anew after
+4,000 lines. Its wait for the first reply of a connection includes connecting. Then it makes changes in the same way: it checks a place out
+for change, and abandons that. The eight others are threads of two further processes. With --assert the exit status is 1 if it got fewer than 1,000
+answers a second, or waited for one longer than 50 ms; this holds on four cores that do nothing else. Beside other load the figures are a hint,
+and the line above the table says how much load there was.
 
 With --places clients take all 64 places, say nothing, or a byte now and then, or `hello` and then nothing, and come again as soon as the
 server ends them. Then a designer comes, who tries again with growing pauses. The server has the time limits of the units. The figure is
@@ -111,12 +112,15 @@ def dripping(port: int, over: Event) -> int:
 
 
 def deaf(port: int, over: Event) -> int:
-    """Asks for long replies, and reads none of them."""
-    asked = b"list /long\n" * LINES
+    """Asks for long replies, and reads none of them: they are more than the kernel holds for it."""
+    asked = b"list /long\n" * (LINES - 1)
     sent = 0
     with socket.socket() as link:
         link.setsockopt(socket.SOL_SOCKET, socket.SO_RCVBUF, 4096)
         link.connect(("127.0.0.1", port))
+        link.sendall(b"hello ben\n")
+        if not link.recv(4096).startswith(b"OK session"):
+            raise OSError("no session")
         link.setblocking(False)
         until = time.monotonic() + 2
         while time.monotonic() < until and not over.is_set():
@@ -173,6 +177,15 @@ def act_all(row: Row, port: int, over: Event, count: "Synchronized[int]") -> Non
     over.wait()
 
 
+def answered(link: socket.socket, line: bytes) -> bytes:
+    """The reply to a line of an honest client, which is never refused."""
+    link.sendall(line + b"\n")
+    told = link.recv(4096)
+    if not told.startswith(b"OK"):
+        raise SystemExit(f"the honest client was told {told!r} to {line!r}")
+    return told
+
+
 def asked(port: int, seconds: float) -> Waits:
     """Asks as an honest client for this long."""
     waits: list[float] = []
@@ -180,14 +193,30 @@ def asked(port: int, seconds: float) -> Waits:
     while time.monotonic() < begin + seconds:
         asked_at = time.monotonic()
         with linked(port) as link:
-            for _ in range(HONEST_LINES):
-                link.sendall(b"list /\n")
-                told = link.recv(4096)
-                if not told.startswith(b"OK list") and not told.startswith(b"ERR 11"):
-                    raise SystemExit(f"the honest client was told {told!r}")
+            for line in [b"hello anna", *[b"list /"] * HONEST_LINES]:
+                answered(link, line)
                 now = time.monotonic()
                 waits.append(now - asked_at)
                 asked_at = now
+                if now > begin + seconds:
+                    break
+    return Waits(len(waits) / (time.monotonic() - begin), sorted(waits))
+
+
+def changed(port: int, seconds: float) -> Waits:
+    """Makes changes as an honest client for this long: each is committed to the disk before it is answered."""
+    waits: list[float] = []
+    begin = time.monotonic()
+    while time.monotonic() < begin + seconds:
+        with linked(port) as link:
+            answered(link, b"hello anna")
+            for _ in range(HONEST_LINES // 2):
+                asked_at = time.monotonic()
+                claim = answered(link, b"checkout w:/honest").split()[2]
+                held_at = time.monotonic()
+                answered(link, b"abandon " + claim)
+                now = time.monotonic()
+                waits += [held_at - asked_at, now - held_at]
                 if now > begin + seconds:
                     break
     return Waits(len(waits) / (time.monotonic() - begin), sorted(waits))
@@ -197,7 +226,7 @@ def fill(port: int) -> None:
     """Makes the places whose list is long."""
     names = [f"/long/{number:02}{'x' * 30}" for number in range(64)]
     with linked(port) as link, link.makefile("rb") as back:
-        for line in ["hello anna", "make /long", *(f"make {name}" for name in names), "quit"]:
+        for line in ["hello anna", "make /honest", "make /long", *(f"make {name}" for name in names), "quit"]:
             link.sendall(line.encode() + b"\n")
             reply = back.readline()
             if not reply.startswith(b"OK"):
@@ -224,8 +253,8 @@ def served(program: str, folder: str, port: int, *further: str) -> Iterator[None
             server.kill()
 
 
-def measured(row: Row, port: int, seconds: float) -> tuple[Waits, float]:
-    """The honest client beside eight of a row, and how much these did in a second."""
+def measured(row: Row, port: int, seconds: float) -> tuple[Waits, Waits, float]:
+    """What the honest client got for its questions and for its changes beside eight of a row, and how much these did in a second."""
     over = multiprocessing.Event()
     count: "Synchronized[int]" = multiprocessing.Value("q", 0)  # type: ignore[assignment]
     processes = [multiprocessing.Process(target=act_all, args=(row, port, over, count)) for _ in range(PROCESSES if row.does else 0)]
@@ -236,12 +265,13 @@ def measured(row: Row, port: int, seconds: float) -> tuple[Waits, float]:
         before, begin = count.value, time.monotonic()
         waits = asked(port, seconds)
         done = (count.value - before) / (time.monotonic() - begin)
+        changes = changed(port, seconds / 2)
     finally:
         over.set()
         for process in processes:
             process.join(5)
             process.kill()
-    return waits, done
+    return waits, changes, done
 
 
 @dataclass(frozen=True)
@@ -354,13 +384,15 @@ def answers(program: str, folder: str, options: argparse.Namespace) -> list[str]
             if row.name not in options.rows.split(","):
                 continue
             with served(program, folder, options.port, "--threads", str(options.threads)):
-                waits, done = measured(row, options.port, seconds)
+                waits, changes, done = measured(row, options.port, seconds)
             if not is_met(waits):
                 short.append(row.name)
             yield (row.what, f"{waits.rate:,.0f}", f"{statistics.median(waits.waits) * 1000:.2f} and {waits.late * 1000:.1f} ms",
-                   f"{waits.waits[-1] * 1000:.1f} ms", f"{done:,.0f} {row.counted}".strip() if row.does else "")
+                   f"{waits.waits[-1] * 1000:.1f} ms", f"{statistics.median(changes.waits) * 1000:.2f} and {changes.waits[-1] * 1000:.1f} ms",
+                   f"{done:,.0f} {row.counted}".strip() if row.does else "")
 
-    table((f"Beside {HOSTILE} clients, each", "Answers a second", "Median and 99th percentile of a wait", "Longest", "All did, a second"), rows())
+    table((f"Beside {HOSTILE} clients, each", "Answers a second", "Median and 99th percentile of a wait", "Longest", "A change: median, longest",
+           "All did, a second"), rows())
     return short
 
 

@@ -37,15 +37,27 @@ const LONGEST_WAIT: u64 = 30;
 // How often the hostile ones are heard before it says anything.
 const BEGUN: u64 = 64;
 
-// What it says, and what it hears.
-const SAID: &[u8] = b"hello anna\nmake /e\nlist /\nquit\n";
+// What it says, and the last two lines that it hears. The numbers in those before depend on who else comes.
+const SAID: &[u8] = b"hello anna\nmake /e\nlist /e\nquit\n";
 
-const TOLD: &str = "OK session 1\nOK place 1\nOK list 1 e\nOK left\n";
+const TOLD: &str = "OK list 0\nOK left\n";
+
+// What makes a list of 540 bytes. 4,000 of them are more than the kernel holds for a client that reads none.
+const LONG: &[u8] = b"hello ben\nmake /h\n\
+make /h/aaaaaaaaaaaaaaaaaaaaaaaaaaaaaaa1\nmake /h/aaaaaaaaaaaaaaaaaaaaaaaaaaaaaaa2\n\
+make /h/aaaaaaaaaaaaaaaaaaaaaaaaaaaaaaa3\nmake /h/aaaaaaaaaaaaaaaaaaaaaaaaaaaaaaa4\n\
+make /h/aaaaaaaaaaaaaaaaaaaaaaaaaaaaaaa5\nmake /h/aaaaaaaaaaaaaaaaaaaaaaaaaaaaaaa6\n\
+make /h/aaaaaaaaaaaaaaaaaaaaaaaaaaaaaaa7\nmake /h/aaaaaaaaaaaaaaaaaaaaaaaaaaaaaaa8\n\
+make /h/bbbbbbbbbbbbbbbbbbbbbbbbbbbbbbb1\nmake /h/bbbbbbbbbbbbbbbbbbbbbbbbbbbbbbb2\n\
+make /h/bbbbbbbbbbbbbbbbbbbbbbbbbbbbbbb3\nmake /h/bbbbbbbbbbbbbbbbbbbbbbbbbbbbbbb4\n\
+make /h/bbbbbbbbbbbbbbbbbbbbbbbbbbbbbbb5\nmake /h/bbbbbbbbbbbbbbbbbbbbbbbbbbbbbbb6\n\
+make /h/bbbbbbbbbbbbbbbbbbbbbbbbbbbbbbb7\nmake /h/bbbbbbbbbbbbbbbbbbbbbbbbbbbbbbb8\n";
 
 // What a hostile client does over and over, until the honest one got its answers.
 struct Hostility {
     name: &'static str,
-    // It sends these bytes, this often, in writes of at most this many bytes.
+    // It sends the first bytes once, and then these, this often, in writes of at most this many bytes. If it sends none, it closes.
+    first: &'static [u8],
     says: &'static [u8],
     times: usize,
     most: usize,
@@ -58,6 +70,7 @@ const X: &[u8] = &[b'x'; 4096];
 static ROWS: [Hostility; 6] = [
     Hostility {
         name: "lines that are refused without end, and connecting again",
+        first: b"",
         says: b"\n",
         times: 4097,
         most: 4097,
@@ -65,6 +78,7 @@ static ROWS: [Hostility; 6] = [
     },
     Hostility {
         name: "connecting and closing",
+        first: b"",
         says: b"",
         times: 0,
         most: 0,
@@ -72,6 +86,7 @@ static ROWS: [Hostility; 6] = [
     },
     Hostility {
         name: "16 MiB without a line feed",
+        first: b"",
         says: X,
         times: 4097,
         most: 4096,
@@ -79,6 +94,7 @@ static ROWS: [Hostility; 6] = [
     },
     Hostility {
         name: "a byte at a time",
+        first: b"",
         says: b"foo\n",
         times: 4096,
         most: 1,
@@ -86,13 +102,15 @@ static ROWS: [Hostility; 6] = [
     },
     Hostility {
         name: "reading no reply",
-        says: b"list /\n",
-        times: 4097,
-        most: 28_679,
+        first: LONG,
+        says: b"list /h\n",
+        times: 4000,
+        most: 32_768,
         reads: false,
     },
     Hostility {
         name: "4,096 lines in one packet, and one more",
+        first: b"",
         says: b"list /\n",
         times: 4097,
         most: 28_679,
@@ -181,7 +199,7 @@ fn act(stream: &mut TcpStream, row: &Hostility, said: &[u8], is_over: &AtomicBoo
                 Err(error) if error.kind() == ErrorKind::WouldBlock => {}
                 Err(_) => return,
             }
-        } else if !row.reads {
+        } else if said.is_empty() {
             return;
         }
         thread::yield_now();
@@ -197,6 +215,7 @@ fn be_hostile<R: Net<Listener = TcpListener, Stream = TcpStream> + Wait + Abort>
     is_over: &AtomicBool,
 ) {
     let mut said = Vec::new(global);
+    said.extend_from_slice(row.first).expect(rt, "memory");
     for _ in 0..row.times {
         said.extend_from_slice(row.says).expect(rt, "memory");
     }
@@ -214,7 +233,7 @@ fn be_hostile<R: Net<Listener = TcpListener, Stream = TcpStream> + Wait + Abort>
     drop(said);
 }
 
-// What an honest client hears beside them, to its end. Nothing, if it heard nothing for too long.
+// What an honest client hears beside them, to its end, from its list on. Nothing, if it heard nothing for too long.
 fn ask(rt: &impl Abort, global: Global, honest: TcpStream, gate: &Counting) -> String {
     let mut stream = honest;
     let wait = Some(Duration::from_secs(LONGEST_WAIT));
@@ -326,7 +345,7 @@ fn a_client_is_told_all_beside_others_that_go_on_until_then(rt: HostRuntime) {
         );
         drop(gate);
         assert_eq!(&rt; ended, Some(ServerError::Accept), "{}", row.name);
-        assert_eq!(&rt; heard.as_str(), TOLD, "{}", row.name);
+        assert!(&rt; heard.as_str().ends_with(TOLD), "{}", row.name);
         drop(heard);
         assert_eq!(&rt; told, 4, "{}", row.name);
         assert!(&rt; most <= MAX_HEARD, "{}: {most}", row.name);
