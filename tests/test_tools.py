@@ -398,7 +398,7 @@ class Gate(unittest.TestCase):
         for name in self.PARTS:
             self.write(name, self.PASSED)
         self.write("vaultd", "exit")
-        self.write("rt", "echo 'rt: vaultd proved'", "sleep 2", self.PASSED)
+        self.write("rt", "echo 'rt: vault_server proved'", "sleep 2", self.PASSED)
         shutil.copy(os.path.join(TOP, "tools", "gate"), self.folder / "tools" / "gate")
 
     def write(self, name: str, *lines: str) -> None:
@@ -436,7 +436,7 @@ class Gate(unittest.TestCase):
 
     def test_one_that_breaks_off(self) -> None:
         """A part without a count is a failure."""
-        self.write("rt", "echo 'rt: vaultd proved'", "kill -KILL $$")
+        self.write("rt", "echo 'rt: vault_server proved'", "kill -KILL $$")
         status, lines = self.ended()
         self.assertIn("ci: rt ci did not end in its time, or broke off", lines)
         self.assertEqual(status, 137)
