@@ -3,7 +3,7 @@
 
 The gate runs as sshd starts it, on one socket, with a file and a socket as its logs; ssh itself has no part in the figures.
 
-usage, at the top of the repository:  python3 bench/gate.py [--program PROGRAM] [--folder FOLDER] [--runs N] [--tiny]
+usage, at the top of the repository:  python3 bench/gate.py [--program PROGRAM] [--folder FOLDER] [--port P] [--runs N] [--tiny]
 """
 import re
 import socket
@@ -20,7 +20,6 @@ from measure import arguments, head, prepared, sized, table
 
 TOP = Path(__file__).resolve().parent.parent
 START = f"import sys; sys.path.insert(0, {str(TOP / 'python' / 'vaultd_tools' / 'src')!r}); from vaultd_tools.gate import main; sys.exit(main())"
-PORT = 17070
 LINES = {"a question, `list /`": b"list /\n", "a change that is refused, `make /a`": b"make /a\n"}
 
 
@@ -36,24 +35,25 @@ def waits(connection: socket.socket, line: bytes, count: int) -> List[float]:
     return found[2:]
 
 
-def direct(line: bytes, count: int) -> List[float]:
+def direct(port: int, line: bytes, count: int) -> List[float]:
     """The waits at the server itself."""
-    connection = socket.create_connection(("127.0.0.1", PORT))
+    connection = socket.create_connection(("127.0.0.1", port))
     connection.setsockopt(socket.IPPROTO_TCP, socket.TCP_NODELAY, 1)
     return waits(connection, line, count)
 
 
-def through(folder: str, line: bytes, count: int) -> Tuple[List[float], int, int]:
+def through(port: int, folder: str, line: bytes, count: int) -> Tuple[List[float], int, int]:
     """The waits through a gate, with its resident memory in kilobytes, and how much of that is its own."""
     ours, theirs = socket.socketpair()
-    words = ["--as", "anna", "--server", f"127.0.0.1:{PORT}", "--log", folder + "/log", "--syslog", folder + "/syslog"]
+    words = ["--as", "anna", "--server", f"127.0.0.1:{port}", "--log", folder + "/log", "--syslog", folder + "/syslog"]
     gate = subprocess.Popen(["/usr/bin/python3", "-I", "-c", START, *words], stdin=theirs.fileno(), stdout=theirs.fileno())
     theirs.close()
     with ours.dup():                 # so that the gate is still there when it is looked at
         took = waits(ours, line, count)
         status = Path(f"/proc/{gate.pid}/status").read_text("ascii")
     found = re.findall(r"^(?:VmHWM|RssAnon):\s+(\d+) kB", status, re.MULTILINE)
-    gate.wait()
+    if gate.wait() != 0:
+        raise SystemExit("gate: the gate ended with a fault")
     return took, int(found[0]), int(found[1])
 
 
@@ -64,6 +64,7 @@ def shown(seconds: List[float]) -> List[str]:
 
 def main() -> int:
     parser = arguments("What the ssh gate adds to a command, and its memory.")
+    parser.add_argument("--port", type=int, default=7272)
     parser.add_argument("--runs", type=int, default=5)
     options = parser.parse_args()
     program, folder = prepared(options)
@@ -73,20 +74,23 @@ def main() -> int:
         threading.Thread(target=lambda: [syslog.recv(65536) for _ in iter(int, 1)], daemon=True).start()
         files = [work + "/a", work + "/b"]
         subprocess.run([program, "create", *files], check=True, stdout=subprocess.DEVNULL)
-        server = subprocess.Popen([program, "serve", *files, f"127.0.0.1:{PORT}"], stdout=subprocess.PIPE)
+        server = subprocess.Popen([program, "serve", *files, f"127.0.0.1:{options.port}"], stdout=subprocess.PIPE)
         assert server.stdout is not None
-        server.stdout.readline()
-        head(program, f"{options.runs} times {count:,} commands, the server and the gate by turns")
-        for name, line in LINES.items():
-            alone: List[float] = []
-            gated: List[float] = []
-            for _ in range(options.runs):
-                alone += direct(line, count)
-                took, resident, own = through(work, line, count)
-                gated += took
-            rows.append([name, *shown(alone), *shown(gated), f"{resident / 1000:.1f} MB, {own / 1000:.1f} MB of it its own"])
-        server.kill()
-        server.wait()
+        try:
+            if server.stdout.readline() != b"listening\n":
+                raise SystemExit("gate: the server doesn't listen: is the port free?")
+            head(program, f"{options.runs} times {count:,} commands, the server and the gate by turns")
+            for name, line in LINES.items():
+                alone: List[float] = []
+                gated: List[float] = []
+                for _ in range(options.runs):
+                    alone += direct(options.port, line, count)
+                    took, resident, own = through(options.port, work, line, count)
+                    gated += took
+                rows.append([name, *shown(alone), *shown(gated), f"{resident / 1000:.1f} MB, {own / 1000:.1f} MB of it its own"])
+        finally:
+            server.kill()
+            server.wait()
     table(["A command", "Server: median, µs", "99th of 100", "Gate: median, µs", "99th of 100", "The gate's memory"], rows)
     return 0
 

@@ -156,7 +156,7 @@ def told_lines(sent: bytes) -> Sequence[bytes]:
 
 def soon(seconds: float = 1.0) -> float:
     """How soon something must be there: within a second; on a machine with more to do than it has processors for, in proportion later."""
-    return seconds * max(1.0, os.getloadavg()[0] / (os.cpu_count() or 1))
+    return seconds * max(1.0, os.getloadavg()[0] / len(os.sched_getaffinity(0)))
 
 
 def until(holds: Callable[[], bool], seconds: float) -> float:

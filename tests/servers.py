@@ -6,6 +6,7 @@ import itertools
 import os
 import resource
 import select
+import shutil
 import signal
 import socket
 import subprocess
@@ -20,8 +21,8 @@ from typing import Callable, Dict, Iterator, List, Optional, Sequence, Tuple
 
 TOP = Path(__file__).resolve().parent.parent
 VAULTD = os.path.abspath(os.environ.get("VAULTD") or str(TOP / "crates" / "vaultd" / "out" / "vaultd"))
-# A folder in memory, where syncs take no time, for tests that don't depend on syncs.
-MEMORY = "/dev/shm" if os.access("/dev/shm", os.W_OK) else None
+# A folder in memory, where syncs take no time, for tests that don't depend on syncs; a container's is often too small for them.
+MEMORY = "/dev/shm" if os.access("/dev/shm", os.W_OK) and shutil.disk_usage("/dev/shm").free > 1 << 30 else None
 PIDFD_GETFD = 438
 # How many of the module's own ports were tried.
 TAKEN = itertools.count()

@@ -153,7 +153,7 @@ class Times(Border):
             self.assertEqual(self.said(greeted, b"hello anna"), b"OK session 1\n")
             until = time.monotonic() + 6
             while time.monotonic() < until and self.said(link, b"list /"):
-                pass
+                time.sleep(0.05)          # without it 4,096 lines would end the connection
             self.assertLess(time.monotonic(), until)
             self.assertEqual(self.said(greeted, b"list /"), b"OK list 0\n")
 

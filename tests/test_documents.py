@@ -195,7 +195,7 @@ class Pages(unittest.TestCase):
                     for clause in re.findall(r"`(\w+)`", of_them):
                         seen += 1
                         with self.subTest(function=function, clause=clause):
-                            self.assertIn(clause, clauses.get(function, {clause}))
+                            self.assertIn(clause, clauses.get(function, {clause} if function[:1].isupper() else set()))
         self.assertGreater(seen, 60)
 
     def test_definitions_are_in_their_modules(self) -> None:
@@ -240,6 +240,7 @@ class Pages(unittest.TestCase):
         print(f"options of {seen} calls", file=sys.stderr)
         self.assertGreater(seen, 20)
 
+    @unittest.skipIf(shutil.which("rt") is None, "the kit isn't here, and pages name its options, too")
     def test_options_that_stand_alone(self) -> None:
         """An option in a span without its program is one of some program of this tree, or of the kit."""
         tools = [str(path.relative_to(TOP)) for folder in ("tools", "bench", "tests/by_hand", "contrib") for path in (TOP / folder).rglob("*")

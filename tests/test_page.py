@@ -29,7 +29,7 @@ from vaultd_tools.page_wire import QUESTIONS
 PART = "/engine/block/piston"
 CARD = Card("ab" * 32, 48_000_000, "Kolben <b>80</b>.SLDPRT", "anna", "2026-11-20T08:15:00Z", "bore & \u202e80")
 KINDS = ("/", "/engine", "/engine/block", PART, "/designers", "/designers/anna", "/designers/nobody-yet", "/.search", "/.search?q=piston")
-RENEWAL_SECONDS = 25
+RENEWAL_SECONDS = 60
 FROM_ELSEWHERE = r'(?:src|href|action)="(?!/|#)[^"]*"|="//|<style|<script>| style=| on[a-z]+='
 
 

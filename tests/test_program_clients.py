@@ -234,7 +234,7 @@ class Stops(Tries):
             client.sendall(b"hello anna\nmake /e\nmake /e/b\nmake /e/b/p\ncheckout w:/e\n" + b"save c1 /e/b/p 00\n" * 1500)
             got = b""
             while got.count(b"\n") < 1505:
-                got += client.recv(4096)
+                got += client.recv(512)
                 if copies < got.count(b"\n") // 100:
                     copies += 1
                     lay(**{f"{path}{copies}": content_of(path) for path in ("a", "b")})

@@ -191,10 +191,10 @@ class NoStore(WithStore):
             ben.setting.confirm("file:///srv/other")
         ben.setting.confirm(self.address())
         ben.write_new(ben.get(PART), self.root / "back")
-        self.name(b"file:///tmp/evil\n")
+        self.name(f"file://{self.root}/evil\n".encode())
         with self.assertRaises(Refused):
             Parts(ben.client).put(PART, self.file, claim)
-        self.assertFalse(Path("/tmp/evil").exists())
+        self.assertFalse((self.root / "evil").exists())
 
     def test_no_address(self) -> None:
         """What is no address is never followed, whatever was confirmed."""

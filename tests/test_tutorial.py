@@ -27,7 +27,7 @@ class Shell:
     def __init__(self, folder: Path, programs: Path):
         folder.mkdir(exist_ok=True)
         environment = {**os.environ, "PATH": f"{programs}:{os.environ['PATH']}", "XDG_STATE_HOME": str(folder / "state"),
-                       "XDG_CACHE_HOME": str(folder / "cache")}
+                       "XDG_CACHE_HOME": str(folder / "cache"), "LC_ALL": "C.UTF-8"}
         environment.pop("VAULT_AS", None)
         self.process = subprocess.Popen(["bash", "--norc"], cwd=folder, env=environment, stdin=subprocess.PIPE,
                                         stdout=subprocess.PIPE, stderr=subprocess.STDOUT, text=True, bufsize=1)

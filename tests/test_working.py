@@ -111,13 +111,12 @@ class Get(WithFolder):
 
     def test_nothing_changed(self) -> None:
         """A second get asks only for counts, and reads no file."""
-        time.sleep(0.1)
-        self.got()
+        # Nothing has read the files yet: with relatime only the first reading shows.
+        began = {path: path.stat().st_atime_ns for path in self.work.rglob("*.SLDPRT")}
         self.cutter.lines.clear()
-        began = {name: os.stat(self.work / name).st_atime_ns for name in self.files()}
         done = self.got()
         self.assertEqual((done.files, done.left, self.sent(b"fetch")), ([], [], 0))
-        self.assertEqual({name: os.stat(self.work / name).st_atime_ns for name in began}, began)
+        self.assertEqual({path: path.stat().st_atime_ns for path in began}, began)
 
     def test_newer_and_missing(self) -> None:
         (self.work / "Pleuel.SLDPRT").unlink()
@@ -142,6 +141,7 @@ class Get(WithFolder):
         """A file of as many bytes and the same time is looked into, since it shows when that time was set."""
         path = self.work / NAME
         seen = path.stat()
+        time.sleep(0.02)          # longer than a tick, by which some systems set that time
         path.write_bytes(b"BORE 80" * 1000)
         os.utime(path, ns=(seen.st_atime_ns, seen.st_mtime_ns))
         self.assertTrue(self.states()[NAME].changed)
