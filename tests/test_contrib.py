@@ -4,6 +4,7 @@ import contextlib
 import io
 import os
 import re
+import shlex
 import shutil
 import subprocess
 import sys
@@ -13,6 +14,7 @@ from pathlib import Path
 from typing import List
 
 from servers import MEMORY, TOP, VAULTD, Limits, Server
+from tries import told
 
 sys.path.insert(0, str(TOP / "bench"))
 
@@ -84,6 +86,11 @@ class Contrib(unittest.TestCase):
         server.start()
         for _ in range(2):
             self.said(serves, address)
+        with server.connect() as cut_off, server.connect() as anna:
+            told(cut_off, b"hello monitor\n" + 3 * b"checkout r:/monitor\n" + b"checkout w:/\n", 5)
+            told(anna, b"hello anna\ncheckout r:/monitor\nhold r:/monitor\n", 3)
+            self.said(serves, address)
+            self.assertEqual(told(anna, b"claims /monitor\n", 1), b"OK claims 3 c6 c7 h1\n")
         self.assertEqual(self.said(settle, *server.files, status=1), "vault in use\n")
         server.kill()
         before = [Path(file).read_bytes() for file in server.files]
@@ -168,6 +175,19 @@ class Contrib(unittest.TestCase):
         for name in ("vaultd.service", "vaultd@.service"):
             start = re.findall(r"^ExecStart=(.*)$", (CONTRIB / "systemd" / name).read_text("utf-8"), re.MULTILINE)
             self.assertEqual([line.split()[-1] for line in start], ["--verbose"])
+
+    @unittest.skipUnless(os.getuid() == 0, "needs root, for owners of folders")
+    def test_folder_of_backups(self) -> None:
+        """The unit makes the folder where it is missing, and leaves one that is there as it is."""
+        unit = (CONTRIB / "systemd" / "vaultd-backup.service").read_text("utf-8")
+        line = re.findall(r"^ExecStartPre=\+(.*)$", unit, re.MULTILINE)[0].replace("$$", "$").replace("-o vaultd -g vaultd", "-o nobody -g nogroup")
+        new, there = self.root / "new folder", self.root / "there"
+        there.mkdir(mode=0o1777, parents=True)
+        there.chmod(0o1777)
+        for folder in (new, there):
+            words = shlex.split(line.replace("${VAULTD_BACKUPS}", shlex.quote(str(folder))))
+            subprocess.run(words, check=True, timeout=60, env={**os.environ, "VAULTD_BACKUPS": str(folder)})
+        self.assertEqual([(folder.owner(), folder.stat().st_mode & 0o7777) for folder in (new, there)], [("nobody", 0o750), ("root", 0o1777)])
 
     def test_manual(self) -> None:
         """No page has a warning, and each names every command and option of its program."""

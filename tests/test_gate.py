@@ -15,7 +15,7 @@ from pathlib import Path
 from typing import Any, Dict, List, Tuple
 
 from doors import Door
-from servers import MEMORY, TOP, VAULTD, Cutter, Limits, Server
+from servers import MEMORY, TOP, VAULTD, Cutter, Limits, Server, program
 from tries import heard, told
 
 from vaultd_tools.gate_keys import complaints_of
@@ -273,6 +273,19 @@ class Logged(WithDoor):
         for line in lines:
             self.assertIn(f" vault=127.0.0.1:{self.recorder.port} from=127.0.0.1 key={self.door.keys['anna']} by=anna as=anna ", line)
 
+    def test_many_refusals(self) -> None:
+        """Of many refusals in a conversation the log has the first, each cut short, and one line for all others."""
+        line = b"checkout" + 400 * b" r:/engine" + b"\n"
+        said = self.conversation("guest", b"hello guest\nmake /x\n" + 40 * line + b"list /\nquit\n")
+        self.assertEqual(said, ["OK session", *41 * ["ERR 31"], "OK list 1 engine", "OK left"])
+        logged = self.door.logged()
+        self.assertEqual(len(logged), 17)
+        self.assertLess(max(map(len, logged)), 600)
+        self.assertTrue(logged[0].endswith(" refused make /x -> ERR 31"), logged[0])
+        self.assertRegex(logged[1], r" refused checkout( r:/engine){24} r:/engi\.\. -> ERR 31$")
+        self.assertTrue(logged[16].endswith(" refused further lines -> ERR 31"), logged[16])
+        self.assertEqual(self.asked("/"), [])
+
     def test_client_killed(self) -> None:
         """A client that is killed while its change is under way: the log says what became of it, and the session ends."""
         process = self.door.ssh("anna")
@@ -321,18 +334,32 @@ class Logged(WithDoor):
         """For each line of the log, `vaultd-log` says who took, gave away, abandoned or checked in a place."""
         self.conversation("anna", b"hello anna\nmake /a\ncheckout w:/a\nextend c2 r:/engine\ngive c2 ben\nabandon c2\ncheckout r:/a\nquit\n")
         self.conversation("eva", b"hello ben\nsave c1 /engine/block/piston 01\ncheckin c1\nabandon c2\nquit\n")
-        self.assertEqual(self.asked("/a"), [
+        self.assertEqual(self.asked("/a", unknown=1), [
             "anna made /a", "anna took c2 to change /a: held", "anna gave c2 to ben (change /a)",
             "anna asked for c3 to look at /a: queued behind c2", "eva as ben abandoned c2 (change /a)"])
-        self.assertEqual(self.asked(PART), [])
-        self.assertIn("eva as ben checked in c1: 1 new version", self.asked("/"))
+        self.assertIn(f"eva as ben checked in c1 (change {PART}, perhaps more): 1 new version", self.asked("/"))
         self.assertIn(f"eva as ben saved {PART} (1 bytes) in c1", self.asked(PART, "--all"))
 
-    def asked(self, place: str, *words: str) -> List[str]:
-        """What `vaultd-log` prints, without times."""
+    def test_asked_of_what_the_log_lacks(self) -> None:
+        """A check-out that the log doesn't have, as c1, is known by its drafts and the places made in its name; what isn't known is counted."""
+        with self.server.connect() as ben:
+            self.assertEqual(told(ben, b"hello ben\nmake /wing\ncheckout w:/wing\nquit\n", 4).count(b"OK"), 4)
+        self.conversation("eva", f"hello ben\nnote c1 00\ngive c1 ben\nsave c1 {PART} 01\ngive c1 anna\nquit\n".encode())
+        self.conversation("eva", b"hello ben\nmake /wing/rib c2\nabandon c2\nquit\n")
+        self.conversation("anna", b"hello anna\ncheckin c1\nquit\n")
+        self.assertEqual(self.asked(PART, unknown=2), [f"eva as ben gave c1 to anna (change {PART}, perhaps more)",
+                                                       f"anna checked in c1 (change {PART}, perhaps more): 1 new version"])
+        self.assertEqual(self.asked("/wing", unknown=3), ["eva as ben made /wing/rib in c2",
+                                                          "eva as ben abandoned c2 (change /wing/rib, perhaps more)"])
+        self.assertEqual(self.asked("/desk", "--all", unknown=5), [])
+        self.assertEqual(len(self.asked("/")), 5)
+
+    def asked(self, place: str, *words: str, unknown: int = 0) -> List[str]:
+        """What `vaultd-log` prints, without times; how many commands are of check-outs whose places it doesn't know."""
         done = subprocess.run([str(self.door.programs / "vaultd-log"), place, "--log", str(self.door.log), *words], capture_output=True,
                               text=True, check=True)
-        self.assertEqual(done.stderr, "")
+        self.assertEqual(done.stderr, f"vaultd-log: {unknown} more may be of {place}, by check-outs whose places this log doesn't have: ask for /"
+                         " to see them.\n" if unknown else "")
         return [line.split(" UTC  ")[1] for line in done.stdout.splitlines()]
 
 
@@ -413,6 +440,23 @@ class Alone(unittest.TestCase):
         process, client = self.gate()
         self.assertEqual(replies(told(client, b"hello anna\nmake /a\nlist /\nquit\n", 4)), ["OK session", "ERR 80", "OK list 0", "OK left"])
         self.assertIn(b"the log can't be written: No space left on device. Nothing was sent on", process.communicate(timeout=20)[1])
+
+    @unittest.skipUnless(os.getuid() == 0, "needs root, for a disk of its own")
+    def test_nearly_full_log(self) -> None:
+        """Refusals leave 120 MB of the log's disk, and changes 60 MB, for a vault that may be there, too."""
+        for size, replies_wanted, kinds in ((200, ["ERR 31", "OK place 1"], ["refused", "asks", "told"]),
+                                            (100, ["ERR 31", "OK place 2"], ["asks", "told"]), (50, ["ERR 31", "ERR 80"], [])):
+            mounted = f'mount -t tmpfs -o size={size}m tmpfs "$0"; "$@"; cat "$0/log"'
+            call = ["unshare", "--mount", "sh", "-c", mounted, str(self.door.folder), *self.elsewhere(), "--log", f"{self.door.folder}/log"]
+            done = subprocess.run(call, input=b"hello anna\nhello ben\nmake /a%d\nquit\n" % size, capture_output=True, timeout=20, check=True)
+            said = replies(done.stdout)
+            self.assertEqual(said[:4], ["OK session", *replies_wanted, "OK left"])
+            self.assertEqual([line.split()[7] for line in said[4:]], kinds)
+            self.assertEqual([megabytes in done.stderr for megabytes in (b"than 120 MB left", b"than 60 MB left")], [size < 120, size < 60])
+
+    def elsewhere(self) -> List[str]:
+        """The command line of a gate whose program isn't in the folder of the log."""
+        return [*program("vaultd-gate"), "--as", "anna", "--server", f"127.0.0.1:{self.server.port}"]
 
     def test_no_log(self) -> None:
         process, client = self.gate("--log", "/nowhere/log")

@@ -18,10 +18,10 @@ BLOCKS = {"start.sh": "contrib/install", "watch.sh": "systemctl enable --now vau
           "metrics.sh": "apt-get install prometheus-node-exporter", "store.sh": "install -d -g designers",
           "sweep.sh": "runuser -u vaultd -- vaultd-sweep",
           "page.sh": "apt-get install python3-aiohttp",
-          "backup.sh": "systemctl enable --now vaultd-backup.timer", "by_hand.sh": "same() {", "look.sh": "vaultd check /backup/vault/a",
+          "backup.sh": "systemctl enable --now vaultd-backup.timer", "by_hand.sh": "same() {", "look.sh": "vaultd check /var/lib/vaultd/a",
           "gate.sh": "apt-get install openssh-server nftables"}
 # The one of the page on several vaults.
-PLANT = "sed 's/7070/7071/' /etc/default/vaultd"
+PLANT = "sed 's/7070/7071/; /^VAULTD_BACKUPS/d' /etc/default/vaultd"
 # The others: the packages are made before, and tests/test_rclone.py has a remote.
 OTHER_BLOCKS = ("contrib/package --to", "rclone config create")
 # There is no network in the machine, and the packages are there.

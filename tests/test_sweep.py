@@ -157,6 +157,41 @@ class Sweep(WithFiles):
         self.assertIn(old, self.entries())
         self.assertEqual(self.sweep("--also", *other.files).splitlines()[0], old)
 
+    def test_moved_project(self) -> None:
+        """A store that has only some of what the vault names is another vault's, though a moved project's bytes are in both."""
+        elsewhere = [self.path_of(card) for card in (self.first, self.second)]
+        self.fill(b"bore 82")
+        third = self.put_version()
+        self.age(third)
+        old = self.loose(b"old")
+        for path in elsewhere:
+            path.rename(self.root / path.name)
+        for word in ("--days=30", "--yes"):
+            self.assertIn("has 1 of the 3 files that the vault names, so this is another vault's store", self.sweep(word, status=1))
+        self.assertIn(old, self.entries())
+        for path in elsewhere:
+            (self.root / path.name).rename(path)
+        self.assertEqual(self.sweep().splitlines()[0], old)
+
+    def test_most_of_a_store(self) -> None:
+        """Where more than half would go, as without another vault's `--also`, nothing does, unless that is wanted."""
+        loose = [self.loose(b"loose %d" % number) for number in range(3)]
+        said = self.sweep(status=1)
+        self.assertIn("3 of the 5 files in file://", said)
+        self.assertIn("Nothing was taken away", said)
+        self.assertIn("3 files of", self.sweep("--only-look"))
+        self.assertEqual(len(self.entries()), 5)
+        self.assertEqual(sorted(self.sweep("--yes").splitlines()[:3]), sorted(loose))
+
+    def test_files_of_a_backup(self) -> None:
+        """By files that are older than what came into the store, nothing is taken away."""
+        old = self.loose(b"old")
+        self.server.kill()
+        for file in self.server.files:
+            os.utime(file, (time.time() - 50 * 86400,) * 2)
+        self.assertIn("has files that came after the vault was last written", self.sweep(status=1))
+        self.assertEqual(self.sweep("--yes").splitlines()[0], old)
+
     def test_links(self) -> None:
         """A link in the place of the store's own folder leads nobody elsewhere."""
         elsewhere = self.root / "elsewhere"

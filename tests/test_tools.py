@@ -82,7 +82,7 @@ class Backup(WithVault):
         stop.set()
         worker.join()
         self.assertGreater(told[0], 0)
-        self.assertEqual(len(list(kept.iterdir())), 5)
+        self.assertEqual(len(list(kept.glob("[!.]*"))), 5)
 
     def test_keep(self) -> None:
         """The newest stay, with the new one among them, whatever its name; what is no backup of this tool's stays, too."""
@@ -99,10 +99,10 @@ class Backup(WithVault):
         said = self.tool("backup", str(kept), "--keep", "2")
         new = Path(said.partition(": ")[0]).name
         self.assertEqual({path.name for path in kept.iterdir()},
-                         {new, "9999-01-01T000000.000000Z", "2026-01-03T000000.000000Z", "mine", ".partial-new"})
+                         {new, "9999-01-01T000000.000000Z", "2026-01-03T000000.000000Z", "mine", ".partial-new", ".vault"})
         self.assertEqual(said.count("was taken away"), 2)
         newest = Path(self.tool("backup", str(kept), "--keep", "1").partition(": ")[0]).name
-        self.assertEqual({path.name for path in kept.iterdir() if len(list(path.iterdir())) == 2}, {newest, "9999-01-01T000000.000000Z"})
+        self.assertEqual({path.name for path in kept.glob("*Z") if len(list(path.iterdir())) == 2}, {newest, "9999-01-01T000000.000000Z"})
         for wrong in ("0", "-1", "x"):
             self.tool("backup", str(kept), "--keep", wrong, status=2)
 
@@ -117,12 +117,76 @@ class Backup(WithVault):
         self.tool("backup", str(kept), "--tries", "1", "--keep", "1", status=1)
         self.assertEqual(sorted(kept.iterdir()), before)
 
+    def test_of_two_vaults(self) -> None:
+        """A folder has the backups of one vault: those of another are refused there, and none is removed."""
+        kept, other = self.folder / "kept", Server(folder=MEMORY)
+        self.addCleanup(other.close)
+        self.tool("backup", str(kept), "--keep", "1")
+        before = sorted(kept.iterdir())
+        done = subprocess.run([*program("vaultd-backup"), "--vaultd", VAULTD, *other.files, str(kept), "--keep", "1"], capture_output=True, text=True,
+                              timeout=60, check=False)
+        self.assertEqual(done.returncode, 1)
+        self.assertIn(f"has the backups of {self.server.files[0]}, {self.server.files[1]}. Name another folder", done.stderr)
+        self.assertEqual(sorted(kept.iterdir()), before)
+        (self.folder / "link").symlink_to(Path(self.server.files[0]).parent)
+        self.server.files = (str(self.folder / "link" / "a"), str(self.folder / "link" / "b"))
+        self.tool("backup", str(kept))
+        self.assertEqual(len(list(kept.glob("*Z"))), 2)
+
     def test_of_a_damaged_vault(self) -> None:
         self.server.kill()
         damage(Path(self.server.files[0]), 34, 1, b"\xff" * 4)
         said = self.tool("backup", str(self.folder / "kept"), "--tries", "2", status=1)
         self.assertIn("damaged at 34", said)
+        self.assertIn("the vault itself is damaged", said)
         self.assertEqual(list((self.folder / "kept").iterdir()), [])
+
+    def test_of_a_whole_vault(self) -> None:
+        """What isn't the vault's damage isn't called so: a mistyped path, which is tried once, and files of two vaults."""
+        kept, (first, second) = str(self.folder / "kept"), self.server.files
+        self.server.kill()
+        self.server.files = (first, second + "x")
+        began = time.monotonic()
+        said = self.tool("backup", kept, "--tries", "20", status=1)
+        self.assertLess(time.monotonic() - began, 20)
+        self.assertRegex(said, r"no backup was made: \S+bx can't be copied to \S+: No such file or directory")
+        self.server.files = (first, two_vaults(first, self.folder / "other"))
+        told = self.tool("backup", kept, "--tries", "2", status=1)
+        self.assertIn("wouldn't serve the copy: files of two vaults. See docs/OPERATING.md, 'Files of two vaults'", told)
+        self.assertNotIn("vault itself is damaged", said + told)
+
+    def test_by_hand(self) -> None:
+        """The page's commands make a folder of the vault as it is, and of a damaged vault none; the earlier ones stay."""
+        kept = self.folder / "backup"
+        kept.mkdir()
+        page = (TOP / "docs" / "OPERATING.md").read_text("utf-8")
+        block = re.findall(r"```sh\n(same\(\) .*?)```", page, re.DOTALL)[0].replace("/backup/", f"{kept}/")
+        programs = self.folder / "programs"
+        programs.mkdir()
+        (programs / "vaultd").symlink_to(VAULTD)
+
+        def backed_up() -> str:
+            """What the commands say of a failure, in the vault's folder."""
+            return subprocess.run(["bash", "-c", block], cwd=Path(self.server.files[0]).parent, capture_output=True, text=True, timeout=60,
+                                  check=True, env={**os.environ, "PATH": f"{programs}:{os.environ['PATH']}"}).stderr
+
+        self.assertEqual(backed_up(), "")
+        first, = kept.iterdir()
+        self.assertIn("claims 1, drafts 1", self.inspected(first))
+        whole = (first / "a").read_bytes()
+        self.server.kill()
+        damage(Path(self.server.files[0]), 34, 1, b"\xff" * 4)
+        self.assertEqual(set(backed_up().splitlines()), {"file a damaged at 34", "no backup was made"})
+        self.assertEqual((list(kept.glob("[!.]*")), (first / "a").read_bytes()), ([first], whole))
+
+
+def two_vaults(first: str, path: Path) -> str:
+    """A file with an open head whose generation is two more than that of a vault's first file."""
+    head = bytearray(Path(first).read_bytes()[:35])
+    head[12:20] = (int.from_bytes(head[12:20], "big") + 2).to_bytes(8, "big")
+    head[34:] = b"\0"
+    path.write_bytes(bytes(head))
+    return str(path)
 
 
 def damage(file: Path, gate: int, behind: int, content: bytes) -> None:
@@ -218,6 +282,20 @@ class Salvage(WithVault):
         """What the program says of a copy of the vault."""
         with tempfile.TemporaryDirectory(prefix="vault-test-", dir=MEMORY) as folder:
             return files.inspect(VAULTD, files.copy_vault(*self.server.files, Path(folder)))
+
+    def test_of_two_vaults(self) -> None:
+        """Files of two vaults open, and no server would serve them: that is said, and not that nothing is given up."""
+        self.server.files = (str(self.first), two_vaults(str(self.first), self.folder / "other"))
+        said = self.tool("salvage", str(self.folder / "new"), status=1)
+        self.assertIn("no server would serve it: files of two vaults. See docs/OPERATING.md, 'Files of two vaults'", said)
+
+    def test_beside_a_server(self) -> None:
+        """While a server has the files nothing is salvaged, and no folder is made."""
+        self.server.start()
+        self.assertIn("is in use: a server has it. Stop that server", self.tool("salvage", str(self.folder / "new"), status=1))
+        self.assertFalse((self.folder / "new").exists())
+        self.server.files = (self.server.files[0] + "x", self.server.files[1])
+        self.assertIn("ax isn't there", self.tool("salvage", str(self.folder / "new"), status=1))
 
     def test_nothing_to_salvage(self) -> None:
         damage(self.first, 24, 0, b"\xff" * 8)

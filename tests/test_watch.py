@@ -11,11 +11,12 @@ import unittest
 from pathlib import Path
 from typing import Dict, List, Tuple
 
-from servers import MEMORY, VAULTD, Limits, Server, program
+from servers import MEMORY, TOP, VAULTD, Limits, Server, program
 from test_tools import WithVault, damage, gates
 from tries import told
 
 from vault import Client
+from vaultd_tools.asking import PATIENCE
 
 
 class Watch(WithVault):
@@ -104,6 +105,23 @@ class Metrics(WithVault):
     """The file for Prometheus."""
 
     LINE = re.compile(r'(vaultd_[a-z_]+)\{vault="plant"(?:,limit="([a-z-]+)")?\} ([0-9.e+-]+)')
+
+    def test_of_a_full_server(self) -> None:
+        """A server that is full is up, though it takes its time to say so."""
+        self.server.kill()
+        self.server.words = ("--workers", "1", "--full", "17")
+        self.server.start()
+        with self.server.connect() as first:
+            told(first, b"hello anna\n", 1)
+            self.assertEqual(self.figures()["vaultd_up"], 1)
+
+    def test_patience(self) -> None:
+        """The units of the watch and of the figures wait for as long as their programs do, which is longer than a full server takes."""
+        settings = (TOP / "contrib" / "default-vaultd").read_text("utf-8")
+        self.assertLess(int(re.findall(r"^VAULTD_FULL=(\d+)$", settings, re.MULTILINE)[0]), PATIENCE / 2)
+        for unit in ("watch", "metrics"):
+            text = (TOP / "contrib" / "systemd" / f"vaultd-{unit}.service").read_text("utf-8")
+            self.assertGreater(int(re.findall(r"^TimeoutStartSec=(\d+)$", text, re.MULTILINE)[0]), PATIENCE)
 
     def figures(self, status: int = 0) -> Dict[str, float]:
         """What is written of the vault, each with its name."""

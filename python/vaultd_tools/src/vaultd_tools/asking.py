@@ -10,6 +10,9 @@ SERVES, BUSY, BROKEN, DEAF, DOWN, ODD = "serves", "busy", "broken", "deaf", "dow
 # The replies of a server that is there, but takes no more just now: no session is free, no room in its history, no memory.
 TAKES_NO_MORE = (b"ERR 50\n", b"ERR 80\n", b"ERR 81\n")
 LONGEST_ANSWER = 256
+# For how long a server's answer is awaited, in seconds: longer than a full one takes to say so, which is its --full, and before that as long
+# again if many wait.
+PATIENCE = 75.0
 
 
 @dataclass(frozen=True)
@@ -67,7 +70,7 @@ def ask(host: str, port: int, patience: float) -> Answer:
     try:
         with socket.create_connection((host, port), patience) as connection:
             return answer_of(where, *conversation(connection, end))
-    except TimeoutError:
+    except (TimeoutError, socket.timeout):      # two, before Python 3.10
         return Answer(DEAF, f"{where} is deaf: it gave no answer in {patience:g} seconds")
     except ConnectionRefusedError:
         return Answer(DOWN, f"nobody listens at {where}")

@@ -1,5 +1,7 @@
 """Copies the two files of a vault while its server runs, looks whether a server would serve the copy, and tries again where it wouldn't,
 or where the server wrote a snapshot over the copied file meanwhile.
+
+A folder of backups is one vault's: its file `.vault` names that vault's two files.
 """
 
 import argparse
@@ -15,8 +17,19 @@ from typing import List, Tuple
 from vaultd_tools.files import ToolError, check, copy_vault, find_vaultd, has_head_of, inspect, say_error, sync_folder
 
 KEPT = re.compile(r"\d{4}-\d\d-\d\dT\d{6}\.\d{6}Z")
+OWNER = ".vault"
 PARTIAL = ".partial-"
 PARTIAL_SECONDS = 86400
+IF_DAMAGED = ("\nIf the server is stopped, and these are the vault's files, the vault itself is damaged: keep both files, take the last backup,"
+              " and see vaultd-salvage.")
+
+
+class Again(ToolError):
+    """A copy is no good, and the next one may be."""
+
+
+class NotOpened(Again):
+    """A copy doesn't open: it was torn, or the vault itself is damaged."""
 
 
 def one_try(vaultd: str, first: str, second: str, folder: Path) -> Tuple[Path, str]:
@@ -27,13 +40,13 @@ def one_try(vaultd: str, first: str, second: str, folder: Path) -> Tuple[Path, s
         copies = copy_vault(first, second, partial)
         report = inspect(vaultd, copies)
         if report.counts is None:
-            raise ToolError("the copy does not open:\n" + report.text.rstrip())
+            raise NotOpened("the copy does not open:\n" + report.text.rstrip())
         checked = check(vaultd, str(copies["a"]), str(copies["b"]))
         if not checked.get("served"):
-            raise ToolError(f"a server wouldn't serve the copy: {checked.get('reason')}")
+            raise Again(f"a server wouldn't serve the copy: {checked.get('reason')}. See {checked.get('advice')}.")
         active = report.active() or "a"
         if not has_head_of(first if active == "a" else second, copies[active]):
-            raise ToolError(f"file {active} was written anew while it was copied")
+            raise Again(f"file {active} was written anew while it was copied. Try again.")
         kept = folder / begun.strftime("%Y-%m-%dT%H%M%S.%fZ")
         os.rename(partial, kept)
         sync_folder(folder)
@@ -42,6 +55,28 @@ def one_try(vaultd: str, first: str, second: str, folder: Path) -> Tuple[Path, s
         raise
     told = f"What was told before {begun.strftime('%H:%M:%S')} UTC is in it; of what came later, a first part may be."
     return kept, f"{kept}: {report.counts}\n{told}"
+
+
+def look_whose(folder: Path, files: bytes) -> None:
+    """Raises if a folder has the backups of another vault than that of these files."""
+    try:
+        owner = (folder / OWNER).read_bytes()
+    except FileNotFoundError:
+        return
+    if owner != files:
+        raise ToolError(f"{folder} has the backups of {os.fsdecode(owner).strip()}. Name another folder for this vault. If it is that"
+                        f" vault, and its files have moved, remove {folder / OWNER}.")
+
+
+def take_over(folder: Path, files: bytes) -> None:
+    """Notes whose backups a folder has, or raises if another vault was quicker."""
+    try:
+        with open(folder / OWNER, "xb") as file:
+            file.write(files)
+            file.flush()
+            os.fsync(file.fileno())
+    except FileExistsError:
+        look_whose(folder, files)
 
 
 def whole(folder: Path) -> bool:
@@ -91,16 +126,17 @@ def words() -> argparse.Namespace:
 
 
 def made(vaultd: str, asked: argparse.Namespace, folder: Path) -> Tuple[Path, str]:
-    """Makes a backup, in as many tries as were asked for; answers where it is, and what was kept."""
-    failed = ""
+    """Makes a backup, in as many tries as were asked for if the next may be better; answers where it is, and what was kept."""
+    failed = ToolError()
     for number in range(max(1, asked.tries)):
         time.sleep(0.2 * number)
         try:
             return one_try(vaultd, asked.first, asked.second, folder)
         except ToolError as error:
-            failed = str(error)
-    raise ToolError(f"no backup was made: {failed}\nIf the server is stopped, the vault itself is damaged: keep both files, take"
-                    " the last backup, and see vaultd-salvage.")
+            failed = error
+            if not isinstance(error, Again):
+                break
+    raise ToolError(f"no backup was made: {failed}{IF_DAMAGED if isinstance(failed, NotOpened) else ''}")
 
 
 def main() -> int:
@@ -109,8 +145,11 @@ def main() -> int:
     try:
         vaultd, folder = find_vaultd(asked.vaultd), Path(asked.folder)
         folder.mkdir(mode=0o750, parents=True, exist_ok=True)
+        files = os.fsencode(f"{os.path.realpath(asked.first)}, {os.path.realpath(asked.second)}\n")
+        look_whose(folder, files)
         new, said = made(vaultd, asked, folder)
         print(said, flush=True)
+        take_over(folder, files)
         for path in thin_out(folder, asked.keep, new) if asked.keep else []:
             print(f"{path} was taken away")
         return 0

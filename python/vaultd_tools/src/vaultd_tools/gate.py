@@ -22,6 +22,12 @@ MAX_BYTES = 16777216
 CONNECT_SECONDS = 10
 REPLY_SECONDS = 60
 TAKE_SECONDS = 600
+# How many refusals of a conversation have lines of their own in the log, and how much of each is shown.
+REFUSALS = 16
+LONGEST_REFUSED = 256
+# How many bytes stay free on the log's disk. The vault may be there, whose files grow to half of that; a mere refusal leaves twice that.
+LEFT_BY_CHANGES = 60_000_000
+LEFT_BY_REFUSALS = 2 * LEFT_BY_CHANGES
 CLIENT_IN, CLIENT_OUT = 0, 1
 GONE = select.POLLHUP | select.POLLERR | select.POLLNVAL
 
@@ -114,7 +120,7 @@ class Gate:
     def __init__(self, role: Role, client: Client, server: Server, log: Log, number: str):
         self.role, self.client, self.server, self.log, self.number = role, client, server, log, number
         self.name = role.designer.decode("ascii")
-        self.lines = self.bytes = 0
+        self.lines = self.bytes = self.refused = 0
 
     def run(self) -> None:
         """Answers line by line until somebody ends it."""
@@ -142,8 +148,13 @@ class Gate:
             raise Over("a connection has no more lines")
 
     def _refuse(self, command: Command) -> None:
+        """Refuses a command. Of many in a conversation the log has the first, and one line for all others."""
+        self.refused += 1
+        shown = command.shown if self.refused <= REFUSALS else "further lines"
         try:
-            self._note("refused", command.shown + " -> ERR 31")
+            if self.refused <= REFUSALS + 1:
+                cut = ".." if len(shown) > LONGEST_REFUSED else ""
+                self._note("refused", f"{shown[:LONGEST_REFUSED]}{cut} -> ERR 31", LEFT_BY_REFUSALS)
         except Unwritten as error:
             say(str(error))
         self.client.tell(b"ERR 31\n")
@@ -153,7 +164,7 @@ class Gate:
         logged = self.role.is_logged(command)
         try:
             if logged:
-                self._note("asks", command.shown)
+                self._note("asks", command.shown, LEFT_BY_CHANGES)
         except Unwritten as error:
             say(f"{error}. Nothing was sent on; ask whoever runs the server")
             self.client.tell(b"ERR 80\n")
@@ -182,8 +193,8 @@ class Gate:
         except Unwritten as error:
             say(str(error))
 
-    def _note(self, kind: str, what: str) -> None:
-        self.log.write(f"{self.number}.{self.lines}", self.name, kind, what)
+    def _note(self, kind: str, what: str, leaves: int = 0) -> None:
+        self.log.write(f"{self.number}.{self.lines}", self.name, kind, what, leaves)
 
 
 def say(sentence: str) -> None:

@@ -1,8 +1,8 @@
 """The gate's log: who asked for which change, and what was answered.
 
 A change has a line before it is sent to the server (`asks`) and one after it: `told` with the reply, or `lost` if the connection ended
-without one. What the gate itself refuses has one line, `refused`. Whatever comes from outside is one of the protocol's words, or is
-escaped, so nobody can forge a line.
+without one. What the gate itself refuses has one line, `refused`, for the first ones of a conversation. Whatever comes from outside is one
+of the protocol's words, or is escaped, so nobody can forge a line.
 """
 
 from __future__ import annotations
@@ -100,17 +100,25 @@ class Log:
             self.say(f"no system log takes lines at {path}: {error.strerror}")
             return None
 
-    def write(self, number: str, name: str, kind: str, what: str) -> None:
-        """Writes a line. Raises if the file doesn't take it; the system's log may be away."""
+    def write(self, number: str, name: str, kind: str, what: str, leaves: int = 0) -> None:
+        """Writes a line. Raises if the file doesn't take it, or if fewer bytes than these are free on its disk; the system's log may be
+        away."""
         line = f"{now()} id={number} {self.who} as={name} {kind} {what}"
         if self.file >= 0:
-            self._to_file(line)
+            self._to_file(line, leaves)
         if self.syslog is not None:
             self._to_system_log(line)
 
-    def _to_file(self, line: str) -> None:
+    def _is_short_of(self, size: int) -> bool:
+        """Whether fewer bytes than these are free on the file's disk, if it says so."""
+        found = os.fstatvfs(self.file)
+        return found.f_blocks > 0 and found.f_bavail * found.f_frsize < size
+
+    def _to_file(self, line: str, leaves: int) -> None:
         text = (("\n" if self.torn else "") + line + "\n").encode("ascii")
         try:
+            if leaves and self._is_short_of(leaves):
+                raise Unwritten(f"the log's disk has less than {leaves // 1_000_000} MB left")
             written = os.write(self.file, text)
             self.torn = self.torn and written == 0 or 0 < written < len(text)
             if written < len(text):

@@ -1,7 +1,8 @@
 """Says who took, gave away, abandoned or checked in a place, and when, from the log of the gate.
 
 A check-out concerns a place if one of its items is that place, stands above it or beneath it. What a number of a check-out stands for
-is read from the log itself, from the reply to its check-out and to its extensions.
+is read from the log itself, from the reply to its check-out and to its extensions. If the log doesn't have them, as of a check-out at the
+plain port, its drafts say something of it, and what isn't known is counted.
 """
 
 import argparse
@@ -11,7 +12,7 @@ import subprocess
 import sys
 from dataclasses import dataclass, field
 from pathlib import Path
-from typing import Dict, Iterable, Iterator, List, Optional, Tuple
+from typing import Dict, Iterable, Iterator, List, Optional, Set, Tuple
 
 from vaultd_tools.files import ToolError, say_error
 
@@ -21,6 +22,7 @@ RECORD = re.compile(r"(?P<time>\d{4}-\d\d-\d\dT\d\d:\d\d:\d\d\.\d{6}Z) id=(?P<id
 GATE_USER = "vaultd-gate"
 PLACE = re.compile(r"/|(/[a-z0-9_-]{1,32}){1,7}")
 ENDS = ("checkin", "abandon", "release")
+OF_A_CLAIM = (*ENDS, "extend", "give", "note")
 SENTENCES = {"checkin": "checked in", "abandon": "abandoned", "release": "released", "make": "made", "nest": "nested", "save": "saved",
              "note": "noted on"}
 
@@ -47,17 +49,39 @@ class Record:
 
 @dataclass
 class Claims:
-    """What each claim was asked for, as far as the log has it."""
+    """What each claim was asked for, as far as the log has it, and the claims of which it has all."""
 
     items: Dict[str, List[str]] = field(default_factory=dict)
+    whole: Set[str] = field(default_factory=set)
 
     def learn(self, record: Record) -> None:
-        """Takes in what a command that was done says of a claim."""
-        said = record.reply.split()
-        if record.done and record.words[0] in ("checkout", "hold") and len(said) > 2:
-            self.items[said[2]] = list(record.words[1:])
-        elif record.done and record.words[0] == "extend":
-            self.items.setdefault(record.words[1], []).extend(record.words[2:])
+        """Takes in what a command that was done says of a claim. A draft, or a place made in a claim's name, is one that it changes."""
+        said, keyword, rest = record.reply.split(), record.words[0], record.words[1:]
+        if not record.done:
+            return
+        if keyword in ("checkout", "hold") and len(said) > 2:
+            self.items[said[2]] = list(rest)
+            self.whole.add(said[2])
+        elif keyword == "extend":
+            self.items.setdefault(rest[0], []).extend(rest[1:])
+        elif keyword == "save":
+            self._add_place(rest[0], rest[1])
+        elif keyword in ("make", "nest") and len(rest) > 1:
+            self._add_place(rest[1], rest[0])
+
+    def _add_place(self, claim: str, place: str) -> None:
+        items = self.items.setdefault(claim, [])
+        if claim not in self.whole and "w:" + place not in items:
+            items.append("w:" + place)
+
+    def lacks(self, record: Record) -> bool:
+        """Whether a command is of a claim that may have places which the log doesn't have."""
+        return record.words[0] in OF_A_CLAIM and record.words[1] not in self.whole
+
+    def in_words(self, claim: str) -> str:
+        """What a claim was asked for, in words; nothing if that isn't known."""
+        items = [item_in_words(item) for item in self.items.get(claim, [])] + ["perhaps more"] * (claim not in self.whole)
+        return f" ({', '.join(items)})" if claim in self.items else ""
 
     def places(self, record: Record) -> Optional[List[str]]:
         """The places that a command concerns; None where the log doesn't have its claim."""
@@ -125,18 +149,21 @@ def sentence(record: Record, claims: Claims) -> str:
     else:
         what = f"{SENTENCES[keyword]} {' in '.join(rest[:2]) if keyword in ('make', 'nest') else rest[0]}"
     counted = f": {said[3]} new version{'' if said[3] == '1' else 's'}" if record.done and keyword == "checkin" else ""
-    items = f" ({', '.join(map(item_in_words, claims.items[rest[0]]))})" if keyword in ENDS + ("give",) and rest[0] in claims.items else ""
+    items = claims.in_words(rest[0]) if keyword in ENDS + ("give",) else ""
     return what + items + (counted if record.done else ": not known whether it was done")
 
 
-def told(found: Iterable[Record], place: str, everything: bool) -> Iterator[str]:
-    """What the log has of a place, line by line. What was refused was not done, and isn't shown."""
+def told(found: Iterable[Record], place: str, everything: bool, unknown: List[Record]) -> Iterator[str]:
+    """What the log has of a place, line by line. What was refused was not done, and isn't shown. What may be of that place, but of a claim
+    whose places the log doesn't have, is handed back as unknown."""
     claims = Claims()
     for record in found:
-        shown = everything or record.words[0] not in ("save", "note")
-        if record.done is not False and shown and concerns(claims.places(record), place):
+        shown = record.done is not False and (everything or record.words[0] not in ("save", "note"))
+        if shown and concerns(claims.places(record), place):
             who = record.name if record.name == record.by else f"{record.by} as {record.name}"
             yield f"{record.time[:19].replace('T', ' ')} UTC  {who} {sentence(record, claims)}"
+        elif shown and claims.lacks(record):
+            unknown.append(record)
         claims.learn(record)
 
 
@@ -198,9 +225,12 @@ def main() -> int:
         found = of_one_vault(list(records(lines_of(asked.log), damaged)), asked.server)
     except (ToolError, OSError) as error:
         return say_error("vaultd-log", error)
-    known = outcomes(found)
-    for line in told(known, asked.place, asked.all):
+    unknown: List[Record] = []
+    for line in told(outcomes(found), asked.place, asked.all, unknown):
         print(line)
+    if unknown:
+        print(f"vaultd-log: {len(unknown)} more may be of {asked.place}, by check-outs whose places this log doesn't have: ask for / to see them.",
+              file=sys.stderr)
     if damaged:
         print(f"vaultd-log: {len(damaged)} lines aren't the gate's, and were left out.", file=sys.stderr)
     return 0

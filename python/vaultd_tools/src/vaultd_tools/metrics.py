@@ -11,7 +11,7 @@ import time
 from pathlib import Path
 from typing import Any, Dict, Iterator, List, Optional, Tuple
 
-from vaultd_tools.asking import BROKEN, Answer, ask
+from vaultd_tools.asking import BROKEN, PATIENCE, Answer, ask
 from vaultd_tools.files import ToolError, check, find_vaultd, say_error
 from vaultd_tools.gate import address
 
@@ -108,7 +108,8 @@ def words() -> argparse.Namespace:
     parser.add_argument("address", metavar="HOST:PORT", type=address, help="where its server is")
     parser.add_argument("file", metavar="FILE", type=Path, help="what is written, as /run/vaultd-metrics/vaultd.prom")
     parser.add_argument("--name", default="vaultd", help="what the label `vault` says (vaultd)")
-    parser.add_argument("--patience", type=float, default=15.0, metavar="SECONDS", help="for how long it waits for the server's answer (15)")
+    parser.add_argument("--patience", type=float, default=PATIENCE, metavar="SECONDS",
+                        help=f"for how long it waits for the server's answer ({PATIENCE:g}; a server that is full says so behind its --full)")
     parser.add_argument("--vaultd", metavar="PROGRAM", help="the program vaultd")
     return parser.parse_args()
 

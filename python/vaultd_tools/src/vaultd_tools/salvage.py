@@ -6,12 +6,14 @@ is read. Take the last backup instead where it has more.
 """
 
 import argparse
+import contextlib
+import fcntl
 import subprocess
 import tempfile
 from pathlib import Path
 from typing import Dict, Iterator, List, Optional, Tuple
 
-from vaultd_tools.files import Report, ToolError, copy_vault, find_vaultd, inspect, say_error
+from vaultd_tools.files import Report, ToolError, check, copy_vault, find_vaultd, inspect, say_error
 
 HEAD = 24
 STEPS = 12
@@ -94,6 +96,22 @@ def written_version(vaultd: str) -> int:
         return number(made.read_bytes(), VERSION_AT, VERSION_BYTES)
 
 
+@contextlib.contextmanager
+def unserved(first: str, second: str) -> Iterator[None]:
+    """Keeps servers away from both files meanwhile, where they can be locked. Raises if a server has them."""
+    with contextlib.ExitStack() as files:
+        for path in (first, second):
+            try:
+                fcntl.flock(files.enter_context(open(path, "rb")), fcntl.LOCK_SH | fcntl.LOCK_NB)
+            except BlockingIOError as error:
+                raise ToolError(f"{path} is in use: a server has it. Stop that server, or take a backup of its vault by vaultd-backup.") from error
+            except FileNotFoundError as error:
+                raise ToolError(f"{path} isn't there. Give the vault's two files.") from error
+            except OSError:
+                pass
+        yield
+
+
 class Salvage:
     """The copies, what was done to them, and what that gives up."""
 
@@ -115,6 +133,13 @@ class Salvage:
             elif not self.open_one():
                 break
         raise ToolError("neither file can be made to open. Take the last backup." + "".join("\n" + line for line in self.said))
+
+    def look_whether_served(self) -> None:
+        """Raises if no server would serve the copies, though they open."""
+        checked = check(self.vaultd, str(self.copies["a"]), str(self.copies["b"]))
+        if not checked.get("served"):
+            raise ToolError(f"the copy opens, and no server would serve it: {checked.get('reason')}. See {checked.get('advice')}."
+                            + "".join("\n" + line for line in self.said))
 
     def write(self, file: str, at: int, content: bytes) -> None:
         """Changes some bytes of a copy."""
@@ -176,13 +201,15 @@ def words() -> argparse.Namespace:
 
 
 def main() -> int:
-    """0 if the copy opens, 1 if it doesn't."""
+    """0 if a server would serve the copy, else 1."""
     asked = words()
     try:
         vaultd, folder = find_vaultd(asked.vaultd), Path(asked.folder)
-        folder.mkdir(mode=0o750, parents=True)
-        salvage = Salvage(vaultd, copy_vault(asked.first, asked.second, folder))
+        with unserved(asked.first, asked.second):
+            folder.mkdir(mode=0o750, parents=True)
+            salvage = Salvage(vaultd, copy_vault(asked.first, asked.second, folder))
         report = salvage.run()
+        salvage.look_whether_served()
     except FileExistsError:
         return say_error("vaultd-salvage", ToolError(f"{asked.folder} is there already. Name a new folder."))
     except (ToolError, OSError) as error:

@@ -2,15 +2,17 @@
 
 The vault's two files are copied first, so the server may run. Every hash that stands in a card anywhere in them counts as named, also that
 of a draft that was given up since. Bytes that a designer wanted again are young, and their age is looked at again right before each goes.
-A store belongs to one vault; where several share one, name the files of each.
+A store belongs to one vault; where several share one, name the files of each. Nothing is taken away where the store lacks
+most of what the files name, nor, without --yes, where more than half of the store would go, or the store is younger than the files.
 """
 
 import argparse
+import os
 import re
 import tempfile
 import time
 from pathlib import Path
-from typing import List, Set, Tuple
+from typing import List, Optional, Set, Tuple
 
 from vault.address import read_store_address
 from vault.setting import open_store
@@ -30,14 +32,34 @@ def named_in(vaultd: str, first: str, second: str) -> Set[str]:
         return {found.decode("ascii") for copy in copies.values() for found in NAMED.findall(copy.read_bytes())}
 
 
-def sweep(store: Store, named: Set[str], before: float, only_look: bool) -> Tuple[List[Kept], int]:
-    """Removes what nobody names and what is older, and what killed clients left. Answers what it removed, and how many leftovers."""
+def refuse_another(store: Store, kept: List[Kept], named: Set[str]) -> None:
+    """Raises if these are the files of another store's vault: such a store may have some of the vault's bytes, but not most of them."""
+    found = len(named.intersection(each.sha256 for each in kept))
+    if kept and (not found or found * 2 < len(named)):
+        raise ToolError(f"{store.address} has {found} of the {len(named)} files that the vault names, so this is another vault's store, or most is"
+                        " lost (`vault store check`). Nothing was taken away.")
+
+
+def doubt(store: Store, kept: List[Kept], old: List[Kept], written: float) -> None:
+    """Raises if most of the store would go, or if something came into it more than a day after the vault's files were last written."""
+    ask = ("Were the files of each vault with this store named, and are they those that are served? See what goes by --only-look; --yes takes it"
+           " away. Nothing was taken away.")
+    if len(old) * 2 > len(kept):
+        raise ToolError(f"{len(old)} of the {len(kept)} files in {store.address} would go, more than half. {ask}")
+    if max((each.since for each in kept), default=0) > written + DAY:
+        raise ToolError(f"{store.address} has files that came after the vault was last written. {ask}")
+
+
+def sweep(store: Store, named: Set[str], before: float, only_look: bool, written: Optional[float] = None) -> Tuple[List[Kept], int]:
+    """Removes what nobody names and what is older, and what killed clients left. Answers what it removed, and how many leftovers. If it is
+    said when the vault's files were last written, it removes nothing in doubt."""
     kept = list(store.all())
-    if kept and not any(each.sha256 in named for each in kept):
-        raise ToolError(f"the vault names nothing that {store.address} has, so this is another vault's store. Nothing was taken away.")
+    refuse_another(store, kept, named)
     old = [each for each in kept if each.sha256 not in named and each.since < before]
     if only_look:
         return old, 0
+    if written is not None:
+        doubt(store, kept, old, written)
     return [each for each in old if store.remove(each, before)], store.leftovers(before)
 
 
@@ -50,6 +72,7 @@ def words() -> argparse.Namespace:
     parser.add_argument("--also", nargs=2, action="append", default=[], metavar=("A", "B"), help="the files of another vault with that store")
     parser.add_argument("--days", type=int, default=DAYS, metavar="N", help=f"how old it has to be ({DAYS}), 1 day or more")
     parser.add_argument("--only-look", action="store_true", help="says what it would take away, and takes nothing")
+    parser.add_argument("--yes", action="store_true", help="takes away more than half of the store, too, or from one that is younger than A and B")
     parser.add_argument("--vaultd", metavar="PROGRAM", help="the program vaultd")
     asked = parser.parse_args()
     if asked.days < 1:
@@ -64,9 +87,11 @@ def main() -> int:
         vaultd, store = find_vaultd(asked.vaultd), open_store(read_store_address(asked.address))
         before = time.time() - asked.days * DAY
         named: Set[str] = set()
+        written = 0.0
         for first, second in [(asked.first, asked.second), *asked.also]:
+            written = max(written, *(os.stat(file).st_mtime for file in (first, second)))
             named |= named_in(vaultd, first, second)
-        gone, leftovers = sweep(store, named, before, asked.only_look)
+        gone, leftovers = sweep(store, named, before, asked.only_look, None if asked.yes else written)
     except (ToolError, VaultError, OSError) as error:
         return say_error("vaultd-sweep", error)
     for each in gone:

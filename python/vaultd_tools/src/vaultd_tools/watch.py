@@ -14,7 +14,7 @@ import time
 from pathlib import Path
 from typing import Tuple
 
-from vaultd_tools.asking import BROKEN, BUSY, DEAF, DOWN, ODD, SERVES, Answer, ask
+from vaultd_tools.asking import BROKEN, BUSY, DEAF, DOWN, ODD, PATIENCE, SERVES, Answer, ask
 from vaultd_tools.files import ToolError, say_error
 from vaultd_tools.gate import address
 
@@ -83,8 +83,8 @@ def words() -> argparse.Namespace:
     asks = kinds.add_parser("ask", help="say in a line whether a server serves; status 0 where it does or is busy, 3 where it is deaf, 4 where"
                             " its vault is broken, 5 where nobody listens, 1 where something else is there")
     asks.add_argument("address", type=address, metavar="HOST:PORT", help="as 127.0.0.1:7070")
-    asks.add_argument("--patience", type=float, default=75.0, metavar="SECONDS",
-                      help="for how long it waits for an answer (75; a server that is full says so behind its --full, 60 seconds)")
+    asks.add_argument("--patience", type=float, default=PATIENCE, metavar="SECONDS",
+                      help=f"for how long it waits for an answer ({PATIENCE:g}; a server that is full says so behind its --full, 60 seconds)")
     for name, what in (("act", "do what follows from the status of `ask`, which stands in EXIT_STATUS"),
                        ("ended", "behind a server's end, whose INVOCATION_ID the unit gives: mark it where its vault broke")):
         acts = kinds.add_parser(name, help=what)
