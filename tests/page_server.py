@@ -82,6 +82,11 @@ class PageServer:
         """How much processor time it has taken."""
         return processor_seconds(self.process.pid)
 
+    def memory(self) -> int:
+        """How many bytes of memory it has."""
+        with open(f"/proc/{self.process.pid}/statm", encoding="ascii") as file:
+            return int(file.read().split()[1]) * os.sysconf("SC_PAGE_SIZE")
+
 
 def processor_seconds(process: int) -> float:
     """How much processor time a process has taken."""

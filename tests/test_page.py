@@ -2,10 +2,13 @@
 
 import asyncio
 import contextlib
+import gzip
 import hashlib
 import html
 import re
+import shutil
 import socket
+import struct
 import tempfile
 import threading
 import time
@@ -15,12 +18,12 @@ from typing import Dict, List, Tuple
 from unittest import mock
 
 from page_server import PageServer, Stream, processor_seconds, soon, told_lines, until
-from servers import MEMORY, Server, Tap
+from servers import MEMORY, Cutter, Server, Tap
 from tries import told
 
 from vault import Client
 from vault.card import Card
-from vaultd_tools import page_render, page_views, page_watch, page_web
+from vaultd_tools import page_model, page_render, page_views, page_watch, page_web
 from vaultd_tools.files import Claim
 from vaultd_tools.page_line import curves
 from vaultd_tools.page_render import address, in_bytes
@@ -320,6 +323,199 @@ class Telling(WithPage):
         stream.change("led live", seconds=10)
 
 
+class Waiting(Cutter):
+    """Hands lines on, but not the next question of another kind after this line, until it may."""
+
+    def __init__(self, server_port: int, line: bytes):
+        super().__init__(server_port)
+        self.line, self.armed = line, False
+        self.reached, self.may_go_on = threading.Event(), threading.Event()
+
+    def _cut(self, words: List[bytes], line: bytes) -> bool:
+        if self.armed and not line.startswith(self.line.split()[0]):
+            self.reached.set()
+            self.may_go_on.wait(10)
+        self.armed = self.armed or line == self.line
+        return super()._cut(words, line)
+
+
+class Breaks(WithPage):
+    """What the page shows after its connection to the server broke, and after a backup was put in place."""
+
+    def say(self, name: str, *lines: str, port: int = 0) -> List[str]:
+        """What the server replies to a designer, without the greeting."""
+        with socket.create_connection(("127.0.0.1", port or self.server.port), timeout=30) as client:
+            replies = told(client, "".join(line + "\n" for line in (f"hello {name}", *lines)).encode(), 1 + len(lines))
+        return replies.decode().splitlines()[1:]
+
+    def version(self, name: str, file: str, port: int = 0) -> None:
+        """A designer checks in a new version of the part."""
+        card = Card("cd" * 32, 5000, file, name, "2026-11-28T00:00:00Z", "").spell()
+        claim = self.say(name, f"checkout w:{PART}", port=port)[0].split()[2]
+        self.assertEqual(self.say(name, f"save {claim} {PART} {card.hex()}", f"checkin {claim}", port=port), ["OK saved", "OK checked in 1"])
+
+    def back_up(self) -> None:
+        """Copies both files."""
+        for file in self.server.files:
+            shutil.copy(file, self.folder)
+
+    def stop_and_restore(self, *streams: Stream) -> Server:
+        """Kills the server, and puts the backup in place once open pages have said so. Gives another server of it, at another address."""
+        self.server.kill()
+        for stream in streams:
+            stream.change("No vault since", seconds=10)
+        for file in self.server.files:
+            shutil.copy(self.folder / Path(file).name, file)
+        other = Server("--workers", "4", folder=MEMORY, files=self.server.files)
+        self.addCleanup(other.close)
+        other.start()
+        return other
+
+    def start_again(self, stream: Stream) -> None:
+        """Starts the server, and waits until an open page says that it is live."""
+        self.server.start()
+        stream.next(lambda kind, data: kind == "again" or kind == "message" and "led live" in data["texts"].get("pill", ""), 15)
+        until(lambda: "led live" in self.page.page("/"), 15)
+
+    def test_versions_stay(self) -> None:
+        """A break empties no page: versions and files' names stand until they are known anew."""
+        for number in range(2, 5):
+            self.version("anna", f"file{number}.step")
+        part, tree = self.stream(PART), self.stream("/")
+        self.server.kill()
+        changes = [stream.change("No vault since", seconds=10)[1] for stream in (part, tree)]
+        self.assertEqual([name for change in changes for name in ("lists", "added") if name in change], [])
+        self.assertNotIn("row:" + PART, changes[1]["texts"])
+        for text in (self.text(PART), self.text("/"), self.text("/.search?q=file4")):
+            self.assertIn("file4.step", text)
+        self.assertEqual(self.page.get("/engine/made-meanwhile")[0], 503)
+        self.start_again(part)
+        self.assertEqual(self.page.page(PART).count(".step"), 4)
+        self.assertNotIn("not read yet", self.text(PART))
+
+    def test_a_page_that_is_opened_meanwhile(self) -> None:
+        """If the server was away when a part was opened, its versions come once it is back."""
+        for number in range(2, 5):
+            self.version("anna", f"file{number}.step")
+        self.stream("/")
+        until(lambda: "file4.step" in self.text("/"), 5)
+        self.server.kill()
+        until(lambda: "No vault since" in self.text(PART), 10)
+        part = self.stream(PART)
+        self.assertEqual(self.text(PART).count("not read yet"), 3)
+        self.server.start()
+        until(lambda: self.text(PART).count("not read yet") == 0, 15)
+        part.change("file2.step", "file3.step", seconds=1)
+
+    def test_a_backup(self) -> None:
+        """After a restore all is read from nothing: each part is one, and what came after the backup is gone."""
+        for name in ("pin", "ring", "rod"):
+            self.anna.make(f"/engine/block/{name}")
+        self.back_up()
+        self.version("anna", "later.step")
+        self.anna.make("/engine/block/valve")
+        stream = self.stream("/")
+        self.assertIn("1 project, 1 assembly, 5 parts.", self.text("/"))
+        until(lambda: "later.step" in self.text("/"), 5)
+        self.stop_and_restore(stream).close()
+        self.start_again(stream)
+        self.assertIn("1 project, 1 assembly, 4 parts.", self.text("/"))
+        until(lambda: "piston Kolben <b>80</b>.SLDPRT v1" in self.text("/") and "has read 1 version," in self.text("/"), 5)
+        self.assertEqual(self.page.get("/engine/block/valve")[0], 404)
+
+    def test_a_backup_with_as_many_versions(self) -> None:
+        """What a version says is asked again after a break: it may be another one by now."""
+        self.back_up()
+        self.version("anna", "lost.step")
+        stream = self.stream(PART)
+        until(lambda: "lost.step" in self.text(PART), 5)
+        other = self.stop_and_restore(stream)
+        self.version("ben", "again.step", other.port)
+        other.close()
+        self.start_again(stream)
+        until(lambda: "again.step" in self.text(PART) and "lost.step" not in self.text(PART), 5)
+
+    def test_a_backup_while_nobody_looks(self) -> None:
+        """The same while the page rests, and of check-outs that have numbers of earlier ones: it doesn't know since when."""
+        self.back_up()
+        self.version("anna", "lost.step")
+        stream = self.page.stream("/")
+        self.assertEqual(self.say("anna", f"checkout w:{PART}"), ["OK held c3"])
+        stream.change('"c3"')
+        self.assertRegex(self.text("/"), r"anna c3 held .* since 20\d\d-")
+        until(lambda: "lost.step" in self.text(PART), 5)
+        stream.close()
+        until(lambda: self.asked()[-1] == b"quit", 15)
+        other = self.stop_and_restore()
+        self.version("ben", "again.step", other.port)
+        other.close()
+        self.server.start()
+        self.assertEqual(self.say("ben", "checkout r:/"), ["OK held c3"])
+        for _ in range(10):
+            self.say("cara")
+        self.assertRegex(self.text("/"), r"ben c3 held .* since before 20\d\d-")
+        until(lambda: "again.step" in self.text(PART) and "lost.step" not in self.text(PART), 5)
+
+    def through_a_cutter(self) -> Cutter:
+        """Has the page ask through something that cuts a connection, instead of the tap."""
+        cutter = Cutter(self.server.port)
+        self.addCleanup(cutter.close)
+        self.start_page(cutter.port)
+        return cutter
+
+    def start_page(self, port: int) -> None:
+        """Ends the page, and starts another one."""
+        self.page.end()
+        self.page = PageServer(port)
+        self.addCleanup(self.page.end)
+
+    def test_while_it_reads(self) -> None:
+        """If the connection breaks while places are read for the first time, all are known in the end."""
+        cutter = self.through_a_cutter()
+        for word in (b"list /engine\n", b"count ", b"list "):
+            with self.subTest(word):
+                cutter.before = [word]
+                self.start_page(cutter.port)
+                until(lambda: "1 project, 1 assembly, 1 part." in self.text("/"), 10)
+                self.assertEqual(cutter.before, [])
+
+    def test_while_it_asks_for_a_new_place(self) -> None:
+        """A place that was asked for as the connection broke is asked for again."""
+        cutter = self.through_a_cutter()
+        until(lambda: "1 project, 1 assembly, 1 part." in self.text("/"), 10)
+        cutter.before = [b"count /engine/block/pin\n"]
+        self.anna.make("/engine/block/pin")
+        until(lambda: "1 project, 1 assembly, 2 parts." in self.text("/"), 40)
+        self.assertEqual(cutter.before, [])
+
+    def test_a_change_between_page_and_stream(self) -> None:
+        """A page that is read before a change, and opens its stream before that is sent, is told to read again."""
+        waiting = Waiting(self.server.port, b"show c2\n")
+        self.addCleanup(waiting.close)
+        self.addCleanup(waiting.may_go_on.set)
+        self.start_page(waiting.port)
+        data = dict(re.findall(r'data-(revision|run)="([^"]*)"', self.page.page("/engine")))
+        self.anna.checkout(["w:" + PART])
+        self.assertTrue(waiting.reached.wait(5))
+        stream = Stream(self.page.port, "/engine", data["revision"], data["run"])
+        self.addCleanup(stream.close)
+        stream.next(lambda kind, data: kind == "again", 2)
+        self.assertIn("anna c2 held", self.text("/engine"))
+        waiting.may_go_on.set()
+
+    def test_many_that_end(self) -> None:
+        """Where many check-outs of one place end at once, each part beneath it is looked at once."""
+        fill(self.server.port, 100, 0)
+        stream = self.stream("/")
+        replies = self.say("ben", *["checkout w:/"] * 200)
+        stream.change('"c201"')
+        self.assertEqual(self.say("ben", *[f"abandon {reply.split()[2]}" for reply in replies]), ["OK abandoned"] * 200)
+        stream.change("is done with c201")
+        before = len(self.asked())
+        time.sleep(4)
+        self.assertLess(self.asked()[before:].count(b"count " + PART.encode()), 4)
+
+
 class Strangers(WithPage):
     """What comes to the page's port and isn't a page of its own."""
 
@@ -416,6 +612,47 @@ class Strangers(WithPage):
         with socket.create_connection(("127.0.0.1", self.page.port), timeout=5) as client:
             client.sendall(b"GET /.events?see=/ HTTP/1.1\r\nHost: 127.0.0.1\r\n\r\n")
             return client.recv(65536).startswith(b"HTTP/1.1 200")
+
+    def test_requests_with_a_body(self) -> None:
+        """The page takes nothing, so what comes behind a request is refused, and isn't unpacked."""
+        packed = gzip.compress(bytes(32 << 20))
+        for path in ("/", "/.events?see=/", "/.static/page.css"):
+            head = f"GET {path} HTTP/1.1\r\nHost: 127.0.0.1\r\n"
+            self.assertEqual(self.status(head + "Content-Length: 5\r\n\r\nhello"), 400)
+            self.assertEqual(self.status(head + f"Content-Encoding: gzip\r\nContent-Length: {len(packed)}\r\n\r\n" + packed.decode("latin-1")), 400)
+        self.assertEqual(self.page.get("/", Content_Length="0")[0], 200)
+        before = self.page.memory()
+        with contextlib.ExitStack() as kept:
+            for _ in range(6):
+                client = kept.enter_context(socket.create_connection(("127.0.0.1", self.page.port), timeout=20))
+                client.sendall(b"GET /.events?see=/ HTTP/1.1\r\nHost: 127.0.0.1\r\n\r\nGET / HTTP/1.1\r\nHost: 127.0.0.1\r\n"
+                               b"Content-Encoding: gzip\r\nContent-Length: %d\r\n\r\n" % len(packed) + packed)
+                self.assertIn(b"200 OK", client.recv(65536))
+            self.assertLess(self.page.memory() - before, 32 << 20)
+
+    def test_revisions_that_are_none(self) -> None:
+        """Whatever a stream says that its page was, it is one stream, which ends with its connection."""
+        run = re.findall(r'data-run="([^"]*)"', self.page.page("/"))[0]
+        for revision in ("%C2%B2", "%D9%A1", "-1", "1e3", "%00", "9" * 5000):
+            with self.subTest(revision):
+                stream = Stream(self.page.port, "/designers/x1", revision, run)
+                stream.next(lambda kind, data: kind == "again", 5)
+                stream.close()
+        for _ in range(12):
+            self.assertIn(self.page.get("/.events?see=/designers/x1%3F" + "%26".join(f"a{number}=1" for number in range(17)))[0], (400, 503))
+        until(lambda: self.opens(), 15)
+        self.assertEqual(self.page.end(), b"")
+
+    def test_browsers_that_leave(self) -> None:
+        """A browser that is gone before its answer is nothing to report."""
+        for path in ("/", "/engine", "/.static/page.css", "/.events?see=/", "/.search?q=piston"):
+            for _ in range(5):
+                with socket.create_connection(("127.0.0.1", self.page.port), timeout=20) as client:
+                    client.setsockopt(socket.SOL_SOCKET, socket.SO_LINGER, struct.pack("ii", 1, 0))
+                    client.sendall(f"GET {path} HTTP/1.1\r\nHost: 127.0.0.1\r\n\r\n".encode())
+        self.assertIn("piston", self.page.page(PART))
+        until(lambda: self.opens(), 15)
+        self.assertEqual(self.page.end(), b"")
 
     def test_streams_of_nothing(self) -> None:
         for see in ("", "x", "/../x", "/.search", "/.events", "//", "/" + "a" * 40, "/engine%0d%0aX:1", "/%3Cscript%3E"):
@@ -518,6 +755,65 @@ class SlowReaders(unittest.IsolatedAsyncioTestCase):
         self.fail(f"{len(self.doors.connections)} connections are left")
 
 
+class Restarts(unittest.IsolatedAsyncioTestCase):
+    """A page that runs in this process, before a server that is started again."""
+
+    parts = [f"/e/b/p{number}" for number in range(6)]
+
+    async def asyncSetUp(self) -> None:
+        asyncio.get_running_loop().slow_callback_duration = 10
+        self.server = Server("--workers", "16", folder=MEMORY)
+        self.addCleanup(self.server.close)
+        self.server.start()
+        with self.server.connect() as client:
+            lines = ["hello anna", "make /e", "make /e/b", *(f"make {part}" for part in self.parts), "checkout w:/e",
+                     *(f"save c1 {part} 00" for part in self.parts), "checkin c1"]
+            told(client, "".join(line + "\n" for line in lines).encode(), len(lines))
+        self.watcher = page_web.Page("127.0.0.1", self.server.port, "page", ["127.0.0.1"], "x").watcher
+        self.watcher.streams = 1
+        watch = asyncio.ensure_future(self.watcher.run())
+        self.addAsyncCleanup(self.watcher.close)
+        self.addCleanup(watch.cancel)
+
+    async def known(self, kind: str, claims: int = 0) -> None:
+        """Waits until the page stands so with the server, has this many claims, and knows what each part's last version says."""
+        model = self.watcher.model
+        for _ in range(500):
+            if model.link.kind == kind and len(model.claims) == claims and sum(place.latest is not None for place in model.places.values()) == 6:
+                return
+            await asyncio.sleep(0.02)
+        self.fail((kind, model.link, model.claims, model.places))
+
+    async def test_the_last_of_each_part(self) -> None:
+        """What each part's last version says stays known over a break, though other versions took its room."""
+        with mock.patch.object(page_model, "KEPT_VERSIONS", 2):
+            await self.known("live")
+            self.server.kill()
+            await self.known("away")
+            self.server.start()
+            await self.known("live")
+        self.assertEqual(len(self.watcher.model.versions), 2)
+
+    async def test_just_as_a_connection_is_renewed(self) -> None:
+        """Between two connections of which one follows the other, the server was started again: then a hold is another one."""
+        await self.known("live")
+        with self.server.connect() as client:
+            told(client, b"hello anna\nhold w:/e\n", 2)
+            await self.known("live", claims=1)
+        self.assertTrue(self.watcher.model.since["h1"].exact)
+        self.server.kill()
+        self.server.start()
+        with self.server.connect() as client:
+            told(client, b"hello ben\nhold w:/e\n", 2)
+            assert self.watcher._wire is not None
+            self.watcher._wire.lines = 4000
+            await self.known("away", claims=1)
+            self.assertEqual(self.watcher.model.link.why, "was started again")
+            await self.known("live", claims=1)
+        self.assertEqual([claim.owner for claim in self.watcher.model.claims], ["ben"])
+        self.assertFalse(self.watcher.model.since["h1"].exact)
+
+
 class Odd:
     """A server that says what no vault server says: to all, or to some words."""
 
@@ -603,7 +899,17 @@ class OddServers(unittest.TestCase):
         self.addCleanup(page.end)
         status, _, body = page.get("/engine")
         self.assertEqual((status, "so the page doesn’t know" in body or "so the page doesn&#39;t know" in body), (503, True))
+        self.assertIn('http-equiv="refresh" content="10"', body)
         self.assertIn("does not answer", page.page("/"))
+
+    def test_who_asks_again(self) -> None:
+        """Whether a page asks again by itself stands on it as it is."""
+        page = PageServer(1)
+        self.addCleanup(page.end)
+        for path, asks in (("/", True), ("/engine", True), ("/designers", True), ("/.search?q=e", False), ("/ENGINE", False)):
+            body = page.get(path)[2]
+            self.assertEqual((path, "The page asks again by itself." in body, "Load the page again to ask again." in body), (path, asks, not asks))
+            self.assertEqual((path, "data-watch" in body or 'http-equiv="refresh" content="10"' in body), (path, asks))
 
 
 def fill(port: int, places: int, claims: int) -> None:

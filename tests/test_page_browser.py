@@ -4,8 +4,10 @@ Pictures of all lie in tests/out, or in the folder that VAULT_PICTURES names.
 """
 
 import base64
+import contextlib
 import json
 import os
+import signal
 import tempfile
 import time
 import unittest
@@ -15,6 +17,7 @@ from typing import Tuple
 from browser import Browser, Pages
 from busy_vault import Office
 from page_server import PageServer, processor_seconds, soon, until
+from selenium.common.exceptions import WebDriverException
 from servers import MEMORY, TOP, Server, Tap
 from test_page import fill
 
@@ -25,6 +28,18 @@ CHECK = (TOP / "tests" / "pages" / "check.js").read_text("utf-8")
 PART = "/engine/piston_group/piston"
 WINDOWS: Tuple[Tuple[str, int, int, bool], ...] = (("1280", 1280, 900, False), ("390", 390, 844, False), ("1280-dark", 1280, 900, True),
                                                    ("390-dark", 390, 844, True))
+# Answers take half a second, and a test can reach the stream.
+SLOWLY = """
+window.asked = [];
+const get = window.fetch;
+window.fetch = async (...words) => {
+  asked.push(words);
+  const answer = await get(...words);
+  await new Promise(go => setTimeout(go, 500));
+  return answer;
+};
+window.EventSource = class extends EventSource { constructor(...words) { super(...words); window.stream = this; } };
+"""
 EVIL = "<img src=x onerror=alert(1)><b>\u202egpj.exe</b>" + "W" * 190
 KINDS = {"library": "/", "project": "/engine", "assembly": "/engine/head", "part": PART, "designers": "/designers", "designer": "/designers/anna",
          "nobody": "/designers/nobody", "search": "/.search?q=crank", "nothing": "/.search?q=%3Cb%3E", "missing": "/engine/none"}
@@ -221,6 +236,55 @@ class Live(WithOffice):
         self.assertEqual(self.browser.value("document.activeElement.getAttribute('href')"), PART)
         until(lambda: f"deniz was given {claim} by cara" in self.words("#said"), 5)
 
+    def test_what_stays_stays(self) -> None:
+        """If a claim ends, what has the focus or is selected behind it keeps both. In a row that is replaced the same link has the focus."""
+        self.office.build()
+        first, second, third, fourth = (self.say(name, f"checkout {item}").split()[2] for name, item in (
+            ("cara", f"w:{PART}"), ("ben", "w:/press"), ("ben", "w:/gripper"), ("deniz", "r:/gripper")))
+        self.open("/")
+        self.shows("#line", f"deniz {fourth}")
+        focused = "[document.activeElement.closest('#line > li')?.id, document.activeElement.getAttribute('href')]"
+        self.browser.value(f"document.querySelector('[id=\"line:{third}\"] .designer').focus()")
+        self.browser.value(f"getSelection().selectAllChildren(document.querySelector('[id=\"line:{second}\"] .who .designer'))")
+        self.say("cara", f"abandon {first}")
+        until(lambda: self.is_so(f"!document.getElementById('line:{first}')"), 5)
+        self.assertEqual(self.browser.value(focused), [f"line:{third}", "/designers/ben"])
+        self.assertEqual(self.browser.value("getSelection().toString()"), "ben")
+        self.browser.value(f"document.querySelector('[id=\"line:{fourth}\"] .path').focus()")
+        self.say("deniz", f"give {fourth} eva")
+        self.shows("#line", f"eva {fourth}")
+        self.assertEqual(self.browser.value(focused), [f"line:{fourth}", "/gripper"])
+        self.assertEqual(self.browser.complaints(), [])
+
+    def test_pieces_that_do_not_fit(self) -> None:
+        """If the page lacks what a change is for, it reads itself again."""
+        self.office.build()
+        first = self.say("cara", f"checkout w:{PART}").split()[2]
+        self.open("/")
+        self.shows("#line", f"cara {first}")
+        for missing in (f"line:{first}", "line", "tally"):
+            with self.subTest(missing):
+                self.browser.value(f"document.getElementById('{missing}').remove()")
+                claim = self.say("ben", f"checkout w:{PART}").split()[2]
+                self.shows("#line", f"ben {claim} waits behind {first}")
+                self.shows("#line", f"cara {first} held")
+                self.assertTrue(self.is_so(f"!!document.getElementById('{missing}')"))
+                self.say("ben", f"abandon {claim}")
+                until(lambda: self.is_so(f"!document.getElementById('line:{claim}')"), 5)
+        self.assertEqual(self.browser.complaints(), [])
+
+    def test_again_while_it_reads(self) -> None:
+        """If it is told to read again while it does so, it does so once more after that."""
+        self.office.build()
+        self.browser.driver.execute_cdp_cmd("Page.addScriptToEvaluateOnNewDocument", {"source": SLOWLY})
+        self.open("/")
+        before = self.browser.value("asked.length")
+        for _ in range(3):
+            self.browser.value("stream.dispatchEvent(new Event('again'))")
+        until(lambda: self.words("#pill") == "live", 10)
+        self.assertEqual(self.browser.value("asked.length"), before + 2)
+        self.assertEqual(self.browser.complaints(), [])
+
     def test_the_vault_goes_away(self) -> None:
         """The page says since when, shows what it knew, and goes on by itself."""
         self.office.build()
@@ -251,8 +315,52 @@ class Live(WithOffice):
         self.say("ben", f"checkout w:{PART}")
         self.shows("#line", f"waits behind {claim}")
 
+    def test_silence(self) -> None:
+        """A page that hears nothing any more says when it was right, and not that it is live."""
+        self.office.build()
+        self.open("/")
+        led = "getComputedStyle(document.querySelector('.led')).backgroundColor"
+        live = self.browser.value(led)
+        self.page.process.send_signal(signal.SIGSTOP)
+        try:
+            until(lambda: self.words("#pill").startswith("as of "), 40)
+            self.assertNotEqual(self.browser.value(led), live)
+            until(lambda: "no page server since" in self.words("#pill"), 30)
+        finally:
+            self.page.process.send_signal(signal.SIGCONT)
+        until(lambda: self.words("#pill") == "live", 30)
+        self.assertEqual(self.browser.value(led), live)
+
+    def test_the_vault_comes_late(self) -> None:
+        """A page says which of the two is missing, and comes by itself once the vault is there, also where it was opened before that."""
+        self.office.build()
+        self.open("/engine")
+        for opened_before in (True, False):
+            with self.subTest(opened_before=opened_before):
+                self.server.kill()
+                self.page.end()
+                self.page = PageServer(self.server.port, "--title", "Plant 1 <machines>", port=self.page.port)
+                if opened_before:
+                    until(lambda: "Nothing is known of the vault yet." in self.words("#state"), 15)
+                    self.assertIn("Beneath it", self.words("main"))
+                else:
+                    self.browser.open(self.page.address + "/engine")
+                    self.assertEqual(self.words("h1"), "Not known")
+                self.assertEqual(self.words("#pill"), "nothing known yet")
+                self.assertIn("The page asks again by itself.", self.words("#state"))
+                self.server.start()
+                until(self.is_live, 25)
+                self.assertIn("Beneath it", self.words("main"))
+                self.assertEqual(self.words("#state"), "")
+
+    def is_live(self) -> bool:
+        """Whether the page is live. It isn't while it is loaded."""
+        with contextlib.suppress(WebDriverException):
+            return self.words("#pill") == "live"
+        return False
+
     def test_a_tab_that_nobody_sees(self) -> None:
-        """A page in the background asks for nothing; in front again it is right."""
+        """A page in the background asks for nothing; in front again it says when it was right, until it is right again."""
         self.office.build()
         tap = Tap(self.server.port)
         self.addCleanup(tap.close)
@@ -261,6 +369,8 @@ class Live(WithOffice):
         self.open("/")
         driver = self.browser.driver
         first = driver.current_window_handle
+        self.browser.value("document.addEventListener('visibilitychange', () => {"
+                           " if (!document.hidden) window.seen = document.getElementById('pill').innerText; })")
         driver.switch_to.new_window("tab")
         until(lambda: tap.heard[-1].sent.endswith(b"quit\n"), 30)
         time.sleep(3)
@@ -268,6 +378,8 @@ class Live(WithOffice):
         claim = self.say("cara", f"checkout w:{PART}").split()[2]
         driver.switch_to.window(first)
         until(lambda: f"cara {claim} held" in self.words("#line"), 10)
+        self.assertRegex(self.browser.value("window.seen"), r"as of \d\d:\d\d")
+        self.assertEqual(self.words("#pill"), "live")
 
     def test_foreign_pages(self) -> None:
         """A page of another origin can't hear, read or frame this one."""

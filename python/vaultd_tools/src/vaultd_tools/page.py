@@ -77,7 +77,7 @@ async def serve(asked: argparse.Namespace) -> None:
     """Serves until a signal ends it."""
     loop = asyncio.get_running_loop()
     page = Page(asked.vault[0], asked.vault[1], asked.designer, hosts_of(asked), asked.title, asked.streams)
-    doors = Doors(page.answer, access_log=None, keepalive_timeout=KEEPALIVE_SECONDS, lingering_time=1.0)
+    doors = Doors(page.answer, access_log=None, keepalive_timeout=KEEPALIVE_SECONDS, lingering_time=1.0, auto_decompress=False)
     listener = await loop.create_server(doors, *asked.listen, backlog=BACKLOG, reuse_address=True)
     ended = asyncio.Event()
     for number in (signal.SIGTERM, signal.SIGINT, signal.SIGHUP):

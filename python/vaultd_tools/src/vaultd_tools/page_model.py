@@ -101,6 +101,13 @@ class Model:
         self.read_bytes = 0
         self.news: deque[News] = deque(maxlen=KEPT_NEWS)
 
+    def forget(self) -> None:
+        """Forgets all but the queue. When a claim in it came isn't known any more."""
+        self.places.clear()
+        self.versions.clear()
+        self.read = self.read_bytes = 0
+        self.since = {claim.name: Since(now(), False) for claim in self.claims}
+
     def add(self, path: str) -> Place:
         """Adds a place that wasn't known. Its depth says whether it is a part, no part, or possibly either."""
         names = depth(path)

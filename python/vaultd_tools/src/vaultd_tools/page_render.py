@@ -215,7 +215,8 @@ class Renderer:
 
     def page(self, template: str, **words: Any) -> str:
         """A whole page."""
-        return self.environment.get_template(template).render(**{"live": False, "see": "", "asked": "", "texts": {}, "lists": {}, **words})
+        usual = {"live": False, "again": 0, "see": "", "asked": "", "texts": {}, "lists": {}}
+        return self.environment.get_template(template).render(**{**usual, **words})
 
     def piece(self, macro: str, *words: Any) -> Markup:
         """One piece."""

@@ -102,10 +102,10 @@ class Source:
     server: str
     vault: str
 
-    def common(self) -> Pieces:
-        """The pieces that every page has."""
+    def common(self, asks: bool = True) -> Pieces:
+        """The pieces that every page has. Not every one asks again by itself."""
         link = self.model.link
-        return Pieces({"state": self.renderer.piece("state", link, self.server, self.model.as_of),
+        return Pieces({"state": self.renderer.piece("state", link, self.server, self.model.as_of, asks),
                        "pill": self.renderer.piece("pill", link, self.model.as_of)})
 
 
@@ -122,6 +122,10 @@ class View:
 
     async def prepare(self, watcher: Watcher) -> None:
         """Makes sure that what it shows besides has been read."""
+
+    def missing(self, model: Model) -> list[tuple[str, int]]:
+        """The versions that it shows and that aren't known."""
+        return []
 
     def is_there(self, model: Model) -> bool:
         """Whether the vault has what it shows."""
@@ -156,9 +160,13 @@ class PlaceView(View):
     async def prepare(self, watcher: Watcher) -> None:
         """Asks for the place, and of a part for the versions that are shown."""
         await watcher.learn_place(self.path)
-        place = watcher.model.places.get(self.path)
-        if place is not None and place.part:
-            await watcher.learn_versions(self.path, self.shown(place))
+        await watcher.learn_versions(self.missing(watcher.model))
+
+    def missing(self, model: Model) -> list[tuple[str, int]]:
+        """Of a part those versions that aren't known."""
+        place = model.places.get(self.path)
+        wanted = self.shown(place) if place is not None and place.part else ()
+        return [(self.path, number) for number in wanted if (self.path, number) not in model.versions]
 
     def is_there(self, model: Model) -> bool:
         """Whether the place is known, or the library, which is always there."""
@@ -313,7 +321,7 @@ class SearchView(View):
 
     def pieces(self, source: Source) -> Pieces:
         """Those of every page."""
-        return source.common()
+        return source.common(asks=False)
 
     def words(self, source: Source, pieces: Pieces) -> dict[str, Any]:
         """What was found."""

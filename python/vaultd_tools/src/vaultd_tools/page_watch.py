@@ -1,13 +1,14 @@
 """Watches a vault for the page while somebody looks: all claims twice a second, all places and notes within twenty seconds.
 
-It asks over one connection at a time. If a reply is the same as the last one to its question, it isn't parsed again.
+It asks over one connection at a time, and all anew over the next one. If a reply is the same as the last one to its question, it isn't
+parsed again.
 """
 
 from __future__ import annotations
 
 import asyncio
 import re
-from collections import deque
+from collections import OrderedDict
 from collections.abc import Callable, Iterable, Sequence
 
 from vault.card import read_card
@@ -34,25 +35,54 @@ LEARNED_AT_ONCE = 20
 MISSES_A_SECOND = 5.0
 
 
-class Watcher:
-    """Keeps a model of a vault right while somebody looks, and says so whenever it changed."""
+class Earlier(Broken):
+    """Something is gone that no vault loses."""
 
-    def __init__(self, host: str, port: int, designer: str, publish: Callable[[], None]):
-        self.host, self.port, self.designer, self.publish = host, port, designer, publish
+    def __init__(self) -> None:
+        super().__init__("serves an earlier state of the vault, or another one")
+
+
+class Questions:
+    """Questions that are still to be asked, each once, in the order in which they came."""
+
+    def __init__(self) -> None:
+        self._waiting: OrderedDict[str, None] = OrderedDict()
+
+    def __len__(self) -> int:
+        return len(self._waiting)
+
+    def add(self, questions: Iterable[str]) -> None:
+        """Adds those that don't wait yet."""
+        self._waiting.update(dict.fromkeys(questions))
+
+    def take(self, most: int) -> list[str]:
+        """The first ones, which wait no more."""
+        return [self._waiting.popitem(last=False)[0] for _ in range(min(most, len(self._waiting)))]
+
+    def clear(self) -> None:
+        """Forgets all."""
+        self._waiting.clear()
+
+
+class Watcher:
+    """Keeps a model of a vault right while somebody looks, and says so whenever it changed. `wanted` gives the versions that open pages
+    show and that aren't known."""
+
+    def __init__(self, host: str, port: int, designer: str, publish: Callable[[], None], wanted: Callable[[], Iterable[tuple[str, int]]]):
+        self.host, self.port, self.designer, self.publish, self.wanted = host, port, designer, publish, wanted
         self.model = Model()
         self.streams = 0
-        self.session = 0
-        self.connections = 0
+        # Whether all places were read once, and whether the model differs from what was published.
+        self.whole = self.changed = False
         self._until = 0.0
         self._wake, self._settled = asyncio.Event(), asyncio.Event()
         self._lock = asyncio.Lock()
         self._wire: Wire | None = None
+        self._session, self._why = 0, ""
         self._said: dict[str, bytes] = {}
         self._line: list[bytes] = []
-        self._urgent: deque[str] = deque()
-        self._later: deque[str] = deque()
-        self._cycle: deque[str] = deque()
-        self._whole = self._quiet = self._changed = False
+        self._urgent, self._cycle, self._later, self._again = Questions(), Questions(), Questions(), Questions()
+        self._quiet = False
         self._misses = MISSES_A_SECOND
 
     # Who looks
@@ -104,33 +134,37 @@ class Watcher:
             self.model.link = Link("resting", now())
 
     def _is_away(self, why: str) -> None:
-        if self._wire is not None:
-            self._wire.drop()
-            self._wire = None
-        self._doubt()
+        self._drop(why)
         link = self.model.link
         self.model.link = Link("away", link.since if link.kind in ("away", "slow") else now(), why)
         self._settled.set()
+        self._publish()
+
+    def _is_live(self) -> None:
+        self.model.link, self.changed = Link("live", now()), True
+        self._later.add(f"fetch {path} {number}" for path, number in self.wanted())
+
+    def _publish(self) -> None:
+        self.changed = False
         self.publish()
 
     async def _watch(self) -> None:
         """Reads everything once, and then on and on while somebody looks."""
         loop = asyncio.get_running_loop()
         self._quiet = True
-        async with self._lock:
-            await self._connected(1)
+        await self._connect()
         await self._read_claims()
         await self._read_places()
         self._quiet = False
-        self.model.link, self._changed = Link("live", now()), True
+        self._is_live()
         self._settled.set()
         while self.somebody_looks():
             begun = loop.time()
-            if self._changed:
-                self._changed = False
-                self.publish()
+            if self.changed:
+                self._publish()
             await asyncio.sleep(max(0.05, begun + TURN_SECONDS - loop.time()))
             await self._turn()
+        self._rest()
         await self.close()
 
     async def _turn(self) -> None:
@@ -140,58 +174,70 @@ class Watcher:
             done, _ = await asyncio.wait({turn}, timeout=SLOW_SECONDS)
             if not done:
                 self.model.link = Link("slow", self.model.as_of or now())
-                self.publish()
+                self._publish()
             await turn
         finally:
             turn.cancel()
         if self.model.link.kind != "live":
-            self.model.link, self._changed = Link("live", now()), True
+            self._is_live()
 
     async def _ask_a_turn(self) -> None:
         await self._read_claims()
         if not self._cycle:
-            self._cycle.extend(self._questions())
-        count = 1 + int(len(self._said) * TURN_SECONDS / CYCLE_SECONDS)
-        await self._read([self._cycle.popleft() for _ in range(min(count, len(self._cycle)))])
+            self._cycle.add(self._questions())
+        await self._read(self._cycle.take(1 + int(len(self._said) * TURN_SECONDS / CYCLE_SECONDS)))
         await self._drain(BATCH)
-        await self._read([self._later.popleft() for _ in range(min(BATCH, len(self._later)))])
+        contents = self._later.take(BATCH)
+        await self._read(contents + self._again.take(BATCH - len(contents)))
         self._misses = min(MISSES_A_SECOND, self._misses + MISSES_A_SECOND * TURN_SECONDS)
 
-    async def _connected(self, count: int) -> Wire:
-        """The connection, with room for this many lines. One without room is left first."""
-        if self._wire is not None and not self._wire.has_room_for(count):
+    async def _connect(self) -> None:
+        """Opens a connection. Nothing says what became of the server since the last one."""
+        async with self._lock:
+            self._wire = await Wire.opened(self.host, self.port, self.designer)
+            self._session, self._why = self._wire.session, "ended the connection"
+        self._doubt()
+
+    async def _with_room(self, count: int) -> Wire:
+        """The connection, with room for this many lines. One without room is left, and another follows it."""
+        if self._wire is None:
+            raise Broken(self._why)
+        if not self._wire.has_room_for(count):
             wire, self._wire = self._wire, None
             await wire.leave()
-        if self._wire is None:
             self._wire = await Wire.opened(self.host, self.port, self.designer)
-            self.connections += 1
-            if self._wire.session <= self.session:
-                self._doubt()
-            self.session = self._wire.session
+            if self._wire.session <= self._session:
+                raise Broken("was started again")
+            self._session = self._wire.session
         return self._wire
+
+    def _drop(self, why: str) -> None:
+        """Ends the connection where something went wrong. All is asked again over the next one."""
+        if self._wire is not None:
+            self._wire.drop()
+        self._wire, self._why = None, why
 
     async def ask(self, questions: Sequence[str]) -> list[bytes]:
         """The replies to some questions, at most as many as go at once."""
         async with self._lock:
-            wire = await self._connected(len(questions))
             try:
+                wire = await self._with_room(len(questions))
                 return await wire.ask(questions)
-            except BaseException:
-                wire.drop()
-                self._wire = None
+            except BaseException as error:
+                self._drop(str(error))
                 raise
 
     # Claims
 
     def _doubt(self) -> None:
-        """The server may have been restarted meanwhile: then holds may have the numbers of other ones, and a backup may be in place."""
+        """The server may have been restarted meanwhile: then holds may have the numbers of other ones, and a backup may be in place. What
+        is known stands until it was asked again."""
         for name in [name for name in self.model.since if name[0] == "h"]:
             del self.model.since[name]
         self._line.clear()
         self._said.clear()
-        self.model.versions.clear()
-        for place in self.model.places.values():
-            place.latest = None
+        self._again.add(f"fetch {place.path} {place.versions}" for place in self.model.places.values() if place.latest)
+        self._again.add(f"fetch {path} {number}" for path, number in reversed(self.model.versions))
 
     async def _read_claims(self) -> None:
         """Asks for the queue and for each claim in it. If the replies are the same as before, nothing is done."""
@@ -213,12 +259,13 @@ class Watcher:
         old = {claim.name: claim for claim in self.model.claims}
         claims = [claim_in(name, reply, notes.get(name, b"")) for name, reply in shown]
         for claim in claims:
+            if self._quiet and claim.name in old and not goes_on(old[claim.name], claim):
+                self.model.since.pop(claim.name, None)
             self.model.since.setdefault(claim.name, Since(now(), not self._quiet))
-            if claim.name not in old and claim.name[0] == "c":
-                self._urgent.append("note " + claim.name)
+        self._urgent.add("note " + claim.name for claim in claims if claim.name not in old and claim.name[0] == "c")
         if claims == self.model.claims:
             return
-        self.model.claims, self._changed = claims, True
+        self.model.claims, self.changed = claims, True
         standing = {claim.name for claim in claims}
         for name in [name for name in self.model.since if name not in standing]:
             del self.model.since[name]
@@ -229,9 +276,9 @@ class Watcher:
 
     def _look_for_versions(self, gone: Iterable[Claim]) -> None:
         """A check-out that is gone may have been checked in: the versions of the parts that it had for change are counted next."""
-        places = [item[2:] for claim in gone for item in claim.items if item[0] == "w"]
+        places = {item[2:]: None for claim in gone for item in claim.items if item[0] == "w"}
         for place in places:
-            self._urgent.extend("count " + found.path for found in self.model.walk(place) if found.part)
+            self._urgent.add("count " + found.path for found in self.model.walk(place) if found.part)
 
     def _tell_of_claims(self, old: dict[str, Claim], claims: list[Claim]) -> None:
         tell, standing = self.model.tell, {claim.name for claim in claims}
@@ -254,20 +301,37 @@ class Watcher:
 
     def _questions(self) -> list[str]:
         """All that is asked again and again besides the queue."""
-        places = [("count " if place.part else "list ") + place.path for place in self.model.places.values() if place.part is not None]
-        return places + ["note " + claim.name for claim in self.model.claims if claim.name[0] == "c"]
+        places = [("list " if place.part is False else "count ") + place.path for place in self.model.places.values()]
+        return places + self._notes()
+
+    def _notes(self) -> list[str]:
+        return ["note " + claim.name for claim in self.model.claims if claim.name[0] == "c"]
 
     async def _read_places(self) -> None:
-        """Reads all places."""
+        """Reads all places and notes, whatever was left unread before. If a place is gone, all is read from nothing."""
         self._cycle.clear()
-        self._urgent.extend(self._questions() if self._whole else ["list /"])
-        await self._drain(None)
-        self._whole = True
+        try:
+            self._urgent.add(self._questions() if self.model.places else ["list /"])
+            await self._drain(None)
+        except Earlier:
+            self._forget()
+            await self._drain(None)
+        self.whole = True
+
+    def _forget(self) -> None:
+        """Another vault answers now, or an earlier state of this one. Whoever asks for a page waits until it was read."""
+        self.whole = False
+        self._settled.clear()
+        self.model.forget()
+        self._said.clear()
+        for questions in (self._urgent, self._later, self._again):
+            questions.clear()
+        self._urgent.add(["list /"] + self._notes())
 
     async def _drain(self, most: int | None) -> None:
         """Asks what is to be asked first, this much of it or all."""
         while self._urgent and (most is None or most > 0):
-            questions = [self._urgent.popleft() for _ in range(min(BATCH, len(self._urgent)))]
+            questions = self._urgent.take(BATCH)
             await self._read(questions)
             most = None if most is None else most - len(questions)
 
@@ -284,8 +348,8 @@ class Watcher:
     def _take(self, question: str, reply: bytes) -> None:
         keyword, path = question.split(" ")[:2]
         if reply == NO_PLACE:
-            self._begin_anew()
-        elif keyword == "list":
+            raise Earlier() if "/" in self.model.places else refused(reply)
+        if keyword == "list":
             self._take_list(path, reply)
         elif keyword == "count":
             self._take_count(path, reply)
@@ -293,18 +357,6 @@ class Watcher:
             self._take_note(path, reply)
         else:
             self._take_version(path, int(question.split(" ")[2]), reply)
-
-    def _begin_anew(self) -> None:
-        """A place is gone. No vault loses one, so another vault answers here now."""
-        if "/" in self.model.places:
-            self.model.places.clear()
-            self.model.versions.clear()
-            self._said.clear()
-            self._cycle.clear()
-            self._later.clear()
-            self._urgent.clear()
-            self._urgent.append("list /")
-            self._changed = True
 
     def _take_list(self, path: str, reply: bytes) -> None:
         found = LISTED.fullmatch(reply)
@@ -316,13 +368,14 @@ class Watcher:
         for child in children:
             if child not in self.model.places:
                 self._add(child)
-        place.part, place.children, self._changed = False, children, True
+        place.part, place.children, self.changed = False, children, True
 
     def _add(self, path: str) -> None:
         if depth(path) > MAX_NAMES or len(self.model.places) >= MAX_PLACES:
             raise Broken("lists more places than a vault has; it is no vault server")
-        part = self.model.add(path).part
-        self._urgent.append(("list " if part is False else "count ") + path)
+        question = ("list " if self.model.add(path).part is False else "count ") + path
+        self._said.pop(question, None)
+        self._urgent.add([question])
         if not self._quiet:
             self.model.tell("", "is new", path)
 
@@ -330,12 +383,12 @@ class Watcher:
         place, found = self.model.places.get(path), COUNTED.fullmatch(reply)
         if place is None:
             return
-        self._changed = True
+        self.changed = True
         if reply == NO_PART and place.part is None:
             place.part = False
-            self._urgent.append("list " + path)
+            self._urgent.add(["list " + path])
         elif reply == NO_PART or found and int(found[1]) < place.versions:
-            self._begin_anew()
+            raise Earlier()
         elif found is None:
             raise refused(reply)
         else:
@@ -346,8 +399,10 @@ class Watcher:
         first = max(place.versions, count - LEARNED_AT_ONCE) if place.latest else count - 1
         if not self._quiet and count > place.versions:
             self.model.tell("", f"has version {count}", place.path)
-        place.part, place.versions, place.latest = True, count, self.model.versions.get((place.path, count))
-        self._later.extend(f"fetch {place.path} {number}" for number in range(first + 1, count + 1) if number > 0)
+        if count > place.versions or place.latest is None:
+            place.latest = self.model.versions.get((place.path, count))
+        place.part, place.versions = True, count
+        self._later.add(f"fetch {place.path} {number}" for number in range(first + 1, count + 1) if number > 0)
 
     def _take_note(self, name: str, reply: bytes) -> None:
         if reply == ENDED:
@@ -355,42 +410,45 @@ class Watcher:
         note = bytes_in(reply, b"note", NOTE_BYTES)
         self.model.claims = [Claim(claim.name, claim.owner, claim.behind, claim.items, note) if claim.name == name else claim
                              for claim in self.model.claims]
-        self._changed = True
+        self.changed = True
 
     def _take_version(self, path: str, number: int, reply: bytes) -> None:
+        before = self.model.versions.get((path, number))
         if reply in (NO_VERSION, NO_PART):
+            self.changed |= self.model.versions.pop((path, number), None) is not None
             return
         content = bytes_in(reply, b"content", CONTENT_BYTES)
         card = read_card(content)
-        self.model.keep(path, Version(number, card.size if card else len(content), card), len(content))
-        self._changed = True
+        version = Version(number, card.size if card else len(content), card)
+        self.model.keep(path, version, len(content))
+        self.changed |= version != before
 
     # What a page asks for besides
 
-    async def learn_versions(self, path: str, wanted: Sequence[int]) -> None:
-        """Reads these versions of a part, if they aren't known. If the server is away they stay unknown."""
-        missing = [number for number in wanted if (path, number) not in self.model.versions]
-        await self._try_to_read([f"fetch {path} {number}" for number in missing])
+    async def learn_versions(self, missing: Iterable[tuple[str, int]]) -> None:
+        """Reads these versions. If the server is away they stay unknown until it is back."""
+        await self._try_to_read([f"fetch {path} {number}" for path, number in missing])
 
     async def learn_place(self, path: str) -> None:
         """Asks for an unknown place, and for those above it: it may be younger than the last look. Their number is limited."""
-        if path in self.model.places or self._misses < 1 or not self._whole:
+        if path in self.model.places or self._misses < 1 or self.model.link.kind != "live":
             return
         self._misses -= 1
         for above in sorted(ways(path), key=len)[:-1]:
-            if self.model.places.get(above) and not self.model.places[above].part:
+            if above in self.model.places and self.model.places[above].part is False:
                 await self._try_to_read(["list " + above])
-                await self._try_to_read([self._urgent.popleft() for _ in range(min(BATCH, len(self._urgent)))])
+                if self.model.link.kind == "live":
+                    await self._try_to_read(self._urgent.take(BATCH))
 
     async def _try_to_read(self, questions: Sequence[str]) -> None:
-        try:
-            if self.model.link.kind == "live":
+        """Reads, if the server can be asked. That it can't any more is told by the next turn, which reads all again."""
+        if self.model.link.kind == "live":
+            try:
                 await self._read(questions)
-        except Broken:
-            pass
-        if self._changed:
-            self._changed = False
-            self.publish()
+            except Broken as error:
+                self._drop(str(error))
+        if self.changed and self.model.link.kind == "live":
+            self._publish()
 
 
 def claims_in(reply: bytes) -> list[str]:
@@ -417,6 +475,11 @@ def bytes_in(reply: bytes, what: bytes, most: int) -> bytes:
     if found is None or found[1] != what or len(content) > most:
         raise refused(reply)
     return content
+
+
+def goes_on(before: Claim, claim: Claim) -> bool:
+    """Whether a claim is surely the one that had its number before: its designer's still, with at least what it had."""
+    return before.owner == claim.owner and before.items == claim.items[:len(before.items)]
 
 
 def concerns(claim: Claim, path: str) -> bool:

@@ -32,6 +32,7 @@ BEAT_SECONDS = 10.0
 TAKE_SECONDS = 20.0
 FIRST_SECONDS = 15.0
 PREPARE_SECONDS = 3.0
+AGAIN_SECONDS = 10
 SENTENCES = 4
 HOST = re.compile(r"([a-z0-9._-]{1,255}|\[[0-9a-f:.]{2,45}\])(:[0-9]{1,5})?")
 HEADERS = {
@@ -53,6 +54,14 @@ class Refusal(Exception):
     def __init__(self, status: int, words: str, **headers: str):
         super().__init__(words)
         self.status, self.words, self.headers = status, words, headers
+
+
+def fields_in(query: str) -> dict[str, str]:
+    """The fields of an address."""
+    try:
+        return dict(parse_qsl(query, keep_blank_values=True, max_num_fields=MAX_FIELDS, errors="replace"))
+    except ValueError as error:
+        raise Refusal(400, "This asks for too much at once.") from error
 
 
 class Stream:
@@ -81,7 +90,7 @@ class Stream:
             self.wake.clear()
             with contextlib.suppress(asyncio.TimeoutError):
                 await asyncio.wait_for(self.wake.wait(), BEAT_SECONDS)
-        return self.messages.popleft() if self.messages else b"event: beat\ndata: \n\n"
+        return self.messages.popleft() if self.messages else BEAT
 
 
 class Channel:
@@ -110,6 +119,7 @@ def event(words: dict[str, Any]) -> bytes:
 
 
 AGAIN = b"event: again\ndata: \n\n"
+BEAT = b"event: beat\ndata: \n\n"
 
 
 def difference(old: Pieces, new: Pieces, branch: Callable[[str], str]) -> dict[str, Any] | None:
@@ -191,7 +201,7 @@ class Page:
     """The page of one vault."""
 
     def __init__(self, host: str, port: int, designer: str, hosts: Iterable[str], title: str, most_streams: int = MAX_STREAMS):
-        self.watcher = Watcher(host, port, designer, self.publish)
+        self.watcher = Watcher(host, port, designer, self.publish, self.wanted)
         server = f"[{host}]:{port}" if ":" in host else f"{host}:{port}"
         self.source = Source(Renderer(links=True), self.watcher.model, server, title)
         self.source.renderer.prepare()
@@ -210,6 +220,10 @@ class Page:
         sentences = self._sentences()
         for channel in list(self.channels.values()):
             channel.update(self.revision, sentences)
+
+    def wanted(self) -> list[tuple[str, int]]:
+        """The versions that open pages show and that aren't known."""
+        return [version for view in self.channels for version in view.missing(self.watcher.model)]
 
     def _sentences(self) -> list[str]:
         """What is new, for those who listen to the page by a screen reader; not all of it if it is much."""
@@ -238,7 +252,7 @@ class Page:
         try:
             await response.prepare(request)
             await asyncio.wait_for(response.write_eof(), TAKE_SECONDS)
-        except asyncio.TimeoutError:
+        except (ConnectionError, asyncio.TimeoutError):
             if request.transport is not None:
                 request.transport.abort()
         return response
@@ -249,10 +263,7 @@ class Page:
         path, _, query = request.raw_path.partition("?")
         if not path.startswith("/") or not request.raw_path.isascii():
             raise Refusal(400, "This is no address of the page.")
-        try:
-            return path, dict(parse_qsl(query, keep_blank_values=True, max_num_fields=MAX_FIELDS, errors="replace"))
-        except ValueError as error:
-            raise Refusal(400, "This asks for too much at once.") from error
+        return path, fields_in(query)
 
     def _look_at(self, request: web.BaseRequest) -> None:
         """Refuses what comes by a foreign name, from a foreign page, or asks for more than to read."""
@@ -263,7 +274,7 @@ class Page:
             raise Refusal(421, "The page isn't served by this name. Whoever runs it can name it with --host.")
         if request.method != "GET":
             raise Refusal(405, "The page can only be read.", Allow="GET")
-        if "Upgrade" in headers or "Transfer-Encoding" in headers:
+        if "Upgrade" in headers or "Transfer-Encoding" in headers or request.body_exists:
             raise Refusal(400, "The page speaks HTTP alone, and takes nothing.")
         origin, site, mode = headers.get("Origin"), headers.get("Sec-Fetch-Site", "none"), headers.get("Sec-Fetch-Mode", "")
         if origin is not None and origin.lower() not in (f"http://{named[0]}", f"https://{named[0]}"):
@@ -272,9 +283,10 @@ class Page:
             raise Refusal(403, "Another page can't read this one.")
 
     def _refuse(self, request: web.BaseRequest, refusal: Refusal) -> web.Response:
-        if refusal.status == 404 or refusal.status == 503 and "Retry-After" not in refusal.headers:
-            response = self._html("message.html", refusal.status, heading="Not here" if refusal.status == 404 else "Not known",
-                                  words=refusal.words, title=self.source.vault, texts=self.source.common().texts)
+        unknown = refusal.status == 503 and "Retry-After" not in refusal.headers
+        if refusal.status == 404 or unknown:
+            response = self._html("message.html", refusal.status, heading="Not known" if unknown else "Not here", words=refusal.words,
+                                  title=self.source.vault, texts=self.source.common(asks=unknown).texts, again=AGAIN_SECONDS if unknown else 0)
         else:
             response = self._response(refusal.status, f"{refusal.words}\n", "text/plain", NOT_KEPT)
         response.headers.update(refusal.headers)
@@ -310,12 +322,12 @@ class Page:
         for task in done:
             task.result()
         if not view.is_there(model):
-            if not model.places:
+            if not self.watcher.whole or model.link.kind == "away":
                 raise Refusal(503, "The vault can't be read now, so the page doesn't know whether there is such a place.")
             raise Refusal(404, "The vault has no such place, or had none a moment ago.")
         pieces = self.channels[view].pieces if view in self.channels else view.pieces(self.source)
         return self._html(view.template, 200, **{"live": view.live, "watch": view.address, "revision": self.revision, "run": self.run_name,
-                                                 "texts": {**pieces.texts, **self.source.common().texts}, "lists": pieces.lists,
+                                                 "texts": {**pieces.texts, **self.source.common(view.live).texts}, "lists": pieces.lists,
                                                  **view.words(self.source, pieces)})
 
     # Streams
@@ -323,7 +335,7 @@ class Page:
     async def _stream(self, request: web.BaseRequest, query: dict[str, str]) -> web.StreamResponse:
         """Sends changes to one open page until it is closed."""
         path, _, rest = query.get("see", "").partition("?")
-        view = self._view(path, dict(parse_qsl(rest, max_num_fields=MAX_FIELDS)))
+        view = self._view(path, fields_in(rest))
         if not view.live:
             raise Refusal(404, "This page doesn't change.")
         if self.watcher.streams >= self.most_streams:
@@ -341,15 +353,17 @@ class Page:
 
     @contextlib.contextmanager
     def _joined(self, view: View, stream: Stream, query: dict[str, str]) -> Iterator[None]:
-        """Adds the stream to those of its page, and notes whether the page changed since it was read."""
+        """Adds the stream to those of its page, and notes whether the page changed since it was read. What is known and not sent yet
+        belongs to the next revision."""
         channel = self.channels.get(view)
         if channel is None:
-            channel = self.channels[view] = Channel(view, self.source, self.revision)
+            channel = self.channels[view] = Channel(view, self.source, self.revision + self.watcher.changed)
         channel.streams.add(stream)
-        known = query.get("run") == self.run_name and query.get("from", "").isdigit() and len(query["from"]) < 16
-        if not known or int(query["from"]) < channel.changed_at:
-            stream.push(AGAIN)
         try:
+            read_at = query.get("from", "")
+            known = query.get("run") == self.run_name and read_at.isascii() and read_at.isdigit() and len(read_at) < 16
+            if not known or int(read_at) < channel.changed_at:
+                stream.push(AGAIN)
             yield
         finally:
             channel.streams.discard(stream)
@@ -360,9 +374,10 @@ class Page:
         response = web.StreamResponse(headers={**HEADERS, "Cache-Control": NOT_KEPT, "Content-Type": "text/event-stream; charset=utf-8",
                                                "X-Accel-Buffering": "no"})
         response.force_close()
-        await response.prepare(request)
         try:
-            await response.write(b"event: beat\ndata: \n\n")
+            await response.prepare(request)
+            if not stream.messages:
+                await response.write(BEAT)
             while not stream.over:
                 message = await stream.next()
                 if not stream.over:

@@ -5,9 +5,14 @@
   const data = document.body.dataset;
   const PAUSES = [1, 2, 3, 5];
   const WITHOUT_STREAM = 15;
-  const SILENT = 35;
+  const SILENT = 25;
+  const LONGEST = 15;
   const byId = id => document.getElementById(id);
-  let source = null, heard = 0, failures = 0, again = null, waiting = [], lostAt = null, retry = null;
+  // Two clocks, since one of them may be set, and the other one stands still while the machine sleeps.
+  const clocks = () => [performance.now(), Date.now()];
+  // `right` is when what stands here was surely right, `sure` whether this stream has said so.
+  let source = null, sure = false, heard = clocks(), right = performance.timeOrigin, failures = 0, retry = null;
+  let again = null, more = false, waiting = [], known = true, lostAt = null;
 
   // Times
 
@@ -40,20 +45,25 @@
     return template.content.firstElementChild;
   }
 
-  // Does something that may take the focused link away, and focuses the same link again.
+  // The place of something that the page server sent. If there is none, the page has to be read again.
+  function there(element, name) {
+    if (!element) throw new Error(`${name} isn't here`);
+    return element;
+  }
+
+  // Does something that may take the focus away, and gives it back: to the same link, to the one in the same row, or to any like it.
   function keepingFocus(root, change) {
-    const focused = document.activeElement;
-    const href = root.contains(focused) && focused !== root ? focused.getAttribute("href") : null;
+    const focused = document.activeElement, inside = root.contains(focused) && focused !== root;
+    const row = inside ? focused.closest("[id]").id : "", href = inside ? focused.getAttribute("href") : null;
     change();
-    if (href !== null && !focused.isConnected) {
-      const same = [...root.querySelectorAll("a")].find(link => link.getAttribute("href") === href);
-      (same || byId("main")).focus({preventScroll: true});
-    }
+    if (!inside || document.activeElement === focused) return;
+    const links = [byId(row), root].flatMap(where => where ? [...where.querySelectorAll("a")] : []);
+    const same = href === null ? byId(row) : links.find(link => link.getAttribute("href") === href);
+    (focused.isConnected ? focused : same || byId("main")).focus({preventScroll: true});
   }
 
   function put(id, html) {
-    const element = byId(id);
-    if (!element) return;
+    const element = there(byId(id), id);
     keepingFocus(element, () => { element.innerHTML = html; });
     showTimes(element);
     const branch = element.parentElement;
@@ -69,10 +79,11 @@
     element.classList.add("fresh");
   }
 
+  // What is gone goes first, so that what stays isn't moved: that would take the focus and what is selected.
   function arrange(id, order, items) {
-    const list = byId(id);
-    if (!list) return;
+    const list = there(byId(id), id), wanted = new Set(order.map(key => `${id}:${key}`));
     keepingFocus(list, () => {
+      for (const item of [...list.children]) if (!wanted.has(item.id)) item.remove();
       const old = new Map([...list.children].map(child => [child.id, child]));
       order.forEach((key, place) => {
         const name = `${id}:${key}`;
@@ -82,10 +93,9 @@
           if (item) item.replaceWith(fresh); else flash(fresh);
           item = fresh;
         }
-        old.delete(name);
+        there(item, name);
         if (list.children[place] !== item) list.insertBefore(item, list.children[place] || null);
       });
-      for (const gone of old.values()) gone.remove();
     });
   }
 
@@ -93,8 +103,8 @@
     for (const [id, html] of Object.entries(message.texts || {})) put(id, html);
     for (const [id, {order, items}] of Object.entries(message.lists || {})) arrange(id, order, items);
     for (const [id, html] of message.added || []) {
-      const list = byId(id), item = made(html);
-      if (list && !byId(item.querySelector(".row").id)) { list.append(item); flash(item); }
+      const list = there(byId(id), id), item = made(html);
+      if (!byId(item.querySelector(".row").id)) { list.append(item); flash(item); }
     }
     if (message.say.length) byId("said").textContent = message.say.join(". ");
     data.revision = message.revision;
@@ -103,85 +113,121 @@
   // The whole page again
 
   async function readAgain() {
-    const answer = await fetch(location.href, {cache: "no-store"});
-    if (answer.status === 404) { location.reload(); return; }
-    if (!answer.ok) throw new Error(answer.status);
+    const asked = Date.now();
+    const answer = await fetch(location.href, {cache: "no-store", signal: AbortSignal.timeout(1000 * LONGEST)});
     const page = new DOMParser().parseFromString(await answer.text(), "text/html");
+    if (!page.getElementById("state")) throw new Error(`the page server said ${answer.status}`);
+    if (answer.status === 404) { location.reload(); return; }
+    for (const id of ["state", "pill"]) byId(id).replaceChildren(...page.getElementById(id).childNodes);
+    known = answer.ok;
+    if (known) takeOver(page, asked);
+    showTimes(document);
+  }
+
+  function takeOver(page, asked) {
     const touched = [...document.querySelectorAll("details[data-touched]")].map(branch => [branch.firstElementChild.id, branch.open]);
     keepingFocus(byId("main"), () => { byId("main").replaceChildren(...page.getElementById("main").childNodes); });
     for (const [id, open] of touched) {
       const branch = byId(id) && byId(id).parentElement;
       if (branch) { branch.open = open; branch.dataset.touched = ""; }
     }
-    for (const id of ["state", "pill"]) byId(id).replaceChildren(...page.getElementById(id).childNodes);
     data.revision = page.body.dataset.revision;
     data.run = page.body.dataset.run;
-    showTimes(document);
-    for (const message of waiting) if (message.revision > Number(data.revision)) apply(message);
-    waiting = [];
+    right = asked;
+    const late = waiting.splice(0).filter(message => message.revision > Number(data.revision));
+    try { late.forEach(apply); } catch { more = true; }
   }
 
+  async function readOnceMore() {
+    try {
+      do { more = false; await readAgain(); } while (more && known);
+      lostAt = null;
+    } finally {
+      again = null;
+      waiting = [];
+    }
+  }
+
+  // Reads the page again. Where that is going on, it is done once more after it.
   function demandAgain() {
-    if (again) return again;
-    again = readAgain().then(() => { again = lostAt = null; pill(); }, error => { again = null; throw error; });
+    if (again) more = true;
+    else again = readOnceMore();
     return again;
+  }
+
+  function readNow() {
+    demandAgain().then(() => { if (known) pill(); else lose(); }, lose);
   }
 
   // The stream
 
   function pill() {
-    const words = document.querySelector("[data-pill]"), led = document.querySelector(".led");
-    if (lostAt) {
-      led.className = "led away";
-      words.textContent = `no page server since ${spoken(lostAt)}`;
-    } else if (led.classList.contains("live") && source) {
-      words.textContent = "live";
-    }
+    const words = document.querySelector("[data-pill]"), led = document.querySelector(".led"), live = source && sure && !again;
+    led.classList.toggle("lost", lostAt !== null);
+    led.classList.toggle("stale", !live);
+    if (lostAt) words.textContent = `no page server since ${spoken(lostAt)}`;
+    else if (led.classList.contains("live")) words.textContent = live ? "live" : `as of ${spoken(new Date(right))}`;
+  }
+
+  function isThere() {
+    heard = clocks();
+    sure = true;
+    failures = 0;
+    if (!again) right = Date.now();
+    pill();
   }
 
   function hear(heardEvent) {
-    heard = Date.now();
     const message = JSON.parse(heardEvent.data);
-    if (again) waiting.push(message);
-    else if (message.revision > Number(data.revision)) apply(message);
-    pill();
+    if (again) {
+      waiting.push(message);
+    } else if (message.revision > Number(data.revision)) {
+      try { apply(message); } catch { readNow(); }
+    }
+    isThere();
   }
 
   function connect() {
     if (source || document.hidden) return;
     const asked = new URLSearchParams({see: data.watch, from: data.revision, run: data.run});
     source = new EventSource(`/.events?${asked}`);
-    heard = Date.now();
+    sure = false;
+    heard = clocks();
     source.onmessage = hear;
-    source.addEventListener("beat", () => { heard = Date.now(); failures = 0; lostAt = null; pill(); });
-    source.addEventListener("again", () => { demandAgain().catch(lose); });
+    source.addEventListener("beat", isThere);
+    source.addEventListener("again", () => { readNow(); isThere(); });
     source.onerror = lose;
   }
 
   function disconnect() {
     if (source) source.close();
     source = null;
+    pill();
   }
 
   // The stream ended, or can't be had: the page is read as a whole now and then, until there is a stream again.
   function lose() {
     disconnect();
     clearTimeout(retry);
-    const pause = !lostAt && failures > 1 ? WITHOUT_STREAM : PAUSES[Math.min(failures, PAUSES.length - 1)];
+    const pause = known && !lostAt && failures > 1 ? WITHOUT_STREAM : PAUSES[Math.min(failures, PAUSES.length - 1)];
     failures++;
-    retry = setTimeout(async () => {
-      try {
-        await demandAgain();
-      } catch {
-        lostAt = lostAt || new Date();
-      }
-      pill();
-      if (lostAt) lose(); else connect();
-    }, 1000 * pause * (1 + Math.random() / 4));
+    if (!document.hidden) retry = setTimeout(tryAgain, 1000 * pause * (1 + Math.random() / 4));
+  }
+
+  async function tryAgain() {
+    clearTimeout(retry);
+    try {
+      await demandAgain();
+    } catch {
+      lostAt = lostAt || new Date(right);
+    }
+    if (lostAt || !known) lose(); else connect();
+    pill();
   }
 
   setInterval(() => {
-    if (source && Date.now() - heard > 1000 * SILENT) lose();
+    if (source && Math.max(...clocks().map((now, clock) => now - heard[clock])) > 1000 * SILENT) lose();
+    if (data.watch) pill();
     showTimes(document);
   }, 5000);
 
@@ -189,8 +235,9 @@
   let hiding = null;
   function look() {
     clearTimeout(hiding);
-    if (document.hidden) hiding = setTimeout(disconnect, 5000);
-    else if (data.watch) connect();
+    if (document.hidden) hiding = setTimeout(() => { disconnect(); clearTimeout(retry); }, 5000);
+    else if (!source && failures) tryAgain();
+    else connect();
   }
 
   document.addEventListener("click", clicked => {
@@ -207,12 +254,12 @@
 
   addEventListener("beforeprint", () => {
     const words = document.querySelector("[data-pill]");
-    if (words.textContent === "live") words.textContent = `as of ${spoken(new Date())}`;
+    if (words.textContent === "live") words.textContent = `as of ${spoken(new Date(right))}`;
   });
-  addEventListener("afterprint", pill);
 
   showTimes(document);
   if (data.watch) {
+    addEventListener("afterprint", pill);
     document.addEventListener("visibilitychange", look);
     addEventListener("pagehide", disconnect);
     addEventListener("pageshow", look);
