@@ -7,7 +7,7 @@ import subprocess
 import threading
 import unittest
 from pathlib import Path
-from typing import Any, Callable, Iterator, List
+from typing import Any, Callable, Iterator, List, Tuple
 from unittest import mock
 
 from designers import PART, WithServer
@@ -20,6 +20,10 @@ from vault.commands import COMMANDS
 from vault.connection import Patience
 from vault.memory import Command
 from vault.output import Output
+
+
+# Starts a program whose standard output refuses what its encoding can't say.
+STRICT = ("env", "PYTHONIOENCODING=ascii:strict")
 
 
 def both_of(*steps: Callable[[], object]) -> Callable[[], object]:
@@ -398,6 +402,60 @@ class Program(WithServer):
         environment = {**os.environ, "XDG_STATE_HOME": self.folder.name}
         return subprocess.Popen([*program("vault"), *words], env=environment,
                                 stdout=subprocess.DEVNULL, stderr=subprocess.DEVNULL)
+
+    def said_to(self, stdout: int, *words: str) -> Tuple[int, str]:
+        """The status of a run whose standard output is this, and what it says on standard error."""
+        done = subprocess.run([*program("vault"), *words], env=self.environment(), stdout=stdout, stderr=subprocess.PIPE, timeout=60, check=False)
+        return done.returncode, done.stderr.decode()
+
+    def test_an_answer_that_can_not_be_written(self) -> None:
+        """By its status, a command that changed something is never taken for refused, and a question isn't taken for done."""
+        self.vault("hello", f"anna@127.0.0.1:{self.server.port}")
+        full = os.open("/dev/full", os.O_WRONLY)
+        self.addCleanup(os.close, full)
+        reader, closed = os.pipe()
+        os.close(reader)
+        self.addCleanup(os.close, closed)
+        for number, (stdout, why) in enumerate(((full, "No space left on device"), (closed, "Broken pipe"))):
+            for words in (("make", f"/p{number}"), ("--json", "make", f"/q{number}")):
+                said = f"vault: `make` was done, but its answer can't be written: {why}. `vault mine` shows how you stand.\n"
+                self.assertEqual(self.said_to(stdout, *words), (3, said))
+        self.assertEqual([f"/{name}{number}" in self.anna.tree() for name in "pq" for number in range(2)], [True] * 4)
+        self.assertEqual(self.said_to(full, "tree"), (1, "vault: The answer can't be written: No space left on device.\n"))
+        self.assertEqual(self.said_to(closed, "tree"), (1, ""))
+        self.assertEqual(self.said_to(full, "--json", "make", "/p0")[0], 1)
+        self.vault("tree", limits=Limits(closed=(1,)))
+
+    def test_a_file_that_can_not_be_written(self) -> None:
+        """The client's own file can't be written once the server has done the command: that isn't taken for refused, either, and the next run
+        finds out."""
+        self.vault("hello", f"anna@127.0.0.1:{self.cutter.port}")
+        state = Path(self.folder.name) / "vault"
+        self.cutter.meanwhile = lambda: state.rename(state.with_name("away"))
+        self.cutter.after.append(b"make /wing")
+        self.assertIn(b"At least a part of `make` was done", self.vault("make", "/wing", status=3))
+        state.with_name("away").rename(state)
+        self.assertEqual(self.as_json("mine")["notices"], ["Your earlier `make /wing` was done."])
+
+    def test_words_in_no_encoding(self) -> None:
+        """Words that are no text, and text that standard output can't say: each ends in a sentence, and what is done is told."""
+        odd = "Geh\udce4use"
+        self.vault("hello", f"anna@127.0.0.1:{self.server.port}")
+        self.vault("checkout", "w:" + PART)
+        drawing = Path(self.folder.name) / odd
+        drawing.write_bytes(b"bore 80")
+        self.vault("put", PART, str(drawing))
+        self.assertIn(b"is no text in UTF-8", self.vault("note", "c1", odd, status=2))
+        self.assertIn(b"Geh\\udce4use", self.vault("draft", "c1", PART, "--to", str(drawing) + ".back", before=STRICT))
+        self.assertIn(b"Geh\\udce4use", self.vault("drafts", "c1", str(drawing) + ".all", before=STRICT))
+        self.assertIn(b"Geh\\udce4use", self.vault("get", "/engine/block", "--to", str(drawing) + ".folder", before=STRICT))
+        self.vault("note", "c1", "\u6d3b\u585e")
+        self.assertEqual(self.vault("note", "c1", before=STRICT), b"\\u6d3b\\u585e\n")
+        for words in ("hello X@127.0.0.1:1", "tree X", "checkout X", "extend c1 X", "put X", "put X X", "history X", "checkin c1 -m X", "give c1 X",
+                      "draft c1 X", "store set file:///X/X", "store confirm X", "status X", "add X"):
+            done = subprocess.run([*STRICT, *program("vault"), *words.replace("X", odd).split()], env=self.environment(), capture_output=True,
+                                  check=False)
+            self.assertEqual((done.returncode in (1, 2), b"Traceback" in done.stderr), (True, False), (words, done.stderr))
 
     def test_errors(self) -> None:
         self.assertIn(b"`vault --help` shows the words", self.vault("nonsense", status=2))

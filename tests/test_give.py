@@ -2,10 +2,11 @@
 
 import unittest
 from pathlib import Path
+from unittest import mock
 
 from designers import PART, WithServer
 
-from vault import Client, Misused, NotKnown, Refused
+from vault import Client, Misused, NotKnown, Refused, Unreachable
 
 
 class Knowing(WithServer):
@@ -56,6 +57,32 @@ class Give(Knowing):
         self.assertEqual((standing.held, standing.anothers, kept.given), (True, False, ""))
         self.assertEqual(self.anna.put(PART, b"y"), self.claim)
         self.assertEqual(self.anna.checkin(self.claim), 1)
+
+    def test_a_lost_check_in_of_the_receiver(self) -> None:
+        """He put nothing himself, and hears how many versions it made."""
+        self.anna.put(PART, b"x")
+        self.anna.give(self.claim, "ben")
+        self.cutter.after.append(b"checkin")
+        self.assertEqual(self.ben.checkin(self.claim), 1)
+
+    def test_a_lost_check_in_of_anothers_draft(self) -> None:
+        """It was given back with another draft than the one that was put from here: the check-in is known to be done, also by the next run."""
+        for settled_later in (False, True):
+            self.anna.put(PART, b"x")
+            self.anna.give(self.claim, "ben")
+            self.ben.put(PART, b"y", self.claim)
+            self.ben.give(self.claim, "anna")
+            self.cutter.after.append(b"checkin")
+            if settled_later:
+                short = self.client("anna", patience=0.0)
+                with self.assertRaises(NotKnown), mock.patch.object(short.recovery, "find_out", side_effect=Unreachable("No server answers.")):
+                    short.checkin(self.claim)
+                self.assertEqual(self.anna.mine(), [])
+                self.assertEqual(self.notices, [f"Your earlier `checkin {self.claim}` was done."])
+            else:
+                self.assertEqual(self.anna.checkin(self.claim), 1)
+            self.assertEqual(self.anna.get(PART), b"y")
+            self.claim = self.anna.checkout(["w:" + PART]).claim
 
     def test_ended_by_the_receiver(self) -> None:
         """The reply is lost, and the receiver gives the check-out up at once: the copy of the draft is kept, and the client says so."""

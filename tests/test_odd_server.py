@@ -5,11 +5,13 @@ import socket
 import tempfile
 import threading
 import unittest
+from dataclasses import replace
 from pathlib import Path
 from typing import Callable, Dict, List
 
 import servers  # noqa: F401
-from vault import Client, Refused, VaultError
+from vault import Client, NotKnown, Refused, VaultError
+from vault.card import Card, now
 from vault.parts import Parts
 from vault.working import Working, folder_for
 
@@ -76,6 +78,17 @@ class OddReplies(unittest.TestCase):
                       b"OK claim c1 anna held w:/../x"):
             self.refused(lambda: self.client.holders("/e"), claims=b"OK claims 1 c1", show=reply)
 
+    def test_every_checkout_is_anothers(self) -> None:
+        """So the ssh gate answers a key for questions alone: the search for a check-out whose reply was lost ends."""
+        self.server.replies = {b"checkout": b"ERR 82", b"save": b"ERR 31", b"claims": b"ERR 10"}
+        with self.assertRaises(NotKnown):
+            self.client.checkout(["w:/e"])
+        told: List[str] = []
+        self.client.notice = told.append
+        self.client.recovery.notice = told.append
+        self.assertEqual(self.client.mine(), [])
+        self.assertIn("was not done", told[0])
+
     def test_older_server(self) -> None:
         """A server that knows neither `give` and `note` nor who holds what: the client says so, and nothing is left under way."""
         self.server.replies = {b"give": b"ERR 10", b"note": b"ERR 10", b"claims": b"ERR 10", b"state": b"OK held c1", b"save": b"ERR 22"}
@@ -87,11 +100,29 @@ class OddReplies(unittest.TestCase):
             self.assertIn("does not know this command", str(refused.exception))
         self.assertEqual([standing.claim for standing, _ in self.client.mine(["c1"])], ["c1"])
 
+    def test_a_note_at_an_older_server(self) -> None:
+        """It doesn't tell the drafts, so the note is written on the copies that are kept here."""
+        self.server.replies = {b"drafts": b"ERR 10", b"draft": b"ERR 10", b"count": b"OK versions 0", b"save": b"OK saved"}
+        card = Card("0" * 64, 1, "Kolben", "anna", now())
+        self.client.put("/e/b/p", card.spell(), "c1")
+        self.assertEqual(Parts(self.client).set_note("c1", "done"), 1)
+        self.assertEqual(self.client.kept_drafts("c1"), {"/e/b/p": replace(card, note="done").spell()})
+
     def test_unknown_refusal(self) -> None:
-        with self.assertRaises(Refused) as refused:
-            self.server.replies = {b"count": b"ERR 99 what"}
-            self.client.version("/e/b/p")
-        self.assertIn("99 what", str(refused.exception))
+        """It is shown as it is, whatever it says; one with no number of a refusal is no reply."""
+        for said in ("99 what", "99 {x}", "99 {claim.__class__}", "99 {"):
+            with self.assertRaises(Refused) as refused:
+                self.server.replies = {b"count": b"ERR " + said.encode()}
+                self.client.version("/e/b/p")
+            self.assertEqual(str(refused.exception), f"The server refused with {said}.")
+        self.refused(lambda: self.client.version("/e/b/p"), count=b"ERR " + b"9" * 5000)
+
+    def test_a_checkout_of_nothing(self) -> None:
+        """A check-out that is answered with no claim, at once or when its fate is asked for, is neither taken for done nor forgotten."""
+        self.refused(lambda: self.client.checkout(["w:/e"]), checkout=b"OK x")
+        self.refused(self.client.mine, save=b"ERR 22", state=b"OK x")
+        self.server.replies = {b"save": b"ERR 22", b"state": b"OK held c1", b"claims": b"ERR 10"}
+        self.assertEqual([standing.claim for standing, _ in self.client.mine()], ["c1"])
 
     def test_a_tree_without_end(self) -> None:
         """A server that lists places beneath every place: the client stops at the greatest depth of a path."""

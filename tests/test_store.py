@@ -5,6 +5,7 @@ import os
 import pty
 import subprocess
 import sys
+import tempfile
 import threading
 import time
 import unittest
@@ -43,6 +44,27 @@ class PutAndGet(WithStore):
         self.assertEqual(back.read_bytes(), content)
         with self.assertRaises(Misused):
             self.parts.write_new(version, back)
+
+    def test_a_note_on_anothers_draft(self) -> None:
+        """The note is written on the draft that the server has, not on an older one that was put from here: after a gift and its return, and
+        where the same designer put from another machine."""
+        others = [self.another(), Parts(Client("anna", "127.0.0.1", self.server.port, self.root / "elsewhere", settling=0.0))]
+        self.addCleanup(others[1].client.close)
+        others[1].setting.confirm(self.address())
+        for other in others:
+            self.fill(b"bore 80")
+            claim = self.put()
+            if other is others[0]:
+                self.anna.give(claim, "ben")
+            last = self.fill(b"bore 81")
+            other.put(PART, self.file, claim)
+            if other is others[0]:
+                other.client.give(claim, "anna")
+            self.assertEqual((self.parts.set_note(claim, "done"), self.anna.checkin(claim)), (1, 1))
+            version = self.parts.get(PART)
+            assert version.card is not None
+            self.assertEqual((version.sha256, version.card.by, version.card.note),
+                             (hashlib.sha256(last).hexdigest(), other.client.designer, "done"))
 
     def test_sizes(self) -> None:
         """No bytes, one, and just about a piece."""
@@ -258,9 +280,12 @@ class Faults(WithStore):
         self.assertEqual((self.entries(), self.entries("incoming")), ([], []))
         self.vault("put", PART, str(self.file), "--claim", claim)
         self.vault("checkin", claim)
-        said = self.vault("get", PART, "--to", str(self.root / "back"), status=2, limits=Limits(file_bytes=200_000))
-        self.assertIn(b"back can't be written", said)
+        said = self.vault("get", PART, "--to", str(self.root / "back"), status=1, limits=Limits(file_bytes=200_000))
+        self.assertIn(b"back can't be written: File too large. Make room, and try again.", said)
         self.assertFalse((self.root / "back").exists())
+        self.assertIn(b"can't be written: No such file or directory", self.vault("get", PART, "--to", str(self.root / "none" / "back"), status=2))
+        said = self.vault("get", PART, status=1, limits=Limits(file_bytes=200_000))
+        self.assertIn(f"Standard output, by way of {tempfile.gettempdir()}, can't be written: File too large. Make room".encode(), said)
 
     def test_read_only(self) -> None:
         self.as_program()
@@ -287,6 +312,8 @@ class Faults(WithStore):
                 self.assertIn(word, str(refused.exception))
             self.refused(StoreFault, "damaged bytes", card.sha256)
             self.assertEqual((path.read_bytes(), back.exists()), (bad, False))
+        self.as_program()
+        self.assertIn(b"Standard output, by way of", self.vault("get", PART, status=1))
         path.unlink()
         with self.assertRaises(StoreFault):
             self.parts.write_new(self.parts.get(PART), back)

@@ -1,5 +1,6 @@
 """What is kept around a store: the check of it, the sweep, and the client's cache."""
 
+import errno
 import os
 import subprocess
 import tempfile
@@ -7,7 +8,7 @@ import time
 import unittest
 from dataclasses import replace
 from pathlib import Path
-from typing import Iterator
+from typing import Any, Iterator
 from unittest import mock
 
 from servers import VAULTD, Server, program
@@ -255,6 +256,28 @@ class Kept(WithFiles):
         with self.assertRaises(VaultError):
             self.get(1, self.cached)
         self.assertEqual((os.listdir(self.cache), (self.root / "back").exists()), ([], False))
+
+    def test_fails_late(self) -> None:
+        """A read of the cache that fails behind some bytes, or whose time can't be set, leaves the file as it must be."""
+        content = self.get(1, self.cached)
+
+        def in_part(source: Any, target: Any, _moved: object) -> None:
+            target.write(source.read(10))
+            raise OSError(errno.EIO, "Input/output error")
+
+        with mock.patch("vault.cache.copy_through_hash", in_part):
+            self.assertEqual(self.get(1, self.cached), content)
+        with mock.patch("os.utime", side_effect=PermissionError(errno.EPERM, "Operation not permitted")):
+            self.assertEqual(self.get(1, self.cached), content)
+
+    def test_of_another_size(self) -> None:
+        """A file that didn't get as many bytes as its card says is no version, whoever wrote them."""
+        content = self.get(1, self.cached)
+        for wrong in (content * 2, content[:-1]):
+            with mock.patch.object(self.cached.cache, "fetch", lambda *words: words[3].write(wrong)), self.assertRaises(VaultError) as refused:
+                self.get(1, self.cached)
+            self.assertIn(f"{len(wrong):,} bytes, and have to be {len(content):,}", str(refused.exception))
+            self.assertFalse((self.root / "back").exists())
 
     def test_bounded(self) -> None:
         """The cache never has more bytes than its limit, and those that were used last stay; a file that is too long isn't kept."""

@@ -831,6 +831,19 @@ class AtAnOlderServer(WithDesigners):
         self.assertEqual(self.told("abandon", "c3")[0], "c3 is given up, with its drafts.\n")
         self.assertEqual(self.told("mine"), ("You have no check-outs from here.\n", older))
 
+    def test_a_working_folder(self) -> None:
+        """Which file is a draft is known by the copies that are kept here."""
+        work = Path(self.folder_of_anna.name) / "work"
+        self.told("get", "/engine/block", "--to", str(work))
+        (work / "pin").write_bytes(b"diameter 20")
+        self.told("add", str(work / "pin"))
+        self.told("checkout", "w:/engine/block")
+        for ends in (".", " already."):
+            self.assertEqual(self.told("put", str(work))[0], f"pin is a draft of /engine/block/pin in c1{ends}\n")
+        self.assertEqual(self.told("status", str(work))[0], "pin: put, checked out by you in c1.\n")
+        self.assertEqual(self.told("checkin", str(work))[0], "c1 is checked in: 1 new version.\n")
+        self.assertEqual(self.told("get", "/engine/block", "--to", str(work))[0], f"{work} has /engine/block: nothing was fetched.\n")
+
     def test_put(self) -> None:
         """By memory alone, it passes over check-outs that are gone or another's."""
         anna, laptop = self.elsewhere("anna", self.older.port), self.elsewhere()

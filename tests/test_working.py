@@ -8,12 +8,13 @@ import time
 import unicodedata
 import unittest
 from pathlib import Path
-from typing import Any, Dict, List, Optional
+from typing import Any, Dict, List, Optional, Tuple
+from unittest import mock
 
 from stepping import Stepper
 from stores import NAME, PART, ROD, WithStore
 
-from vault import Client, Misused, VaultError
+from vault import Client, Misused, NotKnown, Refused, Unreachable, VaultError
 from vault.card import Card, now
 from vault.folder import find_folder, read_folder
 from vault.names import candidates, choose_name, folded, part_name, usable
@@ -170,6 +171,34 @@ class Get(WithFolder):
         self.assertEqual(sorted(self.files()), ["Kolben 81.SLDPRT", "Pleuel.SLDPRT", "head/Ventil links.SLDPRT"])
         self.assertEqual(self.files()["Pleuel.SLDPRT"], b"mine")
 
+    def test_renamed_while_it_is_changed(self) -> None:
+        """The file by the old name is saved while the new one comes: it stays, and is told."""
+        self.version(PART, "Kolben 81.SLDPRT", b"bore 81")
+        write = self.parts.write
+
+        def meanwhile(*words: Any) -> None:
+            write(*words)
+            (self.work / NAME).write_bytes(b"mine")
+
+        with mock.patch.object(self.parts, "write", meanwhile):
+            done = self.got()
+        self.assertEqual((done.files, [name for name, _ in done.left]), (["Kolben 81.SLDPRT"], [NAME]))
+        self.assertIn("was changed right now, and stays", done.left[0][1])
+        self.assertEqual((self.files()[NAME], self.files()["Kolben 81.SLDPRT"]), (b"mine", b"bore 81"))
+        self.assertEqual((self.got().files, self.got().left), ([], []))
+
+    def test_renamed_before_a_kill(self) -> None:
+        """A get was killed once the new file had come, before or after the one by the old name was removed: the next one takes it."""
+        for number, gone in enumerate((False, True), 81):
+            old = next(name for name in self.files() if name.startswith("Kolben"))
+            self.version(PART, f"Kolben {number}.SLDPRT", b"bore %d" % number)
+            (self.work / f"Kolben {number}.SLDPRT").write_bytes(b"bore %d" % number)
+            if gone:
+                (self.work / old).unlink()
+            self.assertEqual((self.got().left, self.got().files), ([], []))
+            self.assertEqual([name for name in self.files() if name.startswith("Kolben")], [f"Kolben {number}.SLDPRT"])
+            self.assertEqual(self.states()[f"Kolben {number}.SLDPRT"].version, number - 79)
+
     def test_contents_that_are_no_cards(self) -> None:
         claim = self.anna.checkout(["w:" + PART]).claim
         self.anna.put(PART, b"bore 82", claim)
@@ -214,7 +243,23 @@ class Get(WithFolder):
             self.vault(*words)
             found = self.files(office)
             self.assertEqual((found[NAME], found["head/Ventil links.SLDPRT"]), (b"bore %d" % number, b"lift %d" % number))
+            self.assertEqual(sorted(os.listdir(office / ".vault")), ["folder.json", "lock"])
             step += 5
+        self.assertGreater(step, 30)
+
+    def test_first_one_killed_at_each_step(self) -> None:
+        """At whichever step the first get of a folder is killed, the next one goes through, and finds what came."""
+        self.as_program()
+        stepper = Stepper(self.environment())
+        self.addCleanup(stepper.close)
+        step, ended = 0, "killed"
+        while ended == "killed":
+            office = self.root / f"office{step}"
+            ended = stepper.run(step, "--patience", "5", "get", ENGINE + "/block", "--to", str(office))
+            self.assertEqual(self.as_json("get", ENGINE + "/block", "--to", str(office))["left"], [])
+            self.assertEqual(self.files(office), self.files())
+            self.assertEqual(sorted(os.listdir(office / ".vault")), ["folder.json", "lock"])
+            step += 3
         self.assertGreater(step, 30)
 
 
@@ -284,7 +329,8 @@ class Hostile(WithFolder):
                                        {NAME: {**entry, "place": "../x"}}, {NAME: {**entry, "size": "x"}}, {NAME: {}}, {NAME: {**entry, "x": 1}},
                                        {NAME: {**entry, "claim": "c1 x"}}]
         changes: List[Dict[str, Any]] = [{"files": each} for each in files]
-        changes += [{"folders": {"..": PART}}, {"folders": {"head": "x"}}, {"place": "engine"}, {"form": "x"}, {"server": 1}, {"files": []}]
+        changes += [{"folders": {}}, {"folders": {"": ENGINE}}, {"folders": []}, {"making": {"../x": PART}}, {"making": {"x": "x"}},
+                    {"folders": {"..": PART}}, {"folders": {"head": "x"}}, {"place": "engine"}, {"form": "x"}, {"server": 1}, {"files": []}]
         for change in changes:
             kept.write_text(json.dumps({**whole, **change}), "utf-8")
             with self.assertRaises(VaultError, msg=str(change)):
@@ -389,6 +435,107 @@ class PutAndCheckin(WithFolder):
         self.assertEqual((self.got().files, self.got().left), ([], []))
         self.assertEqual((self.states()[NAME].version, self.states()[NAME].changed), (2, False))
 
+    def test_settled_late(self) -> None:
+        """The server is lost right behind the check-in: it is told as done, and the next look finds out of which version the file is, also if it
+        was changed further, and if another version came since."""
+        claim = self.anna.checkout(["w:" + PART]).claim
+        (self.work / NAME).write_bytes(b"bore 81")
+        survey = self.anna.survey
+
+        def lost(place: str) -> Tuple[List[str], Dict[str, int]]:
+            if not self.anna.held("/"):
+                raise Unreachable("No server answers.")
+            return survey(place)
+
+        with mock.patch.object(self.anna, "survey", lost):
+            self.assertEqual(self.working().checkin(None).checked_in(), f"{claim} is checked in: 1 new version.")
+        (self.work / NAME).write_bytes(b"bore 82")
+        state = self.states()[NAME]
+        self.assertEqual((state.version, state.newest, state.changed, self.got().left), (2, 2, True, []))
+        self.anna.checkout(["w:" + PART])
+        self.assertEqual(self.working().put().files, [NAME])
+        self.anna.checkin(self.states()[NAME].claim)
+        self.version(PART, NAME, b"bore 83")
+        self.assertEqual((self.got().files, self.files()[NAME]), ([NAME], b"bore 83"))
+
+    def test_told_beside_a_refusal(self) -> None:
+        """Of two check-outs the second can't be checked in: that the first one is done is told, and remembered."""
+        claims = [self.anna.checkout(["w:" + place]).claim for place in (PART, ROD)]
+        for name in (NAME, "Pleuel.SLDPRT"):
+            (self.work / name).write_bytes(b"mine")
+        self.working().put()
+        checkin = self.anna.checkin
+        with mock.patch.object(self.anna, "checkin", lambda claim: checkin(claim if claim == claims[0] else "c999")):
+            with self.assertRaises(Refused) as refused:
+                self.working().checkin(None)
+        self.assertIn(f"{claims[0]} is checked in: 1 new version. There is no such check-out", str(refused.exception))
+        self.assertEqual(refused.exception.fields, {"claims": claims[:1], "versions": 1})
+        folder = find_folder(self.work)
+        self.assertEqual([folder.files[name].draft == "" for name in (NAME, "Pleuel.SLDPRT")], [True, False])
+        self.assertEqual(self.working().checkin(None).claims, claims[1:])
+
+    def test_put_and_regretted(self) -> None:
+        """A file that was put and then brought back to its version is put as it is, so that no check-in makes a version of what isn't here."""
+        claim = self.anna.checkout(["w:" + PART]).claim
+        (self.work / NAME).write_bytes(b"bore 81")
+        self.working().put()
+        (self.work / NAME).write_bytes(self.contents[PART])
+        done = self.working().checkin(None)
+        self.assertEqual((done.files, done.claims), ([NAME], [claim]))
+        self.assertEqual(self.parts.get(PART).sha256, hashlib.sha256(self.contents[PART]).hexdigest())
+        self.assertFalse(self.states()[NAME].changed)
+
+    def test_put_and_missing(self) -> None:
+        """A file that was put and then removed: nothing is checked in, and it is said how to go on."""
+        claim = self.anna.checkout(["w:/engine/block"]).claim
+        for name in (NAME, "Pleuel.SLDPRT"):
+            (self.work / name).write_bytes(b"mine")
+        self.working().put()
+        (self.work / NAME).unlink()
+        done = self.working().put()
+        self.assertEqual((done.drafts, [name for name, _ in done.left]), (["Pleuel.SLDPRT"], [NAME]))
+        with self.assertRaises(Refused) as refused:
+            self.working().checkin(None)
+        for said in ("nothing was checked in", f"{NAME} is missing here", f"vault draft {claim} {PART}", f"vault checkin {claim}"):
+            self.assertIn(said, str(refused.exception))
+        self.assertEqual(len(self.anna.drafts(claim)), 2)
+
+    def test_another_draft(self) -> None:
+        """What another put into the same check-out is neither called a draft of this file nor put over; what this designer put from here is."""
+        claim, ben = self.anna.checkout(["w:" + PART]).claim, self.another()
+        (self.work / NAME).write_bytes(b"bore 81")
+        self.working().put()
+        self.anna.give(claim, "ben")
+        self.file.write_bytes(b"bore 82")
+        ben.put(PART, self.file, claim)
+        ben.client.give(claim, "anna")
+        self.assertFalse(self.states()[NAME].draft)
+        done = self.working().put()
+        self.assertEqual((done.files, done.drafts), ([], []))
+        self.assertIn(f"has another draft in {claim}, which was put elsewhere", done.left[0][1])
+        with self.assertRaises(Refused) as refused:
+            self.working().checkin(None)
+        self.assertIn("which was put elsewhere", str(refused.exception))
+        self.parts.put(PART, self.file, claim)
+        self.assertEqual(self.working().checkin(None).files, [NAME])
+        self.assertEqual(self.parts.get(PART).sha256, hashlib.sha256(b"bore 81").hexdigest())
+
+    def test_after_a_restore(self) -> None:
+        """The vault came back from a backup, and another version has the number of the one that the file was made of: it isn't put over."""
+        kept = [Path(path).read_bytes() for path in self.server.files]
+        self.version(PART, NAME, b"bore 81")
+        self.got()
+        self.server.kill()
+        for path, content in zip(self.server.files, kept):
+            Path(path).write_bytes(content)
+        self.server.start()
+        self.version(PART, NAME, b"bore 99")
+        (self.work / NAME).write_bytes(b"bore 82")
+        self.anna.checkout(["w:" + PART])
+        done = self.working().put()
+        self.assertEqual(done.files, [])
+        self.assertIn("was made of another version 2 than the vault has", done.left[0][1])
+
     def test_add(self) -> None:
         """A part is made by a name that a place can have, also in an assembly that is checked out, and put with the others."""
         claim = self.anna.checkout(["w:/engine/block"]).claim
@@ -403,6 +550,29 @@ class PutAndCheckin(WithFolder):
         other = self.root / "other"
         self.got(work=other)
         self.assertEqual(self.files(other), self.files())
+
+    def test_add_again(self) -> None:
+        """The client is killed, or the server lost, while a part is made of a file: said again, it is the part of that file, and not a second
+        one. One into which somebody put a version meanwhile is another's."""
+        for number, name in enumerate(("Bolzen", "Buchse")):
+            (self.work / name).write_bytes(b"pin")
+            with mock.patch.object(self.anna, "make", self.made_and_lost), self.assertRaises(NotKnown):
+                self.working().add(name)
+            place = "/engine/block/" + name.lower()
+            if number:
+                self.version(place, "Feder", b"spring")
+            self.assertEqual(self.working().add(name), place + "_2" * number)
+        self.assertEqual(self.anna.names("/engine/block")[-3:], ["bolzen", "buchse", "buchse_2"])
+        self.client("ben").checkout(["w:/engine"])
+        (self.work / "Mutter").write_bytes(b"nut")
+        with self.assertRaises(Refused):
+            self.working().add("Mutter")
+        self.assertEqual(find_folder(self.work).making, {})
+
+    def made_and_lost(self, place: str, claim: str = "") -> None:
+        """Makes a place, and says that nobody knows whether that was done."""
+        self.another("ben").client.make(place, claim)
+        raise NotKnown("The server is lost.")
 
     def test_what_can_not_be_added(self) -> None:
         self.got(ENGINE, self.root / "engine")
@@ -450,6 +620,70 @@ class Program(WithFolder):
         self.assertEqual(self.vault("checkin", work, "-m", "larger bore"), b"c5 is checked in: 2 new versions.\n")
         self.assertEqual(self.as_json("history", PART)["versions"][-1]["note"], "larger bore")
         self.assertIn(b"No file of", self.vault("checkin", work, status=1))
+
+    def test_the_whole_library(self) -> None:
+        self.assertEqual(self.as_json("get", "/", "--to", str(self.folder_of_program))["all"], 3)
+        self.assertEqual(self.files(self.folder_of_program), {"engine/block/" + name: content for name, content in self.files().items()})
+        self.assertIn(b"Nothing is changed", self.vault("status", str(self.folder_of_program)))
+
+    def test_add_all(self) -> None:
+        """Files that are parts, and folders of assemblies, are passed over; what was made before a refusal is told."""
+        work = self.folder_of_program
+        self.vault("get", "/engine/block", "--to", str(work))
+        for name in ("Bolzen", "Mutter", "a:b"):
+            (work / name).write_bytes(b"x")
+        files = [str(work / name) for name in ("head", NAME, "Bolzen")]
+        said = self.as_json("add", *files)
+        self.assertEqual((said["made"], said["notices"]), ({files[2]: "/engine/block/bolzen"}, [f"{files[0]} is /engine/block/head already.",
+                                                                                                f"{files[1]} is {PART} already."]))
+        self.assertEqual(self.as_json("add", *files)["sentence"], "Nothing was added.")
+        said = self.as_json("add", *files, str(work / "Mutter"), str(work / "a:b"), status=2)
+        self.assertEqual(said["made"], {str(work / "Mutter"): "/engine/block/mutter"})
+        self.assertIn(f"{work}/Mutter is /engine/block/mutter. No part can be made of 'a:b'", said["sentence"])
+
+    def test_add_killed_at_each_step(self) -> None:
+        """At whichever step it is killed, said again it makes one part of each file."""
+        work, stepper = self.folder_of_program, Stepper(self.environment())
+        self.addCleanup(stepper.close)
+        self.vault("get", "/engine/block/head", "--to", str(work))
+        step, ended = 0, "killed"
+        while ended == "killed":
+            (work / f"b{step}").write_bytes(b"pin")
+            ended = stepper.run(step, "--patience", "5", "add", str(work / f"b{step}"))
+            self.vault("add", str(work / f"b{step}"))
+            step += 6
+        self.assertEqual(self.anna.names("/engine/block/head")[1:], [f"b{number}" for number in range(0, step, 6)])
+        self.assertGreater(step, 30)
+
+    def test_checkin_killed_at_each_step(self) -> None:
+        """At whichever step it is killed, said again it makes one version, or the folder finds out that this was made."""
+        work, stepper = self.folder_of_program, Stepper(self.environment())
+        self.addCleanup(stepper.close)
+        self.vault("get", "/engine/block/head", "--to", str(work))
+        step, ended, number = 0, "killed", 1
+        while ended == "killed":
+            content, number = b"lift %d" % number, number + 1
+            claim = self.as_json("checkout", "w:" + VALVE)["claim"]
+            (work / "Ventil links.SLDPRT").write_bytes(content)
+            ended = stepper.run(step, "--patience", "5", "checkin", str(work), "-m", "larger")
+            if claim in [standing.claim for standing, _ in self.anna.mine()]:
+                self.vault("checkin", str(work), "-m", "larger")
+            (work / "Ventil links.SLDPRT").write_bytes(b"further")
+            state = self.as_json("status", str(work))["files"][0]
+            self.assertEqual((state["version"], state["newest"], state["changed"], state["draft"]), (number, number, True, False))
+            self.assertEqual(self.parts.get(VALVE).sha256, hashlib.sha256(content).hexdigest())
+            step += 11
+        self.assertGreater(step, 70)
+
+    def test_no_folder_to_put(self) -> None:
+        """A file, or a path where nothing is, in a working folder is no word for all its files."""
+        work = self.folder_of_program
+        self.vault("get", "/engine/block", "--to", str(work))
+        claim = self.anna.checkout(["w:/engine/block"]).claim
+        (work / NAME).write_bytes(b"mine")
+        for word in (work / "Pleuel.SLDPRT", work / "none", PART):
+            self.assertIn(b"`vault put PLACE FILE` puts one file", self.vault("put", str(word), status=2))
+        self.assertEqual(self.anna.drafts(claim), [])
 
     def test_wrong_words(self) -> None:
         self.assertIn(b"is in no working folder", self.vault("status", str(self.root), status=2))

@@ -37,15 +37,17 @@ class Cache:
         try:
             with open(path, "rb", buffering=0) as source, meter(sha256[:12], size) as moved:
                 compare(sha256, size, *copy_through_hash(source, target, moved))
-            os.utime(path)
-            return True
         except OSError:
+            target.begin_again()
             return False
         except Wrong:
             target.begin_again()
             with contextlib.suppress(OSError):
                 path.unlink()
             return False
+        with contextlib.suppress(OSError):
+            os.utime(path)
+        return True
 
     @contextlib.contextmanager
     def _beside(self) -> Iterator[Any]:

@@ -14,7 +14,7 @@ from vault.memory import Claim
 from vault.output import Output, Told, Words
 from vault.parts import Parts
 from vault.transport import NotLetIn
-from vault.words import CHECKOUT, Holder, Refused, Standing, Unreachable, who_does
+from vault.words import CHECKOUT, Holder, Misused, Refused, Standing, Unreachable, who_does
 
 ASKED_WHILE_HOLDING_SECONDS = 30.0
 FIRST_PAUSE_SECONDS = 1.0
@@ -49,7 +49,7 @@ def checkin(client: Client, words: Words, output: Output) -> Told:
     noted = Parts(client).set_note(words.claim, words.note) if words.note is not None else 0
     made = client.checkin(words.claim)
     if words.note is not None and noted < made:
-        output.notice(f"{noted} of {made} versions have the note: the others are no files in a store, or were not put from here.")
+        output.notice(f"{noted} of {made} versions have the note: the others are no files in a store, or the server is too old to tell of them.")
     return f"{words.claim} is checked in: {counted(made, 'new version')}.", {"claim": words.claim, "versions": made, "noted": noted}
 
 
@@ -145,10 +145,18 @@ def give(client: Client, words: Words, _output: Output) -> Told:
 def note(client: Client, words: Words, _output: Output) -> Told:
     """Writes a note on a check-out, or reads it."""
     if words.text is not None:
-        client.set_note(words.claim, words.text.encode("utf-8"))
+        client.set_note(words.claim, in_utf8(words.text))
         return f"{words.claim} has {'the' if words.text else 'no'} note now.", {"claim": words.claim, "note": words.text}
     found = readable(client.note(words.claim))
     return found or f"{words.claim} has no note.", {"claim": words.claim, "note": found}
+
+
+def in_utf8(text: str) -> bytes:
+    """The bytes of a note, if it is text."""
+    try:
+        return text.encode("utf-8")
+    except UnicodeEncodeError as error:
+        raise Misused(f"The note {text!a} is no text in UTF-8. Write it again.") from error
 
 
 def readable(note: bytes) -> str:

@@ -22,7 +22,7 @@ from vault.recovery import ANOTHERS, GONE, MINE, NO_PART, SENT_AGAIN, Recovery, 
 from vault.transport import Address
 from vault.transport import shown as address_word
 from vault.words import (CONTENT_BYTES, GREATEST, NAME, NAMES, NOTE_BYTES, PLACE, SENTENCES, Holder, Lost, Misused, Refused, Reply, Standing,
-                         Unreachable, VaultError, checked, checkout_word, claim_word, content_in, item_words, listed_in, names_in,
+                         Unreachable, VaultError, checked, checkout_word, claim_in, claim_word, content_in, item_words, listed_in, names_in,
                          number_in, place_word, refusal_by, standing_of, under)
 
 NO_DRAFT = 40
@@ -46,6 +46,12 @@ class Client:
         self.recovery = Recovery(self.link, self.memory, notice)
         self.line, self.told_older = Line(self.link), False
         self.held_on: Optional[Connection] = None
+        self.changed = False
+
+    @property
+    def may_have_changed(self) -> bool:
+        """Whether a command was done that changed something, or one is under way of which that isn't known."""
+        return self.changed or self.memory.under_way is not None
 
     def close(self) -> None:
         """Leaves the server."""
@@ -268,6 +274,18 @@ class Client:
             raise Refused(f"{claim} has no draft of {place}. `vault drafts {claim}` shows of which parts it has drafts.", reply.code)
         return content_in(reply)
 
+    def all_drafts(self, claim: str) -> Dict[str, bytes]:
+        """The drafts of a check-out of this designer by place, wherever they were put; of a server that is older and doesn't tell them, the
+        copies that are kept here."""
+        with self._alone():
+            listed = self.link.read("drafts " + checkout_word(claim))
+            if listed.code == UNKNOWN_COMMAND:
+                return self._kept_drafts(claim)
+            if listed.code == GONE:
+                raise self.recovery.gone(claim, listed)
+            places = listed_in(listed, PLACE)
+            return {place: content_in(reply) for place, reply in zip(places, self.link.asked(f"draft {claim}", places))}
+
     def give(self, claim: str, receiver: str) -> None:
         """Gives a check-out to another designer, with its place in the queue, its drafts and its note."""
         if checked(NAME, receiver, "designer's name") == self.designer:
@@ -303,8 +321,7 @@ class Client:
     def kept_drafts(self, claim: str) -> Dict[str, bytes]:
         """The copies of drafts that this client keeps for a check-out, by place."""
         with self._alone():
-            kept = self.memory.claims.get(checkout_word(claim), Claim([]))
-            return {place: bytes.fromhex(draft.content) for place, draft in kept.drafts.items()}
+            return self._kept_drafts(checkout_word(claim))
 
     def forget(self, claim: str) -> None:
         """Forgets a check-out that is gone or another's, and the copies of its drafts."""
@@ -366,21 +383,24 @@ class Client:
         server = address_word(*self.link.server)
         if len(self.servers) > 1 and self.memory.server != server and self.link.connection is not None:
             self.memory.server = server
-            self.memory.save()
+            with contextlib.suppress(OSError):
+                self.memory.save()
 
     def _change(self, command: Command) -> Reply:
         with self._alone():
             return self._carry_out(command)
 
     def _end(self, command: Command) -> Reply:
-        """Ends a check-out of this designer, or gives it to another. First asks how it stands: if it is gone later, or another's, then
-        by this command."""
+        """Ends a check-out of this designer, or gives it to another. First asks how it stands, and before a check-in which drafts it has: if
+        it is gone later, or another's, then by this command."""
         with self._alone():
             stands = self.link.read(whose(command.claim))
             if stands.code == GONE:
                 raise self.recovery.gone(command.claim, stands)
             if stands.code == ANOTHERS:
                 raise stands.refusal()
+            if command.kind == "checkin":
+                command.drafts = self._drafts_there(command.claim)
             return self._carry_out(command)
 
     def _carry_out(self, command: Command) -> Reply:
@@ -391,9 +411,10 @@ class Client:
         except (Refused, Unreachable):
             self.memory.end()
             raise
+        self.changed = self.changed or reply.ok
         self.memory.saw(reply)
         if reply.ok and command.kind == "checkout":
-            self._put_aside(reply.claims()[0])
+            self._put_aside(claim_in(reply))
         if reply.ok:
             self.memory.remember(command, reply)
         self.memory.end()
@@ -460,6 +481,21 @@ class Client:
         self.memory.end()
 
     # What is remembered and read.
+
+    def _drafts_there(self, claim: str) -> Optional[Dict[str, Draft]]:
+        """The drafts of a check-out that the server has, wherever they were put; nothing if it is older and doesn't tell them."""
+        listed = self.link.read("drafts " + claim)
+        if not listed.ok:
+            return None
+        places = listed_in(listed, PLACE)
+        contents, counts = self.link.asked(f"draft {claim}", places), self.link.asked("count", places)
+        return {place: Draft(content_in(content).hex(), "", number_in(count, 1) if count.ok else None)
+                for place, content, count in zip(places, contents, counts)}
+
+    def _kept_drafts(self, claim: str) -> Dict[str, bytes]:
+        """The copies of drafts that are kept for a check-out, by place."""
+        kept = self.memory.claims.get(claim, Claim([]))
+        return {place: bytes.fromhex(draft.content) for place, draft in kept.drafts.items()}
 
     def _take_back(self, name: str, before: Optional[Claim]) -> None:
         """Forgets the copy of a draft that was refused: what is remembered of the check-out is as it was before."""

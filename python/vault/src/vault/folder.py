@@ -6,6 +6,7 @@ Nothing outside the folder is ever written, whatever stands in `.vault` or in a 
 import contextlib
 import json
 import os
+import re
 import stat
 import time
 import uuid
@@ -23,8 +24,11 @@ from vault.words import CHECKOUT, PLACE, Misused, VaultError
 
 OWN = ".vault"
 FORM = "vault working folder 1"
+# What a killed client may leave among them.
+LEFT = re.compile(r"new-[0-9a-f]{32}|\.folder\.json.+")
 # For how long after a file's time it may have been changed again without another time: if times are of whole seconds, and else.
 COARSE, FINE = 2_000_000_000, 50_000_000
+SAVED_EACH_SECONDS = 1.0
 
 
 @dataclass
@@ -45,12 +49,15 @@ class Entry:
 
 
 class Folder:
-    """A working folder of an assembly. Files are named by their path in it, with `/` between names."""
+    """A working folder of an assembly: its files, its folders, and the parts that were being made of files. Files are named by their path in
+    it, with `/` between names."""
 
     def __init__(self, path: Path, place: str, server: str):
         self.path, self.place, self.server = path, place, server
         self.files: Dict[str, Entry] = {}
         self.folders: Dict[str, str] = {"": place}
+        self.making: Dict[str, str] = {}
+        self.saved_at = 0.0
 
     # What is remembered.
 
@@ -65,15 +72,36 @@ class Folder:
         except Timeout as error:
             raise Misused(f"Another `vault` works in {self.path}. Wait until it has ended.") from error
         try:
+            self._remove_leftovers()
+            self._read_again()
             yield
         finally:
             lock.release()
 
+    def _read_again(self) -> None:
+        """Reads anew what is remembered, since another client may have worked here before the lock was had."""
+        now = read_folder(self.path)
+        if now is not None and now.place == self.place:
+            self.files, self.folders, self.making = now.files, now.folders, now.making
+
+    def _remove_leftovers(self) -> None:
+        """Removes what killed clients left among the client's own files."""
+        for path in (self.path / OWN).iterdir():
+            if LEFT.fullmatch(path.name):
+                with contextlib.suppress(OSError):
+                    path.unlink()
+
     def save(self) -> None:
         """Puts what is remembered on disk."""
-        kept = {"form": FORM, "place": self.place, "server": self.server, "folders": self.folders,
+        kept = {"form": FORM, "place": self.place, "server": self.server, "folders": self.folders, "making": self.making,
                 "files": {name: asdict(entry) for name, entry in sorted(self.files.items())}}
         write_whole(self._real(self.path / OWN) / "folder.json", json.dumps(kept, indent=1).encode("utf-8"))
+        self.saved_at = time.monotonic()
+
+    def save_now_and_then(self) -> None:
+        """Puts what is remembered on disk if that was a while ago: it takes longer the more files there are."""
+        if time.monotonic() - self.saved_at > SAVED_EACH_SECONDS:
+            self.save()
 
     # Files.
 
@@ -148,12 +176,16 @@ class Folder:
         if before is None:
             give_new_name(Path(file.name), path)
         else:
-            now = os.lstat(path)
-            if (now.st_size, now.st_mtime_ns, now.st_ino) != (before.st_size, before.st_mtime_ns, before.st_ino):
+            if not self.looks_as(name, before):
                 raise Misused(f"{path} was changed right now, and is left as it is.")
             os.replace(file.name, path)
         self.files[name] = entry
         self.remember_look(name, os.lstat(path))
+
+    def looks_as(self, name: str, before: os.stat_result) -> bool:
+        """Whether a file still looks as it did before."""
+        now = self.seen(name)
+        return now is not None and (now.st_size, now.st_mtime_ns, now.st_ino) == (before.st_size, before.st_mtime_ns, before.st_ino)
 
     def others(self) -> List[str]:
         """The files of the folder that belong to no part, as far as they can be put."""
@@ -206,10 +238,12 @@ def folder_of(path: Path, kept: Dict[str, Any]) -> Folder:
         raise ValueError("it is of another form")
     folder = Folder(path, kept["place"], kept["server"])
     folder.files = {name: Entry(**entry) for name, entry in kept["files"].items()}
-    folder.folders = dict(kept["folders"])
-    odd = [name for name in (*folder.files, *folder.folders) if name and not is_safe(name)]
+    folder.folders, folder.making = dict(kept["folders"]), dict(kept.get("making", {}))
+    odd = [name for name in (*folder.files, *folder.folders, *folder.making) if name and not is_safe(name)]
     odd += [name for name, entry in folder.files.items() if not is_entry(entry)]
-    odd += [name for name, place in folder.folders.items() if not PLACE.fullmatch(place)]
+    odd += [name for name, place in (*folder.folders.items(), *folder.making.items()) if not PLACE.fullmatch(place)]
+    if folder.folders.get("") != folder.place:
+        raise ValueError("it has another place than its folder")
     if odd:
         raise ValueError(f"{odd[0]!a} is no file of it")
     return folder

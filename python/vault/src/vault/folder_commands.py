@@ -2,7 +2,7 @@
 
 import os
 from pathlib import Path
-from typing import Any, Dict, List
+from typing import Any, Dict, List, Tuple
 
 from vault.card import shown
 from vault.client import Client
@@ -10,7 +10,7 @@ from vault.folder import find_folder
 from vault.output import Output, Told, Words
 from vault.parts import Parts, parts_of_program
 from vault.setting import quoted
-from vault.words import Misused
+from vault.words import Misused, VaultError
 from vault.working import Done, State, Working, folder_for
 
 
@@ -28,6 +28,9 @@ def get_folder(parts: Parts, words: Words, output: Output) -> Told:
 
 def put_folder(client: Client, words: Words, output: Output) -> Told:
     """Puts the changed files of a working folder."""
+    if not os.path.isdir(words.place):
+        raise Misused(f"{words.place} is no folder, so nothing was put. `vault put PLACE FILE` puts one file as the draft of a part, and"
+                      " `vault put FOLDER` the changed files of a working folder.")
     folder = find_folder(Path(words.place))
     with folder.locked():
         done = Working(parts_of_program(client, output.meter), folder).put(words.claim)
@@ -43,9 +46,7 @@ def checkin_folder(client: Client, words: Words, output: Output) -> Told:
     with folder.locked():
         done = Working(parts_of_program(client, output.meter), folder).checkin(words.note)
     tell_left(done, output)
-    made = f"{done.versions} new version{'' if done.versions == 1 else 's'}"
-    sentence = f"{' and '.join(done.claims)} {'is' if len(done.claims) == 1 else 'are'} checked in: {made}."
-    return sentence, {**fields_of(done), "claims": done.claims, "versions": done.versions}
+    return done.checked_in(), {**fields_of(done), "claims": done.claims, "versions": done.versions}
 
 
 def status(client: Client, words: Words, output: Output) -> Told:
@@ -66,7 +67,7 @@ def state_in_words(state: State) -> str:
     said: List[str] = []
     if state.missing:
         said.append("missing here")
-    if state.changed:
+    if state.draft or state.changed:
         said.append("put" if state.draft else "changed here" if state.version else "new")
     if state.newest != state.version:
         said.append(f"version {state.newest} is in the vault, and this was version {state.version}")
@@ -77,16 +78,36 @@ def state_in_words(state: State) -> str:
     return ", ".join(said)
 
 
-def add(client: Client, words: Words, _output: Output) -> Told:
-    """Makes parts of files in a working folder."""
+def add(client: Client, words: Words, output: Output) -> Told:
+    """Makes parts of files in a working folder. Those that have a part are passed over, and so are folders of assemblies."""
     made: Dict[str, str] = {}
     for file in words.files:
-        path = Path(os.path.abspath(file))
-        folder = find_folder(path.parent)
-        with folder.locked():
-            made[file] = Working(Parts(client), folder).add(path.relative_to(folder.path).as_posix())
-    lines = [f"{shown(file)} is {place}." for file, place in made.items()]
-    return "\n".join(lines), {"made": made}
+        try:
+            place, is_new = add_one(client, Path(os.path.abspath(file)))
+        except VaultError as error:
+            error.fields["made"] = made
+            if made:
+                error.put_behind(" ".join(added(made)))
+            raise
+        if is_new:
+            made[file] = place
+        else:
+            output.notice(f"{shown(file)} is {place} already.")
+    return "\n".join(added(made) or ["Nothing was added."]), {"made": made}
+
+
+def add_one(client: Client, path: Path) -> Tuple[str, bool]:
+    """The place of a file, and whether it was made for it now."""
+    folder = find_folder(path.parent)
+    with folder.locked():
+        name = path.relative_to(folder.path).as_posix()
+        place = folder.files[name].place if name in folder.files else folder.folders.get(name)
+        return (place, False) if place else (Working(Parts(client), folder).add(name), True)
+
+
+def added(made: Dict[str, str]) -> List[str]:
+    """Of which files parts were made, in words."""
+    return [f"{shown(file)} is {place}." for file, place in made.items()]
 
 
 def tell_left(done: Done, output: Output) -> None:

@@ -5,12 +5,12 @@ import json
 import time
 from dataclasses import asdict, dataclass, field
 from pathlib import Path
-from typing import Callable, Dict, Iterator, List, Optional, Sequence, Tuple
+from typing import Any, Callable, Dict, Iterator, List, Optional, Sequence, Tuple
 
 from filelock import FileLock, Timeout
 
 from vault.files import write_whole
-from vault.words import Holder, Reply, VaultError
+from vault.words import Holder, Reply, VaultError, claim_in
 
 KNOWN = 1024
 
@@ -44,7 +44,8 @@ class Known:
 
 @dataclass
 class Command:
-    """A command that changes the vault, as it is kept while it is under way."""
+    """A command that changes the vault, as it is kept while it is under way; with a check-in the drafts that the server had before, if it
+    tells them."""
 
     kind: str
     line: str
@@ -54,6 +55,7 @@ class Command:
     last_number: int = 0
     since: float = 0.0
     second: str = ""
+    drafts: Optional[Dict[str, Draft]] = None
 
 
 class Memory:
@@ -91,11 +93,10 @@ class Memory:
             self.store, self.server = kept.get("store", ""), kept.get("server", "")
             self.known = {name: Known(**known) for name, known in kept.get("known", {}).items()}
             self.claims = {
-                name: Claim(claim["items"], {place: Draft(**draft) for place, draft in claim["drafts"].items()},
-                            claim.get("given", ""))
-                for name, claim in kept["claims"].items()
-            }
+                name: Claim(claim["items"], drafts_of(claim["drafts"]), claim.get("given", "")) for name, claim in kept["claims"].items()}
             self.under_way = Command(**kept["under_way"]) if kept["under_way"] else None
+            if self.under_way is not None and self.under_way.drafts is not None:
+                self.under_way.drafts = drafts_of(kept["under_way"]["drafts"])
         except FileNotFoundError:
             self.last_number, self.claims, self.under_way, self.store, self.server, self.known = 0, {}, None, "", "", {}
         except (ValueError, KeyError, TypeError, AttributeError) as error:
@@ -118,7 +119,11 @@ class Memory:
         """Remembers a command before it is sent."""
         command.last_number, command.since = self.last_number, time.time()
         self.under_way = command
-        self.save()
+        try:
+            self.save()
+        except OSError:
+            self.under_way = None
+            raise
 
     def end(self) -> None:
         """Forgets the command under way, since what became of it is known."""
@@ -147,8 +152,8 @@ class Memory:
     def remember(self, command: Command, reply: Reply) -> None:
         """Keeps what a command that was done means for the check-outs."""
         if command.kind == "checkout":
-            self.claims[reply.claims()[0]] = Claim(command.items)
-            self.known[reply.claims()[0]] = Known("", command.items, time.time())
+            self.claims[claim_in(reply)] = Claim(command.items)
+            self.known[claim_in(reply)] = Known("", command.items, time.time())
         elif command.kind == "extend" and command.claim in self.claims:
             self.claims[command.claim].items += command.items
         elif command.kind in ("checkin", "abandon"):
@@ -171,6 +176,11 @@ class Memory:
             self.claims[claim].given = receiver
         else:
             del self.claims[claim]
+
+
+def drafts_of(kept: Dict[str, Dict[str, Any]]) -> Dict[str, Draft]:
+    """Drafts as they are read from the client's file, by place."""
+    return {place: Draft(**draft) for place, draft in kept.items()}
 
 
 def by_number(entry: Tuple[str, Claim]) -> int:

@@ -100,6 +100,6 @@ class Output:
         if self.as_json:
             done = None if isinstance(error, NotKnown) else False
             print(json.dumps({"command": self.command, "done": done, "code": error.code, "sentence": str(error), **error.fields,
-                              "notices": self.notices}))
+                              "notices": self.notices}), flush=True)
         else:
             print("vault: " + str(error), file=sys.stderr)

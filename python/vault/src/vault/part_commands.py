@@ -48,7 +48,7 @@ def write(parts: Parts, version: Version, words: Words, output: Output) -> Told:
         parts.write_new(version, Path(words.to))
         return f"{fields['bytes']:,} bytes are in {words.to}.", {**fields, "file": words.to}
     with tempfile.TemporaryFile() as file:
-        parts.write(version, file, "Nothing")
+        parts.write(version, file, f"Standard output, by way of {tempfile.gettempdir()},")
         file.seek(0)
         if not output.as_json:
             shutil.copyfileobj(file, sys.stdout.buffer)

@@ -15,7 +15,7 @@ from vault.folders import cache_folder
 from vault.setting import STORE_PLACE, Setting
 from vault.store import Kept, Store, StoreFault, Wrong, compare
 from vault.transfer import Meter, Own, no_meter, steady
-from vault.words import CONTENT_BYTES, Misused, place_word
+from vault.words import CONTENT_BYTES, Misused, VaultError, place_word
 
 TRIES = 3
 
@@ -111,6 +111,7 @@ class Parts:
                 store.fetch(card.sha256, card.size, Own(target, where), meter or self.meter)
             else:
                 self.cache.fetch(store, card.sha256, card.size, Own(target, where), meter or self.meter)
+            compare(card.sha256, card.size, card.sha256, target.tell())
         except Wrong as wrong:
             which = f"version {version.number} of {version.place}" if version.number else f"the draft of {version.place}"
             raise StoreFault(f"The bytes of {which} in {store.address} are not what was put: {wrong}. {where} was not written. Ask whoever"
@@ -128,12 +129,11 @@ class Parts:
             give_new_name(Path(file.name), path)
 
     def set_note(self, claim: str, note: str) -> int:
-        """Writes a note on each draft of a check-out that was put from here, and answers how many there are."""
+        """Writes a note on each draft of a check-out that is a file in a store, as the server has it, and answers how many there are."""
         note_word(note)
-        cards = {place: read_card(content) for place, content in self.client.kept_drafts(claim).items()}
+        cards = {place: read_card(content) for place, content in self.client.all_drafts(claim).items()}
         if not any(cards.values()):
-            raise Misused(f"{claim} has no draft of a file that was put from here into a store, so there is none for the note. Check it in"
-                          " without.")
+            raise Misused(f"{claim} has no draft of a file in a store, so there is none for the note. Check it in without.")
         for place, card in cards.items():
             if card is not None and card.note != note:
                 self.client.put(place, replace(card, note=note).spell(), claim)
@@ -175,10 +175,14 @@ class Parts:
         """A new file beside a path, which is gone afterwards."""
         beside = path.with_name(f".vault-{uuid.uuid4().hex}")
         try:
-            with open(beside, "xb") as file:
+            file = open(beside, "xb")
+        except OSError as error:
+            raise Misused(f"{path} can't be written: {error.strerror}. Name another file.") from error
+        try:
+            with file:
                 yield file
         except OSError as error:
-            raise Misused(f"{path} can't be written: {error.strerror}.") from error
+            raise VaultError(f"{path} can't be written: {error.strerror}. Make room, and try again.") from error
         finally:
             with contextlib.suppress(OSError):
                 os.unlink(beside)

@@ -1,5 +1,7 @@
 """The program `vault`."""
 
+import contextlib
+import io
 import os
 import sys
 from typing import List, Optional
@@ -12,36 +14,85 @@ from vault.session import read_address, who
 from vault.words import NotKnown, VaultError
 
 
+class NotSaid(VaultError):
+    """The answer can't be written to standard output."""
+
+
+class DoneNotSaid(NotSaid, NotKnown):
+    """The same, of a command that changed something."""
+
+
 def run(words: Words, output: Output) -> None:
     """Does one command and says what came of it."""
     designer, servers = read_address(words.who if words.command == "hello" else who(words.designer))
     client = Client(designer, *servers[0], patience=words.patience, notice=output.notice, progress=output.progress, others=servers[1:])
     try:
         sentence, fields = COMMANDS[words.command](client, words, output)
+    except OSError as error:
+        if not client.may_have_changed:
+            raise
+        raise NotKnown(f"A file of this client can't be used: {error}. At least a part of `{words.command}` was done, so look before you say it"
+                       " again: make room or mend its rights, and then run `vault mine`.") from error
     finally:
         client.close()
-    output.answer(sentence, fields)
+    try:
+        output.answer(sentence, fields)
+        sys.stdout.flush()
+    except OSError as error:
+        if client.may_have_changed:
+            raise DoneNotSaid(f"`{words.command}` was done, but its answer can't be written: {error.strerror}. `vault mine` shows how you"
+                              " stand.") from error
+        if isinstance(error, BrokenPipeError):
+            raise
+        raise NotSaid(f"The answer can't be written: {error.strerror}.") from error
 
 
 def main(arguments: Optional[List[str]] = None) -> int:
     """The program: 0 done, 1 refused, 2 the command line is wrong, 3 not known yet or no server."""
+    prepare_streams()
     given = sys.argv[1:] if arguments is None else arguments
     output = Output("", "--json" in given)
     try:
         words = read_words(given)
         output = Output(words.command, words.json)
         run(words, output)
-        sys.stdout.flush()
         return 0
-    except BrokenPipeError:
-        os.dup2(os.open(os.devnull, os.O_WRONLY), sys.stdout.fileno())
-        return 1
     except VaultError as error:
-        output.error(error)
-        return error.status
-    except OSError as error:
-        output.error(VaultError(f"A file of this client can't be used: {error}. Make room or mend its rights, and try again."))
+        return told(output, error)
+    except BrokenPipeError:
+        drop_output()
         return 1
+    except OSError as error:
+        return told(output, VaultError(f"A file of this client can't be used: {error}. Make room or mend its rights, and try again."))
     except KeyboardInterrupt:
-        output.error(NotKnown("Interrupted. If a command was under way, the next `vault mine` finds out what became of it."))
-        return 3
+        return told(output, NotKnown("Interrupted. If a command was under way, the next `vault mine` finds out what became of it."))
+
+
+def prepare_streams() -> None:
+    """Has standard output take any text, also what its encoding can't say. A standard stream that is closed keeps nothing."""
+    if sys.stdout is None:
+        sys.stdout = open(os.devnull, "w", encoding="utf-8")
+    if sys.stderr is None:
+        sys.stderr = open(os.devnull, "w", encoding="utf-8")
+    if isinstance(sys.stdout, io.TextIOWrapper) and sys.stdout.errors == "strict":
+        sys.stdout.reconfigure(errors="backslashreplace")
+
+
+def told(output: Output, error: VaultError) -> int:
+    """Says what went wrong, on standard error if standard output takes nothing, and answers the status for it."""
+    with contextlib.suppress(OSError):
+        if output.as_json and not isinstance(error, NotSaid):
+            output.error(error)
+            return error.status
+    try:
+        sys.stdout.flush()
+    except OSError:
+        drop_output()
+    with contextlib.suppress(OSError):
+        Output(output.command, False).error(error)
+    return error.status
+
+
+def drop_output() -> None:
+    """Has standard output keep nothing from now on, so that its end is no error."""
+    os.dup2(os.open(os.devnull, os.O_WRONLY), sys.stdout.fileno())

@@ -4,12 +4,14 @@ from typing import Callable, List, Optional
 
 from vault.connection import Link
 from vault.memory import Claim, Command, Memory, shown
-from vault.words import ITEMS, NotKnown, Refused, Reply, word_in
+from vault.words import ITEMS, NotKnown, Refused, Reply, claim_in, word_in
 
 LOOK_AHEAD = 64
 SENT_AGAIN = ("put", "extend")
 SWEEP = 2048
 BATCH = 32
+# How many claims a vault can have.
+CLAIMS = 256
 MINE = (22, 32)
 ANOTHERS = 31
 GONE = 30
@@ -82,7 +84,7 @@ class Recovery:
             if had is not None and len(had.items) + len(command.items) <= ITEMS:
                 return Reply(True, ("held", command.claim))
         if command.kind == "checkout" and reply.ok:
-            command.second = reply.claims()[0]
+            command.second = claim_in(reply)
             self.memory.save()
             return self._the_first_of_two(command, reply)
         return reply
@@ -96,7 +98,7 @@ class Recovery:
                        f" somebody else. `vault drafts {claim} FOLDER` writes the copies that are kept.", reply.code)
 
     def are_versions(self, claim: Claim) -> bool:
-        """Whether each draft that was sent is the version next to those that were there."""
+        """Whether each draft of a check-out is the version next to those that were there."""
         for place, draft in claim.drafts.items():
             if draft.versions is None:
                 return False
@@ -111,9 +113,9 @@ class Recovery:
             return None
         if command.kind == "abandon":
             return Reply(True, ("abandoned",))
-        kept = self.memory.claims.get(command.claim, Claim([]))
-        if self.are_versions(kept):
-            return Reply(True, ("checked", "in", str(len(kept.drafts))))
+        had = self.memory.claims.get(command.claim, Claim([])) if command.drafts is None else Claim([], command.drafts)
+        if self.are_versions(had):
+            return Reply(True, ("checked", "in", str(len(had.drafts))))
         raise self.gone(command.claim, Reply(False, (str(GONE),)))
 
     def _found_given(self, command: Command) -> Optional[Reply]:
@@ -126,9 +128,10 @@ class Recovery:
         raise self.gone(command.claim, reply)
 
     def _found_checkout(self, command: Command) -> Optional[Reply]:
-        """The check-out after the last known number that is this designer's and not remembered."""
-        seen, number = command.last_number, command.last_number + 1
-        while number <= seen + LOOK_AHEAD:
+        """The check-out after the last known number that is this designer's and not remembered. If more seem to stand than a vault can have,
+        none is told apart: the ssh gate answers so to a key for questions alone."""
+        seen, number, standing, known = command.last_number, command.last_number + 1, 0, self.memory.last_number
+        while number <= seen + LOOK_AHEAD and standing <= CLAIMS:
             asked = range(number, number + BATCH)
             replies = self._probe(asked)
             mine = [n for n, reply in zip(asked, replies) if self._is_new(n, reply)]
@@ -136,8 +139,11 @@ class Recovery:
                 self.notice(f"c{other} is yours, too. `vault abandon c{other}` gives it up, if it was not made elsewhere.")
             if mine:
                 return self.link.read(f"state c{mine[0]}")
-            seen = max([seen] + [n for n, reply in zip(asked, replies) if reply.code != GONE])
+            stand = [n for n, reply in zip(asked, replies) if reply.code != GONE]
+            seen, standing = max([seen] + stand), standing + len(stand)
             number += BATCH
+        if standing > CLAIMS:
+            self.memory.last_number = known
         return None
 
     def _probe(self, numbers: range) -> List[Reply]:

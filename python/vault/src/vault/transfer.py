@@ -9,7 +9,7 @@ from contextlib import AbstractContextManager, contextmanager
 from pathlib import Path
 from typing import Any, Callable, Iterator, Optional, Tuple
 
-from vault.words import Misused
+from vault.words import Misused, VaultError
 
 PIECE = 1 << 20
 
@@ -85,7 +85,7 @@ class Own:
         try:
             self.file.write(piece)
         except OSError as error:
-            raise Misused(f"{self.name} can't be written: {error.strerror}. Make room, and try again.") from error
+            raise VaultError(f"{self.name} can't be written: {error.strerror}. Make room, and try again.") from error
 
 
 @contextmanager

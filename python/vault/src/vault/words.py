@@ -17,6 +17,7 @@ CLAIM = re.compile(r"[ch][1-9][0-9]{0,9}")
 CHECKOUT = re.compile(r"c[1-9][0-9]{0,9}")
 SHOWN = re.compile(r"claim (?P<claim>%s) (?P<owner>%s) (?:held|queued behind (?P<behind>%s))(?P<items>( %s){1,%d})" % (
     CLAIM.pattern, NAME.pattern, CLAIM.pattern, ITEM.pattern, ITEMS))
+CODE = re.compile(r"[0-9]{1,3}")
 # The refusal of a place beneath one that a claim covers.
 COVERED = 23
 # Replies each of whose words may name a claim; in others a designer or a place may be called c3.
@@ -56,6 +57,10 @@ class VaultError(Exception):
         super().__init__(sentence)
         self.code = code
         self.fields: Dict[str, Any] = {}
+
+    def put_behind(self, done: str) -> None:
+        """Puts a sentence before it that says what was done before."""
+        self.args = (f"{done} {self}",)
 
 
 class Misused(VaultError):
@@ -112,7 +117,9 @@ class Reply:
     def refusal(self) -> Refused:
         """The refusal as an error with a sentence."""
         named = self.claims()
-        sentence = SENTENCES.get(self.code or 0, "The server refused with " + " ".join(self.words) + ".")
+        sentence = SENTENCES.get(self.code or 0)
+        if sentence is None:
+            return Refused("The server refused with " + " ".join(self.words) + ".", self.code)
         return Refused(sentence.format(claim=named[0] if named else "A check-out"), self.code)
 
 
@@ -122,7 +129,7 @@ def read_reply(line: bytes) -> Reply:
     words = text.split() if text.isascii() and text.isprintable() else []
     if len(words) >= 2 and words[0] == "OK":
         return Reply(True, tuple(words[1:]))
-    if len(words) >= 2 and words[0] == "ERR" and words[1].isdigit():
+    if len(words) >= 2 and words[0] == "ERR" and CODE.fullmatch(words[1]):
         return Reply(False, tuple(words[1:]))
     raise Lost("what answered is no vault server")
 
@@ -299,6 +306,11 @@ def standing_of(reply: Reply) -> Standing:
     if not named:
         raise odd(reply)
     return Standing(named[0], reply.words[0] == "held", named[1] if len(named) > 1 else "")
+
+
+def claim_in(reply: Reply) -> str:
+    """The claim whose standing a reply tells."""
+    return standing_of(reply).claim
 
 
 def under(place: str, above: str) -> bool:

@@ -6,28 +6,48 @@ import os
 import stat
 from dataclasses import dataclass, field
 from pathlib import Path
-from typing import Dict, Iterator, List, Optional, Sequence, Tuple
+from typing import Dict, Iterable, Iterator, List, Optional, Sequence, Tuple
 
-from vault.folder import Entry, Folder, read_folder
+from vault.card import shown
+from vault.folder import OWN, Entry, Folder, read_folder
 from vault.names import choose_name, folded, part_name, usable
 from vault.parts import Parts, Version
 from vault.setting import STORE_PLACE
 from vault.transfer import Moved
-from vault.words import Misused, Refused, place_word, under
+from vault.words import Misused, Refused, Unreachable, VaultError, place_word, under
 
 PROJECT_AND_ASSEMBLY = 2
 TRIES = 5
+# How many of a part's last versions are compared with a draft, and how many reasons are told in one sentence.
+LOOKED_BACK = 64
+REASONS = 3
 
 
 @dataclass
 class Done:
-    """What was done: the files, those that were drafts already, and those that were left, each with the reason."""
+    """What was done: the files, those that were drafts already, and those that were left, each with the reason; by check-out, one of these
+    of which it has another draft; the check-outs that were checked in, and how many versions that made."""
 
     files: List[str] = field(default_factory=list)
     drafts: List[str] = field(default_factory=list)
     left: List[Tuple[str, str]] = field(default_factory=list)
+    others: Dict[str, Tuple[str, str]] = field(default_factory=dict)
     claims: List[str] = field(default_factory=list)
     versions: int = 0
+
+    def checked_in(self) -> str:
+        """What was checked in, in words."""
+        made = f"{self.versions} new version{'' if self.versions == 1 else 's'}"
+        return f"{' and '.join(self.claims)} {'is' if len(self.claims) == 1 else 'are'} checked in: {made}."
+
+
+@dataclass(frozen=True)
+class Saved:
+    """A draft that the server has: its check-out, what it is, and whether it was put by this designer from this machine."""
+
+    claim: str
+    version: Version
+    from_here: bool
 
 
 @dataclass(frozen=True)
@@ -57,7 +77,9 @@ class Working:
     def get(self) -> Done:
         """Brings the folder up to the vault: what is new, newer or missing is fetched; what was changed here is left."""
         assemblies, numbers = self.client.survey(self.folder.place)
+        self.folder.save()
         self._make_folders(assemblies)
+        self._settle(numbers)
         names, done = {entry.place: name for name, entry in self.folder.files.items()}, Done()
         wanted = [(place, number) for place, number in sorted(numbers.items())
                   if number and place != STORE_PLACE and self._wants(names.get(place), number)]
@@ -66,54 +88,51 @@ class Working:
             with self.parts.meter(self.folder.place, sum(version.size for version in versions)) as moved:
                 for version in versions:
                     self._get_one(version, names.get(version.place), moved, done)
+                    self.folder.save_now_and_then()
         finally:
             self.folder.save()
         return done
 
     def states(self) -> List[State]:
         """How each file of a part stands, and which held check-out of this designer covers it for change."""
-        _, numbers = self.client.survey(self.folder.place)
-        claims, found = self._claims(), []
-        holders = [holder for holder in self.client.holders(self.folder.place) if holder.held and holder.owner != self.client.designer]
-        for name, entry in sorted(self.folder.files.items()):
-            missing = self.folder.seen(name) is None
-            changed = not missing and self.folder.is_changed(name)
-            draft = changed and bool(entry.draft) and self._is_draft(name)
-            found.append(State(name, entry.place, entry.version, numbers.get(entry.place, 0), changed, missing,
-                               " ".join(covering(claims, entry.place)), draft,
-                               [f"{holder.owner} in {holder.claim}" for holder in holders if holder.changes(entry.place)]))
-        self.folder.save()
-        return found
+        claims = self._claims()
+        return self._states(claims, self._saved(claims))
 
     def put(self, claim: str = "") -> Done:
-        """Puts each changed file that a held check-out of this designer covers, or the check-out that is named."""
+        """Puts each changed file that a held check-out of this designer covers, or the check-out that is named. So it does with one that was
+        put and isn't changed any more: its draft is put anew."""
         done, claims = Done(), self._claims()
         if claim and claim not in claims:
             raise Misused(f"{claim} is no held check-out of yours at {self.folder.place}. `vault mine` shows those that there are.")
-        for state in self.states():
+        saved = self._saved(claims)
+        for state in self._states(claims, saved):
             fitting = [name for name in covering(claims, state.place) if name == (claim or name)]
-            reason = self._reason_against(state, fitting)
-            if reason:
-                done.left.append((state.file, reason))
-            elif state.draft and self.folder.files[state.file].claim == fitting[0]:
-                done.drafts.append(state.file)
-            elif state.changed:
-                self._put_one(state.file, fitting[0], done)
+            there = saved.get(state.place)
+            self._put_or_leave(state, fitting, there if there is not None and there.claim in fitting else None, done)
+        self.folder.save()
         return done
 
     def checkin(self, note: Optional[str], claim: str = "") -> Done:
         """Puts what was changed, and checks in the check-outs that these files are drafts of."""
         done = self.put(claim)
-        held = self._claims()
-        done.claims = sorted({entry.claim for entry in self.folder.files.values() if entry.claim in held and entry.claim == (claim or entry.claim)})
-        if not done.claims:
-            raise Refused(f"No file of {self.folder.path} is a draft in a held check-out of yours. `vault status {self.folder.path}` shows how"
-                          " they stand.")
-        for name in done.claims:
-            if note is not None:
-                self.parts.set_note(name, note)
-            done.versions += self.client.checkin(name)
-        self._settle(done.claims)
+        claims = sorted({self.folder.files[name].claim for name in done.files + done.drafts})
+        if not claims:
+            raise Refused(" ".join(filter(None, (f"No file of {self.folder.path} is a draft in a held check-out of yours.",
+                                                 in_words(done.left[:REASONS]), f"`vault status {self.folder.path}` shows how they stand."))))
+        other = next((claim for claim in claims if claim in done.others), "")
+        if other:
+            raise Refused(f"{other} has a draft that is not what is here, so nothing was checked in. {in_words([done.others[other]])}"
+                          f" `vault checkin {other}` checks it in as it is.")
+        try:
+            for each in claims:
+                self._check_in(each, note, done)
+        except VaultError as error:
+            if done.claims:
+                error.put_behind(done.checked_in())
+                error.fields.update(claims=done.claims, versions=done.versions)
+            raise
+        finally:
+            self._settle_checked_in(done.claims)
         return done
 
     def add(self, name: str) -> str:
@@ -128,8 +147,9 @@ class Working:
         seen = self.folder.seen(name)
         if seen is None or not stat.S_ISREG(seen.st_mode):
             raise Misused(f"{name} is no file in {self.folder.path}: it is not there, or is a link or a folder.")
-        place = self._make_part(assembly, file)
+        place = self._made_before(name) or self._make_part(assembly, name)
         self.folder.files[name] = Entry(place, 0, "")
+        self.folder.making.pop(name, None)
         self.folder.save()
         return place
 
@@ -141,7 +161,7 @@ class Working:
         for place in assemblies[1:]:
             above, _, own = place.rpartition("/")
             if place not in names:
-                inner = names[above]
+                inner = names[above or "/"]
                 names[place] = Folder.joined(inner, choose_name(own, own, self.folder.taken(inner)))
                 self.folder.folders[names[place]] = place
             self.folder.make_folder(names[place])
@@ -151,7 +171,28 @@ class Working:
         return name is None or self.folder.files[name].version != number or self.folder.seen(name) is None
 
     def _get_one(self, version: Version, name: Optional[str], moved: Moved, done: Done) -> None:
-        """Fetches one version, unless the file in its place was changed here."""
+        """Fetches one version, unless the file in its place was changed here, or has its bytes already."""
+        new, entry = self._named(version, name)
+        before = self.folder.seen(name) if name is not None else None
+        if name is not None and before is not None and self.folder.is_changed(name):
+            if self._has(name, version):
+                self._adopt(name, entry)
+            else:
+                done.left.append((name, f"was changed here, and version {version.number} of {version.place} is in the vault"))
+            return
+        if new == name or self.folder.seen(new) is None:
+            self._fetch(version, new, entry, before if new == name else None, moved)
+            done.files.append(new)
+        elif self._has(new, version):
+            self._adopt(new, entry)
+        else:
+            done.left.append((new, f"is there already, and is not version {version.number} of {version.place}"))
+            return
+        if name is not None and new != name:
+            self._give_up(name, new, before, done)
+
+    def _named(self, version: Version, name: Optional[str]) -> Tuple[str, Entry]:
+        """The name that a version's file is to have, where it has another one or none, and what is then remembered of it."""
         own = version.place.rpartition("/")[2]
         wanted = version.card.name if version.card else own
         above = self._folder_of(version.place)
@@ -159,31 +200,21 @@ class Working:
         new = Folder.joined(above, choose_name(wanted, own, taken))
         if name is not None and folded(new) == folded(name):
             new = name
-        entry = Entry(version.place, version.number, version.sha256, name=wanted)
-        before = self.folder.seen(name) if name is not None else None
-        if name is not None and before is not None and self.folder.is_changed(name):
-            if self._has(name, version):
-                self._adopt(name, entry)
-            else:
-                done.left.append((name, f"was changed here, and version {version.number} of {version.place} is in the vault"))
-        elif new != name and self.folder.seen(new) is not None:
-            if self._has(new, version) and name is None:
-                self._adopt(new, entry)
-            else:
-                done.left.append((new, f"is there already, and is not version {version.number} of {version.place}"))
-        else:
-            self._fetch(version, name, new, entry, before, moved)
-            done.files.append(new)
+        return new, Entry(version.place, version.number, version.sha256, name=wanted)
 
-    def _fetch(self, version: Version, name: Optional[str], new: str, entry: Entry, before: Optional[os.stat_result], moved: Moved) -> None:
-        """Writes a version into its file, and removes the file by the name that it had before."""
+    def _fetch(self, version: Version, new: str, entry: Entry, before: Optional[os.stat_result], moved: Moved) -> None:
+        """Writes a version into its file."""
         with self.folder.new_file() as file:
             self.parts.write(version, file, str(self.folder.path / new), lambda _what, _size: given(moved))
-            self.folder.bring(file, new, entry, before if new == name else None)
-        if name is not None and new != name:
-            del self.folder.files[name]
-            if before is not None:
-                self.folder.at(name).unlink()
+            self.folder.bring(file, new, entry, before)
+
+    def _give_up(self, name: str, new: str, before: Optional[os.stat_result], done: Done) -> None:
+        """Removes the file that a part had before, unless it was changed while the new one came: then it stays."""
+        place = self.folder.files.pop(name).place
+        if before is not None and self.folder.looks_as(name, before):
+            self.folder.at(name).unlink()
+        elif self.folder.seen(name) is not None:
+            done.left.append((name, f"was changed right now, and stays as a file of no part: {place} is {shown(new)} now"))
 
     def _adopt(self, name: str, entry: Entry) -> None:
         """Remembers that a file is a version, since it has its bytes."""
@@ -197,10 +228,6 @@ class Working:
         path = self.folder.at(name)
         return path.is_file() and not path.is_symlink() and path.stat().st_size == version.size and self.folder.hash(name) == version.sha256
 
-    def _is_draft(self, name: str) -> bool:
-        path = self.folder.at(name)
-        return path.is_file() and not path.is_symlink() and self.folder.hash(name) == self.folder.files[name].draft
-
     def _folder_of(self, place: str) -> str:
         """The folder of the assembly that a part stands in."""
         above = place.rpartition("/")[0]
@@ -210,18 +237,78 @@ class Working:
         """The held check-outs of this designer at the folder's place, each with its items."""
         return self.client.held(self.folder.place)
 
-    def _reason_against(self, state: State, fitting: List[str]) -> str:
-        """Why a changed file isn't put, if there is a reason."""
-        if not state.changed:
-            return ""
+    def _saved(self, claims: Iterable[str]) -> Dict[str, Saved]:
+        """The drafts of some check-outs of this designer, by place, as the server has them."""
+        found: Dict[str, Saved] = {}
+        for claim in claims:
+            kept = self.client.kept_drafts(claim)
+            found.update({place: Saved(claim, Version(place, 0, content), kept.get(place) == content)
+                          for place, content in self.client.all_drafts(claim).items()})
+        return found
+
+    def _states(self, claims: Dict[str, Sequence[str]], saved: Dict[str, Saved]) -> List[State]:
+        """How each file of a part stands, by the check-outs of this designer and their drafts."""
+        _, numbers = self.client.survey(self.folder.place)
+        self._settle(numbers)
+        holders = [holder for holder in self.client.holders(self.folder.place) if holder.held and holder.owner != self.client.designer]
+        found = []
+        for name, entry in sorted(self.folder.files.items()):
+            missing = self.folder.seen(name) is None
+            changed = not missing and self.folder.is_changed(name)
+            draft = not missing and entry.place in saved and self._is(name, changed, saved[entry.place].version)
+            found.append(State(name, entry.place, entry.version, numbers.get(entry.place, 0), changed, missing,
+                               " ".join(covering(claims, entry.place)), draft,
+                               [f"{holder.owner} in {holder.claim}" for holder in holders if holder.changes(entry.place)]))
+        self.folder.save()
+        return found
+
+    def _is(self, name: str, changed: bool, version: Version) -> bool:
+        """Whether a file, of which it is known whether it is changed, has the bytes of a version."""
+        return self._has(name, version) if changed else self.folder.files[name].sha256 == version.sha256
+
+    def _put_or_leave(self, state: State, fitting: List[str], there: Optional[Saved], done: Done) -> None:
+        """Puts a file that was changed, or that was put and is another now, unless it is the draft that is there, or a reason is against it."""
+        entry = self.folder.files[state.file]
+        if state.draft and there is not None:
+            entry.draft, entry.claim = there.version.sha256, there.claim
+            done.drafts.append(state.file)
+            return
+        put_before = there is not None and there.version.sha256 == entry.draft
+        if not state.changed and not put_before:
+            return
+        reason = self._reason_against(state, fitting, there, put_before)
+        if not reason:
+            self._put_one(state.file, fitting[0], done)
+            return
+        done.left.append((state.file, reason))
+        if there is not None:
+            done.others.setdefault(there.claim, (state.file, reason))
+
+    def _reason_against(self, state: State, fitting: List[str], there: Optional[Saved], put_before: bool) -> str:
+        """Why a file isn't put, if there is a reason."""
+        over = f"--to OTHER-FILE`; `vault put {state.place} FILE` puts yours over it"
+        look = f"look at that first, by `vault get {state.place} {over}"
+        if there is not None and state.missing:
+            return f"is missing here, and its draft is in {there.claim}: `vault draft {there.claim} {state.place} --to FILE` writes that"
         if state.newest != state.version:
-            return (f"was made of version {state.version}, and version {state.newest} is in the vault: look at that first, by"
-                    f" `vault get {state.place} --to OTHER-FILE`; `vault put {state.place} FILE` puts yours over it")
+            return f"was made of version {state.version}, and version {state.newest} is in the vault: {look}"
         if not fitting:
             return f"no held check-out of yours takes it in: `vault checkout w:{state.place}` asks for one"
         if len(fitting) > 1:
             return f"{' and '.join(fitting)} take it in: name one with `--claim`"
+        if there is not None and not put_before and not there.from_here:
+            return (f"has another draft in {there.claim}, which was put elsewhere: look at that first, by `vault draft {there.claim}"
+                    f" {state.place} {over}")
+        if self._is_another(state):
+            return f"was made of another version {state.version} than the vault has, which came back from a backup: {look}"
         return ""
+
+    def _is_another(self, state: State) -> bool:
+        """Whether the version that a file was made of isn't what the vault has by this number: it came back from a backup since."""
+        if not state.version:
+            return False
+        content = self.client.contents([(state.place, state.version)])[0]
+        return Version(state.place, state.version, content).sha256 != self.folder.files[state.file].sha256
 
     def _put_one(self, name: str, claim: str, done: Done) -> None:
         entry = self.folder.files[name]
@@ -231,30 +318,69 @@ class Working:
         self.folder.save()
         done.files.append(name)
 
-    def _settle(self, claims: List[str]) -> None:
-        """Files that were drafts in check-outs that are checked in are now versions: remembers which."""
-        names = [name for name, entry in sorted(self.folder.files.items()) if entry.claim in claims]
-        _, numbers = self.client.survey(self.folder.place)
-        wanted = [(self.folder.files[name].place, numbers.get(self.folder.files[name].place, 0)) for name in names]
-        for name, (place, number), content in zip(names, wanted, self.client.contents(wanted)):
-            entry, version = self.folder.files[name], Version(place, number, content)
+    def _check_in(self, claim: str, note: Optional[str], done: Done) -> None:
+        """Checks one check-out in."""
+        if note is not None:
+            self.parts.set_note(claim, note)
+        done.versions += self.client.checkin(claim)
+        done.claims.append(claim)
+
+    def _settle(self, numbers: Dict[str, int]) -> None:
+        """Files whose drafts became versions, by whichever check-in, are made of these from now on."""
+        drafts = {entry.place: entry for entry in self.folder.files.values() if entry.draft}
+        newest = {place: numbers.get(place, 0) for place in drafts}
+        wanted = [(place, number) for place, entry in drafts.items()
+                  for number in range(newest[place], max(entry.version, newest[place] - LOOKED_BACK, 0), -1)]
+        for (place, number), content in zip(wanted, self.client.contents(wanted)):
+            entry, version = drafts[place], Version(place, number, content)
             if version.sha256 == entry.draft:
                 entry.version, entry.sha256, entry.size = number, entry.draft, -1
                 entry.name = version.card.name if version.card else entry.name
-            entry.draft = entry.claim = ""
-        self.folder.save()
+                entry.draft = entry.claim = ""
 
-    def _make_part(self, assembly: str, file: str) -> str:
-        """Makes a part in an assembly, by the name of a file."""
+    def _settle_checked_in(self, claims: List[str]) -> None:
+        """Remembers which versions the files are that were drafts in check-outs that are checked in. If the server is lost meanwhile, the next
+        look at the folder finds out."""
+        if not claims:
+            return
+        with contextlib.suppress(VaultError, OSError):
+            self._settle(self.client.survey(self.folder.place)[1])
+            for entry in self.folder.files.values():
+                if entry.claim in claims:
+                    entry.draft = entry.claim = ""
+            self.folder.save()
+
+    def _made_before(self, name: str) -> str:
+        """The part that was being made of a file when the client was stopped, if it came to be and nobody has put anything there."""
+        place = self.folder.making.get(name, "")
+        if not place or any(entry.place == place for entry in self.folder.files.values()):
+            return ""
+        try:
+            return place if self.client.survey(place)[1].get(place) == 0 else ""
+        except Refused:
+            return ""
+
+    def _make_part(self, assembly: str, name: str) -> str:
+        """Makes a part in an assembly, by the name of a file. It is remembered before that it is being made."""
         for _ in range(TRIES):
-            place = place_word(f"{assembly}/{part_name(file, self.client.names(assembly))}")
+            place = place_word(f"{assembly}/{part_name(name.rpartition('/')[2], self.client.names(assembly))}")
+            claim = (covering(self._claims(), place) + [""])[0]
+            self.folder.making[name] = place
+            self.folder.save()
             try:
-                self.client.make(place, (covering(self._claims(), place) + [""])[0])
+                self.client.make(place, claim)
                 return place
-            except Refused as refused:
+            except (Refused, Unreachable) as refused:
+                del self.folder.making[name]
+                self.folder.save()
                 if refused.code != 21:
                     raise
         raise Refused(f"Others make parts of that name in {assembly} at this moment. Try again.")
+
+
+def in_words(left: Iterable[Tuple[str, str]]) -> str:
+    """Why files were left."""
+    return " ".join(f"{shown(name)} {reason}." for name, reason in left)
 
 
 @contextlib.contextmanager
@@ -283,7 +409,7 @@ def folder_for(parts: Parts, place: str, path: Path) -> Folder:
         return folder
     try:
         path.mkdir(exist_ok=True)
-        if any(path.iterdir()):
+        if any(each.name != OWN for each in path.iterdir()):
             raise Misused(f"{path} has files, and is no working folder. Name a new folder, or an empty one.")
     except OSError as error:
         raise Misused(f"The folder {path} can't be made: {error.strerror}.") from error
