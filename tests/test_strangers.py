@@ -370,14 +370,14 @@ class ForGood(unittest.TestCase):
         return said.decode().splitlines()[1:]
 
     def looked_at(self) -> str:
-        """What the lines of the page on operating say, with a backup in hand."""
+        """What the lines of the page on operating say, over a copy of the vault's files."""
         page = (TOP / "docs" / "OPERATING.md").read_text("utf-8").partition("## Limits that fill for good")[2]
         lines = page.partition("```sh\n")[2].partition("```")[0]
-        for shown, path in (("/backup/vault/", self.server.folder.name + "/backup-"), ("7070", str(self.server.port)), ("vaultd ", VAULTD + " ")):
+        for shown, path in (("/var/lib/vaultd/", self.server.folder.name + "/copy-"), ("7070", str(self.server.port)), ("vaultd ", VAULTD + " ")):
             self.assertIn(shown, lines)
             lines = lines.replace(shown, path)
         for name, path in zip("ab", self.server.files):
-            Path(f"{self.server.folder.name}/backup-{name}").write_bytes(Path(path).read_bytes())
+            Path(f"{self.server.folder.name}/copy-{name}").write_bytes(Path(path).read_bytes())
         return subprocess.run(["bash", "-c", lines], capture_output=True, text=True, timeout=20, check=True).stdout
 
     def test_places(self) -> None:
