@@ -178,18 +178,18 @@ class Times(Border):
             self.assertLess(time.monotonic(), begin + 4)
 
     def test_idle_by_lines(self) -> None:
-        self.serve("--idle", "1")
+        self.serve("--idle", "3")
         with self.linked() as link:
             self.said(link, b"hello anna")
             begin = time.monotonic()
             with contextlib.suppress(ConnectionError):
-                while time.monotonic() < begin + 6:
+                while time.monotonic() < begin + 9:
                     link.sendall(b"x")
                     time.sleep(0.1)
-            self.assertLess(time.monotonic(), begin + 4)
+            self.assertLess(time.monotonic(), begin + 7)
         with self.linked() as link:
             for _ in range(5):
-                time.sleep(0.5)
+                time.sleep(0.8)
                 self.assertEqual(self.said(link, b"state c1"), b"ERR 11\n")
 
     def test_no_place(self) -> None:

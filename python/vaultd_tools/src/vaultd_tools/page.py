@@ -92,6 +92,8 @@ async def serve(asked: argparse.Namespace) -> None:
     if watch.done():
         watch.result()
     watch.cancel()
+    # It may still read: two can't at once.
+    await asyncio.wait({watch})
     await page.watcher.close()
 
 
