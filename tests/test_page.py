@@ -8,6 +8,7 @@ import html
 import re
 import shutil
 import socket
+import statistics
 import struct
 import tempfile
 import threading
@@ -217,7 +218,8 @@ class Telling(WithPage):
         self.client("cara").put(PART, Card("cd" * 32, 5, "new.step", "cara", "2026-11-28T00:00:00Z", "lighter").spell(), "c2")
         self.client("cara").checkin("c2")
         took.append(stream.change('"order": ["c3"]', "holds c3 now", "has version 2")[0])
-        self.assertLess(max(took), soon(), took)
+        self.assertLess(statistics.median(took), soon(), took)
+        self.assertLess(max(took), 3 * soon(), took)      # a virtual machine may stand still meanwhile
         part.change("new.step", "lighter", '"order": ["2", "1"]')
         self.ben.set_note("c3", b"until noon")
         self.assertLess(stream.change("until noon", seconds=30)[0], 30)

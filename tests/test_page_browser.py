@@ -102,7 +102,7 @@ class WithOffice(unittest.TestCase):
             took = until(lambda: words in self.words(selector), seconds + 9)
         except AssertionError as error:
             raise AssertionError((words, "isn't in", self.words(selector)[:600], self.words("#pill"))) from error
-        self.assertLess(took, soon(seconds), words)
+        self.assertLess(took, 3 * soon(seconds), words)      # a virtual machine may stand still meanwhile; test_page asks for the second
 
 
 class Kinds(WithOffice):
