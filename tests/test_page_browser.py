@@ -4,28 +4,16 @@ Pictures of all lie in tests/out, or in the folder that VAULT_PICTURES names.
 """
 
 import base64
-import contextlib
-import json
-import os
-import signal
 import tempfile
-import time
 import unittest
 from pathlib import Path
 from typing import Tuple
 
 from browser import Browser, Pages
-from busy_vault import Office
 from page_server import PageServer, processor_seconds, soon, until
-from selenium.common.exceptions import WebDriverException
-from servers import MEMORY, TOP, Server, Tap
-from test_page import fill
+from servers import MEMORY, Server
+from with_page import CHECK, PICTURES, PISTON, WithOffice, fill
 
-from vault.card import Card
-
-PICTURES = Path(os.environ.get("VAULT_PICTURES", str(TOP / "tests" / "out")))
-CHECK = (TOP / "tests" / "pages" / "check.js").read_text("utf-8")
-PART = "/engine/piston_group/piston"
 WINDOWS: Tuple[Tuple[str, int, int, bool], ...] = (("1280", 1280, 900, False), ("390", 390, 844, False), ("1280-dark", 1280, 900, True),
                                                    ("390-dark", 390, 844, True))
 # Answers take half a second, and a test can reach the stream.
@@ -40,69 +28,8 @@ window.fetch = async (...words) => {
 };
 window.EventSource = class extends EventSource { constructor(...words) { super(...words); window.stream = this; } };
 """
-EVIL = "<img src=x onerror=alert(1)><b>\u202egpj.exe</b>" + "W" * 190
-KINDS = {"library": "/", "project": "/engine", "assembly": "/engine/head", "part": PART, "designers": "/designers", "designer": "/designers/anna",
+KINDS = {"library": "/", "project": "/engine", "assembly": "/engine/head", "part": PISTON, "designers": "/designers", "designer": "/designers/anna",
          "nobody": "/designers/nobody", "search": "/.search?q=crank", "nothing": "/.search?q=%3Cb%3E", "missing": "/engine/none"}
-
-
-class WithOffice(unittest.TestCase):
-    """A vault of machines with sixteen designers, the page of it, and a browser."""
-
-    def setUp(self) -> None:
-        self.server = Server("--workers", "64", folder=MEMORY)
-        self.addCleanup(self.server.close)
-        self.server.start()
-        self.office = Office(self.server.port)
-        self.addCleanup(self.office.close)
-        self.page = PageServer(self.server.port, "--title", "Plant 1 <machines>")
-        self.addCleanup(lambda: self.page.end())
-        self.browser = Browser()
-        self.addCleanup(self.browser.close)
-
-    def fill(self) -> None:
-        """Builds the machines, with check-outs and odd things among them."""
-        self.office.build()
-        card = Card("ee" * 32, 10 ** 15, EVIL, "eva", "2026-11-28T00:00:00Z", "<script>alert(2)</script> " + "\u0301" * 60)
-        claim = self.say("eva", "checkout w:/gripper/base/flange").split()[2]
-        self.say("eva", f"save {claim} /gripper/base/flange {card.spell().hex()}")
-        self.say("eva", f"note {claim} {'<img src=x onerror=alert(3)>'.encode().hex()}")
-        self.office.work(0)
-        longest = "/" + "/".join("w" * 32 for _ in range(7))
-        for count in range(1, 8):
-            place = "/".join(longest.split("/")[:count + 1])
-            self.say("anna", ("nest " if 3 <= count < 7 else "make ") + place)
-        self.say("w" * 32, f"checkout w:{longest} r:{longest} w:{longest}")
-
-    def say(self, name: str, line: str) -> str:
-        """The reply to a designer, who need not be one of the office."""
-        if name in self.office.sessions:
-            reply = self.office.say(name, line)[0]
-            return ("OK " if reply.ok else "ERR ") + " ".join(reply.words)
-        with self.server.connect() as client, client.makefile("rb") as told:
-            client.sendall(f"hello {name}\n{line}\nquit\n".encode())
-            return [told.readline() for _ in range(3)][1].decode().strip()
-
-    def open(self, path: str) -> None:
-        """Opens a page, and waits until it is live, if it can be."""
-        self.browser.open(self.page.address + path)
-        if self.browser.value("document.body.dataset.watch || ''"):
-            until(lambda: self.words("#pill") == "live", 10)
-
-    def words(self, selector: str) -> str:
-        """The text of the first such element."""
-        return str(self.browser.value(f"document.querySelector({json.dumps(selector)})?.innerText.replace(/\\s+/g, ' ').trim() ?? ''"))
-
-    def is_so(self, expression: str) -> bool:
-        """Whether an expression holds in the page."""
-        return bool(self.browser.value(expression))
-
-    def shows(self, selector: str, words: str, seconds: float = 1.0) -> None:
-        """Waits until such an element has these words."""
-        try:
-            took = until(lambda: words in self.words(selector), seconds + 9)
-        except AssertionError as error:
-            raise AssertionError((words, "isn't in", self.words(selector)[:600], self.words("#pill"))) from error
-        self.assertLess(took, 3 * soon(seconds), words)      # a virtual machine may stand still meanwhile; test_page asks for the second
 
 
 class Kinds(WithOffice):
@@ -161,7 +88,7 @@ class Kinds(WithOffice):
         source = self.browser.driver.page_source
         for words in ("The line", "How full it is", 'href="/designers/anna"', "as of <time", 'http-equiv="refresh"'):
             self.assertIn(words, source)
-        self.browser.open(self.page.address + PART)
+        self.browser.open(self.page.address + PISTON)
         self.assertIn("Piston.SLDPRT", self.browser.driver.page_source)
         self.browser.run_scripts(True)
 
@@ -180,24 +107,24 @@ class Live(WithOffice):
 
     def day(self, width: int) -> None:
         """A day on one page after the other."""
-        for name, path in (("library", "/"), ("project", "/engine"), ("part", PART), ("designer", "/designers/cara"), ("designers", "/designers")):
+        for name, path in (("library", "/"), ("project", "/engine"), ("part", PISTON), ("designer", "/designers/cara"), ("designers", "/designers")):
             self.open(path)
             where = "main"
-            claim = self.say("cara", f"checkout w:{PART}").split()[2]
+            claim = self.say("cara", f"checkout w:{PISTON}").split()[2]
             self.shows(where, f"cara {claim} held" if path != "/designers" else "cara 1 0 0")
             waits = self.say("ben", "checkout w:/engine").split()[2]
             self.shows(where, {"/designers": "ben 0 1 0", "/designers/cara": f"ben {waits}"}.get(path, f"ben {waits} waits behind {claim}"))
             self.say("cara", f"give {claim} deniz")
             self.shows(where, {"/designers": "deniz 1 0 1", "/designers/cara": "has nothing checked out"}.get(path, f"deniz {claim} held"))
             self.browser.picture(PICTURES / f"day-{name}-{width}.png")
-            versions = self.say("deniz", f"count {PART}").split()[2]
-            self.say("deniz", f"save {claim} {PART} {self.office.card(PART, 'deniz').hex()}")
+            versions = self.say("deniz", f"count {PISTON}").split()[2]
+            self.say("deniz", f"save {claim} {PISTON} {self.office.card(PISTON, 'deniz').hex()}")
             self.say("deniz", f"checkin {claim}")
             self.shows(where, {"/designers": "ben 1 0 0", "/designers/cara": "Nobody."}.get(path, f"ben {waits} held"))
-            if path == PART:
+            if path == PISTON:
                 self.shows("#versions tr", f"{int(versions) + 1} ", 2.0)
             self.say("ben", f"abandon {waits}")
-            self.shows(where, {"/engine": "It is free.", PART: "It is free.", "/designers/cara": "has nothing checked out"}.get(
+            self.shows(where, {"/engine": "It is free.", PISTON: "It is free.", "/designers/cara": "has nothing checked out"}.get(
                 path, "Nobody has anything checked out."))
 
     def test_places_meanwhile(self) -> None:
@@ -221,7 +148,7 @@ class Live(WithOffice):
     def test_the_keyboard(self) -> None:
         """The first key leads to the content, a slash to the search, and what has the focus keeps it when it changes."""
         self.office.build()
-        claim = self.say("cara", f"checkout w:{PART}").split()[2]
+        claim = self.say("cara", f"checkout w:{PISTON}").split()[2]
         self.open("/")
         self.browser.driver.switch_to.active_element.send_keys("\ue004")
         self.assertEqual(self.browser.value("document.activeElement.className"), "skip")
@@ -230,17 +157,17 @@ class Live(WithOffice):
         self.browser.driver.switch_to.active_element.send_keys("crank\ue007")
         until(lambda: "Found for crank" in self.words("h1"), 10)
         self.open("/")
-        self.browser.value(f"document.querySelector('#line a[href=\"{PART}\"]').focus()")
+        self.browser.value(f"document.querySelector('#line a[href=\"{PISTON}\"]').focus()")
         self.say("cara", f"give {claim} deniz")
         self.shows("#line", "deniz")
-        self.assertEqual(self.browser.value("document.activeElement.getAttribute('href')"), PART)
+        self.assertEqual(self.browser.value("document.activeElement.getAttribute('href')"), PISTON)
         until(lambda: f"deniz was given {claim} by cara" in self.words("#said"), 5)
 
     def test_what_stays_stays(self) -> None:
         """If a claim ends, what has the focus or is selected behind it keeps both. In a row that is replaced the same link has the focus."""
         self.office.build()
         first, second, third, fourth = (self.say(name, f"checkout {item}").split()[2] for name, item in (
-            ("cara", f"w:{PART}"), ("ben", "w:/press"), ("ben", "w:/gripper"), ("deniz", "r:/gripper")))
+            ("cara", f"w:{PISTON}"), ("ben", "w:/press"), ("ben", "w:/gripper"), ("deniz", "r:/gripper")))
         self.open("/")
         self.shows("#line", f"deniz {fourth}")
         focused = "[document.activeElement.closest('#line > li')?.id, document.activeElement.getAttribute('href')]"
@@ -259,13 +186,13 @@ class Live(WithOffice):
     def test_pieces_that_do_not_fit(self) -> None:
         """If the page lacks what a change is for, it reads itself again."""
         self.office.build()
-        first = self.say("cara", f"checkout w:{PART}").split()[2]
+        first = self.say("cara", f"checkout w:{PISTON}").split()[2]
         self.open("/")
         self.shows("#line", f"cara {first}")
         for missing in (f"line:{first}", "line", "tally"):
             with self.subTest(missing):
                 self.browser.value(f"document.getElementById('{missing}').remove()")
-                claim = self.say("ben", f"checkout w:{PART}").split()[2]
+                claim = self.say("ben", f"checkout w:{PISTON}").split()[2]
                 self.shows("#line", f"ben {claim} waits behind {first}")
                 self.shows("#line", f"cara {first} held")
                 self.assertTrue(self.is_so(f"!!document.getElementById('{missing}')"))
@@ -284,102 +211,6 @@ class Live(WithOffice):
         until(lambda: self.words("#pill") == "live", 10)
         self.assertEqual(self.browser.value("asked.length"), before + 2)
         self.assertEqual(self.browser.complaints(), [])
-
-    def test_the_vault_goes_away(self) -> None:
-        """The page says since when, shows what it knew, and goes on by itself."""
-        self.office.build()
-        claim = self.say("cara", f"checkout w:{PART}").split()[2]
-        self.open("/")
-        self.server.kill()
-        self.shows("#state", "No vault since", 3)
-        self.assertRegex(self.words("#pill"), r"^as of \d\d:\d\d$")
-        self.assertIn(f"cara {claim} held", self.words("#line"))
-        self.assertEqual(self.browser.value(CHECK), [])
-        self.browser.picture(PICTURES / "away-1280.png")
-        self.server.start()
-        until(lambda: self.words("#pill") == "live" and self.words("#state") == "", 15)
-        self.office.sessions.clear()
-        self.say("ben", f"checkout w:{PART}")
-        self.shows("#line", f"waits behind {claim}")
-
-    def test_the_page_goes_away(self) -> None:
-        """A page whose own server was started again is right again by itself, also about what happened meanwhile."""
-        self.office.build()
-        self.open("/")
-        self.page.end()
-        until(lambda: "no page server since" in self.words("#pill"), 15)
-        claim = self.say("cara", f"checkout w:{PART}").split()[2]
-        self.page = PageServer(self.server.port, "--title", "Plant 1 <machines>", port=self.page.port)
-        until(lambda: self.words("#pill") == "live", 30)
-        self.shows("#line", f"cara {claim} held")
-        self.say("ben", f"checkout w:{PART}")
-        self.shows("#line", f"waits behind {claim}")
-
-    def test_silence(self) -> None:
-        """A page that hears nothing any more says when it was right, and not that it is live."""
-        self.office.build()
-        self.open("/")
-        led = "getComputedStyle(document.querySelector('.led')).backgroundColor"
-        live = self.browser.value(led)
-        self.page.process.send_signal(signal.SIGSTOP)
-        try:
-            until(lambda: self.words("#pill").startswith("as of "), 40)
-            self.assertNotEqual(self.browser.value(led), live)
-            until(lambda: "no page server since" in self.words("#pill"), 30)
-        finally:
-            self.page.process.send_signal(signal.SIGCONT)
-        until(lambda: self.words("#pill") == "live", 30)
-        self.assertEqual(self.browser.value(led), live)
-
-    def test_the_vault_comes_late(self) -> None:
-        """A page says which of the two is missing, and comes by itself once the vault is there, also where it was opened before that."""
-        self.office.build()
-        self.open("/engine")
-        for opened_before in (True, False):
-            with self.subTest(opened_before=opened_before):
-                self.server.kill()
-                self.page.end()
-                self.page = PageServer(self.server.port, "--title", "Plant 1 <machines>", port=self.page.port)
-                if opened_before:
-                    until(lambda: "Nothing is known of the vault yet." in self.words("#state"), 15)
-                    self.assertIn("Beneath it", self.words("main"))
-                else:
-                    self.browser.open(self.page.address + "/engine")
-                    self.assertEqual(self.words("h1"), "Not known")
-                self.assertEqual(self.words("#pill"), "nothing known yet")
-                self.assertIn("The page asks again by itself.", self.words("#state"))
-                self.server.start()
-                until(self.is_live, 25)
-                self.assertIn("Beneath it", self.words("main"))
-                self.assertEqual(self.words("#state"), "")
-
-    def is_live(self) -> bool:
-        """Whether the page is live. It isn't while it is loaded."""
-        with contextlib.suppress(WebDriverException):
-            return self.words("#pill") == "live"
-        return False
-
-    def test_a_tab_that_nobody_sees(self) -> None:
-        """A page in the background asks for nothing; in front again it says when it was right, until it is right again."""
-        self.office.build()
-        tap = Tap(self.server.port)
-        self.addCleanup(tap.close)
-        self.page.end()
-        self.page = PageServer(tap.port)
-        self.open("/")
-        driver = self.browser.driver
-        first = driver.current_window_handle
-        self.browser.value("document.addEventListener('visibilitychange', () => {"
-                           " if (!document.hidden) window.seen = document.getElementById('pill').innerText; })")
-        driver.switch_to.new_window("tab")
-        until(lambda: tap.heard[-1].sent.endswith(b"quit\n"), 30)
-        time.sleep(3)
-        self.assertTrue(tap.heard[-1].sent.endswith(b"quit\n"))
-        claim = self.say("cara", f"checkout w:{PART}").split()[2]
-        driver.switch_to.window(first)
-        until(lambda: f"cara {claim} held" in self.words("#line"), 10)
-        self.assertRegex(self.browser.value("window.seen"), r"as of \d\d:\d\d")
-        self.assertEqual(self.words("#pill"), "live")
 
     def test_foreign_pages(self) -> None:
         """A page of another origin can't hear, read or frame this one."""
