@@ -1,7 +1,9 @@
 -- What looking for the reply to a command comes to. This project's own.
 use Rattle.std.specs.Prelude.{◌≡◌, ◌+◌, ◌<◌, ◌≤◌, false}
 use Rattle.vault_model.specs.declared.replies.Outside.TheVariants.{Broken}
-use Rattle.group_commit.specs.Seen.{VaultSeen}
+use Rattle.group_commit.specs.Seen.{VaultSeen, snapshot_length}
+use Rattle.group_commit.specs.View.{view_acted}
+use Rattle.group_commit.specs.World.{Tell}
 use Rattle.group_commit.specs.Ticket.{TicketSeen}
 use Rattle.vault_sessions.specs.Tallies.{IsReceiptFor}
 use Rattle.vault_sessions.specs.Lost.{IsLost}
@@ -22,6 +24,13 @@ IsLooked seen claim (looked.Told receipt) = claim.position < seen.view.settled
 IsLooked seen claim (looked.NotYet back) = (seen.view.settled ≤ claim.position) × (seen.view.broken ≡ false)
 IsLooked seen claim (looked.Lost back cause) = IsLost seen claim
 IsLooked seen claim (looked.NoMemory back) = claim.position < seen.view.settled
+
+-- what it changed: a reply that is handed out is told, and else nothing is
+abbrev pub ChangesLooked : {D A : Type 0} → VaultSeen D → VaultSeen D → TicketSeen → Looked A → Type 0
+ChangesLooked old new claim (looked.Told receipt) = new ≡ record old { view = view_acted snapshot_length old.view (Tell claim.position) }
+ChangesLooked old new claim (looked.NotYet back) = new ≡ old
+ChangesLooked old new claim (looked.Lost back cause) = new ≡ old
+ChangesLooked old new claim (looked.NoMemory back) = new ≡ old
 
 -- a receipt is counted once, and nothing else
 abbrev pub CountsLooked : {A : Type 0} → Totals → Looked A → Totals → Type 0

@@ -1,5 +1,5 @@
 //! What lies under the lock.
-ghost use Rattle.std.specs.Prelude.{◌≡◌, ◌≢◌, ◌+◌, ◌≤◌, ◌↔◌, IsTrue, IfOk, IfErr, IfSome, OnOk, OnErr, Ok, Some, true, false};
+ghost use Rattle.std.specs.Prelude.{◌≡◌, ◌≢◌, ◌+◌, ◌≤◌, ◌↔◌, ◌⊎◌, IsTrue, IfOk, IfErr, IfSome, OnOk, OnErr, Ok, Some, true, false};
 ghost use Rattle.group_commit.specs.History.{entry_of};
 ghost use Rattle.vault_model.specs.declared.replies.Outside.TheVariants.{BadLine};
 ghost use Rattle.vault_store.specs.declared.starting.Started.TheVariants as Started;
@@ -10,7 +10,7 @@ ghost use Rattle.group_commit.specs.Ticket.{ticket_of};
 ghost use Rattle.group_commit.specs.Calls.{IsReason, IsRedeemed, IsForgotten, IsRetired, MayStart};
 ghost use Rattle.group_commit.specs.Pasts.{IsAnswered};
 ghost use Rattle.vault_sessions.specs.Tallies.{IsOfTicket, CountsRedeem};
-ghost use Rattle.vault_sessions.specs.Looking.{IsFor, IsLooked, CountsLooked};
+ghost use Rattle.vault_sessions.specs.Looking.{IsFor, IsLooked, ChangesLooked, CountsLooked};
 ghost use Rattle.vault_sessions.specs.Pumping.{IsPumped, IsAtRest};
 ghost use Rattle.vault_sessions.specs.Waiting.{IsQueued, IsStandingQueued};
 ghost use Rattle.vault_sessions.specs.declared.flusher.Flushed.TheVariants as Flushed;
@@ -254,6 +254,7 @@ impl<D: Device, S: Tally, T: Tally, A: Allocator + Copy> Desk<D, S, T, A> {
     // Looks for the reply to the command that a ticket is for. If it is lost, the vault gives the cause.
     pub(crate) fn look(&mut self, ticket: Ticket<A>, share: &mut Share<S, T>) -> Looked<A>
         ensures looked { IsLooked self.old.vault ticket result }
+        ensures changed { ChangesLooked self.old.vault self.new.vault ticket result }
         ensures of_ticket { IsFor ticket result }
         ensures counted { CountsLooked share.old result share.new }
         ensures open { self.new.closed ≡ self.old.closed }
@@ -304,6 +305,9 @@ impl<D: Device, S: Tally, T: Tally, A: Allocator + Copy> Desk<D, S, T, A> {
     pub(crate) fn lets_go(&mut self, kept: &mut PendingWait) -> bool
         ensures same { self.new ≡ self.old }
         ensures claim { kept.new.claim ≡ kept.old.claim }
+        ensures goes { IsTrue result → (kept.old.is_let_go ≡ true) ⊎ (self.old.vault.view.broken ≡ true)
+            ⊎ (IsQueued self.old.vault.view kept.old.claim → ⊥) }
+        ensures stays { result ≡ false → kept.old.is_let_go ≡ false }
     {
         let moves = self.waits.moves;
         let is_kept = !kept.is_let_go

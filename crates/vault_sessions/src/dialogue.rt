@@ -1,5 +1,5 @@
 //! One connection's conversation, from its first byte to its report: the code that serves is the code that is proved.
-ghost use Rattle.std.specs.Prelude.{◌≡◌, ◌≤◌, ◌↔◌, ◌||◌, ℕ, Bool, true, false, List, Option, IfOk, IfErr, length};
+ghost use Rattle.std.specs.Prelude.{◌≡◌, ◌≤◌, ◌↔◌, ◌||◌, ℕ, Bool, true, false, List, Option, None, IfOk, IfErr, length};
 ghost use Rattle.line_inlet.specs.Inflow.{Inflow};
 ghost use Rattle.vault_sessions.specs.Serving.{most_lines, HeardAll, SpeaksFor, session_of, CountsAll, WritesAll, QuitsBy};
 ghost use Rattle.vault_sessions.specs.Talking.{Stands, StandsAt};
@@ -244,6 +244,7 @@ impl<C: Connection, S: Tally, T: Tally, A: Allocator + Copy> Dialogue<C, S, T, A
         ensures quit { QuitsBy result.1.ended result.1.answers.outs }
         ensures counted { CountsAll self.began.counted result.1.answers.outs result.1.ended result.1.share }
         ensures left { self.is_over ≡ true → HasLeft result.1.left (session_of 0 result.1.answers.outs) }
+        ensures given_up { self.is_over ≡ false → result.1.left ≡ None }
         ensures kept { result.1.answers.is_kept ≡ self.began.keeps }
     {
         let Dialogue {
@@ -522,6 +523,7 @@ fn end<A: Allocator>(next: Next<A>) -> (Ended, Option<LastLeave>)
         (outs : List (Out A)) (session : ℕ) (share : Totals)
         → StandsIn next reader_old reader_new writer_old writer_new counts inflow kept is_long outs session share
         → is_done next ≡ true → HasLeft result.1 (session_of 0 outs) }
+    ensures given_up { is_done next ≡ false → result.1 ≡ None }
 {
     match next {
         Next::Takes(_turn) => unreachable!(),

@@ -203,9 +203,10 @@ impl<D: Device, S: Tally, T: Tally, A: Allocator + Copy, G: Gate, H: Wait> Worke
             .keep(session, *claim, self.most_waits)
     }
 
-    // Whether a kept `wait` is to be staged now.
+    // Whether a kept `wait` is to be staged now. One that was released is.
     fn lets_go(&self, kept: &mut PendingWait) -> bool
-        ensures { kept.new.claim ≡ kept.old.claim }
+        ensures claim { kept.new.claim ≡ kept.old.claim }
+        ensures stays { result ≡ false → kept.old.is_let_go ≡ false }
     {
         let shared = self.shared;
         shared.desk.lock(self.rt).lets_go(kept)

@@ -6,7 +6,7 @@ use Rattle.vault_sessions.proofs.Talks.{keeps_on, stages_kept, refuses_kept, wan
 use Rattle.vault_sessions.proofs.worker.Worker.stage_kept.Goals as goal
 
 pub returns-then-not-lets_go-clause-stands : goal.returns-then-not-lets_go-clause-stands
-returns-then-not-lets_go-clause-stands g c = λ r0 r w0 w s0 h. keeps_on c.args.kept c.lets_go.new.kept r0 r w0 w s0 _ _ _ _ _ _ c.lets_go.ensures h
+returns-then-not-lets_go-clause-stands g c = λ r0 r w0 w s0 h. keeps_on c.args.kept c.lets_go.new.kept r0 r w0 w s0 _ _ _ _ _ _ c.lets_go.ensures.claim h
 
 pub returns-then-is_err-clause-stands : goal.returns-then-is_err-clause-stands
 returns-then-is_err-clause-stands g c = λ r0 r w0 w s0 h. rw c.reserve.ensures.same.0 (wants_kept c.args.kept r0 r w0 w s0 _ _ _ _ _ _ h)
@@ -14,7 +14,7 @@ returns-then-is_err-clause-stands g c = λ r0 r w0 w s0 h. rw c.reserve.ensures.
 pub returns-in-Ok-clause-stands : goal.returns-in-Ok-clause-stands
 returns-in-Ok-clause-stands g c = λ r0 r w0 w s0 h.
     let asked = c.in-Ok.ensures.ok in
-    rw c.reserve.ensures.same.0 (stages_kept c.args.kept c.in-Ok.ticket r0 r w0 w s0 _ _ _ _ _ _ _ asked.0 (asked.1 ∙ ap Await c.lets_go.ensures) asked.2 h)
+    rw c.reserve.ensures.same.0 (stages_kept c.args.kept c.in-Ok.ticket r0 r w0 w s0 _ _ _ _ _ _ _ asked.0 (asked.1 ∙ ap Await c.lets_go.ensures.claim) asked.2 h)
 
 pub returns-in-Err-clause-stands : goal.returns-in-Err-clause-stands
 returns-in-Err-clause-stands g c = λ r0 r w0 w s0 h.
