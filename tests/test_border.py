@@ -206,6 +206,30 @@ class Times(Border):
         with self.linked() as link:
             self.assertEqual(self.said(link, b"hello ben"), b"OK session 2\n")
 
+    def test_one_for_one(self) -> None:
+        """For one that waits for a place one silent connection is ended, also where two threads could each end one."""
+        self.serve("--workers", "2", "--threads", "2", "--full", "100")
+        with self.linked() as one, self.linked() as other:
+            silent = {link: self.said(link, b"hello " + name) for link, name in ((one, b"anna"), (other, b"ben"))}
+            self.assertEqual(list(silent.values()), [b"OK session 1\n", b"OK session 2\n"])
+            time.sleep(61)
+            with self.linked() as link:
+                self.assertEqual(self.said(link, b"hello cleo"), b"OK session 3\n")
+                time.sleep(0.5)
+                stands = [each for each in silent if not self.is_ended(each)]
+                self.assertEqual(len(stands), 1)
+                self.assertEqual(self.said(stands[0], b"list /"), b"OK list 0\n")
+
+    def is_ended(self, link: socket.socket) -> bool:
+        """Whether a connection over which nothing is under way was ended."""
+        link.setblocking(False)
+        try:
+            return link.recv(1) == b""
+        except BlockingIOError:
+            return False
+        finally:
+            link.settimeout(20)
+
 
 class FromWhom(Border):
     """The limit of connections from one address."""

@@ -180,8 +180,8 @@ class Descriptors(Tries):
     def test_few(self) -> None:
         address = f"127.0.0.1:{free_port()}"
         refused = run("serve", "a", "b", address, "--workers", "64", limits=Limits(descriptors=40))
-        self.same("few descriptors", refused, fault("descriptors", 79, 40))
-        for words, needed in (((), 19), (("--workers", "1"), 16), (("--workers", "64"), 79)):
+        self.same("few descriptors", refused, fault("descriptors", 80, 40))
+        for words, needed in (((), 20), (("--workers", "1"), 17), (("--workers", "64"), 80)):
             refused = run("serve", "a", "b", address, *words, limits=Limits(descriptors=needed - 1))
             self.same(" ".join((f"{needed - 1} descriptors", *words)), refused, fault("descriptors", needed, needed - 1))
             server = self.serve(*words, limits=Limits(descriptors=needed))
@@ -190,8 +190,15 @@ class Descriptors(Tries):
                 self.same(" ".join((f"{needed} descriptors", *words)), served, b"OK session 1\nOK left\n")
             server.kill()
 
+    def test_no_place_with_few(self) -> None:
+        """With no more descriptors than are needed, one for whom there is no place is told so."""
+        server = self.serve("--workers", "2", "--threads", "2", "--full", "1", limits=Limits(descriptors=18))
+        with server.connect() as one, server.connect() as two, server.connect() as three:
+            self.same("two are served", told(one, b"hello anna\n", 1) + told(two, b"hello ben\n", 1), b"OK session 1\nOK session 2\n")
+            self.same("a third is told", heard(three), b"ERR 80\n")
+
     def test_as_many_as_are_needed(self) -> None:
-        server = self.serve("--workers", "2", "--threads", "2", limits=Limits(descriptors=17))
+        server = self.serve("--workers", "2", "--threads", "2", limits=Limits(descriptors=18))
         assert server.process is not None
         clients = [server.connect() for _ in range(12)]
         for client in clients:

@@ -68,6 +68,11 @@ impl Crowd {
         self.presses.load(Ordering::SeqCst)
     }
 
+    /// The same, of one thread at most: whoever is told so ends a connection.
+    pub fn claims(&self) -> bool {
+        self.presses.swap(false, Ordering::SeqCst)
+    }
+
     /// Wakes the door: there is news.
     pub fn ring(&self) {
         self.bell.ring();
@@ -89,6 +94,8 @@ struct Queue<A: Allocator> {
     places: Vec<usize, A>,
     // The number and the address of each connection that waits or is served.
     here: Vec<(u32, IpAddr), A>,
+    // Whether somebody came to wait, or waits no longer, since the threads were told last whether somebody does.
+    is_changed: bool,
     // The number of the last connection that came.
     number: u32,
     faults: u32,
@@ -137,7 +144,7 @@ impl<A: Allocator + Copy, H: Wait + Clock> Door<'_, A, H> {
             self.listen(&mut queue)?;
             self.hand_out(&mut queue)?;
             self.turn_late_away(&mut queue, now);
-            self.press(&queue);
+            self.press(&mut queue);
             if let (Some(closed), true) = (queue.closed, queue.waiting.is_empty()) {
                 return closed;
             }
@@ -154,6 +161,7 @@ impl<A: Allocator + Copy, H: Wait + Clock> Door<'_, A, H> {
             waiting: Vec::new(self.alloc),
             places: Vec::new(self.alloc),
             here: Vec::new(self.alloc),
+            is_changed: false,
             number: 0,
             faults: 0,
             may_more: true,
@@ -236,10 +244,11 @@ impl<A: Allocator + Copy, H: Wait + Clock> Door<'_, A, H> {
             let wait = self.options.full.map(|full| full.wait);
             let until = now.and_then(|now| now.checked_add(wait?));
             let _ = queue.waiting.push(Waiting { connection, until });
+            queue.is_changed = true;
         }
     }
 
-    // Whether this address has as many connections here as it may have. This host itself may have any number.
+    // Whether this address has as many connections here as it may have. A loopback's may have any number.
     fn are_enough(&self, queue: &Queue<A>, from: IpAddr) -> bool {
         let Some(most) = self.options.per_address else {
             return false;
@@ -277,6 +286,11 @@ impl<A: Allocator + Copy, H: Wait + Clock> Door<'_, A, H> {
                 until: _,
             } = queue.waiting.remove(0);
             let thread = queue.places.remove(0);
+            queue.is_changed = true;
+            if queue.waiting.is_empty() {
+                // The thread that takes it must not end another one for it.
+                self.crowd.presses.store(false, Ordering::SeqCst);
+            }
             let (Some(sender), Some(bell)) = (self.senders.get(thread), self.bells.get(thread))
             else {
                 return Err(ServerError::NoMemory);
@@ -304,14 +318,20 @@ impl<A: Allocator + Copy, H: Wait + Clock> Door<'_, A, H> {
                 until: _,
             } = queue.waiting.remove(0);
             let Connection { number, stream } = connection;
+            queue.is_changed = true;
             queue.here.retain(|(here, _)| *here != number);
             turn_away(self.alloc, stream);
         }
     }
 
-    // Says whether somebody waits for a place, and another connection may be ended for that. If this is new, it wakes the threads.
-    fn press(&self, queue: &Queue<A>) {
-        let presses = self.options.full.is_some() && !queue.waiting.is_empty();
+    // Says whether somebody waits for a place, and another connection may be ended for that. If this is new, it wakes the threads. One
+    // that ends a connection takes it back (`Crowd::claims`), so it is said again only once others wait.
+    fn press(&self, queue: &mut Queue<A>) {
+        if self.options.full.is_none() || !queue.is_changed {
+            return;
+        }
+        queue.is_changed = false;
+        let presses = !queue.waiting.is_empty();
         let did = self.crowd.presses.swap(presses, Ordering::SeqCst);
         if presses && !did {
             for bell in self.bells {

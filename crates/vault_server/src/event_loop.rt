@@ -142,10 +142,12 @@ impl<D: Device, S: Tally, T: Tally, A: Allocator + Copy, G: Gate, H: Wait + Cloc
             self.announce(committer, slots, tried);
             let now = self.now();
             let may_come = self.take(poll.registry(), slots, now);
-            self.make_room(slots, now);
             let mut progress = self.turn(slots, now);
             if self.line_moved(slots, &mut moves) {
                 progress = self.turn(slots, now);
+            }
+            if self.make_room(slots, now) {
+                progress = Progress::On;
             }
             tried = committer.commit();
             if tried.may_settle() {
@@ -258,10 +260,11 @@ impl<D: Device, S: Tally, T: Tally, A: Allocator + Copy, G: Gate, H: Wait + Cloc
         }
     }
 
-    // Ends the connection that has been silent longest, if somebody waits for its place, and it was silent for long enough.
-    fn make_room(&self, slots: &mut Vec<Slot<S, T, A>, A>, now: Option<Instant>) {
+    // Ends the connection that has been silent longest, if somebody waits for its place, and it was silent for long enough. Says whether
+    // it ended one. To be called after each had its turn: what a client has sent by then is heard.
+    fn make_room(&self, slots: &mut Vec<Slot<S, T, A>, A>, now: Option<Instant>) -> bool {
         let Some(silence) = self.pressing_silence(slots) else {
-            return;
+            return false;
         };
         let last = now.and_then(|now| now.checked_sub(silence));
         let mut first = None;
@@ -269,14 +272,18 @@ impl<D: Device, S: Tally, T: Tally, A: Allocator + Copy, G: Gate, H: Wait + Cloc
             first = first_of(first, slot.silent_since());
         }
         let (Some(first), Some(last)) = (first, last) else {
-            return;
+            return false;
         };
+        if first > last || !self.crowd.claims() {
+            return false;
+        }
         for slot in slots.as_mut_slice() {
-            if first <= last && slot.silent_since() == Some(first) {
+            if slot.silent_since() == Some(first) {
                 slot.give_up(&self.worker);
-                return;
+                return true;
             }
         }
+        false
     }
 
     // Puts the connections that have come into free places. Says whether more may come.

@@ -57,7 +57,7 @@ pub struct ServerOptions {
     pub refuses_foreign: bool,
     /// What becomes of those for whom there is no place. None: they wait as long as it takes.
     pub full: Option<Full>,
-    /// How many connections there may be at once from one address, except from this host's own. None: any number.
+    /// How many connections there may be at once from one address, except from a loopback's. None: any number.
     pub per_address: Option<u32>,
 }
 

@@ -439,7 +439,7 @@ impl<S: Tally, T: Tally, A: Allocator + Copy> Served<S, T, A> {
         left(number, wire, share, ended, now)
     }
 
-    // Its share. It is given up.
+    // Its share, where its thread ends before it is over. It is given up, and gets no last leave.
     fn into_share<D: Device, G: Gate, H: Wait>(
         self,
         worker: &Worker<'_, D, S, T, A, G, H>,
@@ -455,17 +455,25 @@ impl<S: Tally, T: Tally, A: Allocator + Copy> Served<S, T, A> {
         } = self;
         let mut dialogue = dialogue;
         dialogue.give_up(worker);
-        let (wire, share, _) = parts_of(dialogue);
+        let (wire, finished) = dialogue.finish();
         drop(wire);
+        let Finished {
+            answers,
+            share,
+            ended: _,
+            left: _,
+        } = finished;
+        drop(answers);
         share
     }
 }
 
-// Its connection, its share, and why it ended.
+// Its connection, its share, and why it ended. It is over: its session has its last leave.
 fn parts_of<S: Tally, T: Tally, A: Allocator + Copy>(
     dialogue: Dialogue<Wire, S, T, A>,
 ) -> (Wire, Share<S, T>, Ended)
-    requires { dialogue.has_ended ≡ true }
+    requires over { dialogue.is_over ≡ true }
+    requires ended { dialogue.has_ended ≡ true }
 {
     let (wire, finished) = dialogue.finish();
     let Finished {

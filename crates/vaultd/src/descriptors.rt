@@ -3,9 +3,10 @@
 use libc::types::rlimit;
 use vaultd_tasks::Failure;
 
-/// How many descriptors the program has open beside its connections: the standard streams, the files that stand in for them, the vault's
-/// two files, the listener, and those by which two threads and the door wait and are woken.
-const BESIDE: u64 = 15;
+/// How many descriptors the program has open beside the connections that are served: the standard streams, the files that stand in for
+/// them, the vault's two files, the listener, those by which two threads and the door wait and are woken, and one for a connection that
+/// waits for a place: without it nobody could be told that there is none.
+const BESIDE: u64 = 16;
 
 /// How many descriptors a server needs: one for each worker's connection, and `BESIDE`.
 pub(crate) fn needed(workers: u32) -> u64 {

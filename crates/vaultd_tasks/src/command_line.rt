@@ -239,7 +239,7 @@ fn waits<'a>(alloc: Global) -> Arg<'a> {
 /// How many connections there may be at once from one address.
 fn per_address<'a>(alloc: Global) -> Arg<'a> {
     let help =
-        "Turns further connections of one address away, but for this host's; without it, none";
+        "Turns further connections of one address away, but for 127.0.0.1 and ::1; without it, none";
     option(alloc, "per-address", "N", help).value_parser(value_parser!(u32).range(1..))
 }
 
