@@ -297,6 +297,14 @@ class Words(TwoServers):
                          f" {one} (Connection refused). Ask whoever runs it whether it runs.\n")
         self.assertIn("at most 8", self.vault("hello", f"anna@{one},{one}", status=2))
 
+    def test_a_name_of_no_host(self) -> None:
+        """A host's name that can't be looked up is told as a server that doesn't answer, and the next one is asked."""
+        one = f"127.0.0.1:{self.one.port}"
+        for host in ("vault..example", "h" * 64 + ".example"):
+            told = self.vault("--patience", "0", "hello", f"anna@{host}:7070", status=3)
+            self.assertIn(f"No server answers at {host}:7070 (no host can have this name)", told)
+            self.assertIn(f"{one} answers.", self.vault("hello", f"anna@{host}:7070,{one}"))
+
     def test_memory(self) -> None:
         """It is the same in whatever order, another one than that of one address, and has a name that a file can have."""
         many = [("h" * 60 + str(number), 7070) for number in range(8)]

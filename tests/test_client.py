@@ -5,6 +5,7 @@ import os
 import signal
 import subprocess
 import threading
+import time
 import unittest
 from pathlib import Path
 from typing import Any, Callable, Iterator, List, Tuple
@@ -332,6 +333,24 @@ class Program(WithServer):
         self.anna.abandon("c1")
         self.assertEqual(self.vault("wait", "c2"), b"c2 is held.\n")
         self.assertIn(b"was held", self.vault("hold", "r:/engine"))
+
+    def test_interrupted(self) -> None:
+        """Ctrl-C ends a wait at once, and doesn't wait for the reply that is under way."""
+        self.vault("hello", f"anna@127.0.0.1:{self.cutter.port}")
+        for item in ("w:/engine", "r:/engine"):
+            self.vault("checkout", item)
+        self.cutter.lines.clear()
+        with subprocess.Popen([*program("vault"), "wait", "c2"], env=self.environment(), stdout=subprocess.PIPE, stderr=subprocess.PIPE,
+                              preexec_fn=Limits().take_effect) as waiting:
+            until = time.monotonic() + 20
+            while b"wait c2\n" not in self.cutter.lines and time.monotonic() < until:
+                time.sleep(0.02)
+            begun = time.monotonic()
+            waiting.send_signal(signal.SIGINT)
+            errors = waiting.communicate(timeout=25)[1]
+            self.assertLess(time.monotonic() - begun, 8)
+        self.assertEqual(waiting.returncode, 3)
+        self.assertIn(b"Interrupted.", errors)
 
     def test_waiting_while_the_server_is_away(self) -> None:
         """A wait says once that the server is away, goes on after its restart, and has no connection in a long pause. This server doesn't

@@ -485,6 +485,52 @@ class PutAndCheckin(WithFolder):
         self.assertEqual(self.parts.get(PART).sha256, hashlib.sha256(self.contents[PART]).hexdigest())
         self.assertFalse(self.states()[NAME].changed)
 
+    def test_put_and_fetched_again(self) -> None:
+        """The same where the file was removed, and got again."""
+        claim = self.anna.checkout(["w:" + PART]).claim
+        (self.work / NAME).write_bytes(b"bore 81")
+        self.working().put()
+        (self.work / NAME).unlink()
+        self.assertEqual(self.got().files, [NAME])
+        done = self.working().checkin(None)
+        self.assertEqual((done.files, done.claims, self.parts.get(PART).sha256),
+                         ([NAME], [claim], hashlib.sha256(self.contents[PART]).hexdigest()))
+
+    def test_drafts_that_are_not_here(self) -> None:
+        """A check-out of which a changed file is a draft has another one, of a file that wasn't changed, or of a part that the folder hasn't
+        got: nothing is checked in, and it is said how to go on."""
+        claim = self.anna.checkout(["w:/engine/block"]).claim
+        self.anna.make("/engine/block/pin", claim)
+        for place, name in ((ROD, "Pleuel.SLDPRT"), ("/engine/block/pin", "/engine/block/pin")):
+            (self.work / NAME).write_bytes(b"bore of " + place.encode())
+            self.parts.put(place, self.file, claim)
+            with self.assertRaises(Refused) as refused:
+                self.working().checkin(None)
+            for said in ("nothing was checked in", f"{name} has a", f"`vault draft {claim} {place} --to", f"`vault checkin {claim}`"):
+                self.assertIn(said, str(refused.exception))
+            self.file.write_bytes(self.contents[ROD])
+            self.parts.put(ROD, self.file, claim)
+        self.assertEqual([len(list(self.anna.history(place))) for place in (PART, ROD)], [1, 1])
+        self.assertEqual(self.anna.checkin(claim), 3)
+
+    def test_refused_in_the_middle(self) -> None:
+        """If a file can't be put, those before it that are drafts now are told."""
+        claim = self.anna.checkout(["w:/engine/block"]).claim
+        for name in (NAME, "Pleuel.SLDPRT"):
+            (self.work / name).write_bytes(b"mine")
+        put = self.parts.put
+        with mock.patch.object(self.parts, "put", lambda place, *words, **more: put(place if place == PART else "/none", *words, **more)):
+            with self.assertRaises(Refused) as refused:
+                self.working().put()
+        self.assertTrue(str(refused.exception).startswith(f"{NAME} is a draft in {claim} now. "), str(refused.exception))
+        self.assertEqual((refused.exception.fields["files"], self.anna.drafts(claim)), ([NAME], [PART]))
+
+    def test_another_check_out_is_named(self) -> None:
+        """A file that is in another check-out than the one that is named is left, and it is said where it is."""
+        first, second = (self.anna.checkout(["w:" + place]).claim for place in (PART, ROD))
+        (self.work / NAME).write_bytes(b"mine")
+        self.assertEqual(self.working().put(second).left, [(NAME, f"{first} takes it in, and not the check-out that `--claim` names")])
+
     def test_put_and_missing(self) -> None:
         """A file that was put and then removed: nothing is checked in, and it is said how to go on."""
         claim = self.anna.checkout(["w:/engine/block"]).claim
@@ -535,6 +581,30 @@ class PutAndCheckin(WithFolder):
         done = self.working().put()
         self.assertEqual(done.files, [])
         self.assertIn("was made of another version 2 than the vault has", done.left[0][1])
+
+    def test_get_after_a_restore(self) -> None:
+        """The vault came back from a backup, and has no more the version that a file is: it stays, until it is moved away."""
+        kept = [Path(path).read_bytes() for path in self.server.files]
+        self.version(PART, NAME, b"bore 81")
+        self.got()
+        self.server.kill()
+        for path, content in zip(self.server.files, kept):
+            Path(path).write_bytes(content)
+        self.server.start()
+        done = self.got()
+        self.assertEqual((done.files, self.files()[NAME]), ([], b"bore 81"))
+        self.assertIn("is version 2, and the vault, which came back from a backup, has only version 1", done.left[0][1])
+        (self.work / NAME).rename(self.root / "mine")
+        self.assertEqual((self.got().files, self.files()[NAME]), ([NAME], self.contents[PART]))
+
+    def test_written_otherwise(self) -> None:
+        """A disk that ignores capitals knows a part's file by many names: none of them is a file of no part."""
+        (self.work / "PLEUEL.sldprt").hardlink_to(self.work / "Pleuel.SLDPRT")
+        (self.work / "KOLBEN 80.sldprt").write_bytes(b"another")
+        self.assertEqual(find_folder(self.work).others(), ["KOLBEN 80.sldprt"])
+        with self.assertRaises(Misused) as refused:
+            self.working().add("PLEUEL.sldprt")
+        self.assertIn(f"is {ROD} already", str(refused.exception))
 
     def test_add(self) -> None:
         """A part is made by a name that a place can have, also in an assembly that is checked out, and put with the others."""
@@ -684,6 +754,32 @@ class Program(WithFolder):
         for word in (work / "Pleuel.SLDPRT", work / "none", PART):
             self.assertIn(b"`vault put PLACE FILE` puts one file", self.vault("put", str(word), status=2))
         self.assertEqual(self.anna.drafts(claim), [])
+
+    def test_a_folder_in_it(self) -> None:
+        """What puts all files isn't done where a folder in the working folder is named; how these stand is shown there, too."""
+        work = self.folder_of_program
+        self.vault("get", "/engine", "--to", str(work))
+        for place in (PART, VALVE):
+            self.anna.checkout(["w:" + place])
+        (work / "block" / NAME).write_bytes(b"mine")
+        for command in ("put", "checkin"):
+            for inner in ("block", "block/head", ".vault"):
+                said = self.vault(command, str(work / inner), status=2).decode()
+                self.assertIn(f"stands in the working folder {work}, of which all changed files would be put", said)
+        self.assertEqual([self.anna.drafts(standing.claim) for standing, _ in self.anna.mine()], [[], []])
+        (work / "block" / "head" / "Bolzen").write_bytes(b"pin")
+        (work / "block" / "Mutter").write_bytes(b"nut")
+        said = self.vault("status", str(work / "block" / "head")).decode()
+        for added in (work / "block" / "head" / "Bolzen", work / "block" / "Mutter"):
+            self.assertIn(f"`vault add {added}` makes a part of it.", said)
+
+    def test_what_no_part_can_be_made_of(self) -> None:
+        """Status offers no `vault add` of what that refuses."""
+        work = self.folder_of_program
+        self.vault("get", "/engine", "--to", str(work))
+        (work / "Bild.png").write_bytes(b"x")
+        (work / "block" / "link").symlink_to(work / "Bild.png")
+        self.assertEqual(self.as_json("status", str(work))["others"], [])
 
     def test_wrong_words(self) -> None:
         self.assertIn(b"is in no working folder", self.vault("status", str(self.root), status=2))

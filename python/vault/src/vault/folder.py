@@ -29,6 +29,8 @@ LEFT = re.compile(r"new-[0-9a-f]{32}|\.folder\.json.+")
 # For how long after a file's time it may have been changed again without another time: if times are of whole seconds, and else.
 COARSE, FINE = 2_000_000_000, 50_000_000
 SAVED_EACH_SECONDS = 1.0
+# How many slashes an assembly's place has at least.
+PROJECT_AND_ASSEMBLY = 2
 
 
 @dataclass
@@ -188,13 +190,33 @@ class Folder:
         return now is not None and (now.st_size, now.st_mtime_ns, now.st_ino) == (before.st_size, before.st_mtime_ns, before.st_ino)
 
     def others(self) -> List[str]:
-        """The files of the folder that belong to no part, as far as they can be put."""
-        found = []
+        """The files of the folder that belong to no part, as far as `vault add` makes parts of them."""
+        found, alike = [], self.alike()
         for folder, inner, files in os.walk(self.path):
-            above = Path(folder).relative_to(self.path).as_posix()
+            above = "" if Path(folder) == self.path else Path(folder).relative_to(self.path).as_posix()
             inner[:] = sorted(name for name in inner if self.joined(above, name) in self.folders)
-            found += [self.joined(above, name) for name in sorted(files) if self.joined(above, name) not in self.files and usable(name)]
+            if self.may_have_parts(above):
+                found += [self.joined(above, name) for name in sorted(files) if usable(name) and not os.path.islink(os.path.join(folder, name))
+                          and not self.tracked(self.joined(above, name), alike)]
         return found
+
+    def may_have_parts(self, above: str) -> bool:
+        """Whether files in a folder may be parts: it is an assembly's."""
+        return self.folders.get(above, "/").count("/") >= PROJECT_AND_ASSEMBLY
+
+    def alike(self) -> Dict[str, str]:
+        """The names of files that belong to parts, folded, each with its own form."""
+        return {folded(name): name for name in self.files}
+
+    def tracked(self, name: str, alike: Dict[str, str]) -> str:
+        """The name by which a part's file is remembered, or nothing. On a disk that ignores capitals a file has many names."""
+        known = name if name in self.files else alike.get(folded(name), "")
+        return known if known == name or (known and self._is_one_file(known, name)) else ""
+
+    def _is_one_file(self, name: str, other: str) -> bool:
+        """Whether two names are of one file."""
+        first, second = self.seen(name), self.seen(other)
+        return first is not None and second is not None and os.path.samestat(first, second)
 
     @staticmethod
     def joined(above: str, name: str) -> str:

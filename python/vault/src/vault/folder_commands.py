@@ -6,7 +6,7 @@ from typing import Any, Dict, List, Tuple
 
 from vault.card import shown
 from vault.client import Client
-from vault.folder import find_folder
+from vault.folder import Folder, find_folder
 from vault.output import Output, Told, Words
 from vault.parts import Parts, parts_of_program
 from vault.setting import quoted
@@ -26,12 +26,21 @@ def get_folder(parts: Parts, words: Words, output: Output) -> Told:
     return f"{words.to} has {words.place}: {fetched}.", {"place": words.place, "folder": words.to, **fields_of(done), "all": count}
 
 
+def whole_folder(word: str) -> Folder:
+    """The working folder of this name. What puts all its files isn't done where a folder in it is named."""
+    folder = find_folder(Path(word))
+    if folder.path != Path(os.path.abspath(word)):
+        raise Misused(f"{word} stands in the working folder {folder.path}, of which all changed files would be put. Name that folder, or"
+                      " `vault put PLACE FILE` puts one file.")
+    return folder
+
+
 def put_folder(client: Client, words: Words, output: Output) -> Told:
     """Puts the changed files of a working folder."""
     if not os.path.isdir(words.place):
         raise Misused(f"{words.place} is no folder, so nothing was put. `vault put PLACE FILE` puts one file as the draft of a part, and"
                       " `vault put FOLDER` the changed files of a working folder.")
-    folder = find_folder(Path(words.place))
+    folder = whole_folder(words.place)
     with folder.locked():
         done = Working(parts_of_program(client, output.meter), folder).put(words.claim)
     tell_left(done, output)
@@ -42,7 +51,7 @@ def put_folder(client: Client, words: Words, output: Output) -> Told:
 
 def checkin_folder(client: Client, words: Words, output: Output) -> Told:
     """Puts the changed files of a working folder, and checks them in."""
-    folder = find_folder(Path(words.claim))
+    folder = whole_folder(words.claim)
     with folder.locked():
         done = Working(parts_of_program(client, output.meter), folder).checkin(words.note)
     tell_left(done, output)
@@ -56,10 +65,15 @@ def status(client: Client, words: Words, output: Output) -> Told:
         states = Working(Parts(client), folder).states()
         others = folder.others()
     lines = [f"{shown(state.file)}: {said}." for state in states if (said := state_in_words(state))]
-    lines += [f"{shown(name)}: not in the vault; `vault add {quoted(shown(os.path.normpath(os.path.join(words.folder, name))))}` makes a part"
-              " of it." for name in others]
+    lines += [f"{shown(name)}: not in the vault; `vault add {quoted(shown(as_named(folder, words.folder, name)))}` makes a part of it."
+              for name in others]
     fields = {"place": folder.place, "files": [vars(state) for state in states], "others": others}
     return "\n".join(lines or [f"Nothing is changed in {words.folder}, and nothing is newer in the vault."]), fields
+
+
+def as_named(folder: Folder, word: str, name: str) -> str:
+    """The path of a file of a working folder, for whoever named that folder, or one in it, by a word."""
+    return os.path.normpath(os.path.join(word, os.path.relpath(folder.path / name, word)))
 
 
 def state_in_words(state: State) -> str:
@@ -101,7 +115,8 @@ def add_one(client: Client, path: Path) -> Tuple[str, bool]:
     folder = find_folder(path.parent)
     with folder.locked():
         name = path.relative_to(folder.path).as_posix()
-        place = folder.files[name].place if name in folder.files else folder.folders.get(name)
+        tracked = folder.tracked(name, folder.alike())
+        place = folder.files[tracked].place if tracked else folder.folders.get(name)
         return (place, False) if place else (Working(Parts(client), folder).add(name), True)
 
 

@@ -33,6 +33,9 @@ def run(words: Words, output: Output) -> None:
             raise
         raise NotKnown(f"A file of this client can't be used: {error}. At least a part of `{words.command}` was done, so look before you say it"
                        " again: make room or mend its rights, and then run `vault mine`.") from error
+    except KeyboardInterrupt:
+        client.link.drop()  # the reply that is under way may be long in coming, and no line is read before it
+        raise
     finally:
         client.close()
     try:

@@ -202,6 +202,8 @@ def opened(host: str, port: int, seconds: float) -> Stream:
         stream.setsockopt(socket.IPPROTO_TCP, socket.TCP_NODELAY, 1)
     except OSError as error:
         raise Lost(error.strerror or str(error)) from error
+    except UnicodeError as error:
+        raise Lost("no host can have this name") from error
     return Stream(stream)
 
 

@@ -16,11 +16,12 @@ from vault.setting import STORE_PLACE
 from vault.transfer import Moved
 from vault.words import Misused, Refused, Unreachable, VaultError, place_word, under
 
-PROJECT_AND_ASSEMBLY = 2
 TRIES = 5
 # How many of a part's last versions are compared with a draft, and how many reasons are told in one sentence.
 LOOKED_BACK = 64
 REASONS = 3
+# How many files are named in one sentence.
+NAMED = 10
 
 
 @dataclass
@@ -105,10 +106,16 @@ class Working:
         if claim and claim not in claims:
             raise Misused(f"{claim} is no held check-out of yours at {self.folder.place}. `vault mine` shows those that there are.")
         saved = self._saved(claims)
-        for state in self._states(claims, saved):
-            fitting = [name for name in covering(claims, state.place) if name == (claim or name)]
-            there = saved.get(state.place)
-            self._put_or_leave(state, fitting, there if there is not None and there.claim in fitting else None, done)
+        try:
+            for state in self._states(claims, saved):
+                fitting = [name for name in covering(claims, state.place) if name == (claim or name)]
+                there = saved.get(state.place)
+                self._put_or_leave(state, fitting, there if there is not None and there.claim in fitting else None, done)
+        except VaultError as error:
+            if done.files:
+                error.put_behind(self._put_already(done.files))
+                error.fields.update(files=done.files, drafts=done.drafts)
+            raise
         self.folder.save()
         return done
 
@@ -119,6 +126,7 @@ class Working:
         if not claims:
             raise Refused(" ".join(filter(None, (f"No file of {self.folder.path} is a draft in a held check-out of yours.",
                                                  in_words(done.left[:REASONS]), f"`vault status {self.folder.path}` shows how they stand."))))
+        self._look_for_others(claims, done)
         other = next((claim for claim in claims if claim in done.others), "")
         if other:
             raise Refused(f"{other} has a draft that is not what is here, so nothing was checked in. {in_words([done.others[other]])}"
@@ -139,9 +147,9 @@ class Working:
         """Makes the part of a file that has none, and answers its place."""
         above, _, file = name.rpartition("/")
         assembly = self.folder.folders.get(above)
-        if name in self.folder.files:
-            raise Misused(f"{name} is {self.folder.files[name].place} already. `vault put {self.folder.path}` puts it.")
-        if assembly is None or assembly.count("/") < PROJECT_AND_ASSEMBLY or not usable(file):
+        if tracked := self.folder.tracked(name, self.folder.alike()):
+            raise Misused(f"{name} is {self.folder.files[tracked].place} already. `vault put {self.folder.path}` puts it.")
+        if assembly is None or not self.folder.may_have_parts(above) or not usable(file):
             raise Misused(f"No part can be made of {name!a}: parts stand in the folders of assemblies, and a file's name has none of"
                           ' / \\ < > : " | ? * and no dot or blank at its ends. Move it or rename it; `vault make` makes an assembly.')
         seen = self.folder.seen(name)
@@ -174,6 +182,11 @@ class Working:
         """Fetches one version, unless the file in its place was changed here, or has its bytes already."""
         new, entry = self._named(version, name)
         before = self.folder.seen(name) if name is not None else None
+        had = self.folder.files[name].version if name is not None else 0
+        if name is not None and before is not None and had > version.number and not self._has(name, version):
+            done.left.append((name, f"is version {had}, and the vault, which came back from a backup, has only version {version.number}:"
+                                    f" `vault put {version.place} FILE` puts yours; move it away, and get again, to have the vault's"))
+            return
         if name is not None and before is not None and self.folder.is_changed(name):
             if self._has(name, version):
                 self._adopt(name, entry)
@@ -200,7 +213,8 @@ class Working:
         new = Folder.joined(above, choose_name(wanted, own, taken))
         if name is not None and folded(new) == folded(name):
             new = name
-        return new, Entry(version.place, version.number, version.sha256, name=wanted)
+        was = self.folder.files[name] if name is not None else Entry(version.place, 0, "")
+        return new, Entry(version.place, version.number, version.sha256, name=wanted, draft=was.draft, claim=was.claim)
 
     def _fetch(self, version: Version, new: str, entry: Entry, before: Optional[os.stat_result], moved: Moved) -> None:
         """Writes a version into its file."""
@@ -292,6 +306,8 @@ class Working:
             return f"is missing here, and its draft is in {there.claim}: `vault draft {there.claim} {state.place} --to FILE` writes that"
         if state.newest != state.version:
             return f"was made of version {state.version}, and version {state.newest} is in the vault: {look}"
+        if not fitting and state.claim:
+            return f"{state.claim} takes it in, and not the check-out that `--claim` names"
         if not fitting:
             return f"no held check-out of yours takes it in: `vault checkout w:{state.place}` asks for one"
         if len(fitting) > 1:
@@ -310,6 +326,12 @@ class Working:
         content = self.client.contents([(state.place, state.version)])[0]
         return Version(state.place, state.version, content).sha256 != self.folder.files[state.file].sha256
 
+    def _put_already(self, names: Sequence[str]) -> str:
+        """Which files are drafts now, in words: some of them, if they are many."""
+        more = f" and {len(names) - NAMED} more" if len(names) > NAMED else ""
+        return (f"{', '.join(shown(name) for name in names[:NAMED])}{more} {'is a draft' if len(names) == 1 else 'are drafts'} in"
+                f" {' and '.join(sorted({self.folder.files[name].claim for name in names}))} now.")
+
     def _put_one(self, name: str, claim: str, done: Done) -> None:
         entry = self.folder.files[name]
         path = self.folder.at(name)
@@ -317,6 +339,16 @@ class Working:
         entry.draft, entry.claim = put.sha256, put.claim
         self.folder.save()
         done.files.append(name)
+
+    def _look_for_others(self, claims: Iterable[str], done: Done) -> None:
+        """Finds drafts in these check-outs that are not what is here, also of files that weren't changed, or that this folder hasn't got."""
+        here = {entry.place: name for name, entry in self.folder.files.items()}
+        for claim in claims:
+            for place, content in self.client.all_drafts(claim).items():
+                name = here.get(place, "")
+                if under(place, self.folder.place) and not (name and self.folder.files[name].draft == Version(place, 0, content).sha256):
+                    done.others.setdefault(claim, (name or place, f"has {'another' if name else 'a'} draft in {claim}: `vault draft {claim}"
+                                                                  f" {place} --to OTHER-FILE` writes it"))
 
     def _check_in(self, claim: str, note: Optional[str], done: Done) -> None:
         """Checks one check-out in."""
