@@ -1,5 +1,6 @@
 """The page's program for tests, and what asks it: single requests, and streams of changes."""
 
+import contextlib
 import json
 import os
 import re
@@ -8,20 +9,22 @@ import signal
 import socket
 import subprocess
 import time
+from pathlib import Path
 from typing import Any, Callable, Dict, List, Optional, Sequence, Tuple
 
-from servers import free_port, program
+from servers import TOP, free_port, program
 
 START_SECONDS = 30
 ANSWER_SECONDS = 20
 
 
 class PageServer:
-    """`vaultd-page` before a server of a vault."""
+    """`vaultd-page` before a server of a vault, by the packages in this folder."""
 
-    def __init__(self, vault_port: int, *words: str, port: Optional[int] = None):
+    def __init__(self, vault_port: int, *words: str, port: Optional[int] = None, packages: Path = TOP / "python"):
         self.port = port or free_port()
-        self.process = subprocess.Popen([*program("vaultd-page"), "--vault", f"127.0.0.1:{vault_port}", "--listen", f"127.0.0.1:{self.port}", *words],
+        begins = [word.replace(str(TOP / "python"), str(packages)) for word in program("vaultd-page")]
+        self.process = subprocess.Popen([*begins, "--vault", f"127.0.0.1:{vault_port}", "--listen", f"127.0.0.1:{self.port}", *words],
                                         stdin=subprocess.DEVNULL, stdout=subprocess.PIPE, stderr=subprocess.PIPE)
         assert self.process.stdout is not None
         with selectors.DefaultSelector() as ready:
@@ -42,10 +45,12 @@ class PageServer:
         return self.process.communicate(timeout=20)[1]
 
     def raw(self, request: bytes, seconds: float = ANSWER_SECONDS) -> bytes:
-        """The answer to some bytes, up to the end of the connection or of what the answer's head says, and for this long at most."""
+        """The answer to some bytes, up to the end of the connection or of what the answer's head says, and for this long at most. The page may
+        end the connection before it has them all."""
         end = time.monotonic() + seconds
         with socket.create_connection(("127.0.0.1", self.port), timeout=seconds) as client:
-            client.sendall(request)
+            with contextlib.suppress(ConnectionError):
+                client.sendall(request)
             told = b""
             while not whole(told) and time.monotonic() < end:
                 client.settimeout(max(0.01, end - time.monotonic()))

@@ -116,6 +116,16 @@ class Contrib(unittest.TestCase):
         self.assertEqual(self.said("systemd-analyze", "verify", "--man=no", str(units / "vaultd.service"),
                                    str(units / "var-lib-vaultd.mount")), "")
 
+    def test_replicated_users(self) -> None:
+        """keepalived asks the server as a user who is made with it, and whom the ssh gate's rule lets through. What restarts it is root's."""
+        text = (CONTRIB / "replicated" / "keepalived.conf").read_text("utf-8")
+        script, = re.findall(r"^vrrp_script serves \{\n(.*?)^\}", text, re.DOTALL | re.MULTILINE)
+        user, = re.findall(r"^ *user (\S+)$", script, re.MULTILINE)
+        rule, = re.findall(r"^define vaultd_users = \{(.*)\}$", (CONTRIB / "gate" / "vaultd.nft").read_text("utf-8"), re.MULTILINE)
+        self.assertIn(f'"{user}"', rule.replace(" ", "").split(","))
+        self.assertIn(f"\nu {user} ", (CONTRIB / "systemd" / "vaultd.sysusers").read_text("utf-8"))
+        self.assertRegex(text.replace(script, ""), r"(?ms)^ *script_user root$.*^ *notify_fault \"/usr/bin/systemctl try-restart [^\"]*\"$")
+
     def check_rating(self, unit: Path) -> None:
         """A unit is rated, and by Debian 12's systemd as the page on operating says; another one rates otherwise."""
         rated = self.said("systemd-analyze", "security", "--offline=true", "--no-pager", str(unit))

@@ -4,23 +4,29 @@ import asyncio
 import contextlib
 import gzip
 import re
+import shutil
 import socket
 import struct
 import time
 import unittest
+from typing import Iterable
 from unittest import mock
 
-from page_server import Stream, until
-from servers import MEMORY, Server
+from page_server import PageServer, Stream, until
+from servers import MEMORY, TOP, Server
+from tries import told
 from with_page import CARD, PART, WithPage, fill
 
 from vaultd_tools import page_render, page_views, page_watch, page_web
 from vaultd_tools.files import Claim
 from vaultd_tools.page_line import curves
+from vaultd_tools.page_model import Model
 from vaultd_tools.page_render import address, in_bytes
 from vaultd_tools.page_wire import QUESTIONS
 
 KINDS = ("/", "/engine", "/engine/block", PART, "/designers", "/designers/anna", "/designers/nobody-yet", "/.search", "/.search?q=piston")
+STREAM = b"GET /.events?see=/ HTTP/1.1\r\nHost: 127.0.0.1\r\n\r\n"
+UPGRADE = b"GET / HTTP/1.1\r\nHost: 127.0.0.1\r\nConnection: Upgrade\r\nUpgrade: websocket\r\n\r\n"
 FROM_ELSEWHERE = r'(?:src|href|action)="(?!/|#)[^"]*"|="//|<style|<script>| style=| on[a-z]+='
 
 
@@ -56,6 +62,10 @@ class Reading(WithPage):
         self.assertEqual(re.findall(r'id="versions:(\d+)"', latest), [str(number) for number in range(46, 6, -1)])
         self.assertIn(f'href="{PART}?before=7"', latest)
         self.assertEqual(re.findall(r'id="versions:(\d+)"', self.page.page(PART + "?before=7")), ["6", "5", "4", "3", "2", "1"])
+        self.assertEqual(re.findall(r'id="versions:(\d+)"', self.page.page(PART + "?before=46"))[0], "45")
+        status, headers, _ = self.page.get(PART + "?before=47")
+        self.assertEqual((status, headers.get("location")), (302, PART))
+        self.assertIn('data-watch="/engine/block"', self.page.page("/engine/block?before=7"))
 
     def test_a_queue(self) -> None:
         """The library's page has the queue and the tree, a place's page the claims that concern it, a designer's all that is theirs."""
@@ -213,6 +223,56 @@ class Strangers(WithPage):
                     pass
         self.assertIn("piston", self.page.page(PART))
 
+    def is_ended(self, behind: Iterable[bytes]) -> bool:
+        """Whether the page ends a connection on which this comes behind a stream's request. A stream that goes on has a beat all ten seconds."""
+        with socket.create_connection(("127.0.0.1", self.page.port), timeout=8) as client:
+            client.sendall(STREAM)
+            self.assertTrue(client.recv(65536).startswith(b"HTTP/1.1 200"))
+            try:
+                for piece in behind:
+                    client.sendall(piece)
+                while client.recv(65536):
+                    pass
+            except ConnectionError:
+                return True
+            except socket.timeout:
+                return False
+        return True
+
+    def test_much_behind_a_stream(self) -> None:
+        """What waits behind a stream takes next to no memory: bytes behind a wish for another protocol, large requests, or one without end."""
+        field = b"X: " + b"a" * 8000 + b"\r\n"
+        head = b"GET / HTTP/1.1\r\nHost: 127.0.0.1\r\n"
+        before = self.page.memory()
+        for name, behind in (("upgrade", [UPGRADE, *[bytes(1 << 20)] * 32]), ("requests", [head + field * 120 + b"\r\n"] * 16),
+                             ("a request", [head, *[field] * 120])):
+            with self.subTest(name):
+                self.assertTrue(self.is_ended(behind))
+                self.assertLess(self.page.memory() - before, 12 << 20)
+        self.assertIn("piston", self.page.page(PART))
+
+    def test_many_requests_on_a_connection(self) -> None:
+        """A browser keeps its connection: all its requests are answered, however large they are together, and a few at once."""
+        request = b"GET /designers HTTP/1.1\r\nHost: 127.0.0.1\r\nCookie: " + b"a" * 7000 + b"\r\n\r\n"
+        with socket.create_connection(("127.0.0.1", self.page.port), timeout=20) as client:
+            for count in (*[1] * 30, 5):
+                client.sendall(request * count)
+                answers = b""
+                while answers.count(b"</html>") < count:
+                    piece = client.recv(65536)
+                    self.assertNotEqual(piece, b"")
+                    answers += piece
+                self.assertEqual(answers.count(b"HTTP/1.1 200 OK"), count)
+
+    def test_what_is_no_request_leaves_no_trace(self) -> None:
+        """Bytes that are no request get 400 or 405, and nothing of them stands in the page's log."""
+        chunks = b"GET / HTTP/1.1\r\nHost: 127.0.0.1\r\nTransfer-Encoding: chunked\r\n\r\n"
+        for head in (b"", UPGRADE, b"CONNECT 127.0.0.1:80 HTTP/1.1\r\nHost: 127.0.0.1\r\n\r\n", chunks, chunks + b"5\r\nhello\r\n"):
+            for garbage in (b"\0" * 300 + b"\r\n\r\n", b"GET\r\n\r\n", b"zzz\r\n\r\n" + b"\xff" * 300):
+                with self.subTest(head=head[:40], garbage=garbage[:10]):
+                    self.assertRegex(self.page.raw(head + garbage), rb"^HTTP/1\.[01] 40[05] ")
+        self.assertEqual(self.page.end(), b"")
+
     def test_many_streams(self) -> None:
         """A limited number of open pages get changes; a further one gets 503, and pages are handed out all the same."""
         streams = [self.stream("/") for _ in range(6)]
@@ -289,8 +349,25 @@ class Strangers(WithPage):
         self.assertIn("piston", self.page.page(PART))
 
 
-class SlowReaders(unittest.IsolatedAsyncioTestCase):
-    """Whoever takes nothing is dropped. The page runs in this process, with short time limits."""
+class Upgrade(WithPage):
+    """A page under which the files of a later version are laid."""
+
+    def test_of_templates(self) -> None:
+        """It answers by its own templates until it is started again."""
+        packages = self.folder / "python"
+        shutil.copytree(TOP / "python", packages, ignore=shutil.ignore_patterns("__pycache__"))
+        page = PageServer(self.server.port, packages=packages)
+        self.addCleanup(page.end)
+        templates = list((packages / "vaultd_tools/src/vaultd_tools/templates").glob("*.html"))
+        self.assertGreater(len(templates), 5)
+        for template in templates:
+            template.write_text("{{ what_only_a_later_version_has }}", "utf-8")
+        self.assertEqual([(path, page.get(path)[0]) for path in (*KINDS, "/nowhere")], [*((path, 200) for path in KINDS), ("/nowhere", 404)])
+        self.assertEqual(page.end(), b"")
+
+
+class InThisProcess(unittest.IsolatedAsyncioTestCase):
+    """A page that runs in this process, with short time limits."""
 
     async def asyncSetUp(self) -> None:
         asyncio.get_running_loop().slow_callback_duration = 10
@@ -313,21 +390,33 @@ class SlowReaders(unittest.IsolatedAsyncioTestCase):
         await self.doors.shutdown(0.1)
         await self.page.watcher.close()
 
-    def connected(self, path: str) -> socket.socket:
-        """A client that asks for a page and takes next to nothing of it."""
+    def connected(self, path: str, room: int = 1 << 16) -> socket.socket:
+        """A client that asks for a page, and takes only as much of it as there is room for."""
         client = socket.socket()
-        client.setsockopt(socket.SOL_SOCKET, socket.SO_RCVBUF, 2048)
+        client.setsockopt(socket.SOL_SOCKET, socket.SO_RCVBUF, room)
         client.connect(self.listener.sockets[0].getsockname())
         client.sendall(f"GET {path} HTTP/1.1\r\nHost: 127.0.0.1\r\n\r\n".encode())
         self.addCleanup(client.close)
         return client
+
+    async def streams(self, count: int) -> None:
+        """Waits until this many streams are open."""
+        for _ in range(500):
+            if self.page.watcher.streams == count and sum(len(channel.streams) for channel in self.page.channels.values()) == count:
+                return
+            await asyncio.sleep(0.02)
+        self.fail(f"{self.page.watcher.streams} streams are open")
+
+
+class SlowReaders(InThisProcess):
+    """Whoever takes nothing is dropped."""
 
     async def test_of_pages(self) -> None:
         """A page of some hundred kilobytes doesn't fit between the two: its reader is dropped."""
         self.page.watcher.look()
         await self.page.watcher.fresh()
         for _ in range(30):
-            self.connected("/")
+            self.connected("/", 2048)
         await asyncio.sleep(0.3)
         self.assertGreater(len(self.doors.connections), 0)
         await self.none_left()
@@ -335,7 +424,7 @@ class SlowReaders(unittest.IsolatedAsyncioTestCase):
     async def test_of_streams(self) -> None:
         """A stream whose reader takes nothing is dropped after a few waiting messages."""
         for _ in range(5):
-            self.connected("/.events?see=/")
+            self.connected("/.events?see=/", 2048)
         await self.streams(5)
         for number in range(2000):
             for channel in self.page.channels.values():
@@ -356,14 +445,6 @@ class SlowReaders(unittest.IsolatedAsyncioTestCase):
         stream.push(b"x")
         self.assertTrue(stream.over)
 
-    async def streams(self, count: int) -> None:
-        """Waits until this many streams are open."""
-        for _ in range(500):
-            if self.page.watcher.streams == count and sum(len(channel.streams) for channel in self.page.channels.values()) == count:
-                return
-            await asyncio.sleep(0.02)
-        self.fail(f"{self.page.watcher.streams} streams are open")
-
     async def none_left(self) -> None:
         """Waits until no connection is left."""
         for _ in range(500):
@@ -371,6 +452,47 @@ class SlowReaders(unittest.IsolatedAsyncioTestCase):
                 return
             await asyncio.sleep(0.02)
         self.fail(f"{len(self.doors.connections)} connections are left")
+
+
+class Names(InThisProcess):
+    """However many addresses a page has, what is sent to its streams is worked out once."""
+
+    async def test_of_known_places(self) -> None:
+        """`before` tells one page of a part from another, and only where the part has so many versions."""
+        part = "/p00000/block/part_00"
+        with self.server.connect() as client:
+            told(client, f"hello anna\ncheckout w:{part}\nsave c1 {part} 00\ncheckin c1\n".encode(), 4)
+        for path in ("/", "/p00000", "/p00000/block", part, "/p00000/block/part_01"):
+            for before in range(2, 7):
+                self.connected(f"/.events?see={path}%3Fbefore={before}")
+        await self.streams(25)
+        self.assertEqual(len(self.page.channels), 5)
+        self.connected(f"/.events?see={part}%3Fbefore=1")
+        await self.streams(26)
+        self.assertEqual(len(self.page.channels), 6)
+
+    async def test_of_a_place_that_comes_to_be_known(self) -> None:
+        """Streams of a place that wasn't known, by many addresses, end once it is known to be no part. The next ones have one channel."""
+        for before in range(5):
+            self.connected(f"/.events?see=/wing/rib/web%3Fbefore={before}")
+        await self.streams(5)
+        with self.server.connect() as client:
+            told(client, b"hello anna\nmake /wing\nmake /wing/rib\nnest /wing/rib/web\n", 4)
+        await self.page.watcher.learn_place("/wing/rib/web")
+        await self.streams(1)
+        self.assertEqual(list(self.page.channels), [page_views.PlaceView("/wing/rib/web")])
+        for before in range(5):
+            self.connected(f"/.events?see=/wing/rib/web%3Fbefore={before}")
+        await self.streams(6)
+        self.assertEqual(len(self.page.channels), 1)
+
+    async def test_of_a_part_that_is_not_counted_yet(self) -> None:
+        """As long as nobody knows how many versions a part has, `before` stays."""
+        model, view = Model(), page_views.PlaceView("/1/2/3/4/5/6/7", 5)
+        for versions, settled in ((None, view), (5, view), (4, page_views.PlaceView(view.path)), (0, page_views.PlaceView(view.path))):
+            place = model.add(view.path)
+            place.versions, place.counted = versions or 0, versions is not None
+            self.assertEqual((versions, view.settled(model)), (versions, settled))
 
 
 class Lanes(unittest.TestCase):

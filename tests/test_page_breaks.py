@@ -2,6 +2,7 @@
 
 import asyncio
 import contextlib
+import functools
 import html
 import re
 import shutil
@@ -19,7 +20,8 @@ from tries import told
 from with_page import PART, WithPage, fill
 
 from vault.card import Card
-from vaultd_tools import page_model, page_web
+from vaultd_tools import page_model, page_watch, page_web
+from vaultd_tools.page_wire import Broken
 
 
 class Waiting(Cutter):
@@ -36,6 +38,12 @@ class Waiting(Cutter):
             self.may_go_on.wait(10)
         self.armed = self.armed or line == self.line
         return super()._cut(words, line)
+
+
+def stand_still(reached: threading.Event, may_go_on: threading.Event) -> None:
+    """Says that this was reached, and waits until it may go on."""
+    reached.set()
+    may_go_on.wait(30)
 
 
 class Breaks(WithPage):
@@ -202,6 +210,22 @@ class Breaks(WithPage):
         self.assertIn("anna c2 held", self.text("/engine"))
         waiting.may_go_on.set()
 
+    def test_it_ends_while_it_asks(self) -> None:
+        """It ends without a word of trouble while the server lets it wait: itself, as it looks again, or for a page that was asked for."""
+        for number in range(2, 4):
+            self.version("anna", f"file{number}.step")
+        for question, path in ((b"claims /\n", "/"), (f"fetch {PART} 1\n".encode(), PART)):
+            with self.subTest(question):
+                cutter = self.through_a_cutter()
+                until(lambda: "led live" in self.page.page("/"), 10)
+                asked, may_go_on = threading.Event(), threading.Event()
+                self.addCleanup(may_go_on.set)
+                cutter.meanwhile = functools.partial(stand_still, asked, may_go_on)
+                cutter.before = [question]
+                self.page.page(path)
+                self.assertTrue(asked.wait(5))
+                self.assertEqual(self.page.end(), b"")
+
     def test_many_that_end(self) -> None:
         """Where many check-outs of one place end at once, each part beneath it is looked at once."""
         fill(self.server.port, 100, 0)
@@ -254,6 +278,22 @@ class Restarts(unittest.IsolatedAsyncioTestCase):
             await self.known("live")
         self.assertEqual(len(self.watcher.model.versions), 2)
 
+    async def test_notes_of_what_ended(self) -> None:
+        """A question for a note that comes after its claim ended leaves nothing: the more is kept, the more is asked in a turn."""
+        await self.known("live")
+        with self.server.connect() as client:
+            told(client, b"hello anna\ncheckout w:/e\nnote c2 00\n", 3)
+            await self.known("live", claims=1)
+            await self.watcher._read(["note c2"])
+            self.assertEqual(self.watcher._said["note c2"], b"OK note 00")
+            told(client, b"abandon c2\n", 1)
+        for name in ("c1", "c2"):
+            await self.watcher._read([f"note {name}"])
+            self.assertNotIn(f"note {name}", self.watcher._said)
+        await self.known("live")
+        await self.watcher._read(["note c2"])
+        self.assertNotIn("note c2", self.watcher._said)
+
     async def test_just_as_a_connection_is_renewed(self) -> None:
         """Between two connections of which one follows the other, the server was started again: then a hold is another one."""
         await self.known("live")
@@ -302,6 +342,40 @@ class Odd:
                 reply = self.replies.get(line.strip(), self.replies.get(word, usual.get(word, b"OK")))
                 if reply:
                     client.sendall(reply + b"\n")
+
+
+class Leaving(unittest.IsolatedAsyncioTestCase):
+    """The end of the page's connection."""
+
+    async def test_while_somebody_reads(self) -> None:
+        """Whoever still reads is told that it is over, and so is whoever waits behind that; no connection is left."""
+        silent = Odd({b"fetch": b""})
+        self.addCleanup(silent.listener.close)
+        watcher = page_watch.Watcher("127.0.0.1", silent.port, "page", lambda: None, lambda: ())
+        await watcher._connect()
+        reads, waits = (asyncio.ensure_future(watcher.ask([question])) for question in ("fetch /e/b/p 1", "claims /"))
+        for _ in range(20):         # turns of the loop, within which the first one has asked and reads
+            await asyncio.sleep(0)
+        await asyncio.wait_for(watcher.close(), 10)
+        for task in (reads, waits):
+            with self.assertRaises(Broken):
+                await task
+        self.assertIsNone(watcher._wire)
+
+    async def test_while_a_connection_is_renewed(self) -> None:
+        """A connection that is made just then is left, too."""
+        usual = Odd({b"fetch": b"OK content 00"})
+        self.addCleanup(usual.listener.close)
+        watcher = page_watch.Watcher("127.0.0.1", usual.port, "page", lambda: None, lambda: ())
+        await watcher._connect()
+        assert watcher._wire is not None
+        watcher._wire.lines, watcher._session = 4000, 0
+        renews = asyncio.ensure_future(watcher.ask(["fetch /e/b/p 1"]))
+        await asyncio.sleep(0)
+        self.assertIsNone(watcher._wire)
+        await asyncio.wait_for(watcher.close(), 10)
+        self.assertEqual(await renews, [b"OK content 00"])
+        self.assertIsNone(watcher._wire)
 
 
 class OddServers(unittest.TestCase):

@@ -1,6 +1,7 @@
 """The tools around the files (backup, salvage and board), on real vaults; and those around a check, with what is planted."""
 
 import ast
+import errno
 import hashlib
 import html
 import os
@@ -16,12 +17,13 @@ import unittest
 from html.parser import HTMLParser
 from pathlib import Path
 from typing import Any, Dict, List, Tuple
+from unittest import mock
 
 from page_server import until
 from servers import MEMORY, TOP, VAULTD, Server, program
 
 from vault import Client
-from vaultd_tools import board, files, page_line
+from vaultd_tools import backup, board, files, page_line
 
 PART = "/engine/block/piston"
 VOID = {"meta"}
@@ -95,7 +97,9 @@ class Backup(WithVault):
         (kept / "mine").mkdir()
         for name in (".partial-old", ".partial-new"):
             (kept / name).mkdir()
-        os.utime(kept / ".partial-old", (0, 0))
+        (kept / ".partial-note").touch()
+        for name in (".partial-old", ".partial-note"):
+            os.utime(kept / name, (0, 0))
         said = self.tool("backup", str(kept), "--keep", "2")
         new = Path(said.partition(": ")[0]).name
         self.assertEqual({path.name for path in kept.iterdir()},
@@ -132,6 +136,48 @@ class Backup(WithVault):
         self.server.files = (str(self.folder / "link" / "a"), str(self.folder / "link" / "b"))
         self.tool("backup", str(kept))
         self.assertEqual(len(list(kept.glob("*Z"))), 2)
+
+    def test_a_note_that_is_empty(self) -> None:
+        """A note of whose the backups are that was left empty is nobody's, and is written anew."""
+        kept = self.folder / "kept"
+        kept.mkdir()
+        (kept / ".vault").touch()
+        for _ in range(2):
+            self.tool("backup", str(kept))
+            self.assertEqual((kept / ".vault").read_text("utf-8"), ", ".join(map(os.path.realpath, self.server.files)) + "\n")
+        self.assertEqual(len(list(kept.iterdir())), 3)
+
+    def test_a_note_that_fails(self) -> None:
+        """A note has its name once it is whole on disk: a full disk or a kill before that leaves none, and the next run notes it."""
+        kept, ours, theirs = self.folder / "kept", b"a, b\n", b"c, d\n"
+        kept.mkdir()
+
+        def full(_descriptor: int) -> None:
+            self.assertFalse((kept / ".vault").exists())
+            raise OSError(errno.ENOSPC, "No space left on device")
+
+        with mock.patch("os.fsync", full), self.assertRaises(OSError):
+            backup.take_over(kept, ours)
+        self.assertEqual(list(kept.iterdir()), [])
+        with mock.patch("os.link", side_effect=PermissionError("a file system without links")):
+            backup.take_over(kept, ours)
+        self.assertEqual([(path.name, path.read_bytes()) for path in kept.iterdir()], [(".vault", ours)])
+        with self.assertRaisesRegex(files.ToolError, "has the backups of a, b. Name another folder"):
+            backup.take_over(kept, theirs)
+
+    def test_a_note_that_another_writes(self) -> None:
+        """If another vault notes a folder meanwhile, it has it."""
+        kept = self.folder / "kept"
+        kept.mkdir()
+        link = os.link
+
+        def beaten(source: Path, name: Path) -> None:
+            name.write_bytes(b"c, d\n")
+            link(source, name)
+
+        with mock.patch("os.link", beaten), self.assertRaisesRegex(files.ToolError, "has the backups of c, d. Name another folder"):
+            backup.take_over(kept, b"a, b\n")
+        self.assertEqual([(path.name, path.read_bytes()) for path in kept.iterdir()], [(".vault", b"c, d\n")])
 
     def test_of_a_damaged_vault(self) -> None:
         self.server.kill()

@@ -22,7 +22,8 @@ class Keeper:
         machine.run("sh", "-c", f"printf '#!/bin/sh\\necho again >> {self.asked}\\n' > {restart}; chmod 755 {restart}")
         text = (CONTRIB / "keepalived.conf").read_text("utf-8")
         for old, new in (("/usr/share/vaultd/replicated/serves", "/run/serves"), ("interface eth0", f"interface v-{machine.name}"),
-                         ("192.0.2.70/24", f"{ADDRESS}/24"), ("/usr/bin/systemctl try-restart vaultd.service", restart)):
+                         ("user vaultd-watch", "user nobody"), ("192.0.2.70/24", f"{ADDRESS}/24"),
+                         ("/usr/bin/systemctl try-restart vaultd.service", restart)):
             if old not in text:
                 raise ValueError(f"keepalived.conf has no {old}")
             text = text.replace(old, new)

@@ -7,6 +7,7 @@ A folder of backups is one vault's: its file `.vault` names that vault's two fil
 import argparse
 import os
 import re
+import secrets
 import shutil
 import tempfile
 import time
@@ -57,26 +58,39 @@ def one_try(vaultd: str, first: str, second: str, folder: Path) -> Tuple[Path, s
     return kept, f"{kept}: {report.counts}\n{told}"
 
 
-def look_whose(folder: Path, files: bytes) -> None:
-    """Raises if a folder has the backups of another vault than that of these files."""
+def look_whose(folder: Path, files: bytes) -> bool:
+    """Whether a folder is noted as that of these files' vault; raises if it has the backups of another one. An empty note, which an earlier
+    version left when the disk was full, is nobody's."""
     try:
         owner = (folder / OWNER).read_bytes()
     except FileNotFoundError:
-        return
-    if owner != files:
+        return False
+    if owner not in (b"", files):
         raise ToolError(f"{folder} has the backups of {os.fsdecode(owner).strip()}. Name another folder for this vault. If it is that"
                         f" vault, and its files have moved, remove {folder / OWNER}.")
+    return owner == files
 
 
 def take_over(folder: Path, files: bytes) -> None:
-    """Notes whose backups a folder has, or raises if another vault was quicker."""
+    """Notes whose backups a folder has, or raises if another vault was quicker. The note gets its name once it is on disk, so a full disk or
+    a kill leaves no half of it."""
+    if look_whose(folder, files):
+        return
+    partial = folder / f"{PARTIAL}{secrets.token_hex(8)}"
     try:
-        with open(folder / OWNER, "xb") as file:
+        with open(partial, "xb") as file:
             file.write(files)
             file.flush()
             os.fsync(file.fileno())
-    except FileExistsError:
-        look_whose(folder, files)
+        try:
+            os.link(partial, folder / OWNER)
+        except OSError:
+            # There is one, or the file system has no links.
+            if not look_whose(folder, files):
+                os.replace(partial, folder / OWNER)
+        sync_folder(folder)
+    finally:
+        partial.unlink(missing_ok=True)
 
 
 def whole(folder: Path) -> bool:
@@ -97,8 +111,12 @@ def thin_out(folder: Path, keep: int, new: Path) -> List[Path]:
     """Removes all backups except the newest ones by their names, and what killed runs left a day ago or earlier; answers the backups that
     went. The new one stays even if an earlier one has a later name, as after a clock was wrong."""
     for partial in folder.glob(PARTIAL + "*"):
-        if partial.is_dir() and time.time() - partial.stat().st_mtime > PARTIAL_SECONDS:
+        if time.time() - partial.lstat().st_mtime <= PARTIAL_SECONDS:
+            continue
+        if partial.is_dir():
             shutil.rmtree(partial)
+        else:
+            partial.unlink()
     backups = sorted(path for path in folder.iterdir() if path.is_dir() and whole(path))
     old = [path for path in backups[:-keep] if path != new]
     for path in old:

@@ -92,7 +92,7 @@ async def serve(asked: argparse.Namespace) -> None:
     if watch.done():
         watch.result()
     watch.cancel()
-    # It may still read: two can't at once.
+    # Until it is over, it could connect again.
     await asyncio.wait({watch})
     await page.watcher.close()
 

@@ -15,6 +15,7 @@ MAX_BENEATH = 64
 MAX_CLAIMS = 256
 MAX_VERSIONS = 65535
 MAX_NAMES = 7
+PART_NAMES = 3
 KEPT_VERSIONS = 8192
 KEPT_NEWS = 60
 KINDS = ("library", "project", "assembly")
@@ -41,12 +42,14 @@ class Version:
 
 @dataclass
 class Place:
-    """A place, with those right beneath it in the order in which they were made. Whether it is a part isn't always known yet."""
+    """A place, with those right beneath it in the order in which they were made. Whether it is a part isn't always known yet, nor how many
+    versions it has."""
 
     path: str
     part: bool | None
     children: list[str] = field(default_factory=list)
     versions: int = 0
+    counted: bool = False
     latest: Version | None = None
 
     @property
@@ -111,7 +114,7 @@ class Model:
     def add(self, path: str) -> Place:
         """Adds a place that wasn't known. Its depth says whether it is a part, no part, or possibly either."""
         names = depth(path)
-        self.places[path] = place = Place(path, False if names <= 2 else True if names == MAX_NAMES else None)
+        self.places[path] = place = Place(path, False if names < PART_NAMES else True if names == MAX_NAMES else None)
         return place
 
     def keep(self, path: str, version: Version, size: int) -> None:

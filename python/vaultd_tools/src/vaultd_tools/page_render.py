@@ -200,7 +200,7 @@ class Renderer:
 
     def __init__(self, links: bool):
         self.environment = Environment(loader=PackageLoader("vaultd_tools", "templates"), autoescape=True, undefined=StrictUndefined,
-                                       trim_blocks=True, lstrip_blocks=True)
+                                       trim_blocks=True, lstrip_blocks=True, auto_reload=False)
         self.environment.globals.update(links=links, style=Markup(static("page.css")), fingerprint=fingerprint())
         self.environment.filters.update(address=address, hue=hue, shown=spelled, number=number, bytes=in_bytes, time=time_of)
         self.parts: Any = self.environment.get_template("parts.html").module
@@ -209,7 +209,7 @@ class Renderer:
         self.claim_item = functools.lru_cache(ROWS_KEPT)(lambda row: self._tidy(self.parts.claim_item(row)))
 
     def prepare(self) -> None:
-        """Reads all templates, so that the first page is as quick as others."""
+        """Reads all templates, so that the first page is as quick as others, and those of a later version don't come under this program."""
         for name in self.environment.list_templates(extensions=["html"]):
             self.environment.get_template(name)
 

@@ -13,7 +13,7 @@ from markupsafe import Markup
 from vault.words import NAME
 from vaultd_tools.files import Claim
 from vaultd_tools.page_line import ways
-from vaultd_tools.page_model import MAX_BENEATH, MAX_CLAIMS, MAX_PLACES, MAX_VERSIONS, Model, Place, depth
+from vaultd_tools.page_model import MAX_BENEATH, MAX_CLAIMS, MAX_PLACES, MAX_VERSIONS, PART_NAMES, Model, Place, depth
 from vaultd_tools.page_render import APART, TAKEN, Line, Mark, Pieces, Renderer, Row, address
 from vaultd_tools.page_watch import Watcher, changes, concerns, is_place
 
@@ -120,6 +120,10 @@ class View:
         """Where it is."""
         raise NotImplementedError
 
+    def settled(self, model: Model) -> View:
+        """The same page by its own address, where several lead to it."""
+        return self
+
     async def prepare(self, watcher: Watcher) -> None:
         """Makes sure that what it shows besides has been read."""
 
@@ -156,6 +160,13 @@ class PlaceView(View):
     def address(self) -> str:
         """Where it is."""
         return address(self.path) + (f"?before={self.below}" if self.below else "")
+
+    def settled(self, model: Model) -> View:
+        """`before` says nothing of a place that is no part, nor of a part that has fewer versions."""
+        place = model.places.get(self.path)
+        if self.below and place is not None and (place.part is False or place.counted and self.below > place.versions):
+            return PlaceView(self.path)
+        return self
 
     async def prepare(self, watcher: Watcher) -> None:
         """Asks for the place, and of a part for the versions that are shown."""
@@ -395,5 +406,5 @@ def view_at(path: str, query: dict[str, str]) -> View | None:
     place = path[len(APART):] if apart else path
     if not is_place(place) or depth(place) and (place.split("/")[1] == TAKEN) != apart:
         return None
-    below = query.get("before", "0")
+    below = query.get("before", "0") if depth(place) >= PART_NAMES else "0"
     return PlaceView(place, int(below) if below.isascii() and below.isdigit() and len(below) <= 5 else 0)

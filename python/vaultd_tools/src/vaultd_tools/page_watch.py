@@ -123,10 +123,13 @@ class Watcher:
                 await asyncio.sleep(pause)
 
     async def close(self) -> None:
-        """Leaves the server."""
-        if self._wire is not None:
+        """Leaves the server. Two can't read at once: if another one does, the connection is ended under it, and it gets `Broken`."""
+        if self._lock.locked():
+            self._drop("was left meanwhile")
+        async with self._lock:
             wire, self._wire = self._wire, None
-            await wire.leave()
+            if wire is not None:
+                await wire.leave()
 
     def _rest(self) -> None:
         self._settled.clear()
@@ -342,7 +345,9 @@ class Watcher:
         for question, reply in zip(questions, await self.ask(questions)):
             if self._said.get(question) != reply:
                 self._take(question, reply)
-                if not question.startswith("fetch "):
+                if reply == ENDED:
+                    self._said.pop(question, None)
+                elif not question.startswith("fetch "):
                     self._said[question] = reply
 
     def _take(self, question: str, reply: bytes) -> None:
@@ -401,7 +406,7 @@ class Watcher:
             self.model.tell("", f"has version {count}", place.path)
         if count > place.versions or place.latest is None:
             place.latest = self.model.versions.get((place.path, count))
-        place.part, place.versions = True, count
+        place.part, place.versions, place.counted = True, count, True
         self._later.add(f"fetch {place.path} {number}" for number in range(first + 1, count + 1) if number > 0)
 
     def _take_note(self, name: str, reply: bytes) -> None:

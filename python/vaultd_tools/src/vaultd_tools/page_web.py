@@ -27,6 +27,7 @@ MAX_STREAMS = 256
 MAX_CONNECTIONS = 1024
 MAX_WAITING = 32
 MAX_PIPELINED = 16
+MAX_UNANSWERED = 65536
 MAX_FIELDS = 16
 BEAT_SECONDS = 10.0
 TAKE_SECONDS = 20.0
@@ -112,6 +113,11 @@ class Channel:
         for stream in list(self.streams):
             stream.push(message)
 
+    def end(self) -> None:
+        """Ends all of them. A browser reads the page again then."""
+        for stream in self.streams:
+            stream.end()
+
 
 def event(words: dict[str, Any]) -> bytes:
     """A message of a stream."""
@@ -150,6 +156,7 @@ class Door(web.RequestHandler):
     def __init__(self, manager: Doors, **words: Any):
         super().__init__(manager, **words)
         self.doors = manager
+        self.unanswered = 0
         self.on_lost: Callable[[], None] = lambda: None
 
     def connection_made(self, transport: asyncio.BaseTransport) -> None:
@@ -168,10 +175,21 @@ class Door(web.RequestHandler):
             self.force_close()
 
     def data_received(self, data: bytes) -> None:
-        """Takes bytes. Only a few requests may wait behind others."""
+        """Takes bytes. Only a few requests, and few bytes, may wait behind others. What comes behind a request for another protocol is never
+        read: such a request is refused, and ends the connection."""
+        self.unanswered += len(data)
+        if self.unanswered > MAX_UNANSWERED:
+            self.force_close()
+            return
         super().data_received(data)
+        self._message_tail = b""
         if len(self._messages) > MAX_PIPELINED:
             self.force_close()
+
+    def begin_answer(self) -> None:
+        """Its first request is answered from now on. Where none waits behind that, bytes are counted anew."""
+        if not self._messages:
+            self.unanswered = 0
 
     def connection_lost(self, error: BaseException | None) -> None:
         """The browser is gone."""
@@ -218,8 +236,11 @@ class Page:
         """Sends all open pages what changed."""
         self.revision += 1
         sentences = self._sentences()
-        for channel in list(self.channels.values()):
-            channel.update(self.revision, sentences)
+        for view, channel in list(self.channels.items()):
+            if view.settled(self.watcher.model) == view:
+                channel.update(self.revision, sentences)
+            else:
+                channel.end()
 
     def wanted(self) -> list[tuple[str, int]]:
         """The versions that open pages show and that aren't known."""
@@ -239,6 +260,8 @@ class Page:
 
     async def answer(self, request: web.BaseRequest) -> web.StreamResponse:
         """Answers any request."""
+        assert isinstance(request.protocol, Door)
+        request.protocol.begin_answer()
         try:
             path, query = self._read(request)
             if path == "/.events":
@@ -325,6 +348,8 @@ class Page:
             if not self.watcher.whole or model.link.kind == "away":
                 raise Refusal(503, "The vault can't be read now, so the page doesn't know whether there is such a place.")
             raise Refusal(404, "The vault has no such place, or had none a moment ago.")
+        if view.settled(model) != view:
+            raise Refusal(302, "This page has another address.", Location=view.settled(model).address)
         pieces = self.channels[view].pieces if view in self.channels else view.pieces(self.source)
         return self._html(view.template, 200, **{"live": view.live, "watch": view.address, "revision": self.revision, "run": self.run_name,
                                                  "texts": {**pieces.texts, **self.source.common(view.live).texts}, "lists": pieces.lists,
@@ -346,7 +371,7 @@ class Page:
         self.watcher.streams += 1
         try:
             await self.watcher.fresh()
-            with self._joined(view, stream, query):
+            with self._joined(view.settled(self.watcher.model), stream, query):
                 return await self._pour(request, stream)
         finally:
             self.watcher.streams -= 1
