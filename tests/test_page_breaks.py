@@ -3,6 +3,7 @@
 import asyncio
 import contextlib
 import functools
+import gc
 import html
 import re
 import shutil
@@ -11,7 +12,7 @@ import threading
 import time
 import unittest
 from pathlib import Path
-from typing import Dict, List
+from typing import Any, Dict, List
 from unittest import mock
 
 from page_server import PageServer, Stream, until
@@ -21,7 +22,7 @@ from with_page import PART, WithPage, fill
 
 from vault.card import Card
 from vaultd_tools import page_model, page_watch, page_web
-from vaultd_tools.page_wire import Broken
+from vaultd_tools.page_wire import Broken, Wire
 
 
 class Waiting(Cutter):
@@ -361,6 +362,42 @@ class Leaving(unittest.IsolatedAsyncioTestCase):
             with self.assertRaises(Broken):
                 await task
         self.assertIsNone(watcher._wire)
+
+    async def test_just_as_a_reply_comes(self) -> None:
+        """Whoever asks is ended for good, also where a reply comes at that moment: it would go on asking else."""
+        reader = asyncio.StreamReader()
+        asks = asyncio.ensure_future(Wire(reader, mock.Mock()).ask(["claims /"]))
+        for _ in range(20):
+            await asyncio.sleep(0)
+        reader.feed_data(b"OK claims 0\n")
+        asks.cancel()
+        with self.assertRaises(asyncio.CancelledError):
+            await asks
+
+    async def test_a_turn_that_fails_as_it_ends(self) -> None:
+        """A turn is over before the watch is, and what became of it is nothing to report."""
+        said: List[Dict[str, Any]] = []
+        asyncio.get_running_loop().set_exception_handler(lambda _loop, words: said.append(words))
+        watcher = page_watch.Watcher("127.0.0.1", 1, "page", lambda: None, lambda: ())
+        failed, may_fail = asyncio.Event(), asyncio.Event()
+
+        async def fails() -> None:
+            try:
+                await may_fail.wait()
+            finally:
+                failed.set()
+                raise Broken("ended the connection")
+
+        with mock.patch.object(watcher, "_ask_a_turn", fails):
+            turns = asyncio.ensure_future(watcher._turn())
+            for _ in range(20):
+                await asyncio.sleep(0)
+            turns.cancel()
+            with self.assertRaises(asyncio.CancelledError):
+                await turns
+        self.assertTrue(failed.is_set())
+        gc.collect()
+        self.assertEqual(said, [])
 
     async def test_while_a_connection_is_renewed(self) -> None:
         """A connection that is made just then is left, too."""

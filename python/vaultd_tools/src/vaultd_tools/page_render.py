@@ -138,9 +138,8 @@ class Line:
 
     @classmethod
     def of(cls, claims: Sequence[Claim]) -> Line:
-        """Works it out."""
-        ahead = before(claims)
-        return cls(claims, ahead, waiting(ahead))
+        """Works it out, once for all pages that show it."""
+        return line_of(tuple(claims))
 
     @property
     def held(self) -> int:
@@ -182,6 +181,13 @@ class Line:
             found.append(DesignerRow(name, held, len(claims) - held, len(self.waiters(name)), tuple(items[:most_items]),
                                      max(0, len(items) - most_items)))
         return found
+
+
+@functools.lru_cache(2)
+def line_of(claims: tuple[Claim, ...]) -> Line:
+    """The queue of these claims."""
+    ahead = before(claims)
+    return Line(claims, ahead, waiting(ahead))
 
 
 @dataclass

@@ -181,6 +181,7 @@ class Watcher:
             await turn
         finally:
             turn.cancel()
+            await asyncio.gather(turn, return_exceptions=True)
         if self.model.link.kind != "live":
             self._is_live()
 

@@ -37,8 +37,9 @@ class Wire:
     async def opened(cls, host: str, port: int, designer: str) -> Wire:
         """Connects and says hello."""
         try:
-            reader, writer = await asyncio.wait_for(asyncio.open_connection(host, port), CONNECT_SECONDS)
-        except asyncio.TimeoutError as error:
+            async with asyncio.timeout(CONNECT_SECONDS):
+                reader, writer = await asyncio.open_connection(host, port)
+        except TimeoutError as error:
             raise Broken("does not answer") from error
         except OSError as error:
             raise Broken(f"does not answer ({reason(error)})") from error
@@ -60,14 +61,16 @@ class Wire:
         return self.lines + count < MAX_LINES
 
     async def ask(self, questions: Sequence[str]) -> list[bytes]:
-        """The replies to some questions, which are sent at once. If that fails, the connection is of no more use."""
+        """The replies to some questions, which are sent at once. If that fails, the connection is of no more use. A cancellation isn't lost
+        where the replies come together with it, as it would be by `wait_for`."""
         assert all(question.partition(" ")[0] in QUESTIONS for question in questions) and not any(
             question.startswith("note ") and question.count(" ") != 1 for question in questions)
         self.lines += len(questions)
         try:
             self.writer.write("".join(question + "\n" for question in questions).encode("ascii"))
-            return await asyncio.wait_for(self._replies(len(questions)), REPLY_SECONDS)
-        except asyncio.TimeoutError as error:
+            async with asyncio.timeout(REPLY_SECONDS):
+                return await self._replies(len(questions))
+        except TimeoutError as error:
             raise Broken("takes connections but does not answer; its workers may all be taken") from error
         except OSError as error:
             raise Broken(f"ended the connection ({reason(error)})") from error
@@ -91,9 +94,12 @@ class Wire:
 
     async def leave(self) -> None:
         """Ends the session and the connection."""
-        with contextlib.suppress(Broken, OSError, asyncio.TimeoutError):
-            await asyncio.wait_for(self.ask(["quit"]), QUIT_SECONDS)
-        self.drop()
+        try:
+            with contextlib.suppress(Broken, OSError):
+                async with asyncio.timeout(QUIT_SECONDS):
+                    await self.ask(["quit"])
+        finally:
+            self.drop()
 
     def drop(self) -> None:
         """Ends the connection."""
