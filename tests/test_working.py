@@ -779,7 +779,11 @@ class Program(WithFolder):
         self.vault("get", "/engine", "--to", str(work))
         (work / "Bild.png").write_bytes(b"x")
         (work / "block" / "link").symlink_to(work / "Bild.png")
-        self.assertEqual(self.as_json("status", str(work))["others"], [])
+        said = self.vault("status", str(work)).decode()
+        for name in ("Bild.png", "block/link"):
+            self.assertIn(f"{name}: not in the vault. Parts are made of files in the folders of assemblies, and not of links.", said)
+        self.assertNotIn("vault add", said)
+        self.assertEqual(self.as_json("status", str(work))["others"], ["Bild.png", "block/link"])
 
     def test_wrong_words(self) -> None:
         self.assertIn(b"is in no working folder", self.vault("status", str(self.root), status=2))

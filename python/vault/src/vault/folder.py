@@ -190,19 +190,21 @@ class Folder:
         return now is not None and (now.st_size, now.st_mtime_ns, now.st_ino) == (before.st_size, before.st_mtime_ns, before.st_ino)
 
     def others(self) -> List[str]:
-        """The files of the folder that belong to no part, as far as `vault add` makes parts of them."""
+        """The files of the folder that belong to no part, if a part's file may have such a name."""
         found, alike = [], self.alike()
         for folder, inner, files in os.walk(self.path):
             above = "" if Path(folder) == self.path else Path(folder).relative_to(self.path).as_posix()
             inner[:] = sorted(name for name in inner if self.joined(above, name) in self.folders)
-            if self.may_have_parts(above):
-                found += [self.joined(above, name) for name in sorted(files) if usable(name) and not os.path.islink(os.path.join(folder, name))
-                          and not self.tracked(self.joined(above, name), alike)]
+            found += [name for name in (self.joined(above, file) for file in sorted(files) if usable(file)) if not self.tracked(name, alike)]
         return found
 
     def may_have_parts(self, above: str) -> bool:
         """Whether files in a folder may be parts: it is an assembly's."""
         return self.folders.get(above, "/").count("/") >= PROJECT_AND_ASSEMBLY
+
+    def may_be_part(self, name: str) -> bool:
+        """Whether `vault add` makes a part of a file: it is in an assembly's folder, and no link."""
+        return self.may_have_parts(name.rpartition("/")[0]) and not self.at(name).is_symlink()
 
     def alike(self) -> Dict[str, str]:
         """The names of files that belong to parts, folded, each with its own form."""

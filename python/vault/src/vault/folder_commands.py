@@ -64,16 +64,18 @@ def status(client: Client, words: Words, output: Output) -> Told:
     with folder.locked():
         states = Working(Parts(client), folder).states()
         others = folder.others()
-    lines = [f"{shown(state.file)}: {said}." for state in states if (said := state_in_words(state))]
-    lines += [f"{shown(name)}: not in the vault; `vault add {quoted(shown(as_named(folder, words.folder, name)))}` makes a part of it."
-              for name in others]
+        lines = [f"{shown(state.file)}: {said}." for state in states if (said := state_in_words(state))]
+        lines += [other_in_words(folder, words.folder, name) for name in others]
     fields = {"place": folder.place, "files": [vars(state) for state in states], "others": others}
     return "\n".join(lines or [f"Nothing is changed in {words.folder}, and nothing is newer in the vault."]), fields
 
 
-def as_named(folder: Folder, word: str, name: str) -> str:
-    """The path of a file of a working folder, for whoever named that folder, or one in it, by a word."""
-    return os.path.normpath(os.path.join(word, os.path.relpath(folder.path / name, word)))
+def other_in_words(folder: Folder, word: str, name: str) -> str:
+    """What becomes of a file that belongs to no part, for whoever named the working folder, or a folder in it, by a word."""
+    if not folder.may_be_part(name):
+        return f"{shown(name)}: not in the vault. Parts are made of files in the folders of assemblies, and not of links."
+    path = os.path.normpath(os.path.join(word, os.path.relpath(folder.path / name, word)))
+    return f"{shown(name)}: not in the vault; `vault add {quoted(shown(path))}` makes a part of it."
 
 
 def state_in_words(state: State) -> str:
