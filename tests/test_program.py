@@ -153,7 +153,7 @@ class Order(Tries):
     def test_descriptors_are_first(self) -> None:
         lay(a=NEW)
         few = run("serve", "no/c", "a", "none", limits=Limits(descriptors=18))
-        self.same("few descriptors, no first file", few, fault("descriptors", 19, 18))
+        self.same("few descriptors, no first file", few, fault("descriptors", 20, 18))
 
 
 class Damage(Tries):
