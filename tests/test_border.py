@@ -157,6 +157,14 @@ class Times(Border):
             self.assertLess(time.monotonic(), until)
             self.assertEqual(self.said(greeted, b"list /"), b"OK list 0\n")
 
+    def test_quit_later_than_hello(self) -> None:
+        """Who quits is told so, also once the time for `hello` is over."""
+        self.serve("--hello", "1")
+        with self.linked() as link:
+            self.assertEqual(self.said(link, b"hello anna"), b"OK session 1\n")
+            time.sleep(1.2)
+            self.assertEqual(self.said(link, b"quit"), b"OK left\n")
+
     def test_dead_client(self) -> None:
         """The kernel ends a connection whose client acknowledges nothing that was sent to it for two minutes."""
         self.serve()

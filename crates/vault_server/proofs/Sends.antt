@@ -6,41 +6,18 @@ use Rattle.std.specs.declared.alloc.Allocator.{Ghosts}
 use Rattle.std.proofs.Crossing.{crosses as locks}
 use Rattle.std.proofs.CrossingOver.{crosses as over}
 use Rattle.std.specs.declared.sync.ledger.Ledger.{Ghosts as LedgerGhosts}
-use Rattle.crossbeam_channel.specs.contracts.channel.Receiver as Receiver
-use Rattle.crossbeam_channel.specs.contracts.channel.Sender as Sender
 use Rattle.mio.specs.contracts.poll.Poll as Poll
 use Rattle.vault_model.proofs.Sends.{fields}
 use Rattle.vault_device.specs.declared.device.Device.{Ghosts as DeviceGhosts}
+use Rattle.tcp_door.proofs.Sends.{bell_sync, crowd_sync, receiver_send, sender_send}
 use Rattle.vault_sessions.specs.declared.tally.Tally.{Ghosts as TallyGhosts}
 use Rattle.vault_sessions.proofs.Sends.{worker_send}
-use Rattle.vault_server.specs.contracts.bells.Bell as Bell
 use Rattle.vault_server.specs.contracts.commits.CommitToken as CommitToken
-use Rattle.vault_server.specs.contracts.door.Crowd as Crowd
-use Rattle.vault_server.specs.contracts.door.News as News
 use Rattle.vault_server.specs.contracts.event_loop.EventLoop as EventLoop
-use Rattle.vault_server.specs.contracts.server.Connection as Connection
 use Rattle.vault_server.specs.contracts.slot.Patience as Patience
 
 pub poll_send : IsSend Poll.the_row
 poll_send = search fields depth 40 fits 20000
-
-pub bell_sync : IsSync Bell.the_row
-bell_sync = search (fields, locks) depth 40 fits 20000
-
-connection_send : IsSend Connection.the_row
-connection_send = search fields depth 40 fits 20000
-
-pub receiver_send : (A : RattleType) (g : Ghosts A.Denot) → IsSend A → IsSync A → Frees g g.dealloc_token → IsSend (Receiver.the_field Connection.the_row A g).row
-receiver_send A g s y f = let c = connection_send in search (fields, locks) depth 60 fits 20000
-
-news_send : IsSend News.the_row
-news_send = search fields depth 40 fits 20000
-
-pub sender_send : (A : RattleType) (g : Ghosts A.Denot) → IsSend A → IsSync A → Frees g g.dealloc_token → IsSend (Sender.the_field News.the_row A g).row
-sender_send A g s y f = let n = news_send in search (fields, locks) depth 60 fits 20000
-
-pub crowd_sync : IsSync Crowd.the_row
-crowd_sync = let b = bell_sync in search (fields, locks) depth 40 fits 20000
 
 patience_send : IsSend Patience.the_row
 patience_send = search fields depth 40 fits 20000

@@ -1,10 +1,7 @@
 //! One thread that serves several connections, and commits what they staged.
 
-use crate::bells::{Bell, ring_others};
 use crate::commits::{CommitToken, CommitTry, Committer};
-use crate::door::{Crowd, News};
-use crate::server::Connection;
-use crate::slot::{Patience, Progress, Slot, first_of};
+use crate::slot::{Patience, Progress, Slot};
 use crossbeam_channel::{Receiver, Sender};
 use mio::unix::SourceFd;
 use mio::{Events, Interest, Poll, Registry, Token};
@@ -13,6 +10,7 @@ use std::os::fd::AsRawFd;
 use std::sync::{Mutex, Wait};
 use std::thread::yield_now;
 use std::time::{Clock, Duration, Instant};
+use tcp_door::{Accepted, Bell, Crowd, News, first_of, ring_others, turn_away};
 use vault_device::Device;
 use vault_sessions::{Flusher, Gate, Share, Tally, Worker};
 
@@ -35,7 +33,7 @@ pub(crate) struct EventLoop<'a, D: Device, S: Tally, T: Tally, A: Allocator, G: 
     /// Its number among the threads.
     pub number: usize,
     /// The connections that come to it.
-    pub coming: Receiver<Connection, A>,
+    pub coming: Receiver<Accepted, A>,
     /// Where it says that a place is free, or that it can't serve since memory was refused.
     pub says: Sender<News, A>,
     /// Those who wait for a place.
@@ -105,13 +103,19 @@ impl<D: Device, S: Tally, T: Tally, A: Allocator + Copy, G: Gate, H: Wait + Cloc
         let flusher = Flusher::new(self.worker.rt, self.worker.shared, self.worker.gate);
         let mut committer = Committer::new(flusher, self.token);
         self.serve(&mut committer, &mut poll, &mut events, &mut slots);
+        self.take_back(slots, &mut shares);
+        shares
+    }
+
+    // Takes the shares back out of all places.
+    fn take_back(&self, slots: Vec<Slot<S, T, A>, A>, shares: &mut Vec<Share<S, T>, A>) {
+        let mut slots = slots;
         while let Some(slot) = slots.pop() {
             if let Some(share) = slot.into_share(&self.worker) {
                 let _ = shares.push(share);
             }
         }
         slots.destroy_empty();
-        shares
     }
 
     // Says that a place is free, or that it can't serve.
@@ -238,12 +242,8 @@ impl<D: Device, S: Tally, T: Tally, A: Allocator + Copy, G: Gate, H: Wait + Cloc
             first = first_of(first, slot.deadline(self.patience));
         }
         if let Some(silence) = self.pressing_silence(slots) {
-            for slot in slots {
-                let gone = slot
-                    .silent_since()
-                    .and_then(|since| since.checked_add(silence));
-                first = first_of(first, gone);
-            }
+            let ends = longest_silent(slots).and_then(|since| since.checked_add(silence));
+            first = first_of(first, ends);
         }
         Some(first?.saturating_duration_since(self.now()?))
     }
@@ -252,8 +252,7 @@ impl<D: Device, S: Tally, T: Tally, A: Allocator + Copy, G: Gate, H: Wait + Cloc
     // ended.
     fn pressing_silence(&self, slots: &Vec<Slot<S, T, A>, A>) -> Option<Duration> {
         let silence = self.silence?;
-        let frees = |slot: &Slot<S, T, A>| slot.is_free() || slot.is_leaving();
-        if self.crowd.presses() && !slots.iter().any(frees) {
+        if self.crowd.presses() && !slots.iter().any(|slot| slot.is_free_soon()) {
             Some(silence)
         } else {
             None
@@ -267,11 +266,7 @@ impl<D: Device, S: Tally, T: Tally, A: Allocator + Copy, G: Gate, H: Wait + Cloc
             return false;
         };
         let last = now.and_then(|now| now.checked_sub(silence));
-        let mut first = None;
-        for slot in slots.iter() {
-            first = first_of(first, slot.silent_since());
-        }
-        let (Some(first), Some(last)) = (first, last) else {
+        let (Some(first), Some(last)) = (longest_silent(slots), last) else {
             return false;
         };
         if first > last || !self.crowd.claims() {
@@ -310,7 +305,7 @@ impl<D: Device, S: Tally, T: Tally, A: Allocator + Copy, G: Gate, H: Wait + Cloc
         registry: &Registry,
         number: usize,
         slot: &mut Slot<S, T, A>,
-        connection: Connection,
+        connection: Accepted,
         now: Option<Instant>,
     ) {
         let fd = connection.stream.as_raw_fd();
@@ -319,8 +314,12 @@ impl<D: Device, S: Tally, T: Tally, A: Allocator + Copy, G: Gate, H: Wait + Cloc
             .register(&mut SourceFd(&fd), Token(number), both)
             .is_err()
         {
-            self.say(News::Over(self.number, connection.number));
-            drop(connection);
+            let Accepted {
+                number: over,
+                stream,
+            } = connection;
+            turn_away(self.worker.alloc, stream);
+            self.say(News::Over(self.number, over));
             return;
         }
         self.bell.attend(true);
@@ -358,6 +357,17 @@ fn look_again<S: Tally, T: Tally, A: Allocator + Copy>(slots: &mut Vec<Slot<S, T
     for slot in slots.as_mut_slice() {
         slot.look_again();
     }
+}
+
+// Since when the connection that is silent longest is silent.
+fn longest_silent<S: Tally, T: Tally, A: Allocator + Copy>(
+    slots: &Vec<Slot<S, T, A>, A>,
+) -> Option<Instant> {
+    let mut first = None;
+    for slot in slots {
+        first = first_of(first, slot.silent_since());
+    }
+    first
 }
 
 // How many connections have sent something that isn't heard yet.

@@ -3,8 +3,7 @@
 //! Promises: if a server ends well, its history grew by exactly the commands that its workers staged, and it acknowledged as many as
 //! they counted (`run_server`). A slot holds a `Dialogue`, so what each conversation heard, answered and counted is as `vault_sessions`
 //! says, in whichever order steps are taken. For all else here only safety is proved.
-//! Stands on: vault_sessions, flusher_pace, first_line, and what they stand on. Must not know: what a command does, nor anything of a
-//! line but its first bytes.
+//! Stands on: vault_sessions, tcp_door, flusher_pace, and what they stand on. Must not know: what a command does, or what a line says.
 //!
 //! Only tested: a round over TCP; two sessions share a frame, and a second one is answered while the first waits; a client that reads
 //! late gets all its replies, and so does one beside hostile clients; a client that takes too long is ended, and one that waits too
@@ -12,17 +11,13 @@
 //! accept fault, and that it is reported at once; another protocol's first line; more commands than a history keeps; `run_server` with
 //! each of its allocations refused.
 //! Neither: that anybody is served or woken; fairness, time; what the channel of connections delivers, and what a TCP peer gets.
-//! Start at: server.rt, door.rt (who comes), event_loop.rt (one thread), slot.rt (one connection), commits.rt (which thread commits and
-//! when).
+//! Start at: server.rt, event_loop.rt (one thread), slot.rt (one connection), commits.rt (which thread commits and when).
 #![tactic(auto)]
 
-mod bells;
 mod commits;
-mod door;
 mod event_loop;
 mod server;
 mod slot;
-mod stream;
 
 pub use server::{Full, ServerError, ServerOptions, run_server, run_server_on};
 pub use slot::Patience;

@@ -5,9 +5,7 @@ ghost use Rattle.group_commit.specs.View.{length_of};
 ghost use Rattle.vault_sessions.specs.Tallies.{HasGrown};
 ghost use denote.Param.Send.{Frees};
 
-use crate::bells::Bell;
 use crate::commits::CommitToken;
-use crate::door::{Crowd, Door, News};
 use crate::event_loop::EventLoop;
 use crate::slot::Patience;
 use crossbeam_channel::{Receiver, Sender, bounded};
@@ -15,11 +13,12 @@ use group_commit::Vault;
 use mio::Poll;
 use std::alloc::Allocator;
 use std::marker::Brand;
-use std::net::{Net, TcpListener, TcpStream};
+use std::net::{Net, TcpListener};
 use std::sync::ledger::Blank;
 use std::sync::{Mutex, Wait};
 use std::thread::{self, JoinHandle, Scope, Threads};
 use std::time::{Clock, Duration};
+use tcp_door::{Accepted, Bell, Crowd, Door, DoorError, DoorOptions, News};
 use thiserror::Error;
 use vault_device::Device;
 use vault_sessions::{Gate, Share, Shared, Tally, Totals, Worker, gather, run_flusher};
@@ -36,6 +35,15 @@ pub enum ServerError {
     /// An allocation was refused, a thread can't be started, or the system gives it nothing to wait by.
     #[error("want of memory")]
     NoMemory,
+}
+
+impl From<DoorError> for ServerError {
+    fn from(error: DoorError) -> ServerError {
+        match error {
+            DoorError::Accept => ServerError::Accept,
+            DoorError::NoMemory => ServerError::NoMemory,
+        }
+    }
 }
 
 /// The options of a server.
@@ -69,13 +77,6 @@ pub struct Full {
     /// How long a connection must have been silent before it is ended for one that waits. It is the one of its thread that was silent
     /// longest.
     pub silence: Duration,
-}
-
-// An accepted connection, with its number.
-#[derive(Drop)]
-pub(crate) struct Connection {
-    pub number: u32,
-    pub stream: TcpStream,
 }
 
 /// Serves `workers` connections at a time, by one thread or, for two workers and more, by two. Each of them commits what was staged.
@@ -308,7 +309,7 @@ struct Beginning<'a, S: Tally, T: Tally, A: Allocator> {
 // The threads that serve connections: how each gets them, and what it gives back.
 #[derive(Drop)]
 struct Running<S: Tally, T: Tally, A: Allocator> {
-    senders: Vec<Sender<Connection, A>, A>,
+    senders: Vec<Sender<Accepted, A>, A>,
     handles: Handles<S, T, A>,
 }
 
@@ -412,10 +413,11 @@ impl<
     fn accept_all(
         &self,
         listener: &TcpListener,
-        senders: &Vec<Sender<Connection, A>, A>,
+        senders: &Vec<Sender<Accepted, A>, A>,
         news: &Receiver<News, A>,
         poll: Poll,
     ) -> Result<(), ServerError> {
+        let gate = self.gate;
         let door = Door {
             rt: self.rt,
             alloc: self.alloc,
@@ -424,9 +426,15 @@ impl<
             bells: self.bells,
             news,
             crowd: self.crowd,
-            options: self.options,
+            options: DoorOptions {
+                places: self.options.workers,
+                connections: self.options.connections,
+                wait: self.options.full.map(|full| full.wait),
+                per_address: self.options.per_address,
+            },
         };
-        door.keep(poll, self.gate)
+        door.keep(poll, |why| gate.accepts_no_more(why))?;
+        Ok(())
     }
 
     // Starts a thread for each poll, with an equal part of the shares, unless there is no memory for one.
@@ -494,12 +502,12 @@ impl<
         number: usize,
         places: usize,
         says: &Sender<News, A>,
-        senders: &mut Vec<Sender<Connection, A>, A>,
+        senders: &mut Vec<Sender<Accepted, A>, A>,
     ) -> Result<EventLoop<'s, D, S, T, A, G, H>, ServerError> {
         let Some(bell) = self.bells.as_slice().get(number) else {
             return Err(ServerError::NoMemory);
         };
-        let Ok((sender, coming)) = bounded::<Connection, A>(self.alloc, places) else {
+        let Ok((sender, coming)) = bounded::<Accepted, A>(self.alloc, places) else {
             return Err(ServerError::NoMemory);
         };
         let says = says.clone().or(Err(ServerError::NoMemory))?;

@@ -2,16 +2,16 @@
 ghost use Rattle.std.specs.Prelude.{◌≡◌, true};
 ghost use Rattle.vault_server.specs.declared.slot.Slot.TheVariants as slots;
 
-use crate::server::Connection;
-use crate::stream::{Drain, Drained, Wire};
 use std::alloc::Allocator;
 use std::mem;
 use std::sync::Wait;
 use std::time::{Duration, Instant};
+use tcp_door::{Accepted, Drain, Drained, Unread, Wire, first_of};
 use vault_device::Device;
 use vault_sessions::{Awaits, Dialogue, Ended, Finished, Gate, Share, Step, Tally, Worker};
 
-// How many steps a connection takes in a round at most. A line that spells no command takes two, and any other takes three.
+// How many steps a connection takes in a round at most. A line that spells no command takes two, a `wait` that is kept four, and any
+// other three.
 const STEPS_A_ROUND: u32 = 4;
 
 /// For how long a client may take. None: for ever.
@@ -48,7 +48,7 @@ pub(crate) enum Slot<S: Tally, T: Tally, A: Allocator> {
     Served(Served<S, T, A>),
     Drained(Drain, Share<S, T>),
     /// What it holds is taken out, and is put back in a moment.
-    Open,
+    TakenOut,
 }
 
 /// What a turn of a slot came to.
@@ -65,12 +65,12 @@ pub(crate) enum Progress {
 // The slot of a connection that is to be served.
 fn serve<S: Tally, T: Tally, A: Allocator + Copy>(
     alloc: A,
-    connection: Connection,
+    connection: Accepted,
     refuses_foreign: bool,
     share: Share<S, T>,
     now: Option<Instant>,
 ) -> Slot<S, T, A> {
-    let Connection { number, stream } = connection;
+    let Accepted { number, stream } = connection;
     match Dialogue::new(
         alloc,
         number,
@@ -91,6 +91,16 @@ fn serve<S: Tally, T: Tally, A: Allocator + Copy>(
     }
 }
 
+// What the client of a connection that ended so may still send, as far as that is waited for. One that was given up ended as `Read` or
+// `Write`: its place is free at once.
+fn unread_of(ended: Ended) -> Unread {
+    match ended {
+        Ended::Quit => Unread::Little,
+        Ended::Limit | Ended::NoMemory => Unread::Lines,
+        Ended::EndOfInput | Ended::Read | Ended::Write => Unread::Nothing,
+    }
+}
+
 // What becomes of the place of a connection that is over.
 fn left<S: Tally, T: Tally, A: Allocator>(
     number: u32,
@@ -99,7 +109,7 @@ fn left<S: Tally, T: Tally, A: Allocator>(
     ended: Ended,
     now: Option<Instant>,
 ) -> Slot<S, T, A> {
-    match Drain::begin(number, wire.into_stream(), ended, now) {
+    match Drain::begin(number, wire.into_stream(), unread_of(ended), now) {
         Some(drain) => Slot::Drained(drain, share),
         None => Slot::Free(share),
     }
@@ -116,7 +126,7 @@ impl<S: Tally, T: Tally, A: Allocator + Copy> Slot<S, T, A> {
         match self {
             Slot::Served(served) => Some(served.number),
             Slot::Drained(drain, _) => Some(drain.number),
-            Slot::Free(_) | Slot::Open => None,
+            Slot::Free(_) | Slot::TakenOut => None,
         }
     }
 
@@ -124,11 +134,11 @@ impl<S: Tally, T: Tally, A: Allocator + Copy> Slot<S, T, A> {
     pub fn serve<D: Device, G: Gate, H: Wait>(
         &mut self,
         worker: &Worker<'_, D, S, T, A, G, H>,
-        connection: Connection,
+        connection: Accepted,
         refuses_foreign: bool,
         now: Option<Instant>,
     ) {
-        let served = match mem::replace(self, Slot::Open) {
+        let served = match mem::replace(self, Slot::TakenOut) {
             Slot::Free(share) => serve(worker.alloc, connection, refuses_foreign, share, now),
             other => {
                 drop(connection);
@@ -140,11 +150,11 @@ impl<S: Tally, T: Tally, A: Allocator + Copy> Slot<S, T, A> {
 
     // Puts back what it holds from now on.
     fn put_back(&mut self, slot: Slot<S, T, A>)
-        requires { self.old ≡ slots.Open }
+        requires { self.old ≡ slots.TakenOut }
         ensures { self.new ≡ slot }
     {
         match mem::replace(self, slot) {
-            Slot::Open => {}
+            Slot::TakenOut => {}
             Slot::Free(_share) => unreachable!(),
             Slot::Served(_served) => unreachable!(),
             Slot::Drained(_drain, _share) => unreachable!(),
@@ -162,11 +172,19 @@ impl<S: Tally, T: Tally, A: Allocator + Copy> Slot<S, T, A> {
         }
     }
 
+    // What the next step of its dialogue is for.
+    fn awaits(&self) -> Option<Awaits> {
+        match self {
+            Slot::Served(served) => Some(served.dialogue.awaits()),
+            Slot::Free(_) | Slot::Drained(_, _) | Slot::TakenOut => None,
+        }
+    }
+
     /// Whether its client sent something that isn't heard.
     pub fn has_news(&self) -> bool {
         match self {
             Slot::Served(served) => served.is_ready && served.dialogue.awaits() == Awaits::Line,
-            Slot::Free(_) | Slot::Drained(_, _) | Slot::Open => false,
+            Slot::Free(_) | Slot::Drained(_, _) | Slot::TakenOut => false,
         }
     }
 
@@ -178,7 +196,7 @@ impl<S: Tally, T: Tally, A: Allocator + Copy> Slot<S, T, A> {
                 Awaits::Reply | Awaits::Leave | Awaits::Nothing
             ),
             Slot::Drained(_, _) => true,
-            Slot::Free(_) | Slot::Open => false,
+            Slot::Free(_) | Slot::TakenOut => false,
         }
     }
 
@@ -190,20 +208,18 @@ impl<S: Tally, T: Tally, A: Allocator + Copy> Slot<S, T, A> {
         }
     }
 
-    /// Whether its connection was ended, and still waits for room for a last leave.
-    pub fn is_leaving(&self) -> bool {
+    /// Whether a connection may have it, now or soon: its own was ended.
+    pub fn is_free_soon(&self) -> bool {
         match self {
             Slot::Served(served) => served.dialogue.awaits() == Awaits::Leave,
-            Slot::Free(_) | Slot::Drained(_, _) | Slot::Open => false,
+            Slot::Free(_) | Slot::Drained(_, _) => true,
+            Slot::TakenOut => false,
         }
     }
 
     /// Whether it waits for a claim.
     pub fn waits_for_claim(&self) -> bool {
-        match self {
-            Slot::Served(served) => served.dialogue.awaits() == Awaits::Claim,
-            Slot::Free(_) | Slot::Drained(_, _) | Slot::Open => false,
-        }
+        self.awaits() == Some(Awaits::Claim)
     }
 
     /// The queue of claims may have moved: if it waits for a claim, its next step looks again.
@@ -217,7 +233,7 @@ impl<S: Tally, T: Tally, A: Allocator + Copy> Slot<S, T, A> {
     /// Until when nothing is to be done, if nothing happens.
     pub fn deadline(&self, patience: Patience) -> Option<Instant> {
         match self {
-            Slot::Free(_) | Slot::Open => None,
+            Slot::Free(_) | Slot::TakenOut => None,
             Slot::Served(served) => served.deadline(patience),
             Slot::Drained(drain, _) => drain.deadline(),
         }
@@ -227,7 +243,7 @@ impl<S: Tally, T: Tally, A: Allocator + Copy> Slot<S, T, A> {
     pub fn silent_since(&self) -> Option<Instant> {
         match self {
             Slot::Served(served) => served.silent_since(),
-            Slot::Free(_) | Slot::Drained(_, _) | Slot::Open => None,
+            Slot::Free(_) | Slot::Drained(_, _) | Slot::TakenOut => None,
         }
     }
 
@@ -246,7 +262,7 @@ impl<S: Tally, T: Tally, A: Allocator + Copy> Slot<S, T, A> {
         now: Option<Instant>,
     ) -> Progress {
         let progress = match self {
-            Slot::Free(_) | Slot::Open => return Progress::Over,
+            Slot::Free(_) | Slot::TakenOut => return Progress::Over,
             Slot::Served(served) => served.turn(worker, patience, now),
             Slot::Drained(drain, _) => match drain.drain(now) {
                 Drained::Rests => Progress::Rests,
@@ -265,7 +281,7 @@ impl<S: Tally, T: Tally, A: Allocator + Copy> Slot<S, T, A> {
     #[cold]
     #[inline(never)]
     fn end(&mut self, now: Option<Instant>) -> Progress {
-        let left = mem::replace(self, Slot::Open).over(now);
+        let left = mem::replace(self, Slot::TakenOut).over(now);
         self.put_back(left);
         if self.is_free() {
             Progress::Over
@@ -283,7 +299,7 @@ impl<S: Tally, T: Tally, A: Allocator + Copy> Slot<S, T, A> {
                 drop(drain);
                 Slot::Free(share)
             }
-            Slot::Open => Slot::Open,
+            Slot::TakenOut => Slot::TakenOut,
         }
     }
 
@@ -299,7 +315,7 @@ impl<S: Tally, T: Tally, A: Allocator + Copy> Slot<S, T, A> {
                 drop(drain);
                 Some(share)
             }
-            Slot::Open => None,
+            Slot::TakenOut => None,
         }
     }
 }
@@ -313,21 +329,28 @@ impl<S: Tally, T: Tally, A: Allocator + Copy> Served<S, T, A> {
         }
     }
 
-    // Until when its client has time, or waits for a claim.
+    // Until when its client has time, or waits for a claim. One without a session has as long for its last reply as it had for `hello`.
     fn deadline(&self, patience: Patience) -> Option<Instant> {
-        if self.dialogue.awaits() == Awaits::Claim {
-            return behind(self.moved, patience.wait);
-        }
-        let idle = behind(Some(self.silent_since()?), patience.idle);
         let hello = if self.dialogue.has_session() {
             None
         } else {
-            behind(self.began, patience.hello)
+            patience.hello
         };
-        first_of(
-            idle,
-            first_of(hello, behind(self.line_began, patience.line)),
-        )
+        match self.dialogue.awaits() {
+            Awaits::Claim => behind(self.moved, patience.wait),
+            Awaits::Telling => first_of(
+                behind(self.moved, patience.idle),
+                behind(self.moved, hello),
+            ),
+            Awaits::Line => first_of(
+                behind(self.moved, patience.idle),
+                first_of(
+                    behind(self.began, hello),
+                    behind(self.line_began, patience.line),
+                ),
+            ),
+            Awaits::Reply | Awaits::Leave | Awaits::Nothing => None,
+        }
     }
 
     fn is_late(&self, patience: Patience, now: Option<Instant>) -> bool {
@@ -435,8 +458,7 @@ impl<S: Tally, T: Tally, A: Allocator + Copy> Served<S, T, A> {
             moved: _,
             line_began: _,
         } = self;
-        let (wire, share, ended) = parts_of(dialogue);
-        left(number, wire, share, ended, now)
+        left_of(number, dialogue, now)
     }
 
     // Its share, where its thread ends before it is over. It is given up, and gets no last leave.
@@ -455,25 +477,30 @@ impl<S: Tally, T: Tally, A: Allocator + Copy> Served<S, T, A> {
         } = self;
         let mut dialogue = dialogue;
         dialogue.give_up(worker);
-        let (wire, finished) = dialogue.finish();
+        let (wire, share, _) = parts_of(dialogue);
         drop(wire);
-        let Finished {
-            answers,
-            share,
-            ended: _,
-            left: _,
-        } = finished;
-        drop(answers);
         share
     }
 }
 
-// Its connection, its share, and why it ended. It is over: its session has its last leave.
+// What is left of one that is over: its session has its last leave.
+fn left_of<S: Tally, T: Tally, A: Allocator + Copy>(
+    number: u32,
+    dialogue: Dialogue<Wire, S, T, A>,
+    now: Option<Instant>,
+) -> Slot<S, T, A>
+    requires over { dialogue.is_over ≡ true }
+    requires ended { dialogue.has_ended ≡ true }
+{
+    let (wire, share, ended) = parts_of(dialogue);
+    left(number, wire, share, ended, now)
+}
+
+// Its connection, its share, and why it ended.
 fn parts_of<S: Tally, T: Tally, A: Allocator + Copy>(
     dialogue: Dialogue<Wire, S, T, A>,
 ) -> (Wire, Share<S, T>, Ended)
-    requires over { dialogue.is_over ≡ true }
-    requires ended { dialogue.has_ended ≡ true }
+    requires { dialogue.has_ended ≡ true }
 {
     let (wire, finished) = dialogue.finish();
     let Finished {
@@ -489,13 +516,4 @@ fn parts_of<S: Tally, T: Tally, A: Allocator + Copy>(
 // This time after a moment.
 fn behind(moment: Option<Instant>, time: Option<Duration>) -> Option<Instant> {
     moment?.checked_add(time?)
-}
-
-/// The first of two moments.
-pub(crate) fn first_of(one: Option<Instant>, other: Option<Instant>) -> Option<Instant> {
-    match (one, other) {
-        (Some(one), Some(other)) => Some(if one < other { one } else { other }),
-        (None, other) => other,
-        (one, None) => one,
-    }
 }

@@ -7,15 +7,19 @@ use Rattle.std.proofs.KnownBytes.{Appends-nil}
 use Rattle.line_inlet.specs.Inflow.{Inflow}
 use Rattle.vault_sessions.specs.Serving.{session_of, left_behind, lost_by, Counts, CountsWith, HeardAll, WritesAll}
 use Rattle.vault_sessions.specs.Talking.{Stands, TellsOn}
-use Rattle.vault_sessions.specs.Dialogues.{IsDone, StandsIn, is_done, has_ended}
+use Rattle.vault_sessions.specs.Dialogues.{IsDone, StandsIn, is_done, has_ended, awaits_of}
 use Rattle.vault_sessions.specs.declared.report.Out.{Out}
 use Rattle.vault_sessions.specs.declared.report.Ended.{Ended}
 use Rattle.vault_sessions.specs.declared.report.Ended.TheVariants as ends
+use Rattle.group_commit.specs.Ticket.{TicketSeen}
+use Rattle.vault_sessions.specs.declared.dialogue.Awaits.TheVariants as awaited
 use Rattle.vault_sessions.specs.declared.tally.Totals.{Totals}
 use Rattle.vault_sessions.specs.declared.turn.Telling.{Telling}
-use Rattle.vault_sessions.specs.declared.turn.Turn.TheVariants.{Hear, Tell, Over}
+use Rattle.vault_sessions.specs.declared.turn.Turn.{Turn}
+use Rattle.vault_sessions.specs.declared.turn.Turn.TheVariants.{Hear, Keep, Wait, Tell, Over}
 use Rattle.vault_sessions.specs.declared.turn.Next.{Next}
-use Rattle.vault_sessions.specs.declared.turn.Next.TheVariants.{Takes, GivenUp, Done, Open}
+use Rattle.vault_sessions.specs.declared.turn.Next.TheVariants.{Takes, GivenUp, Done, TakenOut}
+use Rattle.vault_sessions.specs.declared.waits.PendingWait.{PendingWait}
 use Rattle.vault_sessions.proofs.Heard.{hears_nothing, hears_end}
 use Rattle.vault_sessions.proofs.Told.{not_ended_left}
 use Rattle.vault_sessions.proofs.Talks.{part_end, ends_so, readers, told_on}
@@ -26,14 +30,43 @@ pub stands_for : {A : Type 0} (next : Next A) (r0 r w0 w : Option (List ℕ)) (s
 stands_for (Takes turn) r0 r w0 w s0 inflow kept is_long outs session share h = h.session_is
 stands_for (GivenUp ended) r0 r w0 w s0 inflow kept is_long outs session share h = h.session_is
 stands_for (Done ended left) r0 r w0 w s0 inflow kept is_long outs session share h = h.0.session_is
-stands_for Open r0 r w0 w s0 inflow kept is_long outs session share h = absurd h
+stands_for TakenOut r0 r w0 w s0 inflow kept is_long outs session share h = absurd h
 
 -- where no step is left it has ended
 pub done_ended : {A : Type 0} (next : Next A) → is_done next ≡ true → has_ended next ≡ true
 done_ended (Takes turn) e = absurd (cc)
 done_ended (GivenUp ended) e = refl
 done_ended (Done ended left) e = refl
-done_ended Open e = refl
+done_ended TakenOut e = refl
+
+-- a turn that isn't this one is for something else
+pub hears_no_more : {A : Type 0} (turn : Turn A) → (turn ≡ Hear → ⊥) → awaits_of (Takes turn) ≢ awaited.Line
+hears_no_more Hear other e = absurd (other refl)
+hears_no_more (Keep kept) other e = absurd (cc)
+hears_no_more (Wait ticket) other e = absurd (cc)
+hears_no_more (Tell telling) other e = absurd (cc)
+hears_no_more (Over ended) other e = absurd (cc)
+
+pub keeps_no_more : {A : Type 0} (turn : Turn A) → ((kept : PendingWait) → turn ≡ Keep kept → ⊥) → awaits_of (Takes turn) ≢ awaited.Claim
+keeps_no_more Hear other e = absurd (cc)
+keeps_no_more (Keep kept) other e = absurd (other kept refl)
+keeps_no_more (Wait ticket) other e = absurd (cc)
+keeps_no_more (Tell telling) other e = absurd (cc)
+keeps_no_more (Over ended) other e = absurd (cc)
+
+pub waits_no_more : {A : Type 0} (turn : Turn A) → ((ticket : TicketSeen) → turn ≡ Wait ticket → ⊥) → awaits_of (Takes turn) ≢ awaited.Reply
+waits_no_more Hear other e = absurd (cc)
+waits_no_more (Keep kept) other e = absurd (cc)
+waits_no_more (Wait ticket) other e = absurd (other ticket refl)
+waits_no_more (Tell telling) other e = absurd (cc)
+waits_no_more (Over ended) other e = absurd (cc)
+
+pub tells_no_more : {A : Type 0} (turn : Turn A) → ((telling : Telling A) → turn ≡ Tell telling → ⊥) → awaits_of (Takes turn) ≢ awaited.Telling
+tells_no_more Hear other e = absurd (cc)
+tells_no_more (Keep kept) other e = absurd (cc)
+tells_no_more (Wait ticket) other e = absurd (cc)
+tells_no_more (Tell telling) other e = absurd (other telling refl)
+tells_no_more (Over ended) other e = absurd (cc)
 
 -- what may be counted with some lost may be with more
 counts_less : {A : Type 0} (old new : Totals) (outs : List (Out A)) (lost more : ℕ) → CountsWith old outs lost new → CountsWith old outs (lost + more) new

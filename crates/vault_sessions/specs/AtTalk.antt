@@ -1,5 +1,6 @@
 -- What contracts see of a dialogue. This project's own.
 use Rattle.std.specs.Prelude.{ℕ, Bool, List, Option}
+use Rattle.vault_sessions.specs.declared.dialogue.Awaits.{Awaits}
 use Rattle.vault_sessions.specs.declared.tally.Totals.{Totals}
 
 -- what a dialogue began with: the bytes that its connection had to give, the bytes written to it, and what the share counted; also the
@@ -11,11 +12,12 @@ pub record Beginning : Type 0 where
   pub names : ℕ × ℕ
   pub keeps : Bool
 
--- what it began with, the bytes that its connection has to give now, the bytes written to it, whether no step is left, and whether it
--- may be finished: no step is left, or it was given up
+-- what it began with, the bytes that its connection has to give now, the bytes written to it, what its next step is for, whether no step
+-- is left, and whether it may be finished: no step is left, or it was given up
 pub record AtTalk : Type 0 where
   pub began : Beginning
   pub remaining : Option (List ℕ)
   pub contents : Option (List ℕ)
+  pub awaits : Awaits
   pub is_over : Bool
   pub has_ended : Bool

@@ -290,40 +290,34 @@ impl<D: Device, S: Tally, T: Tally, A: Allocator + Copy> Desk<D, S, T, A> {
     {
         let may_wait = session != 0 && !self.vault.is_broken();
         if may_wait && self.waits.count < most && self.is_queued(claim) {
-            self.waits.enter();
-            return Some(PendingWait {
-                claim,
-                moves: self.waits.moves,
-                is_let_go: false,
-            });
+            return Some(self.waits.enter(claim));
         }
         None
     }
 
-    // Whether a kept `wait` is to be staged: it was released, or its claim doesn't wait any more, or the vault is broken. Then one
-    // fewer is kept. It looks at the queue of claims only if that may have moved since the last look.
-    pub(crate) fn lets_go(&mut self, kept: &mut PendingWait) -> bool
+    // Gives the claim of a kept `wait` that is to be staged: it was released, or its claim doesn't wait any more, or the vault is
+    // broken. Else the `wait` comes back. It looks at the queue of claims only if that may have moved since the last look.
+    pub(crate) fn lets_go(&mut self, kept: PendingWait) -> Result<ClaimId, PendingWait>
         ensures same { self.new ≡ self.old }
-        ensures claim { kept.new.claim ≡ kept.old.claim }
-        ensures goes { IsTrue result → (kept.old.is_let_go ≡ true) ⊎ (self.old.vault.view.broken ≡ true)
-            ⊎ (IsQueued self.old.vault.view kept.old.claim → ⊥) }
-        ensures stays { result ≡ false → kept.old.is_let_go ≡ false }
+        ensures claim { IfOk result (λ claim. claim ≡ kept.claim) }
+        ensures goes { OnOk result ((kept.is_let_go ≡ true) ⊎ (self.old.vault.view.broken ≡ true)
+            ⊎ (IsQueued self.old.vault.view kept.claim → ⊥)) }
+        ensures stays { IfErr result (λ back. (back.claim ≡ kept.claim) × (kept.is_let_go ≡ false)) }
     {
-        let moves = self.waits.moves;
-        let is_kept = !kept.is_let_go
-            && (kept.moves == moves || !self.vault.is_broken() && self.is_queued(kept.claim));
-        kept.moves = moves;
-        if !is_kept {
-            self.waits.leave();
+        let stays = !kept.is_let_go
+            && (!self.waits.have_moved(&kept)
+                || !self.vault.is_broken() && self.is_queued(kept.claim));
+        if stays {
+            return Err(self.waits.stay(kept));
         }
-        !is_kept
+        Ok(self.waits.leave(kept))
     }
 
-    // A conversation that waits for a claim waits no longer.
-    pub(crate) fn stops_waiting(&mut self)
+    // A conversation that keeps a `wait` waits no longer.
+    pub(crate) fn stops_waiting(&mut self, kept: PendingWait)
         ensures { self.new ≡ self.old }
     {
-        self.waits.leave();
+        let _ = self.waits.leave(kept);
     }
 
     // The number of entries that aren't durable yet.

@@ -1,9 +1,9 @@
 //! One connection's conversation, from its first byte to its report: the code that serves is the code that is proved.
-ghost use Rattle.std.specs.Prelude.{◌≡◌, ◌≤◌, ◌↔◌, ◌||◌, ℕ, Bool, true, false, List, Option, None, IfOk, IfErr, length};
+ghost use Rattle.std.specs.Prelude.{◌≡◌, ◌≤◌, ◌↔◌, ◌||◌, ℕ, Bool, MatchBool, true, false, List, Option, None, IfOk, IfErr, length};
 ghost use Rattle.line_inlet.specs.Inflow.{Inflow};
 ghost use Rattle.vault_sessions.specs.Serving.{most_lines, HeardAll, SpeaksFor, session_of, CountsAll, WritesAll, QuitsBy};
 ghost use Rattle.vault_sessions.specs.Talking.{Stands, StandsAt};
-ghost use Rattle.vault_sessions.specs.Dialogues.{IsDone, StandsIn, TalksOn, HasLeft, is_done, has_ended};
+ghost use Rattle.vault_sessions.specs.Dialogues.{IsDone, StandsIn, TalksOn, HasLeft, StepsBy, is_done, has_ended, awaits_of};
 ghost use Rattle.vault_sessions.specs.declared.report.Out.{Out};
 ghost use Rattle.vault_sessions.specs.declared.tally.Totals.{Totals};
 ghost use Rattle.vault_sessions.specs.declared.turn.Turn.TheVariants as turns;
@@ -11,7 +11,6 @@ ghost use Rattle.vault_sessions.specs.declared.turn.Next.TheVariants as nexts;
 ghost use Rattle.vault_sessions.specs.declared.dialogue.Step.TheVariants as steps;
 ghost use Rattle.vault_sessions.specs.declared.dialogue.Awaits.TheVariants as awaited;
 
-use crate::connection::Connection;
 use crate::conversation::Conversation;
 use crate::gate::Gate;
 use crate::last_leave::LastLeave;
@@ -21,6 +20,7 @@ use crate::turn::{Next, Telling, Turn, tell};
 use crate::waits::PendingWait;
 use crate::worker::Worker;
 use group_commit::Ticket;
+use line_inlet::Connection;
 use std::alloc::Allocator;
 use std::marker::Model;
 use std::mem;
@@ -77,7 +77,7 @@ impl<C: Connection, S: Tally, T: Tally, A: Allocator> Model for Dialogue<C, S, T
 
     ghost Value = { AtTalk };
 
-    ghost use Rattle.vault_sessions.specs.Dialogues.{TalksOn, is_done, has_ended};
+    ghost use Rattle.vault_sessions.specs.Dialogues.{TalksOn, is_done, has_ended, awaits_of};
 
     ghost view = { λ d. record {
       began = record {
@@ -89,6 +89,7 @@ impl<C: Connection, S: Tally, T: Tally, A: Allocator> Model for Dialogue<C, S, T
       };
       remaining = C.remaining d.connection;
       contents = C.contents d.connection;
+      awaits = awaits_of d.next;
       is_over = is_done d.next;
       has_ended = has_ended d.next;
     } };
@@ -118,6 +119,7 @@ impl<C: Connection, S: Tally, T: Tally, A: Allocator + Copy> Dialogue<C, S, T, A
           };
           remaining = C.remaining connection;
           contents = C.contents connection;
+          awaits = awaited.Line;
           is_over = false;
           has_ended = false;
         }) }
@@ -143,6 +145,7 @@ impl<C: Connection, S: Tally, T: Tally, A: Allocator + Copy> Dialogue<C, S, T, A
         worker: &Worker<'_, D, S, T, A, G, H>,
     ) -> Step
         ensures began { self.new.began ≡ self.old.began }
+        ensures came { StepsBy result self.old.awaits self.new.awaits }
         ensures over { (result ≡ steps.Over) ↔ (self.new.is_over ≡ true) }
         ensures ended { self.new.has_ended ≡ (self.new.is_over || self.old.has_ended) }
         ensures silent { self.old.has_ended ≡ true → (self.new.remaining ≡ self.old.remaining) × (self.new.contents ≡ self.old.contents) }
@@ -158,11 +161,12 @@ impl<C: Connection, S: Tally, T: Tally, A: Allocator + Copy> Dialogue<C, S, T, A
         waits: bool,
     ) -> Step
         ensures began { self.new.began ≡ self.old.began }
+        ensures came { StepsBy result self.old.awaits self.new.awaits }
         ensures over { (result ≡ steps.Over) ↔ (self.new.is_over ≡ true) }
         ensures ended { self.new.has_ended ≡ (self.new.is_over || self.old.has_ended) }
         ensures silent { self.old.has_ended ≡ true → (self.new.remaining ≡ self.old.remaining) × (self.new.contents ≡ self.old.contents) }
     {
-        let next = mem::replace(&mut self.next, Next::Open);
+        let next = mem::replace(&mut self.next, Next::TakenOut);
         let (next, step) = advance(worker, waits, &mut self.talk, &mut self.connection, next);
         put_back(&mut self.next, next);
         step
@@ -171,10 +175,11 @@ impl<C: Connection, S: Tally, T: Tally, A: Allocator + Copy> Dialogue<C, S, T, A
     /// Reads and writes nothing more. A reply that it waits for is lost. If a session is open, a further step stages its last leave.
     pub fn give_up<D: Device, G: Gate, H: Wait>(&mut self, worker: &Worker<'_, D, S, T, A, G, H>)
         ensures same { (self.new.began ≡ self.old.began) × (self.new.is_over ≡ self.old.is_over) }
+        ensures leaves { MatchBool self.old.is_over (self.new.awaits ≡ awaited.Nothing) (self.new.awaits ≡ awaited.Leave) }
         ensures ended { self.new.has_ended ≡ true }
         ensures silent { (self.new.remaining ≡ self.old.remaining) × (self.new.contents ≡ self.old.contents) }
     {
-        let next = mem::replace(&mut self.next, Next::Open);
+        let next = mem::replace(&mut self.next, Next::TakenOut);
         let next = give_up(worker, next);
         put_back(&mut self.next, next);
     }
@@ -183,7 +188,7 @@ impl<C: Connection, S: Tally, T: Tally, A: Allocator + Copy> Dialogue<C, S, T, A
     pub fn let_go(&mut self)
         ensures { self.new ≡ self.old }
     {
-        let next = mem::replace(&mut self.next, Next::Open);
+        let next = mem::replace(&mut self.next, Next::TakenOut);
         let next = let_go(next);
         put_back(&mut self.next, next);
     }
@@ -219,6 +224,7 @@ impl<C: Connection, S: Tally, T: Tally, A: Allocator + Copy> Dialogue<C, S, T, A
 
     /// What its next step is for.
     pub fn awaits(&self) -> Awaits
+        ensures awaits { result ≡ self.now.awaits }
         ensures over { (result ≡ awaited.Nothing) ↔ (self.now.is_over ≡ true) }
         ensures ended { result ≡ awaited.Nothing → self.now.has_ended ≡ true }
     {
@@ -228,7 +234,7 @@ impl<C: Connection, S: Tally, T: Tally, A: Allocator + Copy> Dialogue<C, S, T, A
             Next::Takes(Turn::Wait(_)) => Awaits::Reply,
             Next::Takes(Turn::Tell(_)) => Awaits::Telling,
             Next::Takes(Turn::Over(_)) | Next::GivenUp(_) => Awaits::Leave,
-            Next::Done(_, _) | Next::Open => Awaits::Nothing,
+            Next::Done(_, _) | Next::TakenOut => Awaits::Nothing,
         }
     }
 
@@ -278,11 +284,11 @@ impl<C: Connection, S: Tally, T: Tally, A: Allocator + Copy> Dialogue<C, S, T, A
 
 // Puts back what comes next.
 fn put_back<A: Allocator>(place: &mut Next<A>, next: Next<A>)
-    requires { place.old ≡ nexts.Open }
+    requires { place.old ≡ nexts.TakenOut }
     ensures { place.new ≡ next }
 {
     match mem::replace(place, next) {
-        Next::Open => {}
+        Next::TakenOut => {}
         Next::Takes(_turn) => unreachable!(),
         Next::GivenUp(_) => unreachable!(),
         Next::Done(_, _) => unreachable!(),
@@ -302,6 +308,7 @@ fn advance<D: Device, S: Tally, T: Tally, A: Allocator + Copy, G: Gate, H: Wait,
         → TalksOn next reader_old (C.remaining connection.old) writer_old (C.contents connection.old) counts talk.old
         → TalksOn result.0 reader_old (C.remaining connection.new) writer_old (C.contents connection.new) counts talk.new }
     ensures same { (C.names connection.new ≡ C.names connection.old) × (talk.new.answers.is_kept ≡ talk.old.answers.is_kept) }
+    ensures came { StepsBy result.1 (awaits_of next) (awaits_of result.0) }
     ensures over { (result.1 ≡ steps.Over) ↔ (is_done result.0 ≡ true) }
     ensures ended { has_ended result.0 ≡ (is_done result.0 || has_ended next) }
     ensures silent { has_ended next ≡ true
@@ -315,7 +322,7 @@ fn advance<D: Device, S: Tally, T: Tally, A: Allocator + Copy, G: Gate, H: Wait,
         Next::Takes(Turn::Over(ended)) => leave(worker, waits, talk, ended, false),
         Next::GivenUp(ended) => leave(worker, waits, talk, ended, true),
         Next::Done(ended, left) => (Next::Done(ended, left), Step::Over),
-        Next::Open => (Next::Open, Step::Over),
+        Next::TakenOut => (Next::TakenOut, Step::Over),
     }
 }
 
@@ -329,6 +336,7 @@ fn hear<D: Device, S: Tally, T: Tally, A: Allocator + Copy, G: Gate, H: Wait, C:
         → StandsAt turns.Hear reader_old (C.remaining connection.old) writer_old (C.contents connection.old) counts talk.old
         → TalksOn result.0 reader_old (C.remaining connection.new) writer_old (C.contents connection.new) counts talk.new }
     ensures same { (C.names connection.new ≡ C.names connection.old) × (talk.new.answers.is_kept ≡ talk.old.answers.is_kept) }
+    ensures came { StepsBy result.1 awaited.Line (awaits_of result.0) }
     ensures over { (result.1 ≡ steps.Over) ↔ (is_done result.0 ≡ true) }
     ensures ended { has_ended result.0 ≡ is_done result.0 }
 {
@@ -349,6 +357,7 @@ fn stage_kept<D: Device, S: Tally, T: Tally, A: Allocator + Copy, G: Gate, H: Wa
         → StandsAt (turns.Keep kept) reader_old reader_new writer_old writer_new counts talk.old
         → TalksOn result.0 reader_old reader_new writer_old writer_new counts talk.new }
     ensures kept { talk.new.answers.is_kept ≡ talk.old.answers.is_kept }
+    ensures came { StepsBy result.1 awaited.Claim (awaits_of result.0) }
     ensures over { (result.1 ≡ steps.Over) ↔ (is_done result.0 ≡ true) }
     ensures ended { has_ended result.0 ≡ is_done result.0 }
 {
@@ -369,6 +378,7 @@ fn settle<D: Device, S: Tally, T: Tally, A: Allocator + Copy, G: Gate, H: Wait>(
         → StandsAt (turns.Wait ticket) reader_old reader_new writer_old writer_new counts talk.old
         → TalksOn result.0 reader_old reader_new writer_old writer_new counts talk.new }
     ensures kept { talk.new.answers.is_kept ≡ talk.old.answers.is_kept }
+    ensures came { StepsBy result.1 awaited.Reply (awaits_of result.0) }
     ensures over { (result.1 ≡ steps.Over) ↔ (is_done result.0 ≡ true) }
     ensures ended { has_ended result.0 ≡ is_done result.0 }
 {
@@ -385,6 +395,7 @@ fn tell_on<A: Allocator, C: Connection>(connection: &mut C, telling: Telling<A>)
         → Stands (turns.Tell telling) reader_old (C.remaining connection.old) writer_old (C.contents connection.old) counts inflow kept is_long outs session share
         → StandsIn result.0 reader_old (C.remaining connection.new) writer_old (C.contents connection.new) counts inflow kept is_long outs session share }
     ensures same { C.names connection.new ≡ C.names connection.old }
+    ensures came { StepsBy result.1 awaited.Telling (awaits_of result.0) }
     ensures over { (result.1 ≡ steps.Over) ↔ (is_done result.0 ≡ true) }
     ensures ended { has_ended result.0 ≡ is_done result.0 }
 {
@@ -408,6 +419,7 @@ fn leave<D: Device, S: Tally, T: Tally, A: Allocator + Copy, G: Gate, H: Wait>(
         → StandsAt (turns.Over ended) reader_old reader_new writer_old writer_new counts talk.old
         → TalksOn result.0 reader_old reader_new writer_old writer_new counts talk.new }
     ensures kept { talk.new.answers.is_kept ≡ talk.old.answers.is_kept }
+    ensures came { StepsBy result.1 awaited.Leave (awaits_of result.0) }
     ensures over { (result.1 ≡ steps.Over) ↔ (is_done result.0 ≡ true) }
     ensures ended { has_ended result.0 ≡ (is_done result.0 || is_given_up) }
 {
@@ -447,8 +459,8 @@ fn end_turn<D: Device, S: Tally, T: Tally, A: Allocator + Copy, G: Gate, H: Wait
 {
     match turn {
         Turn::Hear => Ended::Read,
-        Turn::Keep(_) => {
-            worker.stops_waiting();
+        Turn::Keep(kept) => {
+            worker.stops_waiting(kept);
             Ended::Read
         }
         Turn::Wait(ticket) => {
@@ -482,13 +494,10 @@ fn let_go<A: Allocator>(next: Next<A>) -> Next<A>
         (outs : List (Out A)) (session : ℕ) (share : Totals)
         → StandsIn next reader_old reader_new writer_old writer_new counts inflow kept is_long outs session share
         → StandsIn result reader_old reader_new writer_old writer_new counts inflow kept is_long outs session share }
-    ensures same { (has_ended result ≡ has_ended next) × (is_done result ≡ is_done next) }
+    ensures same { (has_ended result ≡ has_ended next) × (is_done result ≡ is_done next) × (awaits_of result ≡ awaits_of next) }
 {
     match next {
-        Next::Takes(Turn::Keep(kept)) => Next::Takes(Turn::Keep(PendingWait {
-            is_let_go: true,
-            ..kept
-        })),
+        Next::Takes(Turn::Keep(kept)) => Next::Takes(Turn::Keep(kept.let_go(true))),
         next => next,
     }
 }
@@ -502,13 +511,14 @@ fn give_up<D: Device, S: Tally, T: Tally, A: Allocator + Copy, G: Gate, H: Wait>
         (outs : List (Out A)) (session : ℕ) (share : Totals)
         → StandsIn next reader_old reader_new writer_old writer_new counts inflow kept is_long outs session share
         → StandsIn result reader_old reader_new writer_old writer_new counts inflow kept is_long outs session share }
+    ensures leaves { MatchBool (is_done next) (awaits_of result ≡ awaited.Nothing) (awaits_of result ≡ awaited.Leave) }
     ensures ended { (has_ended result ≡ true) × (is_done result ≡ is_done next) }
 {
     match next {
         Next::Takes(turn) => Next::GivenUp(end_turn(worker, turn)),
         Next::GivenUp(ended) => Next::GivenUp(ended),
         Next::Done(ended, left) => Next::Done(ended, left),
-        Next::Open => Next::Open,
+        Next::TakenOut => Next::TakenOut,
     }
 }
 
@@ -529,6 +539,6 @@ fn end<A: Allocator>(next: Next<A>) -> (Ended, Option<LastLeave>)
         Next::Takes(_turn) => unreachable!(),
         Next::GivenUp(ended) => (ended, None),
         Next::Done(ended, left) => (ended, Some(left)),
-        Next::Open => (Ended::Read, None),
+        Next::TakenOut => (Ended::Read, None),
     }
 }

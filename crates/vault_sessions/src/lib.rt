@@ -6,7 +6,9 @@
 //! with no premise on the caller, and `finish` gives it once the dialogue has ended. `serve_one` is a loop over these steps. An answer
 //! that speaks of the vault's state was made from a vault in that state (`Cause`, `NotStaged`). The shares of all workers sum to what the history
 //! grew by (`gather`). A pump, the start of a snapshot and the retiring of an entry are one act of the vault each, and change no tally
-//! (`Desk`). For `run_flusher`, `Flusher`, `Shared::close` and `Worker::forget` only safety is proved.
+//! (`Desk`). What the next step of a dialogue is for is said, and how each step changes that (`Dialogue::awaits`). For `run_flusher`,
+//! `Flusher`, `Shared::close`, `Worker::forget`, `Worker::moves`, `Dialogue::has_session` and `Dialogue::is_within_line` only safety is
+//! proved.
 //! Stands on: group_commit, flusher_pace, vault_lines, line_inlet, and what they stand on. Must not know: what a command does, what a
 //! file holds, what a socket is.
 //!
@@ -30,12 +32,12 @@
 
 mod answers;
 mod cause;
-mod connection;
 mod conversation;
 mod desk;
 mod dialogue;
 mod flusher;
 mod gate;
+mod joined;
 mod last_leave;
 mod looked;
 mod report;
@@ -48,7 +50,6 @@ mod worker;
 
 pub use answers::Answers;
 pub use cause::Cause;
-pub use connection::Connection;
 pub use desk::{Desk, Due};
 pub use dialogue::{Awaits, Dialogue, Step};
 pub use flusher::{Flushed, Flusher, run_flusher};

@@ -23,13 +23,13 @@ pub enum Ended {
     Quit,
     /// The reader has no more lines.
     EndOfInput,
-    /// The reader failed, or was called too often.
+    /// The reader failed, or was called too often, or the dialogue was given up before it wrote an answer.
     Read,
-    /// The writer failed, or took nothing.
+    /// The writer failed, or took nothing, or the dialogue was given up amid an answer.
     Write,
     /// A byte came after the most lines or the most bytes.
     Limit,
-    /// An allocation was refused.
+    /// An allocation was refused, or the dialogue was given up while it waited for a reply.
     NoMemory,
 }
 

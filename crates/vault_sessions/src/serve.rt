@@ -2,13 +2,14 @@
 ghost use Rattle.std.specs.Prelude.{◌≡◌, ◌≤◌, length, true};
 ghost use Rattle.vault_sessions.specs.Serving.{most_lines, HeardAll, SpeaksFor, CountsAll, WritesAll, QuitsBy};
 
-use crate::connection::{Connection, Ear, Joined};
 use crate::dialogue::{Dialogue, Step};
 use crate::gate::Gate;
+use crate::joined::{Ear, Joined};
 use crate::report::{Ended, Finished, Report};
 use crate::shared::Shared;
 use crate::tally::{Share, Tally};
 use crate::worker::Worker;
+use line_inlet::Connection;
 use std::alloc::Allocator;
 use std::io::{Read, Write};
 use std::sync::Wait;

@@ -3,11 +3,11 @@ ghost use Rattle.std.specs.Prelude.{◌≡◌, IfOk, MatchBool};
 ghost use Rattle.vault_sessions.specs.Serving.{session_after as session_after_out, text_of as text_of_answer, IsLeft};
 ghost use Rattle.vault_sessions.specs.Talking.{TellsOn, StoppedBy};
 
-use crate::connection::Connection;
 use crate::last_leave::LastLeave;
 use crate::report::{Ended, Out};
 use crate::waits::PendingWait;
 use group_commit::Ticket;
+use line_inlet::Connection;
 use std::alloc::Allocator;
 use std::io::{self, ErrorKind};
 use vault_lines::{outside_text, text_of};
@@ -47,7 +47,7 @@ pub(crate) enum Next<A: Allocator> {
     // Nothing. The open session, if there was one, has its last leave, or can't get one.
     Done(Ended, LastLeave),
     // Its turn is taken out, and comes back in a moment.
-    Open,
+    TakenOut,
 }
 
 /// Writes more of an answer. If the connection takes no more for now, the rest is still to be written. Gives the error that stopped it,

@@ -1,16 +1,34 @@
 //! Who waits for a claim, by `wait`.
+ghost use Rattle.std.specs.Prelude.{◌≡◌, ◌||◌, false};
 
 use vault_model::{ClaimId, Command};
 
-/// A `wait` that was heard and isn't staged yet.
-#[derive(Debug, Clone, Copy, PartialEq, Eq)]
+/// A `wait` that was heard and isn't staged yet. Only those who count them make one, and take one back.
 pub struct PendingWait {
     /// The claim that it waits for.
     pub claim: ClaimId,
-    /// The number of commands staged that may move the queue of claims, when the queue was looked at last.
-    pub moves: u64,
     /// Whether it is staged next, however the claim stands.
     pub is_let_go: bool,
+    // The number of commands staged that may move the queue of claims, when the queue was looked at last.
+    moves: u64,
+}
+
+impl PendingWait {
+    /// The same one. With `goes` it is staged next.
+    pub fn let_go(self, goes: bool) -> PendingWait
+        ensures { (result.claim ≡ self.claim) × (result.is_let_go ≡ (self.is_let_go || goes)) }
+    {
+        let PendingWait {
+            claim,
+            is_let_go,
+            moves,
+        } = self;
+        PendingWait {
+            claim,
+            is_let_go: is_let_go || goes,
+            moves,
+        }
+    }
 }
 
 /// How many wait, and when it is worth while to look at the queue of claims again.
@@ -33,14 +51,50 @@ impl Waits {
         self.moves = self.moves.wrapping_add(1);
     }
 
-    /// One more waits.
-    pub fn enter(&mut self) {
+    /// One more waits, for this claim.
+    pub fn enter(&mut self, claim: ClaimId) -> PendingWait
+        ensures { (result.claim ≡ claim) × (result.is_let_go ≡ false) }
+    {
         self.count = self.count.saturating_add(1);
+        PendingWait {
+            claim,
+            is_let_go: false,
+            moves: self.moves,
+        }
     }
 
-    /// One waits no longer.
-    pub fn leave(&mut self) {
+    /// Whether the queue of claims may have moved since it was looked at for this one.
+    pub fn have_moved(&self, kept: &PendingWait) -> bool {
+        kept.moves != self.moves
+    }
+
+    /// This one waits on: the queue of claims was looked at.
+    pub fn stay(&self, kept: PendingWait) -> PendingWait
+        ensures { (result.claim ≡ kept.claim) × (result.is_let_go ≡ kept.is_let_go) }
+    {
+        let PendingWait {
+            claim,
+            is_let_go,
+            moves: _,
+        } = kept;
+        PendingWait {
+            claim,
+            is_let_go,
+            moves: self.moves,
+        }
+    }
+
+    /// This one waits no longer. The claim that it waited for.
+    pub fn leave(&mut self, kept: PendingWait) -> ClaimId
+        ensures { result ≡ kept.claim }
+    {
+        let PendingWait {
+            claim,
+            is_let_go: _,
+            moves: _,
+        } = kept;
         self.count = self.count.saturating_sub(1);
+        claim
     }
 }
 

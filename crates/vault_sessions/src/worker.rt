@@ -12,7 +12,6 @@ ghost use Rattle.vault_model.specs.declared.commands.Command.TheVariants.{Await,
 
 use crate::answers::Answers;
 use crate::cause::{Cause, NotStaged};
-use crate::connection::Connection;
 use crate::conversation::Conversation;
 use crate::gate::{Gate, Point};
 use crate::last_leave::LastLeave;
@@ -24,12 +23,12 @@ use crate::turn::{Telling, Turn, is_left, session_after, text_of_out};
 use crate::waits::PendingWait;
 use flusher_pace::may_change;
 use group_commit::Ticket;
-use line_inlet::{NextByte, NextLine};
+use line_inlet::{Connection, NextByte, NextLine};
 use std::alloc::Allocator;
 use std::sync::Wait;
 use vault_device::Device;
 use vault_lines::{LineError, read_line_of};
-use vault_model::{Command, CommandIn, NoMemory, Outside};
+use vault_model::{ClaimId, Command, CommandIn, NoMemory, Outside};
 
 // The most lines of a connection that are answered. The conversation ends at the first byte after them.
 const MAX_LINES: usize = 4096;
@@ -203,19 +202,19 @@ impl<D: Device, S: Tally, T: Tally, A: Allocator + Copy, G: Gate, H: Wait> Worke
             .keep(session, *claim, self.most_waits)
     }
 
-    // Whether a kept `wait` is to be staged now. One that was released is.
-    fn lets_go(&self, kept: &mut PendingWait) -> bool
-        ensures claim { kept.new.claim ≡ kept.old.claim }
-        ensures stays { result ≡ false → kept.old.is_let_go ≡ false }
+    // Gives the claim of a kept `wait` that is to be staged now. One that was released is.
+    fn lets_go(&self, kept: PendingWait) -> Result<ClaimId, PendingWait>
+        ensures claim { IfOk result (λ claim. claim ≡ kept.claim) }
+        ensures stays { IfErr result (λ back. (back.claim ≡ kept.claim) × (kept.is_let_go ≡ false)) }
     {
         let shared = self.shared;
         shared.desk.lock(self.rt).lets_go(kept)
     }
 
-    /// A conversation that waits for a claim waits no longer, and stages nothing.
-    pub(crate) fn stops_waiting(&self) {
+    /// A conversation that keeps a `wait` waits no longer, and stages nothing.
+    pub(crate) fn stops_waiting(&self, kept: PendingWait) {
         let shared = self.shared;
-        shared.desk.lock(self.rt).stops_waiting();
+        shared.desk.lock(self.rt).stops_waiting(kept);
     }
 
     /// The number of commands staged by now that may have moved the queue of claims. A conversation that waits for a claim needs no
@@ -237,15 +236,14 @@ impl<D: Device, S: Tally, T: Tally, A: Allocator + Copy, G: Gate, H: Wait> Worke
             → StandsAt result reader_old reader_new writer_old writer_new counts talk.new }
         ensures kept { talk.new.answers.is_kept ≡ talk.old.answers.is_kept }
     {
-        let mut kept = kept;
-        kept.is_let_go = kept.is_let_go || waits;
-        if !self.lets_go(&mut kept) {
-            return Turn::Keep(kept);
-        }
+        let claim = match self.lets_go(kept.let_go(waits)) {
+            Ok(claim) => claim,
+            Err(kept) => return Turn::Keep(kept),
+        };
         if talk.answers.reserve().is_err() {
             return Turn::Over(Ended::NoMemory);
         }
-        match self.stage(talk.session, Command::Await(kept.claim), &mut talk.share) {
+        match self.stage(talk.session, Command::Await(claim), &mut talk.share) {
             Ok(ticket) => {
                 self.gate.at(Point::Staged(talk.connection));
                 Turn::Wait(ticket)

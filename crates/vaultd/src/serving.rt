@@ -131,12 +131,12 @@ fn failure_of(error: ServerError) -> Failure {
 
 /// Says on standard error what ends the server, as soon as it happens.
 #[derive(Drop)]
-struct Door<'a, 'p, R> {
+struct Reporter<'a, 'p, R> {
     teller: &'a Teller<'p, R>,
     address: &'p str,
 }
 
-impl<R: Eprint> Gate for Door<'_, '_, R> {
+impl<R: Eprint> Gate for Reporter<'_, '_, R> {
     fn at(&self, _point: Point) {}
 
     fn accepts_no_more(&self, why: io::Error) {
@@ -178,12 +178,12 @@ pub(crate) fn serve<
     };
     introduce(rt, serving, &listener, survey);
     let options = options_of(serving);
-    let door = Door {
+    let reporter = Reporter {
         teller,
         address: serving.address,
     };
     teller.begin_serving();
-    let served = run_server_on(rt, rt.alloc(), listener, vault, &options, &door);
+    let served = run_server_on(rt, rt.alloc(), listener, vault, &options, &reporter);
     let (vault, _) = served.map_err(failure_of)?;
     let is_broken = vault.is_broken();
     drop(vault);

@@ -1,6 +1,7 @@
 use Rattle.std.proofs.Common.{rules}
 use Rattle.vault_sessions.specs.declared.turn.Turn.TheVariants.{Tell}
 use Rattle.vault_sessions.proofs.Talks.{told_on}
+use Rattle.vault_sessions.proofs.Dialogues.{tells_no_more}
 use Rattle.vault_sessions.proofs.dialogue.tell_on.Goals as goal
 
 pub returns-in-Tell-clause-stands : goal.returns-in-Tell-clause-stands
@@ -13,6 +14,7 @@ returns-in_default g c = record {
   stands = λ r0 w0 s0 inflow kept is_long outs session share h.
       rw c.tell-turn.ensures.same.0 (told_on c.args.telling c.tell-turn.result.0 r0 _ w0 _ _ s0 inflow kept is_long outs session share c.tell-turn.ensures.told h);
   same = c.tell-turn.ensures.same.1;
+  came = tells_no_more c.tell-turn.result.0 c.in_default.not-Tell;
   over = search rules;
   ended = search rules;
 }

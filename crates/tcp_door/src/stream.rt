@@ -4,7 +4,7 @@ ghost use Rattle.libc.specs.Net.{SockOption};
 
 use first_line::FirstLine;
 use libc::net as c;
-use line_inlet::{Inlet, NextByte, NextLine};
+use line_inlet::{Connection, Inlet, NextByte, NextLine};
 use std::alloc::Allocator;
 use std::io::{self, ErrorKind, Read, Write};
 use std::net::{Shutdown, TcpStream};
@@ -12,7 +12,6 @@ use std::os::fd::AsRawFd;
 use std::time::{Duration, Instant};
 use vault_lines::outside_text;
 use vault_model::Outside;
-use vault_sessions::{Connection, Ended};
 
 // Keep-alive, in seconds: the kernel probes a client that said nothing for a minute, six times, ten seconds apart, and then ends the
 // connection. It also ends one that takes nothing of what was sent for as long: the last number, in milliseconds.
@@ -39,7 +38,7 @@ const BYTES_A_ROUND: usize = 8_192;
 // since.
 const WAIT: u64 = 1000;
 
-const WAIT_BEHIND_QUIT: u64 = 100;
+const SHORT_WAIT: u64 = 100;
 
 // Sets an option of a connection to a number. The kernel may refuse it, and nothing depends on it.
 fn set(stream: &TcpStream, level: i32, option: i32, number: u32)
@@ -69,7 +68,7 @@ pub(crate) fn prepare(stream: &TcpStream) -> io::Result<()> {
 
 /// Tells a connection that there is no place for it, and ends it. What it sent by now is read first: a connection that is dropped with
 /// bytes unread is reset, and then the client may lose the answer.
-pub(crate) fn turn_away<A: Allocator + Copy>(alloc: A, stream: TcpStream) {
+pub fn turn_away<A: Allocator + Copy>(alloc: A, stream: TcpStream) {
     let mut both = &stream;
     let mut chunk = [0; 4096];
     for _ in 0..CHUNKS_A_ROUND {
@@ -89,7 +88,7 @@ pub(crate) fn turn_away<A: Allocator + Copy>(alloc: A, stream: TcpStream) {
 /// one round it gives bytes until there are `BYTES_A_ROUND`, and then says that it has none for now. If its first line is another
 /// protocol's, it gives its end in place of the bytes that show this, and of all after them.
 #[derive(Drop)]
-pub(crate) struct Wire {
+pub struct Wire {
     stream: TcpStream,
     // Whether nothing is there.
     is_dry: bool,
@@ -188,11 +187,22 @@ impl Connection for Wire {
     }
 }
 
+/// What a client may still send, whose connection is over.
+#[derive(Debug, Clone, Copy, PartialEq, Eq)]
+pub enum Unread {
+    /// Little: it has quit.
+    Little,
+    /// More lines, which aren't answered.
+    Lines,
+    /// Nothing that is waited for.
+    Nothing,
+}
+
 /// A connection that is over. What its client still sends is thrown away until nothing has come for a while, but for 5 seconds and 16
 /// MiB at most. A connection that is dropped with bytes unread is reset, and then a client that reads late loses replies that were
 /// written.
 #[derive(Drop)]
-pub(crate) struct Drain {
+pub struct Drain {
     /// The number of its connection.
     pub number: u32,
     stream: TcpStream,
@@ -204,18 +214,17 @@ pub(crate) struct Drain {
 }
 
 impl Drain {
-    /// Lets the client know that no more comes on a connection that ended so. None if nothing is unread, nobody reads, or the time
-    /// isn't known.
+    /// Lets the client know that no more comes. None if nothing is waited for, nobody reads, or the time isn't known.
     pub fn begin(
         number: u32,
         stream: TcpStream,
-        ended: Ended,
+        unread: Unread,
         now: Option<Instant>,
     ) -> Option<Drain> {
-        let wait = match ended {
-            Ended::Quit => WAIT_BEHIND_QUIT,
-            Ended::Limit | Ended::NoMemory => WAIT,
-            Ended::EndOfInput | Ended::Read | Ended::Write => return None,
+        let wait = match unread {
+            Unread::Little => SHORT_WAIT,
+            Unread::Lines => WAIT,
+            Unread::Nothing => return None,
         };
         let now = now?;
         if stream.shutdown(Shutdown::Write).is_err() {
@@ -275,7 +284,7 @@ impl Drain {
 
 /// What throwing away came to.
 #[derive(Debug, Clone, Copy, PartialEq, Eq)]
-pub(crate) enum Drained {
+pub enum Drained {
     /// Nothing is there, and more may come.
     Rests,
     /// There is more.

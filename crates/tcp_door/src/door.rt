@@ -1,8 +1,7 @@
 //! Accepts connections, which wait here for a place.
 
 use crate::bells::Bell;
-use crate::server::{Connection, ServerError, ServerOptions};
-use crate::slot::first_of;
+use crate::moments::first_of;
 use crate::stream::{prepare, turn_away};
 use crossbeam_channel::{Receiver, Sender};
 use mio::unix::SourceFd;
@@ -14,7 +13,7 @@ use std::os::fd::AsRawFd;
 use std::sync::Wait;
 use std::sync::atomic::{AtomicBool, Ordering};
 use std::time::{Clock, Duration, Instant};
-use vault_sessions::Gate;
+use thiserror::Error;
 
 // How many connections wait for a place at most. The kernel keeps some more that aren't accepted yet.
 const MAX_WAITING: usize = 64;
@@ -35,9 +34,42 @@ const LISTENER: Token = Token(0);
 
 const MAX_EVENTS: usize = 4;
 
+/// Why a door lets nobody in any more.
+#[derive(Debug, Clone, Copy, PartialEq, Eq, Error)]
+pub enum DoorError {
+    /// Accepting connections failed for good.
+    #[error("read fault")]
+    Accept,
+    /// An allocation was refused, here or by a thread that serves, or the system gives nothing to wait by.
+    #[error("want of memory")]
+    NoMemory,
+}
+
+/// Whom a door lets in.
+#[derive(Debug, Clone, Copy, PartialEq, Eq)]
+pub struct DoorOptions {
+    /// How many places the threads have in all.
+    pub places: usize,
+    /// After how many connections it lets nobody in, including those that were turned away. None: it goes on.
+    pub connections: Option<u32>,
+    /// For how long a connection waits for a place. Then it is answered `Busy`, and ended. None: as long as it takes.
+    pub wait: Option<Duration>,
+    /// How many connections there may be at once from one address, except from a loopback's. None: any number.
+    pub per_address: Option<u32>,
+}
+
+/// An accepted connection, with its number.
+#[derive(Drop)]
+pub struct Accepted {
+    /// Connections are numbered from 1, and the number wraps.
+    pub number: u32,
+    /// Its socket: a read or a write that would wait says so.
+    pub stream: TcpStream,
+}
+
 /// What a serving thread says to the door.
 #[derive(Debug, Clone, Copy, PartialEq, Eq)]
-pub(crate) enum News {
+pub enum News {
     /// This thread has one place more.
     Place(usize),
     /// This thread has one place more, since the connection of this number is over.
@@ -48,7 +80,7 @@ pub(crate) enum News {
 
 /// Those who wait for a place, as the serving threads see them.
 #[derive(Drop)]
-pub(crate) struct Crowd {
+pub struct Crowd {
     bell: Bell,
     // Whether somebody waits for a place, and another connection may be ended for that.
     presses: AtomicBool,
@@ -82,7 +114,7 @@ impl Crowd {
 // A connection that waits, and until when.
 #[derive(Drop)]
 struct Waiting {
-    connection: Connection,
+    connection: Accepted,
     until: Option<Instant>,
 }
 
@@ -102,33 +134,41 @@ struct Queue<A: Allocator> {
     // Whether more connections may be there by now than were accepted.
     may_more: bool,
     // Whether nobody is accepted any more: enough were, or accepting failed for good.
-    closed: Option<Result<(), ServerError>>,
+    closed: Option<Result<(), DoorError>>,
 }
 
 /// Accepts connections, and hands them to the threads that serve.
 #[derive(Drop)]
-pub(crate) struct Door<'a, A: Allocator, H> {
+pub struct Door<'a, A: Allocator, H> {
+    /// What it waits by, and what tells the time.
     pub rt: &'a H,
+    /// Where its memory is from.
     pub alloc: A,
+    /// Where connections come.
     pub listener: &'a TcpListener,
-    /// How each thread gets its connections, and what wakes it.
-    pub senders: &'a Vec<Sender<Connection, A>, A>,
+    /// How each thread gets its connections.
+    pub senders: &'a Vec<Sender<Accepted, A>, A>,
+    /// What wakes each thread.
     pub bells: &'a Vec<Bell, A>,
     /// What the threads say.
     pub news: &'a Receiver<News, A>,
+    /// Those who wait, as the threads see them.
     pub crowd: &'a Crowd,
-    pub options: ServerOptions,
+    /// Whom it lets in.
+    pub options: DoorOptions,
 }
 
 impl<A: Allocator + Copy, H: Wait + Clock> Door<'_, A, H> {
     /// Hands connections out until there were enough, or no more can be accepted. A connection that came by then is served, or told
-    /// that there is no place.
-    pub fn keep<G: Gate>(&self, poll: Poll, gate: &G) -> Result<(), ServerError> {
+    /// that there is no place. `report` is called at once where accepting fails for good, with the system's error.
+    pub fn keep<F: Fn(io::Error)>(&self, poll: Poll, report: F) -> Result<(), DoorError>
+        requires { F.IsAlwaysCallable report }
+    {
         let mut poll = poll;
         let mut queue = self.queue()?;
         let fd = self.listener.as_raw_fd();
         let mut events = Events::with_capacity(self.alloc, MAX_EVENTS).or(Err(
-            ServerError::NoMemory,
+            DoorError::NoMemory,
         ))?;
         let is_ready = self.listener.set_nonblocking(true).is_ok()
             && poll
@@ -136,11 +176,11 @@ impl<A: Allocator + Copy, H: Wait + Clock> Door<'_, A, H> {
                 .register(&mut SourceFd(&fd), LISTENER, Interest::READABLE)
                 .is_ok();
         if !is_ready {
-            return Err(ServerError::NoMemory);
+            return Err(DoorError::NoMemory);
         }
         for _ in self.rt.forever() {
             let now = Instant::now(self.rt).ok();
-            let is_faulty = self.accept(&mut queue, now, gate);
+            let is_faulty = self.accept(&mut queue, now, &report);
             self.listen(&mut queue)?;
             self.hand_out(&mut queue)?;
             self.turn_late_away(&mut queue, now);
@@ -152,11 +192,11 @@ impl<A: Allocator + Copy, H: Wait + Clock> Door<'_, A, H> {
             let _ = poll.poll(&mut events, wait);
             queue.may_more = queue.may_more || events.iter().any(|event| event.token() == LISTENER);
         }
-        Err(ServerError::NoMemory)
+        Err(DoorError::NoMemory)
     }
 
     // An empty queue.
-    fn queue(&self) -> Result<Queue<A>, ServerError> {
+    fn queue(&self) -> Result<Queue<A>, DoorError> {
         let mut queue = Queue {
             waiting: Vec::new(self.alloc),
             places: Vec::new(self.alloc),
@@ -172,18 +212,25 @@ impl<A: Allocator + Copy, H: Wait + Clock> Door<'_, A, H> {
             },
         };
         let has_room = queue.waiting.reserve(MAX_WAITING).is_ok()
-            && queue.places.reserve(self.options.workers).is_ok()
+            && queue.places.reserve(self.options.places).is_ok()
             && queue.here.reserve(MAX_HERE).is_ok();
         if has_room {
             Ok(queue)
         } else {
             drop(queue);
-            Err(ServerError::NoMemory)
+            Err(DoorError::NoMemory)
         }
     }
 
     // Accepts the connections that are there, while there is room to wait. Says whether an accept failed.
-    fn accept<G: Gate>(&self, queue: &mut Queue<A>, now: Option<Instant>, gate: &G) -> bool {
+    fn accept<F: Fn(io::Error)>(
+        &self,
+        queue: &mut Queue<A>,
+        now: Option<Instant>,
+        report: &F,
+    ) -> bool
+        requires { F.IsAlwaysCallable report.now }
+    {
         for _ in 0..MAX_WAITING {
             if !queue.may_more || queue.closed.is_some() || queue.waiting.len() >= MAX_WAITING {
                 return false;
@@ -193,7 +240,7 @@ impl<A: Allocator + Copy, H: Wait + Clock> Door<'_, A, H> {
                 Err(error) if error.kind() == ErrorKind::Interrupted => {}
                 Err(error) if error.kind() == ErrorKind::WouldBlock => queue.may_more = false,
                 Err(error) => {
-                    self.fail(queue, error, gate);
+                    self.fail(queue, error, report);
                     return true;
                 }
             }
@@ -203,7 +250,9 @@ impl<A: Allocator + Copy, H: Wait + Clock> Door<'_, A, H> {
 
     // Notes a failed accept. Accepting fails for good after more than `MAX_FAULTS` in a row. But where descriptors or memory are short,
     // they come free when other connections end: that is waited for as long as it takes.
-    fn fail<G: Gate>(&self, queue: &mut Queue<A>, error: io::Error, gate: &G) {
+    fn fail<F: Fn(io::Error)>(&self, queue: &mut Queue<A>, error: io::Error, report: &F)
+        requires { F.IsAlwaysCallable report.now }
+    {
         let is_want = error
             .raw_os_error()
             .is_some_and(|code| WANTS.contains(&code));
@@ -212,8 +261,8 @@ impl<A: Allocator + Copy, H: Wait + Clock> Door<'_, A, H> {
         }
         queue.faults = queue.faults.saturating_add(1);
         if queue.faults > MAX_FAULTS {
-            queue.closed = Some(Err(ServerError::Accept));
-            gate.accepts_no_more(error);
+            queue.closed = Some(Err(DoorError::Accept));
+            report(error);
         }
     }
 
@@ -227,7 +276,7 @@ impl<A: Allocator + Copy, H: Wait + Clock> Door<'_, A, H> {
     ) {
         queue.faults = 0;
         queue.number = queue.number.wrapping_add(1);
-        let connection = Connection {
+        let connection = Accepted {
             number: queue.number,
             stream,
         };
@@ -241,8 +290,7 @@ impl<A: Allocator + Copy, H: Wait + Clock> Door<'_, A, H> {
             turn_away(self.alloc, connection.stream);
         } else {
             let _ = queue.here.push((connection.number, from));
-            let wait = self.options.full.map(|full| full.wait);
-            let until = now.and_then(|now| now.checked_add(wait?));
+            let until = now.and_then(|now| now.checked_add(self.options.wait?));
             let _ = queue.waiting.push(Waiting { connection, until });
             queue.is_changed = true;
         }
@@ -258,7 +306,7 @@ impl<A: Allocator + Copy, H: Wait + Clock> Door<'_, A, H> {
     }
 
     // Hears what the threads say.
-    fn listen(&self, queue: &mut Queue<A>) -> Result<(), ServerError> {
+    fn listen(&self, queue: &mut Queue<A>) -> Result<(), DoorError> {
         for _ in 0..MAX_HERE {
             match self.news.try_recv(self.rt) {
                 Ok(News::Place(thread)) => {
@@ -268,7 +316,7 @@ impl<A: Allocator + Copy, H: Wait + Clock> Door<'_, A, H> {
                     queue.here.retain(|(here, _)| *here != number);
                     let _ = queue.places.push(thread);
                 }
-                Ok(News::Lacks) => return Err(ServerError::NoMemory),
+                Ok(News::Lacks) => return Err(DoorError::NoMemory),
                 Err(_) => return Ok(()),
             }
         }
@@ -276,7 +324,7 @@ impl<A: Allocator + Copy, H: Wait + Clock> Door<'_, A, H> {
     }
 
     // Hands those who wait to the threads of free places.
-    fn hand_out(&self, queue: &mut Queue<A>) -> Result<(), ServerError> {
+    fn hand_out(&self, queue: &mut Queue<A>) -> Result<(), DoorError> {
         for _ in 0..MAX_WAITING {
             if queue.waiting.is_empty() || queue.places.is_empty() {
                 return Ok(());
@@ -293,10 +341,10 @@ impl<A: Allocator + Copy, H: Wait + Clock> Door<'_, A, H> {
             }
             let (Some(sender), Some(bell)) = (self.senders.get(thread), self.bells.get(thread))
             else {
-                return Err(ServerError::NoMemory);
+                return Err(DoorError::NoMemory);
             };
             if sender.send(self.rt, connection).is_err() {
-                return Err(ServerError::NoMemory);
+                return Err(DoorError::NoMemory);
             }
             bell.ring();
         }
@@ -317,7 +365,7 @@ impl<A: Allocator + Copy, H: Wait + Clock> Door<'_, A, H> {
                 connection,
                 until: _,
             } = queue.waiting.remove(0);
-            let Connection { number, stream } = connection;
+            let Accepted { number, stream } = connection;
             queue.is_changed = true;
             queue.here.retain(|(here, _)| *here != number);
             turn_away(self.alloc, stream);
@@ -327,7 +375,7 @@ impl<A: Allocator + Copy, H: Wait + Clock> Door<'_, A, H> {
     // Says whether somebody waits for a place, and another connection may be ended for that. If this is new, it wakes the threads. One
     // that ends a connection takes it back (`Crowd::claims`), so it is said again only once others wait.
     fn press(&self, queue: &mut Queue<A>) {
-        if self.options.full.is_none() || !queue.is_changed {
+        if self.options.wait.is_none() || !queue.is_changed {
             return;
         }
         queue.is_changed = false;

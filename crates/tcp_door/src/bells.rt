@@ -10,7 +10,7 @@ const TOKEN: Token = Token(usize::MAX);
 
 /// Wakes one thread out of its poll.
 #[derive(Drop)]
-pub(crate) struct Bell {
+pub struct Bell {
     waker: Waker,
     // Whether its thread has connections.
     has_connections: AtomicBool,
@@ -43,7 +43,7 @@ impl Bell {
 }
 
 /// Rings the bells of the other threads that have connections.
-pub(crate) fn ring_others<A: Allocator>(bells: &Vec<Bell, A>, own: usize) {
+pub fn ring_others<A: Allocator>(bells: &Vec<Bell, A>, own: usize) {
     for (number, bell) in bells.iter().enumerate() {
         if number != own && bell.has_connections.load(Ordering::SeqCst) {
             bell.ring();

@@ -1,13 +1,13 @@
-//! What a conversation is held over.
-ghost use Rattle.std.specs.Prelude.{◌≡◌, ◌≤◌, ℕ, ◌∷◌, List, Option, None, vec_capacity};
+//! What lines come in by, and what answers go out by.
+ghost use Rattle.std.specs.Prelude.{◌≡◌, ◌≤◌, ℕ, List, Option, None, vec_capacity};
 ghost use Rattle.std.specs.Io.{WritesAtMost};
 ghost use Rattle.std.specs.Io.KnownBytes.{Consumes, WriteAppends};
 ghost use Rattle.vault_lines.specs.Limits.{longest_line};
 ghost use Rattle.line_inlet.specs.Incoming.{GivesByte, GivesLine, KeepsLine};
 
-use line_inlet::{Inlet, NextByte, NextLine};
+use crate::inlet::{Inlet, NextByte, NextLine};
 use std::alloc::Allocator;
-use std::io::{self, Read, Write};
+use std::io;
 
 /// What a conversation is held over: lines come in by it, and their answers go out. Reading doesn't change what was written, and
 /// writing doesn't change what is left to read. If one type has both of std's `Read` and `Write`, these don't say so.
@@ -60,41 +60,5 @@ pub trait Connection {
     /// Whether it gave as many bytes as it may in one round, and may have more.
     fn is_spent(&self) -> bool {
         false
-    }
-}
-
-/// A reader, as the half of a connection that is heard.
-pub(crate) struct Ear<'a, R> {
-    pub reader: &'a mut R,
-}
-
-/// A separate reader and writer, as one connection.
-pub(crate) struct Joined<'a, 'b, R, W> {
-    pub ear: Ear<'a, R>,
-    pub writer: &'b mut W,
-}
-
-impl<R: Read, W: Write> Connection for Joined<'_, '_, R, W> {
-    ghost remaining = { λ j. R.remaining j.ear.reader.now };
-
-    ghost contents = { λ j. W.contents j.writer.now };
-
-    ghost names = { λ j. (j.ear.reader.ghost_name, j.writer.ghost_name) };
-
-    fn next_byte(&mut self, inlet: &mut Inlet) -> NextByte {
-        inlet.next_byte(&mut *self.ear.reader)
-    }
-
-    fn next_line<A: Allocator>(
-        &mut self,
-        inlet: &mut Inlet,
-        line: &mut Vec<u8, A>,
-        is_long: &mut bool,
-    ) -> NextLine {
-        inlet.next_line(&mut *self.ear.reader, line, is_long)
-    }
-
-    fn write(&mut self, buf: &[u8]) -> io::Result<usize> {
-        self.writer.write(buf)
     }
 }
