@@ -61,6 +61,8 @@ class Door:
         self.server_port, self.port = server_port, free_port()
         self.user = pwd.getpwuid(os.getuid()).pw_name
         self.log = self.folder / "log"
+        self.places = self.folder / "places"
+        self.places.mkdir(0o700)
         self.programs = self.folder / "programs"
         self.programs.mkdir()
         lay_programs(self.programs)
@@ -89,7 +91,8 @@ class Door:
 
     def gate(self, name: str, *roles: str) -> List[str]:
         """The command line of a gate to the server."""
-        return [str(self.programs / "vaultd-gate"), "--as", name, *roles, "--server", f"127.0.0.1:{self.server_port}", "--log", str(self.log)]
+        return [str(self.programs / "vaultd-gate"), "--as", name, *roles, "--server", f"127.0.0.1:{self.server_port}", "--log", str(self.log),
+                "--places", str(self.places)]
 
     def admit(self, name: str, *roles: str, key: str = "") -> None:
         """Makes a key, and lets it in as this designer."""

@@ -76,6 +76,11 @@ class Contrib(unittest.TestCase):
             self.assertTrue((self.root / "usr" / "share" / "man" / page).exists(), page)
         self.assertIn("usage", self.said(str(CONTRIB / "install"), "--destdir", status=2))
 
+    def test_who_may_read(self) -> None:
+        """Whatever the umask of who installs, everybody can read what is installed."""
+        self.said("sh", "-c", f"umask 077; '{CONTRIB}/install' --destdir '{self.root}' --vaultd '{VAULTD}'")
+        self.assertEqual([str(path) for path in self.root.rglob("*") if not path.is_symlink() and path.stat().st_mode & 0o444 != 0o444], [])
+
     def test_replicated(self) -> None:
         """`settle` keeps the same bytes, and never runs beside a server; `serves` says that a server serves if it grants a check-out."""
         settle, serves = str(CONTRIB / "replicated" / "settle"), str(CONTRIB / "replicated" / "serves")
@@ -115,6 +120,14 @@ class Contrib(unittest.TestCase):
             (units / kept).write_text(text.replace("/usr/share/vaultd/replicated/settle", str(program)), "utf-8")
         self.assertEqual(self.said("systemd-analyze", "verify", "--man=no", str(units / "vaultd.service"),
                                    str(units / "var-lib-vaultd.mount")), "")
+
+    def test_replicated_mark(self) -> None:
+        """The mark of the watch goes before each start, behind `settle`."""
+        self.install()
+        text = (self.root / "usr/share/vaultd/replicated/replicated.conf").read_text("utf-8")
+        before = re.findall(r"^ExecStartPre=(\S+) ", text, re.MULTILINE)
+        self.assertEqual(before, ["/usr/share/vaultd/replicated/settle", "+/bin/rm"])
+        self.assertIn("ExecStartPre=+/bin/rm -f /run/vaultd-watch/%N.broken\n", text)
 
     def test_replicated_users(self) -> None:
         """keepalived asks the server as a user who is made with it, and whom the ssh gate's rule lets through. What restarts it is root's."""
@@ -162,7 +175,10 @@ class Contrib(unittest.TestCase):
         self.assertEqual((asked.vault, asked.listen), (("127.0.0.1", 7070), ("127.0.0.1", 8080)))
         self.assertEqual((asked.host, asked.designer, asked.title), (["vault.example.org"], "page", "Plant-1"))
         self.assertIn("u vaultd-page ", (self.root / "usr" / "lib" / "sysusers.d" / "vaultd-page.conf").read_text("utf-8"))
-        self.assertIn("proxy_pass http://127.0.0.1:8080;", (self.root / "usr/share/doc/vaultd/page/nginx.conf").read_text("utf-8"))
+        lines = [line.strip() for line in (self.root / "usr/share/doc/vaultd/page/nginx.conf").read_text("utf-8").splitlines()]
+        for line in ("proxy_pass http://127.0.0.1:8080;", 'proxy_set_header Authorization "";'):
+            self.assertIn(line, lines)
+        self.assertIn("define page_port = 8080\n", (self.root / "usr/share/doc/vaultd/page/vaultd-page.nft").read_text("utf-8"))
         templates = sorted(file.name for file in (TOP / "python/vaultd_tools/src/vaultd_tools/templates").iterdir())
         self.assertEqual(sorted(file.name for file in (self.root / "usr/lib/python3/dist-packages/vaultd_tools/templates").iterdir()), templates)
 
@@ -171,7 +187,8 @@ class Contrib(unittest.TestCase):
         unit = (CONTRIB / "systemd" / "vaultd.service").read_text("utf-8")
         template = (CONTRIB / "systemd" / "vaultd@.service").read_text("utf-8").splitlines()
         other = [line.partition("=")[0] for line in set(unit.splitlines()) ^ set(template)]
-        self.assertEqual(set(other), {"Description", "Environment", "EnvironmentFile", "StateDirectory", "ExecStart"})
+        self.assertEqual(set(other), {"Description", "Environment", "EnvironmentFile", "ExecStart", "RequiresMountsFor", "StateDirectory"})
+        self.assertIn("RequiresMountsFor=/var/lib/vaultd/%i", template)
 
     def test_benches_run_as_the_units(self) -> None:
         """The benches' settings of the allocator stand in both units."""
@@ -188,16 +205,24 @@ class Contrib(unittest.TestCase):
 
     @unittest.skipUnless(os.getuid() == 0, "needs root, for owners of folders")
     def test_folder_of_backups(self) -> None:
-        """The unit makes the folder where it is missing, and leaves one that is there as it is."""
-        unit = (CONTRIB / "systemd" / "vaultd-backup.service").read_text("utf-8")
-        line = re.findall(r"^ExecStartPre=\+(.*)$", unit, re.MULTILINE)[0].replace("$$", "$").replace("-o vaultd -g vaultd", "-o nobody -g nogroup")
-        new, there = self.root / "new folder", self.root / "there"
-        there.mkdir(mode=0o1777, parents=True)
+        """The unit makes its own folder where it is missing, and leaves one that is there as it is. Another one that is missing may be on a disk
+        that isn't mounted: it is named, and not made."""
+        self.install()
+        usual, there, away = self.root / "usual", self.root / "there", self.root / "away" / "a folder"
+        there.mkdir(mode=0o1777)
         there.chmod(0o1777)
-        for folder in (new, there):
-            words = shlex.split(line.replace("${VAULTD_BACKUPS}", shlex.quote(str(folder))))
-            subprocess.run(words, check=True, timeout=60, env={**os.environ, "VAULTD_BACKUPS": str(folder)})
-        self.assertEqual([(folder.owner(), folder.stat().st_mode & 0o7777) for folder in (new, there)], [("nobody", 0o750), ("root", 0o1777)])
+        for unit, name in (("vaultd-backup.service", ""), ("vaultd-backup@.service", "-plant")):
+            text = (self.root / "usr/lib/systemd/system" / unit).read_text("utf-8").replace("%i", "plant")
+            self.assertEqual(set(re.findall(r"/var/backups/vaultd[^ ;:\]]*", text)), {f"/var/backups/vaultd{name}"})
+            line = re.findall(r"^ExecStartPre=\+(.*)$", text, re.MULTILINE)[0].replace("$$", "$")
+            line = line.replace("-o vaultd -g vaultd", "-o nobody -g nogroup").replace(f"/var/backups/vaultd{name}", str(usual) + name)
+            for folder, status in ((self.root / (usual.name + name), 0), (there, 0), (away, 1)):
+                done = subprocess.run(shlex.split(line), capture_output=True, text=True, timeout=60, check=False,
+                                      env={**os.environ, "VAULTD_BACKUPS": str(folder)})
+                self.assertEqual((done.returncode, f"{away} is not there: mount its disk" in done.stderr), (status, folder == away), done.stderr)
+        self.assertEqual([(folder.owner(), folder.stat().st_mode & 0o7777) for folder in (usual, self.root / "usual-plant", there)],
+                         [("nobody", 0o750), ("nobody", 0o750), ("root", 0o1777)])
+        self.assertFalse(away.parent.exists())
 
     def test_manual(self) -> None:
         """No page has a warning, and each names every command and option of its program."""

@@ -1,20 +1,24 @@
 """The ssh gate: whatever is sent, a key speaks for its own name, does what it may, and has its lines in the log. Behind a real sshd."""
 
+import base64
 import os
 import random
 import re
 import select
+import shlex
 import signal
 import socket
 import statistics
 import subprocess
+import tempfile
 import time
 import tomllib
 import unittest
 from pathlib import Path
 from typing import Any, Dict, List, Tuple
 
-from doors import Door
+from doors import Door, make_key
+from forger import KEY, Forger, string
 from servers import MEMORY, TOP, VAULTD, Cutter, Limits, Server, program
 from tries import heard, told
 
@@ -255,6 +259,32 @@ class Roles(WithDoor):
         self.assertIn(f"save c1 {PART} 0aff\n".encode(), self.recorder.lines)
 
 
+class Room(WithDoor):
+    """One name leaves room for the others, however many connections it makes."""
+
+    def enter(self, key: str) -> "subprocess.Popen[bytes]":
+        """A conversation that has begun."""
+        process = self.door.ssh(key)
+        assert process.stdin is not None and process.stdout is not None
+        process.stdin.write(f"hello {key}\n".encode())
+        process.stdin.flush()
+        self.assertEqual(process.stdout.readline()[:11], b"OK session ")
+        return process
+
+    def test_places_of_a_name(self) -> None:
+        """The ninth conversation of a name is refused with a sentence, and another name's is not. One that ends makes room."""
+        eight = [self.enter("guest") for _ in range(8)]
+        said, why = self.door.ssh("guest").communicate(b"hello guest\n", timeout=60)
+        self.assertEqual(said, b"")
+        self.assertIn(b"vaultd-gate: guest has 8 conversations at once, and no more are let in: end one, then come again.", why)
+        self.assertEqual(self.conversation("anna", b"hello anna\nquit\n"), ["OK session", "OK left"])
+        eight.pop().communicate(b"quit\n", timeout=60)
+        eight.append(self.enter("guest"))
+        self.assertEqual(len(list(self.door.places.iterdir())), 9)
+        for process in eight:
+            process.communicate(timeout=60)
+
+
 class Logged(WithDoor):
     """Each change is in the log once, with who did it, and nothing is there as done that wasn't."""
 
@@ -441,6 +471,52 @@ class Alone(unittest.TestCase):
         self.assertEqual(replies(told(client, b"hello anna\nmake /a\nlist /\nquit\n", 4)), ["OK session", "ERR 80", "OK list 0", "OK left"])
         self.assertIn(b"the log can't be written: No space left on device. Nothing was sent on", process.communicate(timeout=20)[1])
 
+    def test_places(self) -> None:
+        """A gate that is killed makes room. Each server has places of its own. A folder that can't be used is named; without one nobody counts."""
+        words = ("--at-once", "1")
+        first, client = self.gate(*words)
+        told(client, b"hello anna\n", 1)
+        self.assertIn(b"anna has 1 conversations at once", self.gate(*words)[0].communicate(timeout=20)[1])
+        self.assertIn(b"no server answers", self.gate(*words, "--server", "127.0.0.1:9")[0].communicate(timeout=20)[1])
+        told(self.gate(*words, "--places", str(self.door.folder / "nowhere"))[1], b"hello anna\nquit\n", 2)
+        self.assertIn(b"log can't be used: Not a directory. Ask", self.gate(*words, "--places", str(self.door.log))[0].communicate(timeout=20)[1])
+        first.kill()
+        first.wait()
+        told(self.gate(*words)[1], b"hello anna\nquit\n", 2)
+
+    def test_rotated_log(self) -> None:
+        """A gate that runs on follows a rotation, and then another, behind which the first file is gone. No line is lost."""
+        _, client = self.gate()
+        first, second = (self.door.folder / name for name in ("log.1", "log.2"))
+        told(client, b"hello anna\nmake /a\n", 2)
+        self.door.log.rename(first)
+        told(client, b"make /b\n", 1)
+        self.assertEqual((self.made(first), self.door.log.exists()), (["/a", "/a", "/b", "/b"], False))
+        self.door.log.touch()
+        told(client, b"make /c\n", 1)
+        self.door.log.rename(second)
+        second.unlink()
+        first.unlink()
+        self.door.log.touch()
+        told(client, b"make /d\n", 1)
+        self.assertEqual(self.made(self.door.log), ["/d", "/d"])
+
+    def test_removed_log(self) -> None:
+        """A log's file that is removed is made again; where that, or opening the new one, is refused, no change is sent on."""
+        process, client = self.gate()
+        told(client, b"hello anna\nmake /a\n", 2)
+        self.door.log.unlink()
+        told(client, b"make /b\n", 1)
+        self.assertEqual(self.made(self.door.log), ["/b", "/b"])
+        self.door.log.unlink()
+        self.door.log.mkdir()
+        self.assertEqual(told(client, b"make /c\nlist /\nquit\n", 3), b"ERR 80\nOK list 2 a b\nOK left\n")
+        self.assertIn(b"the log can't be written: Is a directory. Nothing was sent on", process.communicate(timeout=20)[1])
+
+    def made(self, log: Path) -> List[str]:
+        """The places of the lines of a log, of which each has one before it was made and one after."""
+        return re.findall(r" (?:asks|told) make (\S+)", log.read_text("ascii"))
+
     @unittest.skipUnless(os.getuid() == 0, "needs root, for a disk of its own")
     def test_nearly_full_log(self) -> None:
         """Refusals leave 120 MB of the log's disk, and changes 60 MB, for a vault that may be there, too."""
@@ -509,7 +585,7 @@ class Alone(unittest.TestCase):
 
     def test_command_line(self) -> None:
         wrong: List[List[str]] = [["--as", "Anna"], ["--as", ""], ["--as", "an na"], [], ["--as", "anna", "--server", "x"],
-                                  ["--as", "anna", "ben"], ["--as", "anna", "--rea"]]
+                                  ["--as", "anna", "ben"], ["--as", "anna", "--rea"], ["--as", "anna", "--at-once", "0"]]
         for words in wrong:
             done = subprocess.run([self.door.gate("anna")[0], *words], capture_output=True, timeout=20, check=False)
             self.assertEqual(done.returncode, 2, words)
@@ -543,18 +619,82 @@ class LogLines(unittest.TestCase):
         self.assertEqual([record.done for record in outcomes(found[:2])], [True])
         self.assertEqual([record.done for record in outcomes(found[:1])], [None])
 
+    def test_nobody_reads_on(self) -> None:
+        """If nobody reads on, as behind `head`, nothing is said of it; if what is found can't be written, that is."""
+        line = "2026-11-27T20:53:02.500685Z id={:016x}.3 vault=h:1 from=- key=- by=anna as=anna {} make /e{}\n"
+        with tempfile.NamedTemporaryFile("w", encoding="ascii") as log:
+            log.writelines(line.format(number, kind, reply) for number in range(9000) for kind, reply in (("asks", ""), ("told", " -> OK place 1")))
+            log.flush()
+            call = " ".join(shlex.quote(word) for word in [*program("vaultd-log"), "/", "--log", log.name])
+            for where, said in ((" | head -n 1", ""), (" > /dev/full", "vaultd-log: [Errno 28] No space left on device\n")):
+                done = subprocess.run(["bash", "-c", call + where + "; exit ${PIPESTATUS[0]}"], capture_output=True, text=True, timeout=60,
+                                      check=False)
+                self.assertEqual((done.returncode, done.stderr), (1, said))
+
 
 class Keys(unittest.TestCase):
     """What `vaultd-gate-keys` says of a file of keys: the example of contrib/gate, and lines that tie a key to no name."""
 
     GOOD = 'restrict,command="/usr/sbin/vaultd-gate --as anna --log /var/log/g" '
-    KEY = "ssh-ed25519 AAAAC3NzaC1lZDI1NTE5AAAAIAAAAAAAAAAAAAAAAAAAAAAAAAAAAAAAAAAAAAAAAAAA"
+    EXAMPLE = TOP / "contrib" / "gate" / "authorized_keys"
+    KEY: str
+    folder: Path
+
+    @classmethod
+    def setUpClass(cls) -> None:
+        cls.folder = Path(cls.enterClassContext(tempfile.TemporaryDirectory(prefix="vault-test-")))
+        cls.KEY = cls.new_key("anna")
+
+    @classmethod
+    def new_key(cls, name: str) -> str:
+        """The public half of a new key."""
+        make_key(cls.folder / name)
+        return " ".join((cls.folder / f"{name}.pub").read_text("ascii").split()[:2])
 
     def test_example(self) -> None:
-        lines = (TOP / "contrib" / "gate" / "authorized_keys").read_text("utf-8").splitlines()
+        """The example lets nobody in. With keys in their places, its lines are as they must be; without them, they say so."""
+        done = subprocess.run([*program("vaultd-gate-keys"), str(self.EXAMPLE)], capture_output=True, text=True, check=True)
+        self.assertEqual((done.stdout, done.stderr), (f"{self.EXAMPLE} lets nobody in yet: put in a line for each designer's key.\n", ""))
+        lines = [line.removeprefix("#") for line in self.EXAMPLE.read_text("utf-8").splitlines() if line.startswith("#restrict")]
         told, wrong = complaints_of(lines)
+        self.assertEqual((len(told), [sentence.partition(": ")[2] for sentence in wrong]), (4, 4 * ["it can't be read"]))
+        told, wrong = complaints_of([line.replace("ssh-ed25519 PUBLIC-KEY", self.new_key(f"key{number}")) for number, line in enumerate(lines)])
         self.assertEqual([sentence.partition(": ")[0] for sentence in told], ["anna", "anna", "guest, only asks", "eva or anybody"])
         self.assertEqual(wrong, [])
+
+    def test_no_secret(self) -> None:
+        """A signature by a key of small order needs no secret: who has such a line in force lets everybody in. The example has none."""
+        forger, door = Forger(self.folder), Door(0)
+        self.addCleanup(forger.close)
+        self.addCleanup(door.close)
+        door.start()
+        keys = door.folder / "authorized_keys"
+        keys.write_text(f"{self.GOOD}ssh-ed25519 {base64.b64encode(KEY).decode()}\n", "ascii")
+        self.assertTrue(any("Authenticated to 127.0.0.1" in self.tried(forger, door) for _ in range(40)))
+        keys.write_text(self.EXAMPLE.read_text("utf-8"), "utf-8")
+        said = self.tried(forger, door)
+        self.assertNotIn("Server accepts key", said)
+        self.assertIn("Permission denied", said)
+
+    def tried(self, forger: Forger, door: Door) -> str:
+        """What ssh says when the forger tries to come in."""
+        done = subprocess.run(["ssh", "-v", "-T", "-F", door.config("nobody"), "-o", "BatchMode=yes", "-o", f"IdentityAgent={forger.path}",
+                               "-o", "IdentitiesOnly=no", "-p", str(door.port), "127.0.0.1"], stdin=subprocess.DEVNULL, capture_output=True,
+                              text=True, timeout=60, check=False)
+        return done.stderr
+
+    def test_weak_keys(self) -> None:
+        """Each key of small order is complained of, however it is spelled, and each key of the earlier example."""
+        prime, eighth = 2 ** 255 - 19, "26e8958fc2b227b045c3f489f2ef98f0d5dfac05d3c63339b13802886d53fc05"
+        small = [number.to_bytes(32, "little") for number in (0, 1, prime - 1, prime, prime + 1, 2 ** 255, 2 ** 255 + 1)]
+        small += [bytes.fromhex(eighth), bytes.fromhex("c7176a703d4dd84fba3c0b760d10670f2a2053fa2c39ccc64ec7fd7792ac037a")]
+        for kind in (b"ssh-ed25519", b"sk-ssh-ed25519@openssh.com"):
+            for point, complaint in [(point, "everybody can sign by its key") for point in small] + [(bytes([*bytes(31), 2]), "an example's")]:
+                key = base64.b64encode(string(kind) + string(point) + string(b"ssh:")).decode()
+                _, wrong = complaints_of([f"{self.GOOD}{kind.decode()} {key}"])
+                self.assertEqual((len(wrong), complaint in "".join(wrong)), (1, True), (point, wrong))
+        for torn in ("AAAA", "AAAAC3NzaC1lZDI1NTE5AAAAI", base64.b64encode(string(b"ssh-rsa") + string(b"x")).decode()):
+            self.assertEqual(complaints_of([f"{self.GOOD}ssh-ed25519 {torn}"])[1], ["line 1: its key can't be read"])
 
     def test_complaints(self) -> None:
         no_gate = "none that the gate takes"

@@ -23,7 +23,7 @@ BLOCKS = {"start.sh": "contrib/install", "watch.sh": "systemctl enable --now vau
 # The one of the page on several vaults.
 PLANT = "sed 's/7070/7071/; /^VAULTD_BACKUPS/d' /etc/default/vaultd"
 # The others: the packages are made before, and tests/test_rclone.py has a remote.
-OTHER_BLOCKS = ("contrib/package --to", "rclone config create")
+OTHER_BLOCKS = ("apt-get install $(contrib/package --to", "rclone config create")
 # There is no network in the machine, and the packages are there.
 PREAMBLE = "set -eux\napt-get() { true; }\ncontrib/install() { true; }\n"
 MACHINE_SECONDS = 300
@@ -57,10 +57,11 @@ class Packages(unittest.TestCase):
         cls.packages = sorted(cls.folder.glob("*.deb"))
 
     @staticmethod
-    def make(folder: Path) -> None:
-        """Makes both packages in a folder."""
-        subprocess.run([str(TOP / "contrib" / "package"), "--vaultd", VAULTD, "--to", str(folder)], check=True, timeout=120,
-                       stdout=subprocess.DEVNULL)
+    def make(folder: Path, **environment: str) -> List[Path]:
+        """Makes both packages in a folder, and answers what it says: where they are."""
+        done = subprocess.run([str(TOP / "contrib" / "package"), "--vaultd", VAULTD, "--to", str(folder)], check=True, timeout=120,
+                              stdout=subprocess.PIPE, text=True, env={**os.environ, **environment})
+        return [Path(line) for line in done.stdout.splitlines()]
 
     def said(self, *words: str, status: int = 0) -> str:
         """What a command prints, on either stream."""
@@ -69,14 +70,31 @@ class Packages(unittest.TestCase):
         return done.stdout
 
     def test_names(self) -> None:
-        """Two packages, with the program's version, and the same bytes each time."""
-        version = self.said(VAULTD, "--version").split()[1]
+        """Two packages, with the program's version and the time of the commit, and the same bytes each time."""
+        version = self.version(self.packages[0])
+        self.assertRegex(version, "^" + re.escape(self.said(VAULTD, "--version").split()[1]) + r"\+20\d{12}$")
         architecture = self.said("dpkg", "--print-architecture").strip()
         self.assertEqual([path.name for path in self.packages], [f"vault_{version}_all.deb", f"vaultd_{version}_{architecture}.deb"])
         again = self.folder / "again"
         self.make(again)
         for package in self.packages:
             self.assertEqual((again / package.name).read_bytes(), package.read_bytes(), package.name)
+
+    def version(self, package: Path) -> str:
+        """The version of a package."""
+        return self.said("dpkg-deb", "--field", str(package), "Version").strip()
+
+    def test_upgrades(self) -> None:
+        """What is built of a later commit is an upgrade, and the server wants the client that was built with it."""
+        times = ("1795000000", "1795000001", "1800000000")
+        folder = self.folder / "kept"
+        made = [self.make(folder, SOURCE_DATE_EPOCH=time) for time in times]
+        self.assertEqual(sorted(folder.iterdir()), sorted(path for packages in made for path in packages))
+        for earlier, later in zip(made, made[1:]):
+            self.said("dpkg", "--compare-versions", self.version(earlier[1]), "lt", self.version(later[1]))
+        for client, server in made:
+            self.assertIn(f"vault (= {self.version(client)})", self.said("dpkg-deb", "--field", str(server), "Depends"))
+        self.said("dpkg", "--compare-versions", self.version(made[0][0]), "lt", "0.9.1")
 
     def test_all_that_is_installed(self) -> None:
         """Each file that the script installs is in one of the two."""
@@ -116,7 +134,7 @@ class Packages(unittest.TestCase):
         files["script"] = TOP / "tests" / "data" / "in-a-machine"
         status, said = machines.run_in_machine(files, MACHINE_SECONDS)
         self.assertEqual(status, 0, said)
-        self.assertRegex(said, r"\n\d\d passed, 0 failed\n$")
+        self.assertRegex(said, r"\n\d{2,3} passed, 0 failed\n$")
 
 
 if __name__ == "__main__":

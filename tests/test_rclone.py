@@ -1,5 +1,7 @@
 """A store behind rclone, over real servers of WebDAV and of SFTP, which `rclone serve` is here."""
 
+import contextlib
+import io
 import os
 import socket
 import subprocess
@@ -18,7 +20,8 @@ from stores import PART, ROD, WithStore
 from vault import Client, Misused, VaultError
 from vault.parts import Parts
 from vault.rclone_store import TOUCHED
-from vault.store import MARK_NAME, StoreAway, StoreFault
+from vault.store import MARK_NAME, Kept, StoreAway, StoreFault
+from vaultd_tools.sweep import Swept
 
 SECRET = "secret"
 
@@ -224,6 +227,15 @@ class Shared:
             removed = [kept.sha256 for kept in list(store.all()) if store.remove(kept, 2000.0)]
             self.assertEqual((removed, store.leftovers(2000.0)), ([old.sha256], 1))
             self.assertEqual((self.entries(), self.entries("incoming")), ([young.sha256], []))
+
+        def test_sweep_of_a_remote_that_is_away(self) -> None:
+            """If the remote goes away, a sweep doesn't try every file."""
+            store, swept = self.parts.setting.store(), Swept()
+            assert store is not None
+            self.remote.stop()
+            with contextlib.redirect_stderr(io.StringIO()) as said:
+                swept.remove(store, [Kept(f"{number:064x}", 1, 1000.0) for number in range(9)], 2000.0)
+            self.assertEqual((swept.gone, swept.refused, said.getvalue().count(" stays: ")), ([], 3, 3))
 
 
 class WebDav(Shared.OverRclone):

@@ -14,7 +14,7 @@ from servers import MEMORY, TOP, Cutter, Server, free_port
 
 from vault import Client, Misused, NotKnown
 from vault.session import read_address
-from vault.transport import GATE, Address, SshStream, ssh_words
+from vault.transport import GATE, Address, SshStream, refusal, ssh_words
 
 GOOD: Dict[str, Tuple[Address, ...]] = {
     "anna@ssh:vault.example.org": (("ssh:vault.example.org", 0),),
@@ -51,6 +51,11 @@ class Addresses(unittest.TestCase):
         for word in BAD:
             with self.subTest(word), self.assertRaises(Misused):
                 read_address(word)
+
+    def test_who_refuses(self) -> None:
+        """What a gate can't do is no refusal of a key by sshd."""
+        self.assertIn("takes none of your ssh keys", refusal("anna@hall: Permission denied (publickey).", "ssh:hall", 0, "anna"))
+        self.assertEqual(refusal("vaultd-gate: the log /l can't be opened: Permission denied. Ask whoever runs it.", "ssh:hall", 0, "anna"), "")
 
     def test_nothing_is_an_option(self) -> None:
         """The host and a command that is always the same stand after two dashes; before these a user has its own option."""
@@ -122,6 +127,25 @@ class ThroughTheDoor(unittest.TestCase):
         self.one_sentence(self.vault("hello", "anna@ssh:-oProxyCommand=true", status=2), "is no designer at a server")
         self.server.kill()
         self.one_sentence(self.vault(*anna, "--patience", "0", "tree", status=3), "No server answers at " + self.server_word)
+
+    def test_no_place(self) -> None:
+        """Whose name has all its conversations already hears so, and comes in once one has ended."""
+        anna = ("--as", "anna@" + self.server_word, "--patience", "0")
+        taken = [self.entered() for _ in range(8)]
+        self.one_sentence(self.vault(*anna, "tree", status=3), "anna has 8 conversations at once, and no more are let in")
+        taken[0].communicate(b"quit\n", timeout=60)
+        self.vault(*anna, "tree")
+        for process in taken[1:]:
+            process.communicate(timeout=60)
+
+    def entered(self) -> "subprocess.Popen[bytes]":
+        """A conversation of anna's that has begun."""
+        process = self.door.ssh("anna")
+        assert process.stdin is not None and process.stdout is not None
+        process.stdin.write(b"hello anna\n")
+        process.stdin.flush()
+        self.assertEqual(process.stdout.readline()[:11], b"OK session ")
+        return process
 
     def one_sentence(self, said: str, part: str) -> None:
         """One line, which says this."""

@@ -1,17 +1,20 @@
 """What is kept around a store: the check of it, the sweep, and the client's cache."""
 
+import contextlib
 import errno
+import io
 import os
+import re
 import subprocess
 import tempfile
 import time
 import unittest
 from dataclasses import replace
 from pathlib import Path
-from typing import Any, Iterator
+from typing import Any, Dict, Iterator
 from unittest import mock
 
-from servers import VAULTD, Server, program
+from servers import TOP, VAULTD, Server, program
 from stores import PART, ROD, WithStore
 
 from vault import Misused, VaultError
@@ -140,11 +143,31 @@ class Sweep(WithFiles):
             parts.put(PART, self.file, claim)
             return iter(found)
 
-        with mock.patch.object(store, "all", wanted_again):
-            gone, _ = sweep(store, {self.first.sha256}, time.time() - 30 * 86400, False)
-        self.assertEqual([each.sha256 for each in gone], [self.second.sha256])
+        with mock.patch.object(store, "all", wanted_again), contextlib.redirect_stdout(io.StringIO()):
+            swept = sweep(store, {self.first.sha256}, time.time() - 30 * 86400, False)
+        self.assertEqual([each.sha256 for each in swept.gone], [self.second.sha256])
         self.assertEqual(self.anna.checkin(claim), 1)
         self.assertIn(name, self.entries())
+
+    def test_what_cannot_be_removed(self) -> None:
+        """A file that can't be removed is named, and stays; the others go, and are listed."""
+        names = sorted(self.loose(b"loose %d" % number) for number in range(3))
+        place = self.path_of(replace(self.first, sha256=names[1]))
+        place.unlink()
+        place.mkdir()
+        left = [self.store / "incoming" / (name * 16) for name in ("ab", "cd", "ef")]
+        left[1].mkdir()
+        for path in (left[0], left[2]):
+            path.touch()
+        for path in (place, *left):
+            os.utime(path, (time.time() - OLD,) * 2)
+        stays = [f"vaultd-sweep: {what} can't be removed: Is a directory. Look at the owner and the mode of its folder."
+                 for what in (f"{names[1]} stays: {place}", left[1])]
+        for gone in (2, 0):
+            said = self.sweep("--yes", status=1).splitlines()
+            self.assertEqual((said[:gone], said[gone + 1:]), ([names[0], names[2]][:gone], stays))
+            self.assertRegex(said[gone], rf"^{gone} files of [\d,]+ bytes were taken away, and not all that came in and never ended$")
+        self.assertEqual((set(names).intersection(self.entries()), [path.exists() for path in left]), (set(), [False, True, False]))
 
     def test_another_vault(self) -> None:
         """By the files of another vault nothing is taken; two that share a store are both named."""
@@ -215,6 +238,32 @@ class Sweep(WithFiles):
         self.loose(b"old")
         self.assertIn("no copy of the vault opens", self.sweep(status=1))
         self.assertEqual(len(self.entries()), 3)
+
+
+class Copied(WithFiles):
+    """The store's backup, by the command of the page on operating."""
+
+    def files(self, folder: Path) -> Dict[str, bytes]:
+        """The files in a folder, each with its path."""
+        return {str(path.relative_to(folder)): path.read_bytes() for path in folder.rglob("*") if path.is_file()}
+
+    def test_copied(self) -> None:
+        """All is copied, each file on disk before it gets its name, and no later damage replaces what is there."""
+        command, = re.findall(r"`(rsync [^`]*)`", (TOP / "docs" / "OPERATING.md").read_text("utf-8"))
+        copy, calls = self.root / "copy", self.root / "calls"
+        words = command.replace("/srv/vault-store", str(self.store)).replace("/backup/vault-store", str(copy))
+        subprocess.run(["strace", "-f", "-o", str(calls), "-e", "trace=fsync,rename,renameat,renameat2", *words.split()], check=True, timeout=60)
+        before = self.files(copy)
+        self.assertEqual((before, len(before)), (self.files(self.store), 3))
+        self.assertEqual(re.findall(r"\b(fsync|rename)\w*\(", calls.read_text("utf-8", "replace")), 3 * ["fsync", "rename"])
+        path = self.path_of(self.first)
+        path.chmod(0o600)
+        path.write_bytes(b"damaged")
+        self.fill(b"bore 82")
+        self.put_version()
+        subprocess.run(words.split(), check=True, timeout=60)
+        after = self.files(copy)
+        self.assertEqual(({name: after[name] for name in before}, len(after)), (before, 4))
 
 
 class Kept(WithFiles):

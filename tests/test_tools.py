@@ -110,6 +110,14 @@ class Backup(WithVault):
         for wrong in ("0", "-1", "x"):
             self.tool("backup", str(kept), "--keep", wrong, status=2)
 
+    def test_no_disk(self) -> None:
+        """The folder of backups is made, and nothing above it: that may be a disk that isn't mounted."""
+        said = self.tool("backup", str(self.folder / "disk" / "kept"), status=1)
+        self.assertIn(f"no backup was made: {self.folder}/disk/kept is not there, and can't be made: No such file or directory. Mount its disk", said)
+        self.assertFalse((self.folder / "disk").exists())
+        (self.folder / "disk").mkdir()
+        self.assertIn("places 4", self.tool("backup", str(self.folder / "disk" / "kept")))
+
     def test_keep_where_none_was_made(self) -> None:
         """A backup that fails removes none."""
         kept = self.folder / "kept"
@@ -310,19 +318,67 @@ class Salvage(WithVault):
         self.assertIn("the head's bytes at 8 were 00000063", said)
         self.assertIn("claims 1, drafts 1", report)
 
+    @unittest.skipUnless(os.getuid() == 0, "needs root, for a disk of its own")
+    def test_a_full_disk(self) -> None:
+        """Where the folder for what is made meanwhile is full, that is said."""
+        damage(self.first, 8, 0, b"\x00\x00\x00\x63")
+        (self.folder / "full").mkdir()
+        mounted = 'mount -t tmpfs -o nr_inodes=3 tmpfs "$TMPDIR"; exec "$@"'
+        done = subprocess.run(["unshare", "--mount", "sh", "-c", mounted, "sh", *program("vaultd-salvage"), "--vaultd", VAULTD, *self.server.files,
+                               str(self.folder / "new")], capture_output=True, text=True, timeout=60, check=False,
+                              env={**os.environ, "TMPDIR": str(self.folder / "full")})
+        self.assertEqual(done.returncode, 1)
+        self.assertIn(f"vaultd-salvage: no vault could be made in {self.folder}/full, by which the files' version is known: device fault. Make room",
+                      done.stderr)
+
     def test_a_snapshot(self) -> None:
         """The active file's snapshot is damaged: the other file opens, as the vault was before that snapshot."""
+        damage(self.with_newer_file(), 24, 4, b"\xff" * 4)
+        said, report = self.salvaged()
+        self.assertIn("file b: gives up the whole file", said)
+        self.assertIn("places 4, versions 0, claims 1, drafts 1", report)
+
+    def test_a_gate_of_the_newer_file(self) -> None:
+        """The active file's first byte is damaged: the other file opens, as the vault was before, and a person has to say which is the vault."""
+        newer = self.with_newer_file()
+        for byte in (b"\x03", b"\x00"):
+            damage(newer, 0, 0, byte)
+            said = self.tool("salvage", str(self.folder / f"asked{byte[0]}"), status=1)
+            self.assertIn("which file is the vault?\nfile a: places 4, versions 0, claims 1, drafts 1\n"
+                          "file b, of a greater generation, but closed: places 5, versions 0, claims 1, drafts 1\n", said)
+            self.assertIn(f"its first byte was damaged: that is {byte[0]}, and 0", said)
+        for take, opened, wanted in (("a", "is left closed, and gives up what it has: places 5", "places 4"),
+                                     ("b", "its head was closed, and is opened", "places 5")):
+            self.assertIn(f"file b: {opened}", self.tool("salvage", str(self.folder / take), "--take", take))
+            self.assertIn(wanted, self.inspected(self.folder / take))
+        frame = newer.read_bytes().rindex(b"\x01\x00\x00\x00\x0a")
+        damage(newer, frame, 5, b"\x63")
+        said = self.tool("salvage", str(self.folder / "torn"), status=1)
+        self.assertIn(f"but closed: a whole snapshot, and is damaged at {frame}\n", said)
+        self.assertIn(f"gives up 16 bytes from the frame at {frame} on", self.tool("salvage", str(self.folder / "cut"), "--take", "b"))
+
+    def test_a_file_that_a_crash_left(self) -> None:
+        """A closed file of a greater generation whose snapshot isn't whole is none to choose, nor is the one that is older."""
+        newer = self.with_newer_file()
+        whole = newer.read_bytes()
+        self.assertIn("nothing is given up", self.tool("salvage", str(self.folder / "whole"), "--take", "b"))
+        newer.write_bytes(b"\0" + whole[1:1000])
+        self.assertIn("nothing is given up", self.tool("salvage", str(self.folder / "half")))
+        self.assertIn("can't be read from file b", self.tool("salvage", str(self.folder / "none"), "--take", "b", status=1))
+        newer.write_bytes(whole)
+        self.assertIn("can't be read from file a", self.tool("salvage", str(self.folder / "older"), "--take", "a", status=1))
+
+    def with_newer_file(self) -> Path:
+        """Has the server write a snapshot into the second file, and a frame behind it; answers that file."""
         self.server.start()
         saves = [f"save c1 {PART} {number:04x}{'00' * 1022}" for number in range(1040)]
         for first in range(0, len(saves), 40):
             self.anna.link.read_all(saves[first:first + 40])
         while self.whole().active() != "b":
             time.sleep(0.05)
+        self.anna.make("/wing")
         self.server.kill()
-        damage(Path(self.server.files[1]), 24, 4, b"\xff" * 4)
-        said, report = self.salvaged()
-        self.assertIn("file b: gives up the whole file", said)
-        self.assertIn("places 4, versions 0, claims 1, drafts 1", report)
+        return Path(self.server.files[1])
 
     def whole(self) -> Any:
         """What the program says of a copy of the vault."""

@@ -6,7 +6,9 @@ import re
 import signal
 import socket
 import subprocess
+import sys
 import threading
+import time
 import unittest
 from pathlib import Path
 from typing import Dict, List, Tuple
@@ -87,6 +89,80 @@ class Watch(WithVault):
         for unit in ("../vaultd.service", "/etc/passwd", ".service", "..", ""):
             self.assertEqual(self.acted("act", "4", unit)[0], 1, unit)
         self.assertEqual(list(self.folder.glob("*.broken")), [])
+
+
+# A process that waits in the kernel as for a disk: its new one stays at a pipe that nobody writes into.
+HANGS = "import os, sys, time\nos.posix_spawn('/bin/true', ['true'], {}, file_actions=[(os.POSIX_SPAWN_OPEN, 3, sys.argv[1], 0, 0)])\ntime.sleep(600)"
+# A service manager: of a unit it knows the main process, and it notes what else is asked of it.
+MANAGER = """\
+#!/bin/sh
+PATH=/usr/bin:/bin
+echo "$*" >> {folder}/asked
+[ "$1" = show ] || exit 0
+[ "$(grep -c ^show {folder}/asked)" -lt {looks} ] || {{ : > {folder}/pipe; while grep -q ') D ' /proc/{process}/stat; do sleep 0.1; done; }}
+echo {process}
+"""
+
+
+class Deaf(WithVault):
+    """What is done with a deaf server: it is restarted, but not if it hangs in its disk."""
+
+    def setUp(self) -> None:
+        super().setUp()
+        self.mark = self.folder / "marks" / "vaultd.broken"
+        os.mkfifo(self.folder / "pipe")
+
+    def hangs(self) -> int:
+        """A process that hangs in the kernel until somebody writes into the pipe."""
+        process = subprocess.Popen([sys.executable, "-c", HANGS, str(self.folder / "pipe")])
+        self.addCleanup(process.wait)
+        self.addCleanup(process.kill)
+        self.addCleanup(self.let_go)
+        while ") D " not in Path(f"/proc/{process.pid}/stat").read_text("ascii"):
+            self.assertIsNone(process.poll())
+            time.sleep(0.01)
+        return process.pid
+
+    def let_go(self) -> None:
+        """Lets what stays at the pipe go on, if anything does."""
+        with contextlib.suppress(OSError):
+            os.close(os.open(self.folder / "pipe", os.O_WRONLY | os.O_NONBLOCK))
+
+    def acted(self, process: int, looks: int = 100) -> Tuple[str, List[str]]:
+        """What is said, and what is asked of the service manager but for the process, when the server of this process is deaf. One that hangs
+        goes on before this look."""
+        manager = self.folder / "systemctl"
+        manager.write_text(MANAGER.format(folder=self.folder, process=process, looks=looks), "ascii")
+        manager.chmod(0o755)
+        done = subprocess.run([*program("vaultd-watch"), "act", "vaultd.service", "--marks", str(self.mark.parent)], capture_output=True, text=True,
+                              timeout=60, check=False, env={**os.environ, "EXIT_STATUS": "3", "PATH": str(self.folder)})
+        self.assertEqual(done.returncode, 0, done.stderr)
+        asked = (self.folder / "asked").read_text("ascii").splitlines()
+        return done.stderr, [line for line in asked if line != "show --property=MainPID --value -- vaultd.service"]
+
+    def test_suspended(self) -> None:
+        """A server that doesn't hang in its disk is restarted, as is one that has ended."""
+        assert self.server.process is not None
+        self.server.process.send_signal(signal.SIGSTOP)
+        for process in (self.server.process.pid, 0):
+            (self.folder / "asked").unlink(missing_ok=True)
+            said, asked = self.acted(process)
+            self.assertEqual((said, asked), ("vaultd.service is restarted.\n", ["--no-block try-restart -- vaultd.service"]))
+        self.server.process.send_signal(signal.SIGCONT)
+        self.assertFalse(self.mark.exists())
+
+    def test_hangs_in_its_disk(self) -> None:
+        """One that hangs in its disk counts as broken, and is left alone: restarted, it would not hear that what it wrote failed."""
+        said, asked = self.acted(self.hangs())
+        self.assertIn("The vault is broken (its server is deaf, and hangs in its disk). Its server isn't started again", said)
+        self.assertEqual(asked, [])
+        self.assertTrue(self.mark.read_text("utf-8").endswith("its server is deaf, and hangs in its disk\n"))
+
+    def test_a_disk_that_is_back(self) -> None:
+        """One whose disk answers while it is looked at is left alone until the next look."""
+        said, asked = self.acted(self.hangs(), looks=3)
+        self.assertEqual((said, asked), ("The server was deaf, and its disk answers again: the next look says whether it serves.\n", []))
+        self.assertFalse(self.mark.exists())
 
 
 def answer_once(listener: socket.socket, answer: bytes) -> None:

@@ -98,21 +98,30 @@ class FolderStore:
         found = self.find(kept.sha256)
         if found is None or found.since >= before:
             return False
+        path = self._path(kept.sha256)
         try:
-            os.unlink(self._path(kept.sha256))
+            os.unlink(path)
+        except FileNotFoundError:
+            return False
         except OSError as error:
-            raise self._fault(error) from error
+            raise unremoved(path, error) from error
         return True
 
     def leftovers(self, before: float) -> int:
-        """Removes what killed clients left under names of their own."""
-        removed = 0
+        """Removes what killed clients left under names of their own; of what can't be removed it names one, behind all others."""
+        removed, refused = 0, None
         incoming = self.folder / INCOMING
         for path in list(incoming.iterdir()) if incoming.is_dir() and not incoming.is_symlink() else []:
-            with contextlib.suppress(FileNotFoundError):
+            try:
                 if CAME.fullmatch(path.name) and path.lstat().st_mtime < before:
                     path.unlink()
                     removed += 1
+            except FileNotFoundError:
+                continue
+            except OSError as error:
+                refused = unremoved(path, error)
+        if refused is not None:
+            raise refused
         return removed
 
     def near(self, folder: Path) -> bool:
@@ -209,6 +218,11 @@ def taken_away_again(path: Path) -> Iterator[None]:
     finally:
         with contextlib.suppress(OSError):
             os.unlink(path)
+
+
+def unremoved(path: Path, error: OSError) -> StoreFault:
+    """Why a file stays that was to go."""
+    return StoreFault(f"{path} can't be removed: {why(error)}. Look at the owner and the mode of its folder.")
 
 
 def read_only(path: Path) -> None:

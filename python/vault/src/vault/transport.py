@@ -183,7 +183,7 @@ def refusal(told: str, host: str, port: int, designer: str) -> str:
     if "Host key verification failed" in told:
         return (f"ssh doesn't know {place} yet. Say `{by_hand}` once, compare the fingerprint that it shows with the one that you have from"
                 " whoever runs it, and say `yes`.")
-    if "Permission denied" in told:
+    if "Permission denied (" in told:
         return (f"{place} takes none of your ssh keys. Send the public one, as ~/.ssh/id_ed25519.pub, to whoever runs it, who writes it"
                 f" down for {designer}; a key with a passphrase has to be in ssh-agent.")
     if "Could not resolve hostname" in told:

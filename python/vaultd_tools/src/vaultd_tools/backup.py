@@ -1,7 +1,8 @@
 """Copies the two files of a vault while its server runs, looks whether a server would serve the copy, and tries again where it wouldn't,
 or where the server wrote a snapshot over the copied file meanwhile.
 
-A folder of backups is one vault's: its file `.vault` names that vault's two files.
+A folder of backups is one vault's: its file `.vault` names that vault's two files. It is made where it is missing, but nothing above it: that
+may be a disk that isn't mounted.
 """
 
 import argparse
@@ -143,6 +144,15 @@ def words() -> argparse.Namespace:
     return parser.parse_args()
 
 
+def prepare(folder: Path) -> None:
+    """Makes the folder of backups in one that is there."""
+    try:
+        folder.mkdir(mode=0o750, exist_ok=True)
+    except (FileNotFoundError, PermissionError) as error:
+        raise ToolError(f"no backup was made: {folder} is not there, and can't be made: {error.strerror}. Mount its disk, or make it by"
+                        " hand.") from error
+
+
 def made(vaultd: str, asked: argparse.Namespace, folder: Path) -> Tuple[Path, str]:
     """Makes a backup, in as many tries as were asked for if the next may be better; answers where it is, and what was kept."""
     failed = ToolError()
@@ -162,7 +172,7 @@ def main() -> int:
     asked = words()
     try:
         vaultd, folder = find_vaultd(asked.vaultd), Path(asked.folder)
-        folder.mkdir(mode=0o750, parents=True, exist_ok=True)
+        prepare(folder)
         files = os.fsencode(f"{os.path.realpath(asked.first)}, {os.path.realpath(asked.second)}\n")
         look_whose(folder, files)
         new, said = made(vaultd, asked, folder)

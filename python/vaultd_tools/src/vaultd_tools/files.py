@@ -9,7 +9,7 @@ import sys
 import time
 from dataclasses import dataclass
 from pathlib import Path
-from typing import Any, Dict, List, Optional, Tuple
+from typing import Any, Dict, Iterable, List, Optional, Tuple
 
 PIECE = 65536
 HEAD = 24
@@ -144,6 +144,18 @@ def sync_folder(folder: Path) -> None:
         os.fsync(descriptor)
     finally:
         os.close(descriptor)
+
+
+def print_all(program: str, lines: Iterable[str]) -> int:
+    """Prints lines, and answers the status for it: 1 if they can't be written, which is said, or if nobody reads on, as behind `head`."""
+    try:
+        for line in lines:
+            print(line)
+        sys.stdout.flush()
+        return 0
+    except OSError as error:
+        os.dup2(os.open(os.devnull, os.O_WRONLY), sys.stdout.fileno())
+        return 1 if isinstance(error, BrokenPipeError) else say_error(program, error)
 
 
 def say_error(program: str, error: Exception) -> int:

@@ -7,6 +7,7 @@ ERR 10 to what is no command, ERR 31 to another's name and to what the key may n
 from __future__ import annotations
 
 import argparse
+import fcntl
 import os
 import select
 import socket
@@ -28,6 +29,9 @@ LONGEST_REFUSED = 256
 # How many bytes stay free on the log's disk. The vault may be there, whose files grow to half of that; a mere refusal leaves twice that.
 LEFT_BY_CHANGES = 60_000_000
 LEFT_BY_REFUSALS = 2 * LEFT_BY_CHANGES
+# How many conversations a name may have at once, of the 64 that the server serves, and where they are counted.
+AT_ONCE = 8
+PLACES = "/var/lib/vaultd-gate"
 CLIENT_IN, CLIENT_OUT = 0, 1
 GONE = select.POLLHUP | select.POLLERR | select.POLLNVAL
 
@@ -197,6 +201,22 @@ class Gate:
         self.log.write(f"{self.number}.{self.lines}", self.name, kind, what, leaves)
 
 
+def takes_place(folder: str, name: str, at_once: int) -> bool:
+    """Takes one of a name's places until this program ends, by a lock on its file; answers whether one was free. Without the folder nobody
+    counts."""
+    for number in range(at_once):
+        try:
+            file = os.open(f"{folder}/{name}.{number}", os.O_WRONLY | os.O_CREAT | os.O_CLOEXEC | os.O_NOFOLLOW, 0o600)
+        except FileNotFoundError:
+            return True
+        try:
+            fcntl.flock(file, fcntl.LOCK_EX | fcntl.LOCK_NB)
+            return True
+        except BlockingIOError:
+            os.close(file)
+    return False
+
+
 def say(sentence: str) -> None:
     """Says something to whoever sees standard error: behind ssh that is the client."""
     try:
@@ -221,6 +241,13 @@ def address(word: str) -> tuple[str, int]:
     return host.strip("[]"), int(port)
 
 
+def number(word: str) -> int:
+    """A number on the command line."""
+    if not (word.isascii() and word.isdigit() and 0 < int(word) < 1000):
+        raise argparse.ArgumentTypeError("it is a number from 1 to 999")
+    return int(word)
+
+
 def words(given: list[str] | None = None) -> argparse.Namespace:
     """The command line, which stands beside a key in sshd's authorized_keys."""
     parser = argparse.ArgumentParser(prog="vaultd-gate", description=__doc__, allow_abbrev=False,
@@ -229,6 +256,8 @@ def words(given: list[str] | None = None) -> argparse.Namespace:
     parser.add_argument("--read", action="store_true", help="let only questions through")
     parser.add_argument("--any-name", action="store_true", help="let `hello` through with any name: an administrator's key")
     parser.add_argument("--server", type=address, default=("127.0.0.1", 7070), metavar="HOST:PORT", help="where the server is (127.0.0.1:7070)")
+    parser.add_argument("--at-once", type=number, default=AT_ONCE, metavar="N", help=f"how many conversations NAME may have at once ({AT_ONCE})")
+    parser.add_argument("--places", default=PLACES, metavar="FOLDER", help=f"where these are counted; nowhere if it is missing ({PLACES})")
     parser.add_argument("--log", metavar="FILE",
                         help="a file that the log is added to, too; a change whose line it does not take is not sent on")
     parser.add_argument("--sync", action="store_true", help="put each line of that file on disk before going on")
@@ -237,11 +266,18 @@ def words(given: list[str] | None = None) -> argparse.Namespace:
 
 
 def main() -> int:
-    """0 once the conversation has ended, 1 if there is no server or no log, 2 if the command line is wrong."""
+    """0 once the conversation has ended, 1 if there is no place, no server or no log, 2 if the command line is wrong."""
     asked = words()
     host, port = asked.server
     by, key = asked.designer.decode("ascii"), keys_of(os.environ.get("SSH_USER_AUTH"))
     who = f"vault={host}:{port} from={address_of(os.environ.get('SSH_CONNECTION'))} key={key} by={by}"
+    try:
+        if not takes_place(asked.places, f"{by}.{port}", asked.at_once):
+            say(f"{by} has {asked.at_once} conversations at once, and no more are let in: end one, then come again")
+            return 1
+    except OSError as error:
+        say(f"{asked.places} can't be used: {error.strerror}. Ask whoever runs the server")
+        return 1
     try:
         log = Log(who, asked.log, asked.sync, asked.syslog, say)
     except OSError as error:

@@ -1,10 +1,12 @@
 """Says for whom each key of an authorized_keys file speaks through the gate, and which lines tie a key to no name.
 
-A key without a forced command gets a shell of the gate's user, and so reaches the server as anybody. It is looked for here, since sshd
-itself takes such a line.
+A key without a forced command gets a shell of the gate's user, and so reaches the server as anybody. By some public keys everybody can sign.
+Both are looked for here, since sshd itself takes such a line.
 """
 
 import argparse
+import base64
+import binascii
 import contextlib
 import io
 import re
@@ -12,7 +14,7 @@ import shlex
 import sys
 from dataclasses import dataclass
 from pathlib import Path
-from typing import Dict, List, Optional, Tuple
+from typing import Dict, Iterator, List, Optional, Tuple
 
 from vaultd_tools.files import say_error
 from vaultd_tools.gate import words as gate_words
@@ -23,6 +25,13 @@ LINE = re.compile(r'(?:(?P<options>(?:[^" \t]|"(?:[^"\\]|\\.)*")+)[ \t]+)?(?P<ty
                   r"(?:[ \t]+(?P<comment>.*))?")
 UNDONE = ("pty", "port-forwarding", "agent-forwarding", "x11-forwarding", "user-rc", "cert-authority", "permitopen", "permitlisten",
           "tunnel", "environment")
+ED25519 = (b"ssh-ed25519", b"sk-ssh-ed25519@openssh.com")
+# The second coordinates of the points of order 1, 2, 4 and 8, some of which are spelled in two ways. Signing by one needs no secret.
+PRIME = 2 ** 255 - 19
+OF_SMALL_ORDER = (0, 1, PRIME - 1, PRIME, PRIME + 1, int("05fc536d880238b13933c6d305acdfd5f098eff289f4c345b027b2c28f95e826", 16),
+                  int("7a03ac9277fdc74ec6cc392cfa53202a0f67100d760b3cba4fd84d3d706a17c7", 16))
+# How the keys of an earlier example began.
+ZEROS = bytes(31)
 
 
 @dataclass(frozen=True)
@@ -64,6 +73,28 @@ def speaks_for(command: str) -> Tuple[str, str]:
     return asked.designer.decode("ascii") + (" or anybody" if asked.any_name else "") + role, ""
 
 
+def strings_of(key: str) -> Iterator[bytes]:
+    """The strings of a key, as far as they can be read: its type, and what its type says."""
+    with contextlib.suppress(binascii.Error):
+        blob, at = base64.b64decode(key, validate=True), 0
+        while at + 4 <= len(blob):
+            size = int.from_bytes(blob[at:at + 4], "big")
+            yield blob[at + 4:at + 4 + size]
+            at += 4 + size
+
+
+def weakness_of(kind: str, key: str) -> str:
+    """Why a key is nobody's alone, or nothing."""
+    inside, point, *_ = (*strings_of(key), b"", b"")
+    if inside != kind.encode("ascii"):
+        return "its key can't be read"
+    if inside not in ED25519:
+        return ""
+    if int.from_bytes(point, "little") % 2 ** 255 in OF_SMALL_ORDER:
+        return "everybody can sign by its key, without a secret: put in the designer's own"
+    return "its key is an example's: put in the designer's own" if point.startswith(ZEROS) else ""
+
+
 def key_of(line: str) -> Key:
     """What a line of the file says."""
     found = LINE.fullmatch(line)
@@ -71,7 +102,7 @@ def key_of(line: str) -> Key:
     if found is None or options is None:
         return Key("nobody", "-", line[:60], ("it can't be read",))
     who, wrong = speaks_for(options["command"]) if "command" in options else ("ANYBODY, by a shell", "it has no command")
-    complaints = [wrong] if wrong else []
+    complaints = [each for each in (wrong, weakness_of(found["type"], found["key"])) if each]
     complaints += [] if "restrict" in options else ["it has no `restrict`"]
     complaints += [f"it has `{option}`" for option in UNDONE if option in options]
     fingerprint = fingerprint_of(f"{found['type']} {found['key']}".encode("ascii"))
@@ -105,6 +136,8 @@ def main() -> int:
     except OSError as error:
         return say_error("vaultd-gate-keys", error)
     told, wrong = complaints_of(text.split("\n"))
+    if not told:
+        print(f"{asked.file} lets nobody in yet: put in a line for each designer's key.")
     for sentence in told:
         print("".join(mark if mark.isprintable() else "?" for mark in sentence))
     for sentence in wrong:

@@ -78,16 +78,20 @@ class Unwritten(Exception):
     """A line can't be written into the log's file; says why."""
 
 
+def opened(path: str) -> int:
+    """A log's file, which is made where it is missing."""
+    return os.open(path, os.O_WRONLY | os.O_APPEND | os.O_CREAT | os.O_CLOEXEC | os.O_NOCTTY, 0o640)
+
+
 class Log:
     """Writes each line to the system's log, if there is one, and to a file, if one is named. A file is only appended to, each line by
-    one write."""
+    one write. If it is put away and another stands in its place, as after a rotation, the lines go there."""
 
-    def __init__(self, who: str, file: str | None, synced: bool, syslog: str, say: Callable[[str], None]):
+    def __init__(self, who: str, path: str | None, synced: bool, syslog: str, say: Callable[[str], None]):
         self.who, self.synced, self.say = who, synced, say
-        self.syslog, self.syslog_path, self.file = self._system_log(syslog), syslog, -1
-        self.torn = False
-        if file is not None:
-            self.file = os.open(file, os.O_WRONLY | os.O_APPEND | os.O_CREAT | os.O_CLOEXEC | os.O_NOCTTY, 0o640)
+        self.syslog, self.syslog_path = self._system_log(syslog), syslog
+        self.path, self.torn = path, False
+        self.file = -1 if path is None else opened(path)
 
     def _system_log(self, path: str) -> socket.socket | None:
         log = socket.socket(socket.AF_UNIX, socket.SOCK_DGRAM)
@@ -104,8 +108,8 @@ class Log:
         """Writes a line. Raises if the file doesn't take it, or if fewer bytes than these are free on its disk; the system's log may be
         away."""
         line = f"{now()} id={number} {self.who} as={name} {kind} {what}"
-        if self.file >= 0:
-            self._to_file(line, leaves)
+        if self.path is not None:
+            self._to_file(self.path, line, leaves)
         if self.syslog is not None:
             self._to_system_log(line)
 
@@ -114,9 +118,25 @@ class Log:
         found = os.fstatvfs(self.file)
         return found.f_blocks > 0 and found.f_bavail * found.f_frsize < size
 
-    def _to_file(self, line: str, leaves: int) -> None:
-        text = (("\n" if self.torn else "") + line + "\n").encode("ascii")
+    def _follow(self, path: str) -> None:
+        """Goes over to the file that has the name now. While none has it, the earlier one takes lines, unless it was removed."""
+        held = os.fstat(self.file)
         try:
+            named = os.stat(path)
+        except FileNotFoundError:
+            if held.st_nlink:
+                return
+        else:
+            if os.path.samestat(held, named):
+                return
+        other = opened(path)
+        os.close(self.file)
+        self.file, self.torn = other, False
+
+    def _to_file(self, path: str, line: str, leaves: int) -> None:
+        try:
+            self._follow(path)
+            text = (("\n" if self.torn else "") + line + "\n").encode("ascii")
             if leaves and self._is_short_of(leaves):
                 raise Unwritten(f"the log's disk has less than {leaves // 1_000_000} MB left")
             written = os.write(self.file, text)

@@ -14,7 +14,7 @@ from dataclasses import dataclass, field
 from pathlib import Path
 from typing import Dict, Iterable, Iterator, List, Optional, Set, Tuple
 
-from vaultd_tools.files import ToolError, say_error
+from vaultd_tools.files import ToolError, print_all, say_error
 
 RECORD = re.compile(r"(?P<time>\d{4}-\d\d-\d\dT\d\d:\d\d:\d\d\.\d{6}Z) id=(?P<id>[0-9a-f]{16}\.\d+) vault=(?P<vault>\S+) from=(?P<origin>\S+)"
                     r" key=(?P<key>\S+) by=(?P<by>[a-z0-9_-]{1,32}) as=(?P<name>[a-z0-9_-]{1,32}) (?P<kind>asks|told|lost|refused)"
@@ -218,7 +218,7 @@ def words() -> argparse.Namespace:
 
 
 def main() -> int:
-    """0 if the log could be read, else 1."""
+    """0 if the log could be read, and what it has be written, else 1."""
     asked = words()
     damaged: List[str] = []
     try:
@@ -226,11 +226,10 @@ def main() -> int:
     except (ToolError, OSError) as error:
         return say_error("vaultd-log", error)
     unknown: List[Record] = []
-    for line in told(outcomes(found), asked.place, asked.all, unknown):
-        print(line)
+    status = print_all("vaultd-log", told(outcomes(found), asked.place, asked.all, unknown))
     if unknown:
         print(f"vaultd-log: {len(unknown)} more may be of {asked.place}, by check-outs whose places this log doesn't have: ask for / to see them.",
               file=sys.stderr)
     if damaged:
         print(f"vaultd-log: {len(damaged)} lines aren't the gate's, and were left out.", file=sys.stderr)
-    return 0
+    return status

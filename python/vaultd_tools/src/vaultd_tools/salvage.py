@@ -2,7 +2,7 @@
 
 What `vaultd inspect` finds damaged is put right in the copy, one finding at a time: a head's fixed bytes are written again, a
 frame that can't be read is cut off with all behind it, and a file whose snapshot can't be read is closed, so that the older one
-is read. Take the last backup instead where it has more.
+is read. Where the closed file may be the newer one, a person has to choose. Take the last backup instead where it has more.
 """
 
 import argparse
@@ -19,6 +19,7 @@ HEAD = 24
 STEPS = 12
 NAME_AT, NAME = 1, b"LLVAULT"
 VERSION_AT, VERSION_BYTES = 8, 4
+GENERATION_AT, GENERATION_BYTES = 12, 8
 
 
 def number(data: bytes, at: int, size: int) -> int:
@@ -92,7 +93,10 @@ def written_version(vaultd: str) -> int:
     """The version of the files that the program writes, found by having it make a vault."""
     with tempfile.TemporaryDirectory(prefix="vault-salvage-") as folder:
         made = Path(folder) / "a"
-        subprocess.run([vaultd, "create", str(made), str(Path(folder) / "b")], check=True, stdout=subprocess.DEVNULL)
+        done = subprocess.run([vaultd, "create", str(made), str(Path(folder) / "b")], capture_output=True, text=True, check=False)
+        if done.returncode != 0:
+            raise ToolError(f"no vault could be made in {tempfile.gettempdir()}, by which the files' version is known: {done.stderr.strip()}. Make"
+                            " room there, or name another folder by TMPDIR.")
         return number(made.read_bytes(), VERSION_AT, VERSION_BYTES)
 
 
@@ -115,8 +119,8 @@ def unserved(first: str, second: str) -> Iterator[None]:
 class Salvage:
     """The copies, what was done to them, and what that gives up."""
 
-    def __init__(self, vaultd: str, copies: Dict[str, Path]):
-        self.vaultd, self.copies = vaultd, copies
+    def __init__(self, vaultd: str, copies: Dict[str, Path], take: Optional[str] = None):
+        self.vaultd, self.copies, self.take = vaultd, copies, take
         self.said: List[str] = []
         self.closed: List[str] = []
         self.mended: List[Tuple[str, int]] = []
@@ -126,7 +130,9 @@ class Salvage:
         for _ in range(STEPS):
             report = inspect(self.vaultd, self.copies)
             if report.counts is not None:
-                return report
+                if not self.opens_newer(report):
+                    return report
+                continue
             damaged = report.damaged()
             if damaged is not None:
                 self.put_right(*damaged)
@@ -176,13 +182,52 @@ class Salvage:
             if damaged is None or damaged[0] != file or damaged[1] > HEAD or damaged[1] < at:
                 return
 
+    def opens_newer(self, report: Report) -> bool:
+        """Whether the closed file was opened instead, of a greater generation, as a person chose. Raises if nobody chose."""
+        active = report.active() or "a"
+        other = "b" if active == "a" else "a"
+        found = self.found_in(other) if self.may_be_newer(other, active) else ""
+        if not found:
+            if self.take not in (None, active):
+                raise ToolError(f"the vault can't be read from file {self.take}: file {active} is the newer one that opens. Leave --take out.")
+            return False
+        if self.take is None:
+            first = self.copies[other].read_bytes()[0]
+            raise ToolError(f"which file is the vault?\nfile {active}: {report.counts}\nfile {other}, of a greater generation, but closed: {found}\n"
+                            f"It is file {active} if a stop or a crash kept file {other} from being finished. It is file {other} if its first byte"
+                            f" was damaged: that is {first}, and 0 in a closed file. Choose by --take {active} or --take {other}, with a new folder.")
+        self.closed.append(other)
+        if self.take == active:
+            self.said.append(f"file {other}: is left closed, and gives up what it has: {found}")
+            return False
+        self.said.append(f"file {other}: its head was closed, and is opened, as was asked for")
+        self.write(other, 0, b"\1")
+        return True
+
+    def may_be_newer(self, other: str, active: str) -> bool:
+        """Whether a file is closed, was not given up, and has a head of a greater generation than the one that is read."""
+        data, read = (self.copies[file].read_bytes() for file in (other, active))
+        if other in self.closed or len(data) <= HEAD or data[0] == 1 or data[NAME_AT:NAME_AT + len(NAME)] != NAME:
+            return False
+        return number(data, GENERATION_AT, GENERATION_BYTES) > number(read, GENERATION_AT, GENERATION_BYTES)
+
+    def found_in(self, file: str) -> str:
+        """What a closed file has, once it is opened; nothing if its snapshot isn't whole. It stays as it is."""
+        first = self.copies[file].read_bytes()[:1]
+        self.write(file, 0, b"\1")
+        report = inspect(self.vaultd, self.copies)
+        self.write(file, 0, first)
+        damaged = report.damaged()
+        frame = f"a whole snapshot, and is damaged at {damaged[1]}" if damaged and damaged[0] == file and damaged[1] > HEAD else ""
+        return report.counts or frame
+
     def open_one(self) -> bool:
         """If neither file is open: opens the closed file of the greater generation that was not given up."""
         best: Optional[Tuple[int, str]] = None
         for file, copy in sorted(self.copies.items()):
             data = copy.read_bytes()
             if file not in self.closed and len(data) > HEAD and data[NAME_AT:NAME_AT + len(NAME)] == NAME and data[0] != 1:
-                best = max(best or (0, ""), (int.from_bytes(data[12:20], "big"), file))
+                best = max(best or (0, ""), (number(data, GENERATION_AT, GENERATION_BYTES), file))
         if best is None:
             return False
         self.said.append(f"file {best[1]}: its head was closed, and is opened; a snapshot that was not finished would be refused")
@@ -196,6 +241,7 @@ def words() -> argparse.Namespace:
     parser.add_argument("first", metavar="A", help="the vault's first file")
     parser.add_argument("second", metavar="B", help="the vault's second file")
     parser.add_argument("folder", metavar="FOLDER", help="a new folder, into which the copies a and b are written")
+    parser.add_argument("--take", choices=("a", "b"), help="the file that is the vault, where either may be: the first or the second")
     parser.add_argument("--vaultd", metavar="PROGRAM", help="the program vaultd")
     return parser.parse_args()
 
@@ -207,7 +253,7 @@ def main() -> int:
         vaultd, folder = find_vaultd(asked.vaultd), Path(asked.folder)
         with unserved(asked.first, asked.second):
             folder.mkdir(mode=0o750, parents=True)
-            salvage = Salvage(vaultd, copy_vault(asked.first, asked.second, folder))
+            salvage = Salvage(vaultd, copy_vault(asked.first, asked.second, folder), asked.take)
         report = salvage.run()
         salvage.look_whether_served()
     except FileExistsError:

@@ -4,6 +4,7 @@ The vault's two files are copied first, so the server may run. Every hash that s
 of a draft that was given up since. Bytes that a designer wanted again are young, and their age is looked at again right before each goes.
 A store belongs to one vault; where several share one, name the files of each. Nothing is taken away where the store lacks
 most of what the files name, nor, without --yes, where more than half of the store would go, or the store is younger than the files.
+Each hash is printed as it goes. What can't be removed is named, and stays; the others go.
 """
 
 import argparse
@@ -11,18 +12,21 @@ import os
 import re
 import tempfile
 import time
+from dataclasses import dataclass, field
 from pathlib import Path
-from typing import List, Optional, Set, Tuple
+from typing import List, Optional, Set
 
 from vault.address import read_store_address
 from vault.setting import open_store
-from vault.store import Kept, Store
+from vault.store import Kept, Store, StoreAway
 from vault.words import VaultError
 from vaultd_tools.files import ToolError, copy_of, find_vaultd, say_error
 
 NAMED = re.compile(rb"vault card 1\nsha256 ([0-9a-f]{64})\n")
 DAY = 86400
 DAYS = 30
+# After how many removals in a row that find the store away the sweep ends.
+AWAY = 3
 
 
 def named_in(vaultd: str, first: str, second: str) -> Set[str]:
@@ -50,17 +54,53 @@ def doubt(store: Store, kept: List[Kept], old: List[Kept], written: float) -> No
         raise ToolError(f"{store.address} has files that came after the vault was last written. {ask}")
 
 
-def sweep(store: Store, named: Set[str], before: float, only_look: bool, written: Optional[float] = None) -> Tuple[List[Kept], int]:
-    """Removes what nobody names and what is older, and what killed clients left. Answers what it removed, and how many leftovers. If it is
-    said when the vault's files were last written, it removes nothing in doubt."""
+@dataclass
+class Swept:
+    """What went, or would go, how many refusals there were, and how many leftovers went, if all did."""
+
+    gone: List[Kept] = field(default_factory=list)
+    refused: int = 0
+    leftovers: Optional[int] = 0
+
+    def remove(self, store: Store, old: List[Kept], before: float) -> None:
+        """Removes files one by one, and says of each whether it went."""
+        away = 0
+        for each in old:
+            try:
+                went, away = store.remove(each, before), 0
+            except (VaultError, OSError) as error:
+                went, away = False, away + 1 if isinstance(error, StoreAway) else 0
+                self.refused += 1
+                say_error("vaultd-sweep", ToolError(f"{each.sha256} stays: {error}"))
+            if went:
+                self.gone.append(each)
+                print(each.sha256, flush=True)
+            if away == AWAY:
+                return
+
+    def remove_leftovers(self, store: Store, before: float) -> None:
+        """Removes what killed clients left."""
+        try:
+            self.leftovers = store.leftovers(before)
+        except (VaultError, OSError) as error:
+            self.refused, self.leftovers = self.refused + 1, None
+            say_error("vaultd-sweep", error)
+
+
+def sweep(store: Store, named: Set[str], before: float, only_look: bool, written: Optional[float] = None) -> Swept:
+    """Removes what nobody names and what is older, and what killed clients left. If it is said when the vault's files were last written, it
+    removes nothing in doubt."""
     kept = list(store.all())
     refuse_another(store, kept, named)
     old = [each for each in kept if each.sha256 not in named and each.since < before]
     if only_look:
-        return old, 0
+        return Swept(old)
     if written is not None:
         doubt(store, kept, old, written)
-    return [each for each in old if store.remove(each, before)], store.leftovers(before)
+    swept = Swept()
+    swept.remove(store, old, before)
+    swept.remove_leftovers(store, before)
+    return swept
 
 
 def words() -> argparse.Namespace:
@@ -80,6 +120,15 @@ def words() -> argparse.Namespace:
     return asked
 
 
+def told(swept: Swept, only_look: bool) -> str:
+    """What went, in numbers."""
+    would = "would be" if only_look else "was" if len(swept.gone) == 1 else "were"
+    files = "1 file" if len(swept.gone) == 1 else f"{len(swept.gone)} files"
+    size = sum(each.size for each in swept.gone)
+    leftovers = "not all" if swept.leftovers is None else swept.leftovers
+    return f"{files} of {size:,} bytes {would} taken away, and {leftovers} that came in and never ended"
+
+
 def main() -> int:
     """0 if the store was swept, else 1."""
     asked = words()
@@ -91,12 +140,10 @@ def main() -> int:
         for first, second in [(asked.first, asked.second), *asked.also]:
             written = max(written, *(os.stat(file).st_mtime for file in (first, second)))
             named |= named_in(vaultd, first, second)
-        gone, leftovers = sweep(store, named, before, asked.only_look, None if asked.yes else written)
+        swept = sweep(store, named, before, asked.only_look, None if asked.yes else written)
     except (ToolError, VaultError, OSError) as error:
         return say_error("vaultd-sweep", error)
-    for each in gone:
+    for each in swept.gone if asked.only_look else []:
         print(each.sha256)
-    would = "would be" if asked.only_look else "was" if len(gone) == 1 else "were"
-    files = "1 file" if len(gone) == 1 else f"{len(gone)} files"
-    print(f"{files} of {sum(each.size for each in gone):,} bytes {would} taken away, and {leftovers} that came in and never ended")
-    return 0
+    print(told(swept, asked.only_look))
+    return 1 if swept.refused else 0

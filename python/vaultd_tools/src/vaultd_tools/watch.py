@@ -2,17 +2,19 @@
 
 `vaultd-watch.timer` does this each minute. `ask` says in a line what it finds. `act` does what follows from that: a deaf server is
 restarted, and nothing else is. A broken one gets a mark, and no unit starts its server again while the mark is there, until a person has
-done what "A broken vault" in OPERATING says. `ended` is called by the server's unit behind each end: it sets the mark, too, where the
-server had said `device fault`.
+done what "A broken vault" in OPERATING says. So does one that is deaf since its disk gives no answer: what it writes may fail, and a server
+that is started over the same mount doesn't hear of that. `ended` is called by the server's unit behind each end: it sets the mark, too, where
+the server had said `device fault`, but for a file that couldn't be opened at its start, which a person mends.
 """
 
 import argparse
 import os
+import re
 import subprocess
 import sys
 import time
 from pathlib import Path
-from typing import Tuple
+from typing import List, Tuple
 
 from vaultd_tools.asking import BROKEN, BUSY, DEAF, DOWN, ODD, PATIENCE, SERVES, Answer, ask
 from vaultd_tools.files import ToolError, say_error
@@ -21,6 +23,10 @@ from vaultd_tools.gate import address
 MARKS = Path("/run/vaultd-watch")
 STATUS = {SERVES: 0, BUSY: 0, ODD: 1, DEAF: 3, BROKEN: 4, DOWN: 5}
 DEVICE_FAULT = "device fault"
+# The line behind it, if a file can't be opened: its path in quotes.
+NOT_OPENED = re.compile(r'".*", opened: ')
+# How often a deaf server's threads are looked at, a second apart, until it counts as one that hangs.
+LOOKS = 5
 
 
 def mark_of(marks: Path, unit: str) -> Path:
@@ -50,14 +56,45 @@ def restart(unit: str) -> str:
     return f"{unit} is restarted"
 
 
+def in_its_disk(unit: str) -> bool:
+    """Whether a thread of a unit's server waits for a disk just now, in the kernel, from where no signal fetches it."""
+    done = subprocess.run(["systemctl", "show", "--property=MainPID", "--value", "--", unit], capture_output=True, text=True, check=False)
+    if done.returncode != 0 or not done.stdout.strip().isdigit():
+        raise ToolError(f"`systemctl show {unit}` said: {done.stderr.strip() or done.stdout.strip()}. Look by hand whether the server hangs.")
+    states: List[str] = []
+    for file in Path("/proc", done.stdout.strip(), "task").glob("*/stat"):
+        try:
+            states.append(file.read_text("utf-8", "replace").rpartition(")")[2].split()[0])
+        except OSError:
+            continue
+    return "D" in states
+
+
+def waits_for_its_disk(unit: str) -> List[bool]:
+    """What several looks at a deaf server found, up to the first at which it doesn't wait for its disk."""
+    found: List[bool] = []
+    while len(found) < LOOKS and all(found):
+        time.sleep(1 if found else 0)
+        found.append(in_its_disk(unit))
+    return found
+
+
+def act_on_deaf(unit: str, mark: Path) -> str:
+    """Restarts a deaf server, but not where its vault broke, or may be about to: if it hangs in its disk."""
+    if mark.exists():
+        return f"The server is deaf, and isn't restarted: {mark} is there, since its vault broke"
+    found = waits_for_its_disk(unit)
+    if all(found):
+        return set_mark(mark, "its server is deaf, and hangs in its disk")
+    return "The server was deaf, and its disk answers again: the next look says whether it serves" if any(found) else restart(unit)
+
+
 def act(unit: str, status: str, marks: Path) -> str:
     """Does what follows from the status with which `ask` ended; answers what was done, or nothing."""
     mark = mark_of(marks, unit)
     if status == str(STATUS[BROKEN]):
         return set_mark(mark, "its server said ERR 82")
-    if status == str(STATUS[DEAF]):
-        return f"The server is deaf, and isn't restarted: {mark} is there, since its vault broke" if mark.exists() else restart(unit)
-    return ""
+    return act_on_deaf(unit, mark) if status == str(STATUS[DEAF]) else ""
 
 
 def said_by(invocation: str) -> str:
@@ -71,8 +108,10 @@ def said_by(invocation: str) -> str:
 
 
 def ended(unit: str, invocation: str, marks: Path) -> str:
-    """Marks a server that ended as broken if it had said `device fault`; answers what was done, or nothing."""
-    faults = [line for line in said_by(invocation).splitlines() if line == DEVICE_FAULT]
+    """Marks a server that ended as broken if it had said `device fault`, but not where a file couldn't be opened, which breaks nothing;
+    answers what was done, or nothing."""
+    lines = said_by(invocation).splitlines()
+    faults = [reason for line, reason in zip(lines, [*lines[1:], ""]) if line == DEVICE_FAULT and not NOT_OPENED.match(reason)]
     return set_mark(mark_of(marks, unit), f"its server said `{DEVICE_FAULT}`") if faults else ""
 
 
