@@ -12,7 +12,8 @@ from typing import Any, Callable, Iterator, List, Tuple
 from unittest import mock
 
 from designers import PART, WithServer
-from servers import Limits, free_port, program
+from servers import Cutter, Limits, free_port, program
+from test_who import Between, Older
 
 from vault import Client, Misused, NotKnown, Refused, Unreachable, claim_commands
 from vault.command_line import command_line
@@ -69,14 +70,46 @@ class Lost(WithServer):
         self.assertEqual(self.anna.checkout(["w:/engine"]).claim, "c2")
 
     def test_checkout_far_behind(self) -> None:
-        """After more numbers than are asked about at first, the lost one is found by the second one's number, and only it stands."""
+        """However many numbers others had meanwhile, it is found at once, and not said twice."""
         ben = self.client("ben")
         for _ in range(100):
             ben.abandon(ben.checkout(["r:/engine"]).claim)
         self.cutter.after.append(b"checkout")
+        self.cutter.lines.clear()
         self.assertEqual(self.anna.checkout(["w:/engine"]).claim, "c101")
-        self.assertTrue(self.anna.state("c102").gone)
-        self.assertEqual([standing.claim for standing, _ in self.anna.mine()], ["c101"])
+        self.assertEqual(([standing.claim for standing, _ in self.anna.mine()], self.sent(b"checkout")), (["c101"], 1))
+
+    def test_checkout_after_a_restore(self) -> None:
+        """The vault came back from a backup, and numbers began anew: the lost one is found, whether those that had its number here before
+        were ended or not, and only it stands; also by the next run."""
+        kept = [Path(path).read_bytes() for path in self.server.files]
+        for ended in (True, False):
+            for _ in range(50):
+                claim = self.anna.checkout(["r:/engine"]).claim
+                if ended:
+                    self.anna.abandon(claim)
+            self.anna.close()
+            self.restore(kept)
+            self.cutter.after.append(b"checkout")
+            self.assertEqual(self.anna.checkout(["r:/engine"]).claim, "c1")
+            self.assertEqual(self.standing(), ["c1"])
+            self.anna.abandon("c1")
+
+    def restore(self, kept: List[bytes]) -> None:
+        """The vault comes back from a backup."""
+        self.server.kill()
+        for path, content in zip(self.server.files, kept):
+            Path(path).write_bytes(content)
+        self.server.start()
+
+    def test_checkout_that_arrives_late(self) -> None:
+        """A line that was under way when the client asked what became of it: both tries stand then, and the first is kept."""
+        late = Late(self.server.port)
+        self.addCleanup(late.close)
+        anna = Client("anna", "127.0.0.1", late.port, Path(self.folder.name) / "late", 10.0, 0.05, self.notices.append)
+        self.addCleanup(anna.close)
+        self.assertEqual(anna.checkout(["w:" + PART]).claim, "c1")
+        self.assertEqual((self.standing(), late.sent(b"checkout"), late.lost), (["c1"], 2, [b""]))
 
     def test_extend(self) -> None:
         claim = self.anna.checkout(["r:/engine"] * 5).claim
@@ -156,6 +189,58 @@ class Lost(WithServer):
         self.assertTrue(self.anna.state(hold.claim).gone)
 
 
+class Late(Between):
+    """Hands the first check-out on only once it has answered which claims there are."""
+
+    def __init__(self, server_port: int):
+        self.lost: List[bytes] = []
+        super().__init__(server_port)
+
+    def answer(self, line: bytes, ask: Callable[[bytes], bytes]) -> bytes:
+        if line.startswith(b"checkout") and not self.lost:
+            self.lost.append(line)
+            return b""
+        reply = ask(line)
+        if line == b"claims /\n" and self.lost[-1:] != [b""]:
+            ask(self.lost.pop())
+            self.lost.append(b"")
+        return reply
+
+
+class LostAtAnOlderServer(WithServer):
+    """A check-out whose reply is lost at a server that doesn't tell whose claims are."""
+
+    def setUp(self) -> None:
+        super().setUp()
+        older = Older(self.server.port)
+        self.addCleanup(older.close)
+        self.cutter = Cutter(older.port)
+        self.addCleanup(self.cutter.close)
+        self.anna = self.client("anna")
+        ben = self.client("ben")
+        for _ in range(100):
+            ben.abandon(ben.checkout(["r:/engine"]).claim)
+
+    def test_far_behind(self) -> None:
+        """After more numbers than are asked about at first, the lost one is found by the second one's number, and only it stands."""
+        self.cutter.after.append(b"checkout")
+        self.assertEqual(self.anna.checkout(["w:/engine"]).claim, "c101")
+        self.assertTrue(self.anna.state("c102").gone)
+        self.assertEqual([standing.claim for standing, _ in self.anna.mine()], ["c101"])
+
+    def test_two_settled_by_the_next_run(self) -> None:
+        """The server is away between the second try of a check-out and the finding of the first. In the end only the first stands."""
+        self.cutter.after.append(b"checkout")
+        self.cutter.before.append(b"save c97 ")
+        self.cutter.meanwhile = lambda: self.server.kill() if not self.cutter.before else None
+        with self.assertRaises(NotKnown):
+            self.client("anna", patience=0.5).checkout(["w:/engine"])
+        self.server.start()
+        self.assertEqual([standing.claim for standing, _ in self.client("anna").mine()], ["c101"])
+        self.assertTrue(self.anna.state("c102").gone)
+        self.assertEqual(self.notices[0], "Your earlier `checkout w:/engine` was done.")
+
+
 class NoServer(WithServer):
     """A server that stays away for longer than the client's patience, and a second run of the client."""
 
@@ -191,20 +276,53 @@ class NoServer(WithServer):
         self.assertEqual([notice.endswith("was done.") for notice in self.notices], [True] * 4, self.notices)
         self.assertEqual(self.sent(b"checkin"), 1)
 
-    def test_two_checkouts_settled_by_the_next_run(self) -> None:
-        """The server is away between the second try of a check-out and the finding of the first. In the end only the first stands."""
-        ben = self.client("ben")
-        for _ in range(100):
-            ben.abandon(ben.checkout(["r:/engine"]).claim)
-        self.cutter.after.append(b"checkout")
-        self.cutter.before.append(b"save c97 ")
-        self.cutter.meanwhile = lambda: self.server.kill() if not self.cutter.before else None
-        with self.assertRaises(NotKnown):
-            self.client("anna", patience=0.5).checkout(["w:/engine"])
+    def test_said_again(self) -> None:
+        """Who says a command again, of which it wasn't known whether it was done, gets its answer: it isn't done a second time."""
+        self.leave_under_way("checkout", "w:" + PART)
+        self.assertEqual(self.client("anna").checkout(["w:" + PART]).claim, "c1")
+        self.assertEqual(self.standing(), ["c1"])
+        self.assertFalse(self.client("anna").checkout(["w:" + PART]).held)
+        self.client("anna").abandon("c2")
+        self.leave_under_way("make", "/wing")
+        self.client("anna").make("/wing")
+        self.client("anna").put(PART, b"first")
+        self.leave_under_way("checkin", "c1")
+        self.assertEqual((self.client("anna").checkin("c1"), self.sent(b"checkin")), (1, 1))
+        self.assertEqual([notice.endswith("was done.") for notice in self.notices], [True] * 3, self.notices)
+
+    def test_settled_after_a_restore(self) -> None:
+        """The next run finds a check-out whose number was given before the vault came back from a backup."""
+        kept = [Path(path).read_bytes() for path in self.server.files]
+        for _ in range(5):
+            self.anna.abandon(self.anna.checkout(["r:" + PART]).claim)
+        self.server.kill()
+        for path, content in zip(self.server.files, kept):
+            Path(path).write_bytes(content)
         self.server.start()
-        self.assertEqual([standing.claim for standing, _ in self.client("anna").mine()], ["c101"])
-        self.assertTrue(self.anna.state("c102").gone)
-        self.assertEqual(self.notices, ["Your earlier `checkout w:/engine` was done."])
+        self.leave_under_way("checkout", "r:" + PART)
+        self.assertEqual([standing.claim for standing, _ in self.client("anna").mine()], ["c1"])
+        self.assertEqual(self.notices, [f"Your earlier `checkout r:{PART}` was done."])
+
+    def test_two_settled_after_a_restore(self) -> None:
+        """Both tries of a check-out stand, and the first has a number that one with copies of drafts had before: these are kept."""
+        kept = [Path(path).read_bytes() for path in self.server.files]
+        self.anna.checkout(["w:" + PART])
+        self.anna.checkout(["r:/engine/block"])
+        self.anna.put(PART, b"dear")
+        self.server.kill()
+        for path, content in zip(self.server.files, kept):
+            Path(path).write_bytes(content)
+        self.server.start()
+        elsewhere = Client("anna", "127.0.0.1", self.server.port, Path(self.folder.name) / "elsewhere")
+        self.addCleanup(elsewhere.close)
+        for _ in range(2):
+            elsewhere.checkout(["r:/engine"])
+        with self.anna.memory.locked(lambda: None):
+            self.anna.memory.begin(Command("checkout", "checkout r:/engine", items=["r:/engine"], second="c2"))
+        self.assertEqual([standing.claim for standing, _ in self.anna.mine() if standing.held], ["c1"])
+        aside = Path(self.notices[0].rpartition(" are in ")[2].rstrip("."))
+        self.assertEqual(json.loads(aside.read_text("utf-8"))["drafts"][PART]["content"], b"dear".hex())
+        self.assertEqual(self.notices[1:], ["Your earlier `checkout r:/engine` was done."])
 
     def test_not_done_is_told(self) -> None:
         self.anna.checkout(["w:" + PART])

@@ -12,6 +12,7 @@ import unittest
 from dataclasses import replace
 from pathlib import Path
 from typing import Any, Callable, Dict, List, Type
+from unittest import mock
 
 from servers import PACKAGES, Limits, free_port, program
 from stepping import Stepper
@@ -65,6 +66,20 @@ class PutAndGet(WithStore):
             assert version.card is not None
             self.assertEqual((version.sha256, version.card.by, version.card.note),
                              (hashlib.sha256(last).hexdigest(), other.client.designer, "done"))
+
+    def test_a_note_makes_no_draft_ones_own(self) -> None:
+        """Of a draft that another put no copy is kept here, also once there is a note on it; of one's own the copy has the note."""
+        claim, ben = self.put(), self.another()
+        self.parts.set_note(claim, "done")
+        self.assertEqual(self.anna.kept_drafts(claim), self.anna.all_drafts(claim))
+        self.anna.give(claim, "ben")
+        self.fill(b"bore 81")
+        ben.put(PART, self.file, claim)
+        ben.client.give(claim, "anna")
+        before = self.anna.kept_drafts(claim)
+        self.parts.set_note(claim, "done again")
+        self.assertEqual(self.anna.kept_drafts(claim), before)
+        self.assertIn(b"note done again", self.anna.draft(claim, PART))
 
     def test_sizes(self) -> None:
         """No bytes, one, and just about a piece."""
@@ -242,6 +257,65 @@ class NoStore(WithStore):
         self.client("ben").checkout(["w:" + STORE_PLACE])
         with self.assertRaises(Refused):
             self.parts.setting.set(self.address())
+
+
+class SetAgain(WithStore):
+    """`vault store set` that was broken off can be said again."""
+
+    def test_stopped_before_the_check_in(self) -> None:
+        """The check-out of the earlier try is gone on with; one of a try that was refused is given up."""
+        other = f"file://{self.root}/other"
+        for error, stand in ((Unreachable("No server answers."), 1), (KeyboardInterrupt(), 1), (Refused("A limit."), 0)):
+            for step in ("put", "checkin"):
+                with mock.patch.object(self.anna, step, side_effect=error), self.assertRaises(type(error)):
+                    self.parts.setting.set(other)
+                self.assertEqual(len(self.anna.mine()), stand)
+                self.assertNotEqual(self.parts.setting.set(other), other)
+                self.assertEqual((self.anna.mine(), self.parts.setting.named()), ([], other))
+                self.parts.setting.set(self.address())
+
+    def test_killed_at_each_step(self) -> None:
+        """At whichever step it is killed, said again it goes through, and no check-out stays behind."""
+        self.as_program()
+        stepper = Stepper(self.environment())
+        self.addCleanup(stepper.close)
+        step, ended = 0, "killed"
+        while ended == "killed":
+            address = f"file://{self.root}/store{step}"
+            ended = stepper.run(step, "--patience", "5", "store", "set", address)
+            self.vault("store", "set", address)
+            self.assertEqual((self.parts.setting.named(), [standing.claim for standing, _ in self.anna.mine()]), (address, []))
+            step += 5
+        self.assertEqual(ended, "0")
+        self.assertGreater(step, 70)
+
+    def test_the_disk_was_full(self) -> None:
+        """A mark that was not written to its end stands in nobody's way, and none is left by a disk that is full now. A file of another
+        content is no mark."""
+        for number, content in enumerate((b"", MARK[:5])):
+            before = self.root / f"before{number}"
+            before.mkdir()
+            (before / MARK_NAME).write_bytes(content)
+            self.parts.setting.set(f"file://{before}")
+            self.assertEqual((before / MARK_NAME).read_bytes(), MARK)
+        other, full = self.root / "other", self.root / "full"
+        other.mkdir()
+        (other / MARK_NAME).write_bytes(b"x")
+        with self.assertRaises(Misused):
+            self.parts.setting.set(f"file://{other}")
+        self.vault("hello", f"anna@127.0.0.1:{self.server.port}")
+        self.vault("store", "set", f"file://{full}", status=1, limits=Limits(file_bytes=4))
+        self.assertEqual(sorted(path.name for path in full.rglob("*")), ["incoming"])
+        self.vault("store", "set", f"file://{full}")
+        self.assertEqual((full / MARK_NAME).read_bytes(), MARK)
+        self.assertEqual((full / MARK_NAME).stat().st_mode & 0o777, 0o666 & ~umask())
+
+
+def umask() -> int:
+    """The bits that a new file doesn't get."""
+    bits = os.umask(0)
+    os.umask(bits)
+    return bits
 
 
 class Faults(WithStore):

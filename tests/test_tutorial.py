@@ -9,7 +9,7 @@ import tempfile
 import threading
 import unittest
 from pathlib import Path
-from typing import Dict, List, Tuple
+from typing import Dict, List, Optional, Tuple
 
 from servers import TOP, VAULTD, free_port, lay_programs
 
@@ -22,11 +22,11 @@ NOTICE = re.compile(r"bash: line \d+: +\d+ Killed ")
 
 
 class Shell:
-    """A shell with a folder and a state of its own."""
+    """A shell with a folder of its own, and the client's files there or in an account's folder."""
 
-    def __init__(self, folder: Path, programs: Path):
+    def __init__(self, folder: Path, programs: Path, account: Optional[Path] = None):
         folder.mkdir(exist_ok=True)
-        environment = {**os.environ, "PATH": f"{programs}:{os.environ['PATH']}", "XDG_STATE_HOME": str(folder / "state"),
+        environment = {**os.environ, "PATH": f"{programs}:{os.environ['PATH']}", "XDG_STATE_HOME": str((account or folder) / "state"),
                        "XDG_CACHE_HOME": str(folder / "cache"), "LC_ALL": "C.UTF-8"}
         environment.pop("VAULT_AS", None)
         self.process = subprocess.Popen(["bash", "--norc"], cwd=folder, env=environment, stdin=subprocess.PIPE,
@@ -88,14 +88,14 @@ class Pages(unittest.TestCase):
         folder = tempfile.TemporaryDirectory(prefix="vault-test-")
         self.addCleanup(folder.cleanup)
         self.folder = Path(folder.name)
-        programs = self.folder / "programs"
-        programs.mkdir()
-        lay_programs(programs)
-        (programs / "vaultd").symlink_to(VAULTD)
+        self.programs = self.folder / "programs"
+        self.programs.mkdir()
+        lay_programs(self.programs)
+        (self.programs / "vaultd").symlink_to(VAULTD)
         self.meant = {**{shown: str(free_port()) for shown in SHOWN_PORTS}, SHOWN_STORE: str(self.folder / "vault-store")}
         self.shells: Dict[str, Shell] = {}
         for who in ("", "anna", "ben"):
-            self.shells[who] = Shell(self.folder / (who or "server"), programs)
+            self.shells[who] = Shell(self.folder / (who or "server"), self.programs)
 
     def tearDown(self) -> None:
         self.shells[""].run("kill -9 $(cat server.pid */pid) 2> /dev/null", 0)
@@ -124,6 +124,21 @@ class Pages(unittest.TestCase):
 
     def test_scale(self) -> None:
         self.run_page("SCALE.md")
+
+
+class OneAccount(Pages):
+    """The day of two designers who have one account, and say first what the page says of that."""
+
+    def setUp(self) -> None:
+        super().setUp()
+        said = re.search(r"`(export VAULT_AS=)anna(@[^`]*)`", (TOP / "docs" / "TUTORIAL.md").read_text("utf-8"))
+        assert said is not None
+        for who in ("anna", "ben"):
+            self.shells[who].close()
+            self.shells[who] = Shell(self.folder / who, self.programs, self.folder / "account")
+            self.assertEqual(self.shells[who].run(self.adapted(who, said[1] + who + said[2]), 0), [])
+
+    test_scale = None  # type: ignore[assignment]    # it has one designer
 
 
 if __name__ == "__main__":

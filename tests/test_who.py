@@ -24,6 +24,7 @@ from vault import Client, Misused, Refused, VaultError, claim_commands
 from vault.claim_commands import mine_line
 from vault.command_line import command_line
 from vault.line import chain, meeting, ring
+from vault.memory import KNOWN, Known
 from vault.output import Output
 from vault.setting import STORE_PLACE
 from vault.words import CLAIM, Holder, NotUnderstood, Reply, Standing, holder_in, listed_in
@@ -177,10 +178,25 @@ class Who(WithDesigners):
         for _ in range(3):
             self.anna.abandon(self.anna.checkout(["r:" + PART]).claim)
         self.anna.checkout(["r:" + PART])
+        ben = self.client("ben")
+        ben.checkout(["r:" + PART])
         self.anna.who("/engine")
-        self.assertEqual(sorted(self.anna.memory.known), ["c1", "c2", "c3", "c4"])
+        ben.abandon("c5")
+        self.anna.who("/engine")
+        self.assertEqual(sorted(self.anna.memory.known), ["c4", "c5"])
         self.anna.who("/")
         self.assertEqual(list(self.anna.memory.known), ["c4"])
+
+    def test_more_than_are_remembered(self) -> None:
+        """One that stands is shown although it has been known for longer than all that are remembered."""
+        self.client("ben").checkout(["w:" + PART])
+        with mock.patch("time.time", lambda: 1.0):
+            self.anna.who(PART)
+        with self.anna.memory.locked(lambda: None):
+            self.anna.memory.known.update({f"c{number}": Known("carl", ["r:" + ROD], 2.0) for number in range(2, KNOWN + 2)})
+            self.anna.memory.save()
+        self.assertEqual([(holder.claim, since) for holder, since in self.anna.who(PART)], [("c1", 1.0)])
+        self.assertEqual(len(self.anna.memory.known), KNOWN)
 
 
 class InTheWay(WithDesigners):
@@ -222,6 +238,13 @@ class InTheWay(WithDesigners):
         self.assertEqual(self.said("carl", "make", "/engine/block/pin", status=1),
                          "The place above it is in c3, which you hold: w:/engine/block. Add `--claim c3`; nothing was changed.")
         self.said("carl", "make", "/engine/block/pin", "--claim", "c3")
+        self.client("carl").abandon("c3")
+        self.said("carl", "checkout", "r:/engine/block")
+        self.assertEqual(self.said("carl", "make", "/engine/block/nut", status=1),
+                         "The place above it is in c4, which you hold: r:/engine/block. It only looks: `vault extend c4 w:/engine/block` has it"
+                         " change that, too, or `vault abandon c4` gives it up; nothing was changed.")
+        self.said("carl", "extend", "c4", "w:/engine/block")
+        self.said("carl", "make", "/engine/block/nut", "--claim", "c4")
 
     def test_own_hold(self) -> None:
         """No place can be made in a hold's name."""

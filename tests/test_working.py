@@ -1,5 +1,6 @@
 """Working folders: a whole assembly as files, by the names that their cards say, and nothing lost or written elsewhere."""
 
+import errno
 import hashlib
 import json
 import os
@@ -8,9 +9,10 @@ import time
 import unicodedata
 import unittest
 from pathlib import Path
-from typing import Any, Dict, List, Optional, Tuple
+from typing import Any, Callable, Dict, List, Optional, Tuple
 from unittest import mock
 
+from servers import MEMORY, Server
 from stepping import Stepper
 from stores import NAME, PART, ROD, WithStore
 
@@ -87,6 +89,11 @@ class WithFolder(WithStore):
         working = self.working(place=place, work=work)
         with working.folder.locked():
             return working.get()
+
+    def as_program_here(self) -> None:
+        """Prepares for runs of the program in the same working folder: at the address that it was got from."""
+        self.vault("hello", f"anna@127.0.0.1:{self.cutter.port}")
+        self.vault("store", "confirm", self.address())
 
     def states(self) -> Dict[str, State]:
         """How the files stand."""
@@ -207,20 +214,45 @@ class Get(WithFolder):
         self.assertEqual(self.files()["piston"], b"bore 82")
 
     def test_damaged_bytes(self) -> None:
-        """What is refused of one part leaves what was there."""
+        """A part whose bytes are bad keeps the file that was there, and those behind it come all the same."""
         before = self.files()
         self.version(PART, NAME, b"bore 81")
         self.version(ROD, "Pleuel.SLDPRT", b"length 145")
         card = self.parts.get(PART).card
         assert card is not None
         self.path_of(card).unlink()
-        with self.assertRaises(VaultError) as refused:
-            self.got()
-        self.assertIn(f"version 2 of {PART}", str(refused.exception))
-        self.assertEqual(self.files(), before)
+        done = self.got()
+        self.assertEqual((done.files, done.failed, [name for name, _ in done.left]), (["Pleuel.SLDPRT"], 1, [NAME]))
+        self.assertIn(f"was not fetched: The bytes of version 2 of {PART}", done.left[0][1])
+        self.assertEqual(self.files(), {**before, "Pleuel.SLDPRT": b"length 145"})
+        self.as_program_here()
+        said = self.as_json("get", "/engine/block", "--to", str(self.work), status=1)
+        self.assertEqual((said["done"], said["files"], [left["file"] for left in said["left"]]), (False, [], [NAME]))
+        self.assertIn("1 file of /engine/block could not be fetched", said["sentence"])
         self.file.write_bytes(b"bore 81")
         self.put()
-        self.assertEqual(len(self.got().files), 2)
+        self.assertEqual(self.got().files, [NAME])
+
+    def test_a_file_that_can_not_be_written(self) -> None:
+        """The same where the system refuses to write one file; not where the disk is full."""
+        self.version(PART, NAME, b"bore 81")
+        self.version(ROD, "Pleuel.SLDPRT", b"length 145")
+        replace = os.replace
+
+        def refused(reason: int) -> Callable[[Any, Any], None]:
+            def replaced(source: Any, target: Any) -> None:
+                if Path(target).name == NAME:
+                    raise OSError(reason, os.strerror(reason))
+                replace(source, target)
+
+            return replaced
+
+        with mock.patch("os.replace", refused(errno.ENOSPC)), self.assertRaises(OSError):
+            self.got()
+        with mock.patch("os.replace", refused(errno.EIO)):
+            done = self.got()
+        self.assertEqual((done.files, done.failed, self.files()["Pleuel.SLDPRT"]), (["Pleuel.SLDPRT"], 1, b"length 145"))
+        self.assertIn("was not fetched", done.left[0][1])
 
     def test_killed_at_each_step(self) -> None:
         """At whichever step a get is killed, each file is one version or the other, whole, and the next get goes through."""
@@ -486,15 +518,46 @@ class PutAndCheckin(WithFolder):
         self.assertFalse(self.states()[NAME].changed)
 
     def test_put_and_fetched_again(self) -> None:
-        """The same where the file was removed, and got again."""
+        """The file was put, removed and got again, and maybe changed then: its draft is still what was put, and it is said where that is."""
         claim = self.anna.checkout(["w:" + PART]).claim
         (self.work / NAME).write_bytes(b"bore 81")
         self.working().put()
-        (self.work / NAME).unlink()
-        self.assertEqual(self.got().files, [NAME])
-        done = self.working().checkin(None)
-        self.assertEqual((done.files, done.claims, self.parts.get(PART).sha256),
-                         ([NAME], [claim], hashlib.sha256(self.contents[PART]).hexdigest()))
+        draft = self.anna.draft(claim, PART)
+        for changed in (False, True):
+            (self.work / NAME).unlink()
+            done = self.got()
+            self.assertEqual((done.files, done.left), ([NAME], []))
+            if changed:
+                (self.work / NAME).write_bytes(b"bore 82")
+            with self.assertRaises(Refused) as refused:
+                self.working().checkin(None)
+            self.assertIn(f"{NAME} has another draft in {claim}", str(refused.exception))
+            self.assertIn(f"`vault draft {claim} {PART} --to OTHER-FILE", str(refused.exception))
+            self.assertEqual((self.anna.draft(claim, PART), len(list(self.anna.history(PART)))), (draft, 1))
+            self.assertEqual((self.states()[NAME].draft, self.states()[NAME].other_draft), (False, claim))
+            self.assertIn(f"is version 1 again. What you put of it before is still a draft in {claim}: `vault draft {claim} {PART}", done.told[0][1])
+        self.parts.put(PART, self.work / NAME, claim)
+        self.assertEqual(self.working().checkin(None).drafts, [NAME])
+        self.assertEqual(self.parts.get(PART).sha256, hashlib.sha256(b"bore 82").hexdigest())
+
+    def test_put_in_a_check_out_that_was_given_up(self) -> None:
+        """Another check-out has a draft of the same bytes, which was put elsewhere: a file that isn't changed isn't put over it."""
+        first = self.anna.checkout(["w:" + PART]).claim
+        (self.work / NAME).write_bytes(b"bore 81")
+        self.working().put()
+        draft = self.anna.draft(first, PART)
+        self.anna.abandon(first)
+        (self.work / NAME).write_bytes(self.contents[PART])
+        laptop = Client("anna", "127.0.0.1", self.server.port, self.root / "laptop")
+        self.addCleanup(laptop.close)
+        second = laptop.checkout(["w:/engine/block"]).claim
+        laptop.put(PART, draft, second)
+        (self.work / "Pleuel.SLDPRT").write_bytes(b"length 145")
+        done = self.working().put()
+        self.assertEqual((done.files, [name for name, _ in done.left], self.anna.draft(second, PART)), (["Pleuel.SLDPRT"], [NAME], draft))
+        with self.assertRaises(Refused) as refused:
+            self.working().checkin(None)
+        self.assertIn(f"nothing was checked in. {NAME} has another draft in {second}", str(refused.exception))
 
     def test_drafts_that_are_not_here(self) -> None:
         """A check-out of which a changed file is a draft has another one, of a file that wasn't changed, or of a part that the folder hasn't
@@ -508,10 +571,32 @@ class PutAndCheckin(WithFolder):
                 self.working().checkin(None)
             for said in ("nothing was checked in", f"{name} has a", f"`vault draft {claim} {place} --to", f"`vault checkin {claim}`"):
                 self.assertIn(said, str(refused.exception))
+            self.assertTrue(str(refused.exception).startswith(f"{NAME} is a draft in {claim} now. "), str(refused.exception))
             self.file.write_bytes(self.contents[ROD])
             self.parts.put(ROD, self.file, claim)
         self.assertEqual([len(list(self.anna.history(place))) for place in (PART, ROD)], [1, 1])
         self.assertEqual(self.anna.checkin(claim), 3)
+
+    def test_drafts_of_another_folder(self) -> None:
+        """A check-out of more than the folder has a draft of a part outside it: nothing is checked in."""
+        head = self.root / "head"
+        self.got("/engine/block/head", head)
+        claim = self.anna.checkout(["w:/engine/block"]).claim
+        self.parts.put(PART, self.file, claim)
+        (head / "Ventil links.SLDPRT").write_bytes(b"lift 10")
+        with self.assertRaises(Refused) as refused:
+            self.working(place="/engine/block/head", work=head).checkin(None)
+        for said in ("nothing was checked in", f"{PART} has a draft in {claim}", f"`vault checkin {claim}` checks it in as it is"):
+            self.assertIn(said, str(refused.exception))
+        self.assertEqual((self.anna.drafts(claim), len(list(self.anna.history(PART)))), ([PART, VALVE], 1))
+
+    def test_a_note_that_is_too_long(self) -> None:
+        """It is refused before anything is put."""
+        claim = self.anna.checkout(["w:" + PART]).claim
+        (self.work / NAME).write_bytes(b"bore 81")
+        with self.assertRaises(Misused):
+            self.working().checkin("x" * 401)
+        self.assertEqual(self.anna.drafts(claim), [])
 
     def test_refused_in_the_middle(self) -> None:
         """If a file can't be put, those before it that are drafts now are told."""
@@ -556,6 +641,7 @@ class PutAndCheckin(WithFolder):
         ben.put(PART, self.file, claim)
         ben.client.give(claim, "anna")
         self.assertFalse(self.states()[NAME].draft)
+        self.parts.set_note(claim, "larger bore")
         done = self.working().put()
         self.assertEqual((done.files, done.drafts), ([], []))
         self.assertIn(f"has another draft in {claim}, which was put elsewhere", done.left[0][1])
@@ -596,6 +682,55 @@ class PutAndCheckin(WithFolder):
         self.assertIn("is version 2, and the vault, which came back from a backup, has only version 1", done.left[0][1])
         (self.work / NAME).rename(self.root / "mine")
         self.assertEqual((self.got().files, self.files()[NAME]), ([NAME], self.contents[PART]))
+
+    def test_put_after_a_restore(self) -> None:
+        """The vault came back from a backup, and a file's part is gone: the others are put, and it is said how to make it again."""
+        kept = [Path(path).read_bytes() for path in self.server.files]
+        for name in ("Bolzen", "Mutter"):
+            (self.work / name).write_bytes(b"of " + name.encode())
+            self.working().add(name)
+        claim = self.anna.checkout(["w:/engine/block"]).claim
+        self.working().put()
+        self.anna.checkin(claim)
+        self.got()
+        (self.work / "Mutter").write_bytes(b"another")
+        (self.work / "Aa").write_bytes(b"aa")
+        self.working().add("Aa")
+        self.server.kill()
+        for path, content in zip(self.server.files, kept):
+            Path(path).write_bytes(content)
+        self.server.start()
+        (self.work / NAME).write_bytes(b"bore 81")
+        claim = self.anna.checkout(["w:/engine/block"]).claim
+        done = self.working().put()
+        self.assertEqual((done.files, [name for name, _ in done.left]), ([NAME], ["Aa", "Mutter"]))
+        self.assertIn(f"`vault add {self.work}/Mutter` makes /engine/block/mutter again", done.left[1][1])
+        self.assertEqual([self.states()[name].gone for name in (NAME, "Aa", "Bolzen", "Mutter")], [False, True, True, True])
+        self.as_program_here()
+        said = self.vault("status", str(self.work)).decode()
+        self.assertIn(f"Bolzen: its part isn't in the vault any more; `vault add {self.work}/Bolzen` makes /engine/block/bolzen again", said)
+        for name in ("Bolzen", "Mutter"):
+            self.assertEqual(self.vault("add", str(self.work / name)).decode(), f"{self.work}/{name} is /engine/block/{name.lower()}.\n")
+        self.assertEqual(self.as_json("add", str(self.work / "Mutter"))["made"], {})
+        self.assertEqual(self.working().checkin(None).versions, 3)
+        self.assertEqual(self.parts.get("/engine/block/mutter").sha256, hashlib.sha256(b"another").hexdigest())
+
+    def test_an_assembly_that_is_gone(self) -> None:
+        """The same where the part's assembly is gone, too: it is said how to make that first."""
+        kept = [Path(path).read_bytes() for path in self.server.files]
+        self.anna.nest("/engine/block/seals")
+        self.anna.make("/engine/block/seals/ring")
+        self.version("/engine/block/seals/ring", "Ring", b"ring")
+        self.got()
+        self.server.kill()
+        for path, content in zip(self.server.files, kept):
+            Path(path).write_bytes(content)
+        self.server.start()
+        with self.assertRaises(Refused) as refused:
+            self.working().made_again("seals/Ring")
+        self.assertIn("`vault nest /engine/block/seals` makes it again", str(refused.exception))
+        self.anna.nest("/engine/block/seals")
+        self.assertTrue(self.working().made_again("seals/Ring"))
 
     def test_written_otherwise(self) -> None:
         """A disk that ignores capitals knows a part's file by many names: none of them is a file of no part."""
@@ -651,11 +786,82 @@ class PutAndCheckin(WithFolder):
         (self.work / "new" / "x").write_bytes(b"x")
         (self.work / "link").symlink_to(self.file)
         (self.work / "a:b").write_bytes(b"x")
-        for name in (NAME, "none", "new/x", "link", "a:b", "../x", ".vault/lock"):
-            with self.assertRaises(Misused, msg=name):
+        for name, said in ((NAME, "already"), ("none", "is no file"), ("link", "is no file"), ("a:b", "Rename it"), ("../x", "Move its files"),
+                           (".vault/lock", "Move its files"), ("new/x", "`vault nest /engine/block/new` makes an assembly of it, and `vault get"
+                                                                        f" /engine/block --to {self.work}` has")):
+            with self.assertRaises(Misused, msg=name) as refused:
                 self.working().add(name)
-        with self.assertRaises(Misused):
+            self.assertIn(said, str(refused.exception))
+        with self.assertRaises(Misused) as refused:
             self.working(place=ENGINE, work=self.root / "engine").add("Bild.SLDPRT")
+        self.assertIn("`vault make /engine/NAME` makes an assembly", str(refused.exception))
+
+    def test_what_becomes_of_a_folder(self) -> None:
+        """What is said of a folder of the designer's own makes an assembly of it, whatever its name and wherever it stands."""
+        library = self.root / "library"
+        self.got("/", library)
+        for name, kind, place in (("wing", "make", "/wing"), ("engine/Gear box", "make", "/engine/gear_box"), ("engine/block/Pleuel", "nest",
+                                  "/engine/block/pleuel")):
+            said = self.working(place="/", work=library).advice_on(name)
+            self.assertIn(f"`vault {kind} {place}` makes {'an assembly' if name != 'wing' else 'a project'} of it", said)
+            self.assertEqual("rename it" in said, name != "wing")
+            renamed = name.rpartition("/")[0] + "/" + place.rpartition("/")[2] if name != "wing" else name
+            (library / renamed).mkdir()
+            (self.anna.make if kind == "make" else self.anna.nest)(place)
+            self.assertIn(f"is not known here as the folder of {place}: `vault get / --to {library}`",
+                          self.working(place="/", work=library).advice_on(renamed))
+        self.got("/", library)
+        self.anna.make("/engine/block/seals")
+        self.assertIn("rename it to seals_2; then `vault nest /engine/block/seals_2` makes an assembly of it",
+                      self.working(place="/", work=library).advice_on("engine/block/seals"))
+        self.assertEqual({"wing", "engine/gear_box", "engine/block/pleuel"} - set(find_folder(library).folders), set())
+        self.assertEqual(find_folder(library).others(), [])
+
+    def test_add_in_a_check_out_to_look(self) -> None:
+        """It says what makes it possible, and not an option that it doesn't have."""
+        claim = self.anna.checkout(["r:/engine/block"]).claim
+        (self.work / "Bolzen").write_bytes(b"pin")
+        with self.assertRaises(Refused) as refused:
+            self.working().add("Bolzen")
+        self.assertIn(f"`vault extend {claim} w:/engine/block` has it change that, too, or `vault abandon {claim}`", str(refused.exception))
+        self.assertNotIn("--claim", str(refused.exception))
+        self.anna.extend(claim, ["w:/engine/block"])
+        self.assertEqual(self.working().add("Bolzen"), "/engine/block/bolzen")
+
+    def test_moved_to_another_address(self) -> None:
+        """The vault is served at another port: the refusal says how a folder goes on there, and after one get it is that address's."""
+        self.server.kill()
+        moved = Server("--workers", "16", folder=MEMORY, files=self.server.files)
+        self.addCleanup(moved.close)
+        moved.start()
+        both = self.at_addresses(moved.port, self.cutter.port)
+        alone = self.at_addresses(moved.port)
+        with self.assertRaises(Misused) as refused:
+            self.working(alone)
+        self.assertIn(f"say `vault hello anna@127.0.0.1:{moved.port},127.0.0.1:{self.cutter.port}`, and then `vault get /engine/block --to"
+                      f" {self.work}`", str(refused.exception))
+        (self.work / "Pleuel.SLDPRT").unlink()
+        self.assertEqual(self.working(both).get().files, ["Pleuel.SLDPRT"])
+        self.assertEqual([state.changed for state in self.working(alone).states()], [False] * 3)
+
+    def at_addresses(self, port: int, *others: int) -> Parts:
+        """Anna at some ports, who follows the store."""
+        client = Client("anna", "127.0.0.1", port, self.root / "moved", 10.0, 0.05, others=[("127.0.0.1", other) for other in others])
+        self.addCleanup(client.close)
+        return self.another(client=client)
+
+    def test_a_share_without_locks(self) -> None:
+        """It is told as such, and neither taken for another client nor waited for."""
+        with mock.patch("fcntl.flock", side_effect=OSError(errno.ENOLCK, "No locks available")):
+            asked: List[Callable[[], object]] = [self.got, self.anna.mine]
+            for each in asked:
+                with self.assertRaises(VaultError) as refused:
+                    each()
+                self.assertIn("can't be locked: No locks available", str(refused.exception))
+        folder = find_folder(self.work)
+        with folder.locked(), self.assertRaises(Misused) as busy:
+            self.got()
+        self.assertIn("Another `vault` works in", str(busy.exception))
 
     def test_at_another_server(self) -> None:
         ben = Client("ben", "127.0.0.1", self.server.port, self.root)
@@ -691,6 +897,20 @@ class Program(WithFolder):
         self.assertEqual(self.as_json("history", PART)["versions"][-1]["note"], "larger bore")
         self.assertIn(b"No file of", self.vault("checkin", work, status=1))
 
+    def test_new_in_the_vault(self) -> None:
+        """A part that has a version and no file here is told, and one without a version, or the store's, isn't."""
+        work = str(self.folder_of_program)
+        self.vault("get", "/", "--to", work)
+        for name in ("pin", "nut"):
+            self.anna.make("/engine/block/" + name)
+        self.assertIn(b"Nothing is changed", self.vault("status", work))
+        self.version("/engine/block/pin", "Bolzen.SLDPRT", b"pin")
+        self.assertEqual(self.vault("status", work).decode(),
+                         f"/engine/block/pin: version 1 is in the vault, and isn't here; `vault get / --to {work}` fetches it.\n")
+        self.assertEqual(self.as_json("status", work)["new"], [{"place": "/engine/block/pin", "version": 1}])
+        self.vault("get", "/", "--to", work)
+        self.assertIn(b"Nothing is changed", self.vault("status", work))
+
     def test_the_whole_library(self) -> None:
         self.assertEqual(self.as_json("get", "/", "--to", str(self.folder_of_program))["all"], 3)
         self.assertEqual(self.files(self.folder_of_program), {"engine/block/" + name: content for name, content in self.files().items()})
@@ -710,6 +930,20 @@ class Program(WithFolder):
         said = self.as_json("add", *files, str(work / "Mutter"), str(work / "a:b"), status=2)
         self.assertEqual(said["made"], {str(work / "Mutter"): "/engine/block/mutter"})
         self.assertIn(f"{work}/Mutter is /engine/block/mutter. No part can be made of 'a:b'", said["sentence"])
+
+    def test_add_all_beside_a_folder(self) -> None:
+        """A folder of no assembly is passed over with advice, and what sorts behind it is added."""
+        work = self.folder_of_program
+        self.vault("get", "/engine/block", "--to", str(work))
+        (work / "seals").mkdir()
+        for name in ("seals/Ring", "zzz"):
+            (work / name).write_bytes(b"x")
+        said = self.as_json("add", str(work / "seals"), str(work / "zzz"))
+        self.assertEqual(said["made"], {str(work / "zzz"): "/engine/block/zzz"})
+        self.assertIn("`vault nest /engine/block/seals` makes an assembly of it", said["notices"][0])
+        self.vault("nest", "/engine/block/seals")
+        self.vault("get", "/engine/block", "--to", str(work))
+        self.assertIn(b"is /engine/block/seals/ring.", self.vault("add", str(work / "seals" / "Ring")))
 
     def test_add_killed_at_each_step(self) -> None:
         """At whichever step it is killed, said again it makes one part of each file."""
@@ -784,6 +1018,17 @@ class Program(WithFolder):
             self.assertIn(f"{name}: not in the vault. Parts are made of files in the folders of assemblies, and not of links.", said)
         self.assertNotIn("vault add", said)
         self.assertEqual(self.as_json("status", str(work))["others"], ["Bild.png", "block/link"])
+        (work / "block" / "head").rename(work / "block" / "Kopf")
+        for name in ("block/a:b", "block/.hidden", ".hidden"):
+            (work / name).write_bytes(b"x")
+        said = self.vault("status", str(work)).decode()
+        for line in ("block/Kopf/ is the folder of no assembly, so no file in it is a part's: rename it to kopf; then `vault nest"
+                     f" /engine/block/kopf` makes an assembly of it, and `vault get /engine --to {work}` has this folder know that.",
+                     "block/head: missing here. It is the folder of /engine/block/head: if you renamed it, give it this name again.",
+                     "block/a:b: not in the vault. No part's file can have this name on every system: rename it."):
+            self.assertIn(line + "\n", said)
+        self.assertNotIn(".hidden", said)
+        self.assertEqual(self.as_json("status", str(work))["others"], ["Bild.png", "block/Kopf/", "block/a:b", "block/link"])
 
     def test_wrong_words(self) -> None:
         self.assertIn(b"is in no working folder", self.vault("status", str(self.root), status=2))

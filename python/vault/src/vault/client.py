@@ -18,13 +18,14 @@ from vault.connection import ASKED_AT_ONCE, Connection, Link, Patience, quiet
 from vault.folders import state_folder
 from vault.line import UNKNOWN_COMMAND, Line, chain, ring
 from vault.memory import Claim, Command, Draft, Memory, by_number, shown
-from vault.recovery import ANOTHERS, GONE, MINE, NO_PART, SENT_AGAIN, Recovery, not_known, whose
+from vault.recovery import ANOTHERS, MINE, NO_PART, SENT_AGAIN, Recovery, not_known, whose
 from vault.transport import Address
 from vault.transport import shown as address_word
-from vault.words import (CONTENT_BYTES, GREATEST, NAME, NAMES, NOTE_BYTES, PLACE, SENTENCES, Holder, Lost, Misused, Refused, Reply, Standing,
+from vault.words import (CONTENT_BYTES, GONE, GREATEST, NAME, NAMES, NOTE_BYTES, PLACE, SENTENCES, Holder, Lost, Misused, Refused, Reply, Standing,
                          Unreachable, VaultError, checked, checkout_word, claim_in, claim_word, content_in, item_words, listed_in, names_in,
                          number_in, place_word, refusal_by, standing_of, under)
 
+NO_PLACE = 20
 NO_DRAFT = 40
 NAME_LENGTH = 200
 OLDER = ("The server is older than this client, and doesn't tell who holds what, so that is left out here. Ask whoever runs it for a newer"
@@ -47,6 +48,7 @@ class Client:
         self.line, self.told_older = Line(self.link), False
         self.held_on: Optional[Connection] = None
         self.changed = False
+        self.settled: Optional[Tuple[str, Reply]] = None
 
     @property
     def may_have_changed(self) -> bool:
@@ -82,9 +84,9 @@ class Client:
         line = " ".join(["extend", claim_word(claim)] + item_words(items))
         return standing_of(self._change(Command("extend", line, claim, items=items)))
 
-    def put(self, place: str, content: bytes, claim: str = "", source: Optional[str] = None) -> str:
-        """Saves a draft of a part, keeps a copy of it, and answers the check-out that it belongs to. Where no source is given, the one of
-        the draft before stays."""
+    def put(self, place: str, content: bytes, claim: str = "", source: Optional[str] = None, keep: bool = True) -> str:
+        """Saves a draft of a part, keeps a copy of it if that is asked, and answers the check-out that it belongs to. Where no source is
+        given, the one of the draft before stays."""
         place_word(place)
         if len(content) > CONTENT_BYTES:
             raise Misused(f"The content has {len(content):,} bytes, and a part has at most {CONTENT_BYTES:,}."
@@ -98,7 +100,8 @@ class Client:
             before = deepcopy(self.memory.claims.get(claim))
             kept = self.memory.claims.setdefault(claim, Claim([]))
             earlier = kept.drafts[place].source if place in kept.drafts else ""
-            kept.drafts[place] = Draft(content.hex(), earlier if source is None else source, versions)
+            if keep:
+                kept.drafts[place] = Draft(content.hex(), earlier if source is None else source, versions)
             try:
                 self._carry_out(command)
             except (Refused, Unreachable):
@@ -197,6 +200,14 @@ class Client:
         """Whether a place is there, and is no part."""
         with self._alone():
             return self.link.read("count " + place_word(place)).code == NO_PART
+
+    def is_there(self, place: str) -> bool:
+        """Whether there is a place."""
+        with self._alone():
+            reply = self.link.read("count " + place_word(place))
+        if not reply.ok and reply.code not in (NO_PLACE, NO_PART):
+            raise reply.refusal()
+        return reply.code != NO_PLACE
 
     def names(self, place: str) -> List[str]:
         """The names of the places right beneath one."""
@@ -372,6 +383,7 @@ class Client:
         """Locks the client's file meanwhile, and first finds out what became of an earlier command."""
         with self.memory.locked(lambda: self.progress("waiting for another `vault` of this designer")):
             self.link.prefer(self.memory.server)
+            self.settled = None
             try:
                 self._settle()
                 yield
@@ -388,12 +400,22 @@ class Client:
 
     def _change(self, command: Command) -> Reply:
         with self._alone():
-            return self._carry_out(command)
+            return self._done_before(command) or self._carry_out(command)
+
+    def _done_before(self, command: Command) -> Optional[Reply]:
+        """The reply to an earlier try of the same command, if that has just turned out to be done: so it isn't done twice."""
+        if self.settled is None or self.settled[0] != command.line:
+            return None
+        self.changed = True
+        return self.settled[1]
 
     def _end(self, command: Command) -> Reply:
         """Ends a check-out of this designer, or gives it to another. First asks how it stands, and before a check-in which drafts it has: if
         it is gone later, or another's, then by this command."""
         with self._alone():
+            before = self._done_before(command)
+            if before is not None:
+                return before
             stands = self.link.read(whose(command.claim))
             if stands.code == GONE:
                 raise self.recovery.gone(command.claim, stands)
@@ -414,12 +436,12 @@ class Client:
         self.changed = self.changed or reply.ok
         self.memory.saw(reply)
         if reply.ok and command.kind == "checkout":
-            self._put_aside(claim_in(reply))
+            self.recovery.put_aside(claim_in(reply))
         if reply.ok:
             self.memory.remember(command, reply)
         self.memory.end()
         if not reply.ok:
-            raise self._refusal(reply)
+            raise self._refusal(reply, command.place)
         return reply
 
     def _told(self, command: Command) -> Reply:
@@ -473,7 +495,9 @@ class Client:
         if 0 <= age < self.settling:
             time.sleep(self.settling - age)
         try:
-            self.notice(self.recovery.settled(command))
+            said, reply = self.recovery.settled(command)
+            self.settled = (command.line, reply) if reply is not None else None
+            self.notice(said)
         except Refused as refused:
             self.notice(f"Your earlier `{shown(command)}`: {refused}")
         except Unreachable as error:
@@ -554,14 +578,14 @@ class Client:
         return replace(standing, held=now[0].held, behind=now[0].behind, before=tuple(chain(line, standing.claim)),
                        ring=tuple(ring(line, standing.claim)))
 
-    def _refusal(self, reply: Reply) -> Refused:
-        """A refusal, with the owner of the claim in the way, as far as the server says."""
+    def _refusal(self, reply: Reply, place: str) -> Refused:
+        """A refusal at a place, with the owner of the claim in the way, as far as the server says."""
         named: Optional[List[Holder]] = None
         if reply.claims():
             with contextlib.suppress(VaultError):
                 named = self.line.of(reply.claims()[:1])
                 self._tell_older()
-        return refusal_by(reply, named[0], self.designer) if named else reply.refusal()
+        return refusal_by(reply, named[0], self.designer, place) if named else reply.refusal()
 
     def _take_up(self, named: Sequence[str]) -> None:
         """Remembers check-outs that are this designer's."""
@@ -570,13 +594,6 @@ class Client:
             if reply.code not in MINE:
                 raise reply.refusal()
             self.memory.claims.setdefault(name, Claim([]))
-
-    def _put_aside(self, claim: str) -> None:
-        """Forgets a check-out whose number another one has, except the copies of its drafts."""
-        path = self.memory.put_aside(claim)
-        if path is not None:
-            self.notice(f"{claim} is another check-out than the one that had this number here: the vault came back from a backup, or is another"
-                        f" one. The copies of that one's drafts are in {path}.")
 
     def _remembered(self) -> List[Tuple[Standing, Claim]]:
         """The check-outs remembered, each asked again."""
@@ -594,7 +611,7 @@ class Client:
         for holder in mine:
             before = self.memory.claims.get(holder.claim, Claim([]))
             if Counter(before.items) - Counter(holder.items):
-                self._put_aside(holder.claim)
+                self.recovery.put_aside(holder.claim)
             kept = self.memory.claims.setdefault(holder.claim, Claim([]))
             kept.items, kept.given = list(holder.items), ""
         return [(standing_in(named, name, self.designer, told.get(name)), claim)

@@ -12,11 +12,12 @@ import time
 import uuid
 from dataclasses import asdict, dataclass
 from pathlib import Path
-from typing import IO, Any, Dict, Iterator, List, Optional
+from typing import IO, Any, Dict, Iterator, List, Optional, Tuple
 
-from filelock import FileLock, Timeout
+from filelock import FileLock
 
 from vault.files import write_whole
+from vault.locks import taken
 from vault.names import folded, usable
 from vault.parts import give_new_name
 from vault.transfer import hash_of
@@ -29,8 +30,9 @@ LEFT = re.compile(r"new-[0-9a-f]{32}|\.folder\.json.+")
 # For how long after a file's time it may have been changed again without another time: if times are of whole seconds, and else.
 COARSE, FINE = 2_000_000_000, 50_000_000
 SAVED_EACH_SECONDS = 1.0
-# How many slashes an assembly's place has at least.
+# How many slashes an assembly's place has at least, and at most.
 PROJECT_AND_ASSEMBLY = 2
+MOST_OF_ASSEMBLY = 6
 
 
 @dataclass
@@ -69,10 +71,8 @@ class Folder:
         own = self.path / OWN
         self._real(own).mkdir(exist_ok=True)
         lock = FileLock(own / "lock")
-        try:
-            lock.acquire(timeout=0)
-        except Timeout as error:
-            raise Misused(f"Another `vault` works in {self.path}. Wait until it has ended.") from error
+        if not taken(lock):
+            raise Misused(f"Another `vault` works in {self.path}. Wait until it has ended.")
         try:
             self._remove_leftovers()
             self._read_again()
@@ -190,17 +190,40 @@ class Folder:
         return now is not None and (now.st_size, now.st_mtime_ns, now.st_ino) == (before.st_size, before.st_mtime_ns, before.st_ino)
 
     def others(self) -> List[str]:
-        """The files of the folder that belong to no part, if a part's file may have such a name."""
+        """What is in the folder and not in the vault: files that belong to no part, and folders of no assembly, each with a `/` behind it.
+        Hidden ones aren't looked at."""
         found, alike = [], self.alike()
         for folder, inner, files in os.walk(self.path):
             above = "" if Path(folder) == self.path else Path(folder).relative_to(self.path).as_posix()
-            inner[:] = sorted(name for name in inner if self.joined(above, name) in self.folders)
-            found += [name for name in (self.joined(above, file) for file in sorted(files) if usable(file)) if not self.tracked(name, alike)]
+            known = sorted(name for name in inner if self.joined(above, name) in self.folders)
+            found += [self.joined(above, name) + "/" for name in sorted({*inner} - {*known}) if name[:1] != "."]
+            found += [name for name in (self.joined(above, file) for file in sorted(files) if file[:1] != ".")
+                      if not (is_safe(name) and self.tracked(name, alike))]
+            inner[:] = known
         return found
+
+    def missing_folders(self) -> List[str]:
+        """The folders of assemblies that aren't there."""
+        return sorted(name for name in self.folders if name and not os.path.isdir(self.path / name))
+
+    def uppermost(self, name: str) -> Tuple[str, str]:
+        """Of a folder of no assembly, or the uppermost such one above it, its own name, and the place whose folder it stands in."""
+        known = max((each for each in self.folders if not each or name.startswith(each + "/")), key=len)
+        return name[len(known):].strip("/").partition("/")[0], self.folders[known]
 
     def may_have_parts(self, above: str) -> bool:
         """Whether files in a folder may be parts: it is an assembly's."""
-        return self.folders.get(above, "/").count("/") >= PROJECT_AND_ASSEMBLY
+        return self.is_assembly(self.folders.get(above, "/"))
+
+    @staticmethod
+    def is_assembly(place: str) -> bool:
+        """Whether a place with a folder is an assembly's, and neither a project's nor the library's."""
+        return place.count("/") >= PROJECT_AND_ASSEMBLY
+
+    @staticmethod
+    def may_have_assemblies(place: str) -> bool:
+        """Whether assemblies may stand in a place with a folder: only parts have seven names."""
+        return place.count("/") < MOST_OF_ASSEMBLY
 
     def may_be_part(self, name: str) -> bool:
         """Whether `vault add` makes a part of a file: it is in an assembly's folder, and no link."""

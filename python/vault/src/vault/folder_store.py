@@ -33,7 +33,7 @@ class FolderStore:
             with contextlib.suppress(FileExistsError):
                 self.folder.mkdir()
             if not self._is_marked():
-                if any(path.name not in OWN for path in self.folder.iterdir()):
+                if any(path.name not in OWN and not self._is_piece_of_mark(path) for path in self.folder.iterdir()):
                     raise Misused(f"{self.folder} has files, but is no store. Name a new folder, or an empty one.")
                 self._write_mark()
             trial = self._new_file()
@@ -142,6 +142,12 @@ class FolderStore:
         except FileNotFoundError:
             return False
 
+    @staticmethod
+    def _is_piece_of_mark(path: Path) -> bool:
+        """Whether a file is a mark that was not written to its end, as on a disk that was full; it may be empty."""
+        is_file = path.name == MARK_NAME and not path.is_symlink() and path.is_file()
+        return is_file and path.stat().st_size < len(MARK) and MARK.startswith(path.read_bytes())
+
     def _look(self) -> None:
         """Refuses a folder that isn't the store: if a disk isn't mounted, an empty folder may stand in its place."""
         try:
@@ -153,10 +159,13 @@ class FolderStore:
                             " or ask whoever runs the vault.")
 
     def _write_mark(self) -> None:
-        with open(self.folder / MARK_NAME, "xb") as file:
+        """Writes the mark, whole or not at all."""
+        with self._new_file() as file, taken_away_again(Path(file.name)):
             file.write(MARK)
             file.flush()
             os.fsync(file.fileno())
+            file.close()
+            os.replace(file.name, self.folder / MARK_NAME)
         sync_folder(self.folder)
 
     def _new_file(self) -> IO[bytes]:

@@ -3,8 +3,7 @@
 from typing import Dict, List, Optional, Sequence
 
 from vault.connection import Link
-from vault.recovery import GONE
-from vault.words import CLAIM, Holder, Wait, holder_in, listed_in, odd, under
+from vault.words import CLAIM, GONE, Holder, Wait, holder_in, listed_in, odd, under
 
 UNKNOWN_COMMAND = 10
 # No vault server lists more claims than this; its limit is 256.

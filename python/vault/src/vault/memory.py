@@ -7,9 +7,10 @@ from dataclasses import asdict, dataclass, field
 from pathlib import Path
 from typing import Any, Callable, Dict, Iterator, List, Optional, Sequence, Tuple
 
-from filelock import FileLock, Timeout
+from filelock import FileLock
 
 from vault.files import write_whole
+from vault.locks import taken
 from vault.words import Holder, Reply, VaultError, claim_in
 
 KNOWN = 1024
@@ -75,9 +76,7 @@ class Memory:
         """Keeps other clients of this designer on this machine away, and reads the file anew."""
         self.path.parent.mkdir(mode=0o700, parents=True, exist_ok=True)
         lock = FileLock(self.path.with_name(self.path.name + ".lock"))
-        try:
-            lock.acquire(timeout=0)
-        except Timeout:
+        if not taken(lock):
             waiting()
             lock.acquire()
         try:
@@ -136,15 +135,15 @@ class Memory:
         self.last_number = max([self.last_number] + numbers)
 
     def knows(self, line: Sequence[Holder], all_claims: bool) -> bool:
-        """Remembers claims that the server listed, and only these if it listed all that stand. Whether this changed what is remembered.
-        If neither owner nor items of one are as before, it is another claim of that number, as after a restart of the server."""
+        """Remembers claims that the server listed, and only these if it listed all that stand; of others the latest. Whether this changed
+        what is remembered. If neither owner nor items of one are as before, it is another claim of that number, as after a restart of the server."""
         found = {}
         for holder in line:
             before = self.known.get(holder.claim)
             same = before is not None and (before.owner == holder.owner or before.items == list(holder.items))
             found[holder.claim] = Known(holder.owner, list(holder.items), before.since if before is not None and same else time.time())
         kept = found if all_claims else {**self.known, **found}
-        latest = dict(sorted(kept.items(), key=lambda entry: entry[1].since)[-KNOWN:])
+        latest = dict(sorted(kept.items(), key=lambda entry: (entry[0] in found, entry[1].since))[-KNOWN:])
         changed = latest != self.known
         self.known = latest
         return changed
@@ -158,6 +157,7 @@ class Memory:
             self.claims[command.claim].items += command.items
         elif command.kind in ("checkin", "abandon"):
             self.claims.pop(command.claim, None)
+            self.known.pop(command.claim, None)
         elif command.kind == "give" and command.claim in self.claims:
             self._given(command.claim, command.line.split()[2])
 

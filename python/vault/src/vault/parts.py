@@ -131,12 +131,13 @@ class Parts:
     def set_note(self, claim: str, note: str) -> int:
         """Writes a note on each draft of a check-out that is a file in a store, as the server has it, and answers how many there are."""
         note_word(note)
-        cards = {place: read_card(content) for place, content in self.client.all_drafts(claim).items()}
+        drafts, kept = self.client.all_drafts(claim), self.client.kept_drafts(claim)
+        cards = {place: read_card(content) for place, content in drafts.items()}
         if not any(cards.values()):
             raise Misused(f"{claim} has no draft of a file in a store, so there is none for the note. Check it in without.")
         for place, card in cards.items():
             if card is not None and card.note != note:
-                self.client.put(place, replace(card, note=note).spell(), claim)
+                self.client.put(place, replace(card, note=note).spell(), claim, keep=kept.get(place) == drafts[place])
         return sum(card is not None for card in cards.values())
 
     def kept_drafts(self, claim: str) -> List[Version]:

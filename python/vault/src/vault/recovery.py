@@ -1,10 +1,11 @@
 """What became of a command whose answer was lost: found out by questions that change nothing."""
 
-from typing import Callable, List, Optional
+from typing import Callable, List, Optional, Sequence, Tuple
 
 from vault.connection import Link
+from vault.line import Line
 from vault.memory import Claim, Command, Memory, shown
-from vault.words import ITEMS, NotKnown, Refused, Reply, claim_in, word_in
+from vault.words import GONE, ITEMS, PLACE, Holder, NotKnown, Refused, Reply, claim_in, listed_in, word_in
 
 LOOK_AHEAD = 64
 SENT_AGAIN = ("put", "extend")
@@ -14,7 +15,6 @@ BATCH = 32
 CLAIMS = 256
 MINE = (22, 32)
 ANOTHERS = 31
-GONE = 30
 NO_PART = 22
 
 
@@ -29,23 +29,26 @@ class Recovery:
 
     def __init__(self, link: Link, memory: Memory, notice: Callable[[str], None]):
         self.link, self.memory, self.notice = link, memory, notice
+        self.line = Line(link)
 
-    def settled(self, command: Command) -> str:
-        """What became of an earlier command, in words. What may be sent twice is sent again."""
+    def settled(self, command: Command) -> Tuple[str, Optional[Reply]]:
+        """What became of an earlier command, in words, and its reply if it was done. What may be sent twice is sent again."""
         reply = self.find_out(command)
         if reply is None and command.kind in SENT_AGAIN:
             reply = self.told_again(command, self.link.read(command.line))
-        if reply is None and command.kind == "checkout":
+        if reply is None and command.kind == "checkout" and self.line.older:
             return (f"Your earlier `{command.line}` was not done, as none of c{command.last_number + 1} to"
                     f" c{command.last_number + LOOK_AHEAD} is a new one of yours. Say it again, unless others made more meanwhile:"
-                    " then ask whoever runs the server to look with `vaultd inspect` on a copy.")
+                    " then ask whoever runs the server to look with `vaultd inspect` on a copy."), None
         if reply is None:
-            return f"Your earlier `{shown(command)}` was not done. Say it again."
+            return f"Your earlier `{shown(command)}` was not done. Say it again.", None
         if not reply.ok:
             raise reply.refusal()
         self.memory.saw(reply)
+        if command.kind == "checkout":
+            self.put_aside(claim_in(reply))
         self.memory.remember(command, reply)
-        return f"Your earlier `{shown(command)}` was done."
+        return f"Your earlier `{shown(command)}` was done.", reply
 
     def find_out(self, command: Command) -> Optional[Reply]:
         """Whether a command was done whose reply was lost: the reply that it would have had, or nothing if it wasn't done or may be sent
@@ -89,6 +92,13 @@ class Recovery:
             return self._the_first_of_two(command, reply)
         return reply
 
+    def put_aside(self, claim: str) -> None:
+        """Forgets a check-out whose number another one has, except the copies of its drafts."""
+        path = self.memory.put_aside(claim)
+        if path is not None:
+            self.notice(f"{claim} is another check-out than the one that had this number here: the vault came back from a backup, or is another"
+                        f" one. The copies of that one's drafts are in {path}.")
+
     def gone(self, claim: str, reply: Reply) -> Refused:
         """The refusal for a check-out that is gone, with what is kept of it here."""
         kept = self.memory.claims.get(claim, Claim([]))
@@ -128,8 +138,30 @@ class Recovery:
         raise self.gone(command.claim, reply)
 
     def _found_checkout(self, command: Command) -> Optional[Reply]:
-        """The check-out after the last known number that is this designer's and not remembered. If more seem to stand than a vault can have,
-        none is told apart: the ssh gate answers so to a key for questions alone."""
+        """The check-out of a lost reply: one of this designer with its items that isn't known. Its number is beyond the last known one, unless
+        numbers began anew, since the vault came back from a backup, or is another one."""
+        line = self.line.at("/")
+        if line is None:
+            return self._probed_checkout(command)
+        alike = [holder for holder in self._alike(command, line) if not self._is_known(holder)]
+        found = [holder for holder in alike if number_of(holder) > command.last_number] or alike
+        for other in found[1:]:
+            self.notice(f"{other.claim} is yours, too. `vault abandon {other.claim}` gives it up, if it was not made elsewhere.")
+        return self.link.read(f"state {found[0].claim}") if found else None
+
+    def _alike(self, command: Command, line: Sequence[Holder]) -> List[Holder]:
+        """The check-outs of this designer with the items of a command, by their numbers."""
+        alike = [holder for holder in line if holder.is_check_out_of(self.link.designer) and list(holder.items) == command.items]
+        return sorted(alike, key=number_of)
+
+    def _is_known(self, holder: Holder) -> bool:
+        """Whether a check-out was known before."""
+        known = self.memory.known.get(holder.claim)
+        return holder.claim in self.memory.claims or (known is not None and known.owner == holder.owner and known.items == list(holder.items))
+
+    def _probed_checkout(self, command: Command) -> Optional[Reply]:
+        """The same at a server that doesn't tell whose claims are: the check-out after the last known number that is this designer's and not
+        remembered. If more seem to stand than a vault can have, none is told apart: the ssh gate answers so to a key for questions alone."""
         seen, number, standing, known = command.last_number, command.last_number + 1, 0, self.memory.last_number
         while number <= seen + LOOK_AHEAD and standing <= CLAIMS:
             asked = range(number, number + BATCH)
@@ -158,15 +190,40 @@ class Recovery:
 
     def _the_first_of_two(self, command: Command, reply: Reply) -> Reply:
         """Looks before a check-out that was asked for again for the one of the earlier try. If both stand, keeps the first."""
+        line = self.line.at("/")
+        first = self._probed_first(command) if line is None else self._listed_first(command, line)
+        if not first:
+            return reply
+        self.link.read(f"abandon {command.second}")
+        return self.link.read(f"state {first}")
+
+    def _listed_first(self, command: Command, line: Sequence[Holder]) -> str:
+        """The check-out of the earlier try among all claims, or nothing. If the second has a number that was given before, numbers began anew,
+        and what is remembered of the first one's number may be another's: it is the last alike before the second, and has no drafts yet."""
+        second = int(command.second[1:])
+        before = [holder for holder in self._alike(command, line) if number_of(holder) < second]
+        if second > command.last_number:
+            found = [holder.claim for holder in before if number_of(holder) > command.last_number and not self._is_known(holder)]
+            return found[0] if found else ""
+        told = self.link.asked("drafts", [holder.claim for holder in before])
+        bare = [holder.claim for holder, drafts in zip(before, told) if drafts.ok and not listed_in(drafts, PLACE)]
+        return bare[-1] if bare else ""
+
+    def _probed_first(self, command: Command) -> str:
+        """The same at a server that doesn't tell whose claims are."""
         second = int(command.second[1:])
         lowest = max(command.last_number + 1, second - SWEEP)
         for start in range(lowest, second, BATCH):
             asked = range(start, min(start + BATCH, second))
-            for number, answer in zip(asked, self._probe(asked)):
-                if self._is_new(number, answer):
-                    self.link.read(f"abandon c{second}")
-                    return self.link.read(f"state c{number}")
-        return reply
+            new = [f"c{number}" for number, answer in zip(asked, self._probe(asked)) if self._is_new(number, answer)]
+            if new:
+                return new[0]
+        return ""
+
+
+def number_of(holder: Holder) -> int:
+    """A claim's number."""
+    return int(holder.claim[1:])
 
 
 def not_known(command: Command, why: str, code: Optional[int] = None) -> NotKnown:

@@ -1,6 +1,7 @@
 """Which store a vault names for the bytes of its parts, and whether this client's designer follows it."""
 
-from typing import Callable, Optional
+import contextlib
+from typing import Callable, List, Optional
 
 from vault.address import Address, FolderAddress, read_store_address
 from vault.card import shown
@@ -8,7 +9,7 @@ from vault.client import Client
 from vault.folder_store import FolderStore
 from vault.rclone_store import RcloneStore
 from vault.store import Store
-from vault.words import Misused, Refused
+from vault.words import Misused, Refused, VaultError
 
 STORE_PLACE = "/vault/settings/store"
 
@@ -72,13 +73,28 @@ class Setting:
                     raise
 
     def _check_in(self, content: bytes) -> None:
-        standing = self.client.checkout(["w:" + STORE_PLACE])
+        """Writes the part by a check-out of its own: one that stands, as from an earlier try, or a new one, which is given up if that is
+        refused."""
+        items = ["w:" + STORE_PLACE]
+        before = [claim for claim, asked in self.client.held(STORE_PLACE).items() if list(asked) == items]
+        claim = before[0] if before else self._check_out(items)
+        try:
+            self.client.put(STORE_PLACE, content, claim)
+            self.client.checkin(claim)
+        except (Misused, Refused):
+            if not before:
+                with contextlib.suppress(VaultError):
+                    self.client.abandon(claim)
+            raise
+
+    def _check_out(self, items: List[str]) -> str:
+        """A check-out that is held."""
+        standing = self.client.checkout(items)
         if not standing.held:
             self.client.abandon(standing.claim)
             way = standing.before[0].in_words(self.client.designer) if standing.before else standing.behind
             raise Refused(f"{STORE_PLACE} can't be changed now. In the way is {way}. Wait until it is gone, or ask its designer.")
-        self.client.put(STORE_PLACE, content, standing.claim)
-        self.client.checkin(standing.claim)
+        return standing.claim
 
 
 def quoted(word: str) -> str:

@@ -20,6 +20,8 @@ SHOWN = re.compile(r"claim (?P<claim>%s) (?P<owner>%s) (?:held|queued behind (?P
 CODE = re.compile(r"[0-9]{1,3}")
 # The refusal of a place beneath one that a claim covers.
 COVERED = 23
+# The refusal of a claim that is gone.
+GONE = 30
 # Replies each of whose words may name a claim; in others a designer or a place may be called c3.
 NAMING = ("held", "queued", "claims")
 
@@ -163,16 +165,23 @@ class Holder:
         return f"{self.claim}, {'which' if self.held else 'for which'} {does}: {' '.join(self.items)}"
 
 
-def refusal_by(reply: Reply, holder: Holder, designer: str) -> Refused:
-    """A refusal that names a claim in the way, with whose it is and what it has."""
+def refusal_by(reply: Reply, holder: Holder, designer: str, place: str) -> Refused:
+    """A refusal that names a claim in the way of a command at a place, with whose it is and what it has."""
     own = holder.owner == designer
-    advice = "Wait until it is gone" + ("" if own else f", or ask {holder.owner}") + "; nothing was changed."
-    if own and reply.code == COVERED and holder.claim[0] == "c":
-        advice = f"Add `--claim {holder.claim}`; nothing was changed."
+    advice = "Wait until it is gone" + ("" if own else f", or ask {holder.owner}")
+    if reply.code == COVERED and holder.is_check_out_of(designer):
+        advice = own_in_the_way(holder, place.rpartition("/")[0] or "/")
     begins = "The place above it is in" if reply.code == COVERED else "In the way is"
-    refused = Refused(f"{begins} {holder.in_words(designer)}. {advice}", reply.code)
+    refused = Refused(f"{begins} {holder.in_words(designer)}. {advice}; nothing was changed.", reply.code)
     refused.fields = {"in_the_way": holder.fields()}
     return refused
+
+
+def own_in_the_way(holder: Holder, above: str) -> str:
+    """What a designer does whose own check-out covers the place in which something is to be made."""
+    if holder.changes(above):
+        return f"Add `--claim {holder.claim}`"
+    return f"It only looks: `vault extend {holder.claim} w:{above}` has it change that, too, or `vault abandon {holder.claim}` gives it up"
 
 
 def who_does(owner: str, what: str, designer: str) -> str:

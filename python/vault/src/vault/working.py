@@ -2,19 +2,22 @@
 ever written over."""
 
 import contextlib
+import errno
 import os
 import stat
 from dataclasses import dataclass, field
 from pathlib import Path
 from typing import Dict, Iterable, Iterator, List, Optional, Sequence, Tuple
 
-from vault.card import shown
+from vault.card import note_word, shown
+from vault.client import NO_PLACE
 from vault.folder import OWN, Entry, Folder, read_folder
 from vault.names import choose_name, folded, part_name, usable
 from vault.parts import Parts, Version
-from vault.setting import STORE_PLACE
+from vault.setting import STORE_PLACE, quoted
+from vault.store import StoreFault
 from vault.transfer import Moved
-from vault.words import Misused, Refused, Unreachable, VaultError, place_word, under
+from vault.words import Holder, Misused, Refused, Unreachable, VaultError, place_word, under
 
 TRIES = 5
 # How many of a part's last versions are compared with a draft, and how many reasons are told in one sentence.
@@ -22,16 +25,20 @@ LOOKED_BACK = 64
 REASONS = 3
 # How many files are named in one sentence.
 NAMED = 10
+NO_ROOM = (errno.ENOSPC, errno.EDQUOT)
 
 
 @dataclass
 class Done:
-    """What was done: the files, those that were drafts already, and those that were left, each with the reason; by check-out, one of these
-    of which it has another draft; the check-outs that were checked in, and how many versions that made."""
+    """What was done: the files, those that were drafts already, and those that were left, each with the reason; how many of these have
+    bytes that are bad or can't be written, and what else is to be known of a file; by check-out, one of these of which it has another
+    draft; the check-outs that were checked in, and how many versions that made."""
 
     files: List[str] = field(default_factory=list)
     drafts: List[str] = field(default_factory=list)
     left: List[Tuple[str, str]] = field(default_factory=list)
+    failed: int = 0
+    told: List[Tuple[str, str]] = field(default_factory=list)
     others: Dict[str, Tuple[str, str]] = field(default_factory=dict)
     claims: List[str] = field(default_factory=list)
     versions: int = 0
@@ -54,7 +61,8 @@ class Saved:
 @dataclass(frozen=True)
 class State:
     """How a file stands: whether it is changed or missing here, whether its newest version is another than the one that it was made of,
-    and whether it is checked out for change, by this designer, or by others, as far as the server says."""
+    whether its part is gone from the vault, and whether it is checked out for change, by this designer, or by others, as far as the server
+    says; whether it is a draft, and the check-out that has another draft of it than was put last."""
 
     file: str
     place: str
@@ -65,6 +73,16 @@ class State:
     claim: str
     draft: bool
     others: List[str]
+    gone: bool = False
+    other_draft: str = ""
+
+
+@dataclass(frozen=True)
+class Look:
+    """How a working folder stands: its files, and the parts that have no file here, each with its newest version."""
+
+    files: List[State]
+    new: Dict[str, int]
 
 
 class Working:
@@ -73,10 +91,14 @@ class Working:
     def __init__(self, parts: Parts, folder: Folder):
         self.parts, self.client, self.folder = parts, parts.client, folder
         if not set(folder.server.split(",")) & set(server_of(parts).split(",")):
-            raise Misused(f"{folder.path} was got from {folder.server}, and you are at {server_of(parts)}. Name the other by `--as`.")
+            before, here = in_address_words(folder.server), in_address_words(server_of(parts))
+            raise Misused(f"{folder.path} was got from {before}, and you are at {here}. Name the other by `--as`; or, if that vault has moved"
+                          f" here, say `vault hello {self.client.designer}@{here},{before}`, and then `vault get {folder.place} --to"
+                          f" {quoted(str(folder.path))}`.")
 
     def get(self) -> Done:
-        """Brings the folder up to the vault: what is new, newer or missing is fetched; what was changed here is left."""
+        """Brings the folder up to the vault: what is new, newer or missing is fetched; what was changed here is left. It belongs to the
+        addresses that this designer names from then on."""
         assemblies, numbers = self.client.survey(self.folder.place)
         self.folder.save()
         self._make_folders(assemblies)
@@ -88,16 +110,24 @@ class Working:
         try:
             with self.parts.meter(self.folder.place, sum(version.size for version in versions)) as moved:
                 for version in versions:
-                    self._get_one(version, names.get(version.place), moved, done)
+                    self._get_or_tell(version, names.get(version.place), moved, done)
                     self.folder.save_now_and_then()
+            self.folder.server = server_of(self.parts)
         finally:
             self.folder.save()
         return done
 
     def states(self) -> List[State]:
         """How each file of a part stands, and which held check-out of this designer covers it for change."""
+        return self.look().files
+
+    def look(self) -> Look:
+        """How the folder stands: its files, and the parts that have none here."""
         claims = self._claims()
-        return self._states(claims, self._saved(claims))
+        numbers, saved = self._numbers(), self._saved(claims)
+        here = {entry.place for entry in self.folder.files.values()}
+        return Look(self._states(claims, numbers, saved),
+                    {place: number for place, number in sorted(numbers.items()) if number and place not in here and place != STORE_PLACE})
 
     def put(self, claim: str = "") -> Done:
         """Puts each changed file that a held check-out of this designer covers, or the check-out that is named. So it does with one that was
@@ -107,7 +137,7 @@ class Working:
             raise Misused(f"{claim} is no held check-out of yours at {self.folder.place}. `vault mine` shows those that there are.")
         saved = self._saved(claims)
         try:
-            for state in self._states(claims, saved):
+            for state in self._states(claims, self._numbers(), saved):
                 fitting = [name for name in covering(claims, state.place) if name == (claim or name)]
                 there = saved.get(state.place)
                 self._put_or_leave(state, fitting, there if there is not None and there.claim in fitting else None, done)
@@ -121,7 +151,26 @@ class Working:
 
     def checkin(self, note: Optional[str], claim: str = "") -> Done:
         """Puts what was changed, and checks in the check-outs that these files are drafts of."""
+        if note is not None:
+            note_word(note)
         done = self.put(claim)
+        try:
+            self._check_in_all(note, done)
+        except VaultError as error:
+            put = [name for name in done.files if self.folder.files[name].claim not in done.claims]
+            if put:
+                error.put_behind(self._put_already(put))
+                error.fields.update(files=put)
+            if done.claims:
+                error.put_behind(done.checked_in())
+                error.fields.update(claims=done.claims, versions=done.versions)
+            raise
+        finally:
+            self._settle_checked_in(done.claims)
+        return done
+
+    def _check_in_all(self, note: Optional[str], done: Done) -> None:
+        """Checks in the check-outs that the files are drafts of, if these have no other drafts."""
         claims = sorted({self.folder.files[name].claim for name in done.files + done.drafts})
         if not claims:
             raise Refused(" ".join(filter(None, (f"No file of {self.folder.path} is a draft in a held check-out of yours.",
@@ -131,27 +180,14 @@ class Working:
         if other:
             raise Refused(f"{other} has a draft that is not what is here, so nothing was checked in. {in_words([done.others[other]])}"
                           f" `vault checkin {other}` checks it in as it is.")
-        try:
-            for each in claims:
-                self._check_in(each, note, done)
-        except VaultError as error:
-            if done.claims:
-                error.put_behind(done.checked_in())
-                error.fields.update(claims=done.claims, versions=done.versions)
-            raise
-        finally:
-            self._settle_checked_in(done.claims)
-        return done
+        for each in claims:
+            self._check_in(each, note, done)
 
     def add(self, name: str) -> str:
         """Makes the part of a file that has none, and answers its place."""
-        above, _, file = name.rpartition("/")
-        assembly = self.folder.folders.get(above)
         if tracked := self.folder.tracked(name, self.folder.alike()):
             raise Misused(f"{name} is {self.folder.files[tracked].place} already. `vault put {self.folder.path}` puts it.")
-        if assembly is None or not self.folder.may_have_parts(above) or not usable(file):
-            raise Misused(f"No part can be made of {name!a}: parts stand in the folders of assemblies, and a file's name has none of"
-                          ' / \\ < > : " | ? * and no dot or blank at its ends. Move it or rename it; `vault make` makes an assembly.')
+        assembly = self._assembly_for(name)
         seen = self.folder.seen(name)
         if seen is None or not stat.S_ISREG(seen.st_mode):
             raise Misused(f"{name} is no file in {self.folder.path}: it is not there, or is a link or a folder.")
@@ -161,7 +197,52 @@ class Working:
         self.folder.save()
         return place
 
+    def advice_on(self, name: str) -> str:
+        """What becomes of a folder that is no assembly's as far as this one knows, and what its designer does, in words."""
+        own, above = self.folder.uppermost(name)
+        said = "is the folder of no assembly, so no file in it is a part's"
+        if not usable(own) or not self.folder.may_have_assemblies(above):
+            return f"{said}, and it can't be one. Move its files into an assembly's folder"
+        inside, names = above.rstrip("/"), self.client.names(above) if self.client.is_assembly(above) else []
+        get = f"`vault get {self.folder.place} --to {quoted(str(self.folder.path))}` has this folder know that"
+        if own in names and self.client.is_assembly(f"{inside}/{own}"):
+            return f"is not known here as the folder of {inside}/{own}: {get}"
+        named = part_name(own, names)
+        rename = "" if own == named else f"rename it to {named}; then "
+        command, made = "nest" if self.folder.is_assembly(above) else "make", "an assembly" if inside else "a project"
+        return f"{said}: {rename}`vault {command} {inside}/{named}` makes {made} of it, and {get}"
+
+    def made_again(self, name: str) -> bool:
+        """Makes the part of a file again, if the vault, which came back from a backup, has it no more. Whether it did."""
+        entry = self.folder.files[name]
+        if self.folder.seen(name) is None or self.client.is_there(entry.place):
+            return False
+        above = entry.place.rpartition("/")[0]
+        try:
+            self.client.make(entry.place, (covering(self._claims(), entry.place) + [""])[0])
+        except Refused as refused:
+            if refused.code != NO_PLACE:
+                raise
+            raise Refused(f"{above} isn't in the vault any more, which came back from a backup: `vault"
+                          f" {'nest' if above.count('/') > 2 else 'make'} {above}` makes it again.", refused.code) from refused
+        self.folder.files[name] = Entry(entry.place, 0, "", name=entry.name)
+        self.folder.save()
+        return True
+
     # How it is done.
+
+    def _assembly_for(self, name: str) -> str:
+        """The assembly in which the part of a file is made."""
+        above, _, file = name.rpartition("/")
+        assembly, refused = self.folder.folders.get(above), f"No part can be made of {name!a}"
+        if assembly is None:
+            raise Misused(f"{refused}: {above!a} {self.advice_on(above)}.")
+        if not self.folder.may_have_parts(above):
+            raise Misused(f"{refused}: it stands in no assembly's folder. `vault make {assembly.rstrip('/')}/NAME` makes"
+                          f" {'a project' if assembly == '/' else 'an assembly'}; move it into an assembly's folder.")
+        if not usable(file):
+            raise Misused(f"{refused}: a file's name has none of" ' / \\ < > : " | ? * and no dot or blank at its ends. Rename it.')
+        return assembly
 
     def _make_folders(self, assemblies: List[str]) -> None:
         """Makes the folders of assemblies, each in that of the one that it stands in."""
@@ -178,11 +259,22 @@ class Working:
         """Whether a part's version must be looked at: it is new here, another than the one that was got, or its file is missing."""
         return name is None or self.folder.files[name].version != number or self.folder.seen(name) is None
 
+    def _get_or_tell(self, version: Version, name: Optional[str], moved: Moved, done: Done) -> None:
+        """Fetches one version. If its bytes are bad, or can't be written, that is told, and those behind it come all the same."""
+        try:
+            self._get_one(version, name, moved, done)
+        except (StoreFault, OSError) as error:
+            if isinstance(error, OSError) and error.errno in NO_ROOM:
+                raise
+            done.failed += 1
+            done.left.append((name or version.place, f"was not fetched: {str(error).rstrip('.')}"))
+
     def _get_one(self, version: Version, name: Optional[str], moved: Moved, done: Done) -> None:
         """Fetches one version, unless the file in its place was changed here, or has its bytes already."""
-        new, entry = self._named(version, name)
         before = self.folder.seen(name) if name is not None else None
-        had = self.folder.files[name].version if name is not None else 0
+        new, entry = self._named(version, name, before is None)
+        was = self.folder.files[name] if name is not None else None
+        had = was.version if was is not None else 0
         if name is not None and before is not None and had > version.number and not self._has(name, version):
             done.left.append((name, f"is version {had}, and the vault, which came back from a backup, has only version {version.number}:"
                                     f" `vault put {version.place} FILE` puts yours; move it away, and get again, to have the vault's"))
@@ -203,9 +295,19 @@ class Working:
             return
         if name is not None and new != name:
             self._give_up(name, new, before, done)
+        if was is not None and before is None:
+            self._tell_draft(new, was, version, done)
 
-    def _named(self, version: Version, name: Optional[str]) -> Tuple[str, Entry]:
-        """The name that a version's file is to have, where it has another one or none, and what is then remembered of it."""
+    def _tell_draft(self, name: str, was: Entry, version: Version, done: Done) -> None:
+        """Says where a file's draft is, if one stands, since the file is a version again."""
+        with contextlib.suppress(Refused):
+            if was.claim and was.place in self.client.all_drafts(was.claim):
+                done.told.append((name, f"is version {version.number} again. What you put of it before is still a draft in {was.claim}: `vault draft"
+                                        f" {was.claim} {was.place} --to OTHER-FILE` writes that"))
+
+    def _named(self, version: Version, name: Optional[str], missing: bool) -> Tuple[str, Entry]:
+        """The name that a version's file is to have, where it has another one or none, and what is then remembered of it. If it is missing
+        here, the draft that was put of it isn't what is here from now on: only its check-out is remembered."""
         own = version.place.rpartition("/")[2]
         wanted = version.card.name if version.card else own
         above = self._folder_of(version.place)
@@ -214,7 +316,8 @@ class Working:
         if name is not None and folded(new) == folded(name):
             new = name
         was = self.folder.files[name] if name is not None else Entry(version.place, 0, "")
-        return new, Entry(version.place, version.number, version.sha256, name=wanted, draft=was.draft, claim=was.claim)
+        draft = "" if missing else was.draft
+        return new, Entry(version.place, version.number, version.sha256, name=wanted, draft=draft, claim=was.claim)
 
     def _fetch(self, version: Version, new: str, entry: Entry, before: Optional[os.stat_result], moved: Moved) -> None:
         """Writes a version into its file."""
@@ -260,21 +363,30 @@ class Working:
                           for place, content in self.client.all_drafts(claim).items()})
         return found
 
-    def _states(self, claims: Dict[str, Sequence[str]], saved: Dict[str, Saved]) -> List[State]:
-        """How each file of a part stands, by the check-outs of this designer and their drafts."""
+    def _numbers(self) -> Dict[str, int]:
+        """The parts beneath the folder's place, each with the number of its versions."""
         _, numbers = self.client.survey(self.folder.place)
         self._settle(numbers)
+        return numbers
+
+    def _states(self, claims: Dict[str, Sequence[str]], numbers: Dict[str, int], saved: Dict[str, Saved]) -> List[State]:
+        """How each file of a part stands, by the check-outs of this designer and their drafts."""
         holders = [holder for holder in self.client.holders(self.folder.place) if holder.held and holder.owner != self.client.designer]
-        found = []
-        for name, entry in sorted(self.folder.files.items()):
-            missing = self.folder.seen(name) is None
-            changed = not missing and self.folder.is_changed(name)
-            draft = not missing and entry.place in saved and self._is(name, changed, saved[entry.place].version)
-            found.append(State(name, entry.place, entry.version, numbers.get(entry.place, 0), changed, missing,
-                               " ".join(covering(claims, entry.place)), draft,
-                               [f"{holder.owner} in {holder.claim}" for holder in holders if holder.changes(entry.place)]))
+        found = [self._state(name, claims, numbers, saved.get(entry.place), holders) for name, entry in sorted(self.folder.files.items())]
         self.folder.save()
         return found
+
+    def _state(self, name: str, claims: Dict[str, Sequence[str]], numbers: Dict[str, int], there: Optional[Saved],
+               holders: List[Holder]) -> State:
+        """How a file of a part stands, by the draft of it that there is."""
+        entry = self.folder.files[name]
+        missing = self.folder.seen(name) is None
+        changed = not missing and self.folder.is_changed(name)
+        draft = not missing and there is not None and self._is(name, changed, there.version)
+        known = draft or there is None or (changed and was_put(entry, there.claim, there.version))
+        return State(name, entry.place, entry.version, numbers.get(entry.place, 0), changed, missing, " ".join(covering(claims, entry.place)),
+                     draft, [f"{holder.owner} in {holder.claim}" for holder in holders if holder.changes(entry.place)],
+                     entry.place not in numbers, "" if there is None or known else there.claim)
 
     def _is(self, name: str, changed: bool, version: Version) -> bool:
         """Whether a file, of which it is known whether it is changed, has the bytes of a version."""
@@ -287,8 +399,11 @@ class Working:
             entry.draft, entry.claim = there.version.sha256, there.claim
             done.drafts.append(state.file)
             return
-        put_before = there is not None and there.version.sha256 == entry.draft
+        put_before = there is not None and was_put(entry, there.claim, there.version)
         if not state.changed and not put_before:
+            if there is not None:
+                done.left.append((state.file, f"has another draft in {there.claim}: `vault draft {there.claim} {state.place} --to OTHER-FILE`"
+                                              f" writes it, and `vault checkin {there.claim}` checks it in"))
             return
         reason = self._reason_against(state, fitting, there, put_before)
         if not reason:
@@ -304,6 +419,12 @@ class Working:
         look = f"look at that first, by `vault get {state.place} {over}"
         if there is not None and state.missing:
             return f"is missing here, and its draft is in {there.claim}: `vault draft {there.claim} {state.place} --to FILE` writes that"
+        if state.gone:
+            return (f"has no part any more, since the vault came back from a backup: `vault add {quoted(str(self.folder.at(state.file)))}` makes"
+                    f" {state.place} again")
+        if state.version and not state.newest:
+            return (f"was made of version {state.version}, and the vault, which came back from a backup, has none: `vault put {state.place} FILE`"
+                    " puts yours")
         if state.newest != state.version:
             return f"was made of version {state.version}, and version {state.newest} is in the vault: {look}"
         if not fitting and state.claim:
@@ -312,9 +433,11 @@ class Working:
             return f"no held check-out of yours takes it in: `vault checkout w:{state.place}` asks for one"
         if len(fitting) > 1:
             return f"{' and '.join(fitting)} take it in: name one with `--claim`"
-        if there is not None and not put_before and not there.from_here:
-            return (f"has another draft in {there.claim}, which was put elsewhere: look at that first, by `vault draft {there.claim}"
-                    f" {state.place} {over}")
+        entry = self.folder.files[state.file]
+        again = there is not None and not entry.draft and entry.claim == there.claim
+        if there is not None and not put_before and (again or not there.from_here):
+            return (f"has another draft in {there.claim}, which was put {'before this file was got again' if again else 'elsewhere'}: look at that"
+                    f" first, by `vault draft {there.claim} {state.place} {over}")
         if self._is_another(state):
             return f"was made of another version {state.version} than the vault has, which came back from a backup: {look}"
         return ""
@@ -346,7 +469,7 @@ class Working:
         for claim in claims:
             for place, content in self.client.all_drafts(claim).items():
                 name = here.get(place, "")
-                if under(place, self.folder.place) and not (name and self.folder.files[name].draft == Version(place, 0, content).sha256):
+                if not (name and was_put(self.folder.files[name], claim, Version(place, 0, content))):
                     done.others.setdefault(claim, (name or place, f"has {'another' if name else 'a'} draft in {claim}: `vault draft {claim}"
                                                                   f" {place} --to OTHER-FILE` writes it"))
 
@@ -426,9 +549,19 @@ def covering(claims: Dict[str, Sequence[str]], place: str) -> List[str]:
     return [name for name, items in claims.items() if any(item[0] == "w" and under(place, item[2:]) for item in items)]
 
 
+def was_put(entry: Entry, claim: str, draft: Version) -> bool:
+    """Whether a draft in a check-out is the one that was put of a file last."""
+    return (draft.sha256, claim) == (entry.draft, entry.claim)
+
+
 def server_of(parts: Parts) -> str:
     """The server that files come from, or a vault's servers with commas between."""
     return ",".join(f"{host}:{port}" for host, port in parts.client.servers)
+
+
+def in_address_words(servers: str) -> str:
+    """The same as a designer writes it: an ssh address without a port has none."""
+    return ",".join(server.removesuffix(":0") for server in servers.split(","))
 
 
 def folder_for(parts: Parts, place: str, path: Path) -> Folder:
