@@ -109,7 +109,8 @@ def main():
     names = ("Cycles a second before", "Cycles a second", "Processor time a cycle before", "Processor time a cycle", "Differences")
     table(("Clients", *(names if options.before else names[1::2])), compared(programs, folder, options, load))
     head(program, f"one server, {options.last} clients, blocks of {BLOCK} cycles")
-    table(("Commands before", "Cycles a second", "Median and 99th percentile of a cycle", "Resident memory"), long_run(program, folder, options, load))
+    table(("Commands before", "Cycles a second", "Median and 99th percentile of a cycle", "Resident memory"),
+          long_run(program, folder, options, load))
 
 
 if __name__ == "__main__":

@@ -28,6 +28,11 @@ class Result(unittest.TextTestResult):
 
     running = ""
 
+    def startTestRun(self) -> None:
+        """Begins the time of what stands before the first test."""
+        super().startTestRun()
+        self.arm(f"what stands before the first test had {BESIDE_SECONDS} seconds", BESIDE_SECONDS)
+
     def startTest(self, test: unittest.TestCase) -> None:
         """Begins a test's time."""
         super().startTest(test)

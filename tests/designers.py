@@ -25,12 +25,17 @@ class WithServer(unittest.TestCase):
         self.server.start()
         self.cutter = Cutter(self.server.port)
         self.addCleanup(self.cutter.close)
+        self.addCleanup(self.check_cut)
         self.folder = tempfile.TemporaryDirectory(prefix="vault-test-", dir=MEMORY)
         self.addCleanup(self.folder.cleanup)
         self.notices: List[str] = []
         self.anna = self.client("anna")
         for place in ("/engine", "/engine/block", PART):
             self.anna.make(place)
+
+    def check_cut(self) -> None:
+        """Each line at which the connection was to be cut was said."""
+        self.assertEqual(self.both(), [[], []])
 
     def client(self, designer: str, patience: float = 10.0) -> Client:
         """A designer behind the cutter. A second one of the same name stands for a second run of the program."""
@@ -41,10 +46,6 @@ class WithServer(unittest.TestCase):
     def both(self) -> List[List[bytes]]:
         """Where to cut: before a line reaches the server, and before its reply reaches the client."""
         return [self.cutter.before, self.cutter.after]
-
-    def gives(self) -> bool:
-        """Whether the server knows `give` and `note`."""
-        return self.anna.link.read("note c1").code != 10
 
     def standing(self) -> List[str]:
         """The check-outs that stand, as the library sees them."""

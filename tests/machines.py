@@ -11,6 +11,8 @@ from typing import Dict, Tuple
 MIRROR = "http://deb.debian.org/debian"
 RELEASE = "bookworm"
 CACHE = Path(os.environ.get("VAULT_CACHE", "/var/cache/vaultd-tests"))
+# Which machine is kept: one more whenever PACKAGES, UNIT or what `base` does is changed.
+MADE = 4
 # What the packages need and what the page on operating names, and the programs that the script uses.
 PACKAGES = ("systemd", "systemd-sysv", "dbus", "python3", "python3-filelock", "python3-aiohttp", "python3-jinja2", "openssh-server", "nftables",
             "iproute2", "netcat-openbsd", "psmisc", "prometheus-node-exporter", "curl", "ca-certificates")
@@ -37,7 +39,7 @@ BOOT_SECONDS = 60
 
 def base() -> Path:
     """The machine's root, which no run writes into. If it isn't there yet, this takes two minutes, and the network."""
-    root = CACHE / f"{RELEASE}-4"
+    root = CACHE / f"{RELEASE}-{MADE}"
     if root.exists():
         return root
     CACHE.mkdir(mode=0o755, parents=True, exist_ok=True)

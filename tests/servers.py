@@ -170,6 +170,39 @@ def end_accepting(listener: socket.socket, accepts: threading.Thread) -> None:
     listener.close()
 
 
+class Answering:
+    """A server that makes up its replies."""
+
+    def __init__(self) -> None:
+        self.listener = socket.create_server(("127.0.0.1", 0))
+        self.port = int(self.listener.getsockname()[1])
+        self.accepts = threading.Thread(target=self._accept, daemon=True)
+        self.accepts.start()
+
+    def close(self) -> None:
+        """Takes no more connections."""
+        end_accepting(self.listener, self.accepts)
+
+    def _accept(self) -> None:
+        with contextlib.suppress(OSError):
+            while True:
+                client, _ = self.listener.accept()
+                threading.Thread(target=self._serve, args=(client,), daemon=True).start()
+
+    def _serve(self, client: socket.socket) -> None:
+        with client, contextlib.suppress(OSError):
+            self.answer(client)
+
+    def answer(self, client: socket.socket) -> None:
+        """Answers each line."""
+        for line in client.makefile("rb"):
+            client.sendall(self.reply(line.strip()))
+
+    def reply(self, line: bytes) -> bytes:
+        """What is said to a line."""
+        raise NotImplementedError(line)
+
+
 class Cutter:
     """Hands lines on between clients and a server, and cuts the connection once, before or after a line was handed on."""
 

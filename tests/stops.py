@@ -4,6 +4,7 @@ What is written and not yet synced may be there, not be there, or be there in pa
 may have any length on the way. What was synced is there.
 """
 
+import contextlib
 import os
 import random
 import re
@@ -152,28 +153,55 @@ def record(folder: Path, snapshots: int) -> Recording:
     """Eight clients work at a server until it has written this many snapshots, while strace records it."""
     files = (str(folder / "a"), str(folder / "b"))
     subprocess.run([VAULTD, "create", *files], check=True, stdout=subprocess.DEVNULL)
-    at_first, port, trace = {name: Path(file).read_bytes() for name, file in zip("ab", files)}, free_port(), folder / "trace"
+    at_first, trace = {name: Path(file).read_bytes() for name, file in zip("ab", files)}, folder / "trace"
+    with traced(files, trace) as port:
+        clients = [Client(number, port) for number in range(CLIENTS)]
+        for place in ["/e", "/e/b"] + [f"/e/b/p{number}" for number in range(CLIENTS)]:
+            clients[0].ask(f"make {place}")
+        work_until(clients, folder / "ab"[snapshots % 2], snapshots + 1)
+    return Recording(at_first, list(calls_in(trace, files)))
+
+
+@contextlib.contextmanager
+def traced(files: Tuple[str, str], trace: Path) -> Iterator[int]:
+    """A server whose calls strace writes down, by its port. Both are gone afterwards, whatever happened."""
+    port = free_port()
     strace = [shutil.which("strace") or "strace", "-f", "--seccomp-bpf", "-y", "-xx", "-s", "2000000", "-o", str(trace), "-e",
               "trace=pwrite64,fsync,sendto", "-e", "signal=none"]
     server = subprocess.Popen([*strace, VAULTD, "serve", *files, f"127.0.0.1:{port}", "--workers", "16"], stdout=subprocess.PIPE)
-    assert server.stdout is not None and server.stdout.readline() == b"listening\n"
-    clients = [Client(number, port) for number in range(CLIENTS)]
-    for place in ["/e", "/e/b"] + [f"/e/b/p{number}" for number in range(CLIENTS)]:
-        clients[0].ask(f"make {place}")
+    assert server.stdout is not None
+    try:
+        assert server.stdout.readline() == b"listening\n"
+        yield port
+    finally:
+        end_traced(server)
+        server.stdout.close()
+
+
+def end_traced(strace: "subprocess.Popen[bytes]") -> None:
+    """Kills what strace runs, after which it ends by itself; strace alone would leave it running."""
+    for process in Path(f"/proc/{strace.pid}/task/{strace.pid}/children").read_text("ascii").split():
+        os.kill(int(process), signal.SIGKILL)
+    try:
+        strace.wait(60)
+    finally:
+        strace.kill()
+        strace.wait()
+
+
+def work_until(clients: List[Client], file: Path, generation: int) -> None:
+    """Has clients work until a file is the active one, in this generation."""
     for client in clients:
         client.start()
-    other = folder / "ab"[snapshots % 2]
-    wait_for_generation(other, snapshots + 1)
-    for client in clients:
-        client.stop.set()
+    try:
+        wait_for_generation(file, generation)
+    finally:
+        for client in clients:
+            client.stop.set()
     for client in clients:
         client.join(60)
         client.link.close()
         assert not client.wrong and not client.is_alive(), client.wrong
-    os.kill(int(Path(f"/proc/{server.pid}/task/{server.pid}/children").read_text("ascii").split()[0]), signal.SIGKILL)
-    server.wait(60)
-    server.stdout.close()
-    return Recording(at_first, list(calls_in(trace, files)))
 
 
 def wait_for_generation(file: Path, generation: int) -> None:

@@ -61,6 +61,17 @@ class WithStore(WithServer):
         assert card is not None
         return card
 
+    def check_swept_right_behind(self) -> None:
+        """Bytes that were old, and are removed right behind the save of the draft that names them, are put once more, and so is the draft."""
+        card = self.put_version()
+        claim = self.anna.checkout(["w:" + PART]).claim
+        saves = f"save {claim} {PART} ".encode()
+        self.cutter.after.append(saves)
+        self.cutter.meanwhile = self.path_of(card).unlink
+        self.parts.put(PART, self.file, claim)
+        # The one that has no reply, the same once more, and the one behind the bytes.
+        self.assertEqual((self.entries(), self.sent(saves)), ([card.sha256], 3))
+
     def path_of(self, card: Card) -> Path:
         """Where a card's bytes lie."""
         return self.store / place_of(card.sha256)

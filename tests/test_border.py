@@ -1,6 +1,7 @@
 """The network's border, by the program over TCP: strangers' bytes, silent clients, few places."""
 
 import contextlib
+import math
 import os
 import socket
 import subprocess
@@ -8,9 +9,11 @@ import tempfile
 import time
 import unittest
 from pathlib import Path
-from typing import Iterator, Optional
+from typing import Dict, Iterator, List, Optional, Tuple
 
-from servers import MEMORY, VAULTD, free_port, sockets_of
+from page_server import until
+from servers import MEMORY, VAULTD, Server, free_port, program, sockets_of
+from tries import told
 
 # Linux's number of this option, which typeshed doesn't have.
 TCP_USER_TIMEOUT = 18
@@ -53,6 +56,52 @@ def own_address() -> Optional[str]:
             return None
         name = str(probe.getsockname()[0])
     return None if name.startswith("127.") else name
+
+
+def finds_out_within(link: socket.socket) -> Tuple[float, float]:
+    """Within how many seconds the kernel finds out that the other end is gone: where something is on its way there, and where nothing is."""
+    first, again, times = (link.getsockopt(socket.IPPROTO_TCP, option) for option in (socket.TCP_KEEPIDLE, socket.TCP_KEEPINTVL, socket.TCP_KEEPCNT))
+    asks = link.getsockopt(socket.SOL_SOCKET, socket.SO_KEEPALIVE)
+    return link.getsockopt(socket.IPPROTO_TCP, TCP_USER_TIMEOUT) / 1000, first + again * times if asks else math.inf
+
+
+def has_other_loopback() -> bool:
+    """Whether this host has ::1."""
+    with contextlib.suppress(OSError), socket.socket(socket.AF_INET6) as probe:
+        probe.bind(("::1", 0))
+        return True
+    return False
+
+
+def is_ended(link: socket.socket) -> bool:
+    """Whether a connection over which nothing is under way was ended."""
+    link.setblocking(False)
+    try:
+        return link.recv(1) == b""
+    except BlockingIOError:
+        return False
+    finally:
+        link.settimeout(20)
+
+
+# Servers of one thread and of two, each with two connections that are silent while the other tests run, and since when.
+SILENT: Dict[int, Tuple[Server, List[socket.socket]]] = {}
+SILENT_SINCE: List[float] = []
+
+
+def setUpModule() -> None:
+    """Starts these servers. Of two connections the first one speaks last."""
+    for threads in (1, 2):
+        server = Server("--workers", "2", "--threads", str(threads), "--full", "100", folder=MEMORY)
+        unittest.addModuleCleanup(server.close)
+        server.start()
+        links = [server.connect() for _ in range(2)]
+        for number, link in enumerate(links, 1):
+            unittest.addModuleCleanup(link.close)
+            assert told(link, b"hello anna\n", 1) == b"OK session %d\n" % number
+        assert told(links[0], b"list /\n", 1) == b"OK list 0\n"
+        SILENT[threads] = server, links
+    SILENT_SINCE.append(time.monotonic())
 
 
 class Border(unittest.TestCase):
@@ -166,13 +215,13 @@ class Times(Border):
             self.assertEqual(self.said(link, b"quit"), b"OK left\n")
 
     def test_dead_client(self) -> None:
-        """The kernel ends a connection whose client acknowledges nothing that was sent to it for two minutes."""
+        """The kernel ends a connection whose client acknowledges nothing that was sent to it for two minutes, and asks a silent client early
+        enough to find out within these."""
         self.serve()
         with self.linked() as link:
             self.said(link, b"hello anna")
-            found = [it.getsockopt(socket.IPPROTO_TCP, TCP_USER_TIMEOUT) for it in sockets_of(self.server.pid)
-                     if not it.getsockopt(socket.SOL_SOCKET, socket.SO_ACCEPTCONN)]
-            self.assertEqual(found, [120_000])
+            found = [finds_out_within(it) for it in sockets_of(self.server.pid) if not it.getsockopt(socket.SOL_SOCKET, socket.SO_ACCEPTCONN)]
+        self.assertEqual(found, [(120, 120)])
 
     def test_trickled_line(self) -> None:
         self.serve("--line", "1")
@@ -214,30 +263,6 @@ class Times(Border):
         with self.linked() as link:
             self.assertEqual(self.said(link, b"hello ben"), b"OK session 2\n")
 
-    def test_one_for_one(self) -> None:
-        """For one that waits for a place one silent connection is ended, also where two threads could each end one."""
-        self.serve("--workers", "2", "--threads", "2", "--full", "100")
-        with self.linked() as one, self.linked() as other:
-            silent = {link: self.said(link, b"hello " + name) for link, name in ((one, b"anna"), (other, b"ben"))}
-            self.assertEqual(list(silent.values()), [b"OK session 1\n", b"OK session 2\n"])
-            time.sleep(61)
-            with self.linked() as link:
-                self.assertEqual(self.said(link, b"hello cleo"), b"OK session 3\n")
-                time.sleep(0.5)
-                stands = [each for each in silent if not self.is_ended(each)]
-                self.assertEqual(len(stands), 1)
-                self.assertEqual(self.said(stands[0], b"list /"), b"OK list 0\n")
-
-    def is_ended(self, link: socket.socket) -> bool:
-        """Whether a connection over which nothing is under way was ended."""
-        link.setblocking(False)
-        try:
-            return link.recv(1) == b""
-        except BlockingIOError:
-            return False
-        finally:
-            link.settimeout(20)
-
 
 class FromWhom(Border):
     """The limit of connections from one address."""
@@ -248,10 +273,23 @@ class FromWhom(Border):
             self.assertEqual(self.said(one, b"hello anna"), b"OK session 1\n")
             self.assertEqual(self.said(other, b"hello ben"), b"OK session 2\n")
 
+    @unittest.skipUnless(has_other_loopback(), "this machine has no ::1")
+    def test_the_other_loopback(self) -> None:
+        """A server at ::1 doesn't count its connections, either, and the client finds it."""
+        self.serve("--per-address", "1", host="[::1]")
+        with self.linked("::1") as one, self.linked("::1") as other:
+            self.assertEqual(self.said(one, b"hello anna"), b"OK session 1\n")
+            self.assertEqual(self.said(other, b"hello ben"), b"OK session 2\n")
+            made = subprocess.run([*program("vault"), "--as", f"cleo@[::1]:{self.port}", "make", "/engine"], capture_output=True, timeout=60,
+                                  check=False, env={**os.environ, "XDG_STATE_HOME": str(self.files[0].parent)})
+            self.assertEqual((made.stdout, made.stderr), (b"/engine is there.\n", b""))
+            self.assertEqual(self.said(one, b"list /"), b"OK list 1 engine\n")
+
     def test_others_are(self) -> None:
-        address = own_address()
-        if address is None:
+        own = own_address()
+        if own is None:
             self.skipTest("this host has no address but the loopback's")
+        address: str = own
         self.serve("--per-address", "2", host="0.0.0.0")
         with self.linked(address) as one, self.linked(address) as other:
             self.assertEqual(self.said(one, b"hello anna"), b"OK session 1\n")
@@ -260,11 +298,39 @@ class FromWhom(Border):
                 self.assertEqual(heard(third), b"ERR 80\n")
             self.assertEqual(self.said(other, b"quit"), b"OK left\n")
             other.close()
+            until(lambda: self.is_let_in(address, b"cleo", 3), 20)
+
+    def is_let_in(self, address: str, name: bytes, number: int) -> bool:
+        """Whether somebody gets the session of this number."""
+        with self.linked(address) as link, contextlib.suppress(ConnectionError):
+            return self.said(link, b"hello " + name) == b"OK session %d\n" % number
+        return False
+
+
+class TwoThatAreSilent(unittest.TestCase):
+    """For one that waits for a place one connection is ended that was silent for a minute."""
+
+    def setUp(self) -> None:
+        time.sleep(max(0.0, SILENT_SINCE[-1] + 61 - time.monotonic()))
+
+    def test_one_for_one(self) -> None:
+        """Also where two threads could each end one."""
+        server, links = SILENT[2]
+        with server.connect() as link:
+            self.assertEqual(told(link, b"hello cleo\n", 1), b"OK session 3\n")
             time.sleep(0.5)
-            with self.linked(address) as third:
-                self.assertEqual(self.said(third, b"hello cleo"), b"OK session 3\n")
+            stands = [each for each in links if not is_ended(each)]
+            self.assertEqual(len(stands), 1)
+            self.assertEqual(told(stands[0], b"list /\n", 1), b"OK list 0\n")
+
+    def test_the_longest_silent(self) -> None:
+        """It is the one that was silent the longest, and not the one that came first."""
+        server, (spoke_last, silent_longest) = SILENT[1]
+        with server.connect() as link:
+            self.assertEqual(told(link, b"hello cleo\n", 1), b"OK session 3\n")
+            self.assertEqual(silent_longest.recv(1), b"")
+            self.assertEqual(told(spoke_last, b"list /\n", 1), b"OK list 0\n")
 
 
 if __name__ == "__main__":
-    os.environ.setdefault("VAULTD", VAULTD)
     unittest.main()

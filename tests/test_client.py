@@ -463,10 +463,12 @@ class Program(WithServer):
             until = time.monotonic() + 20
             while b"wait c2\n" not in self.cutter.lines and time.monotonic() < until:
                 time.sleep(0.02)
+            waits = b"wait c2\n" in self.cutter.lines
             begun = time.monotonic()
             waiting.send_signal(signal.SIGINT)
             errors = waiting.communicate(timeout=25)[1]
             self.assertLess(time.monotonic() - begun, 8)
+        self.assertTrue(waits, "no wait was under way")
         self.assertEqual(waiting.returncode, 3)
         self.assertIn(b"Interrupted.", errors)
 

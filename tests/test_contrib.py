@@ -11,9 +11,10 @@ import sys
 import tempfile
 import unittest
 from pathlib import Path
-from typing import List
+from typing import Dict, List, Set
 
-from servers import MEMORY, TOP, VAULTD, Limits, Server
+from servers import MEMORY, TOP, VAULTD, Limits, Server, scripts
+from test_documents import taken_by
 from tries import told
 
 sys.path.insert(0, str(TOP / "bench"))
@@ -232,9 +233,31 @@ class Contrib(unittest.TestCase):
             self.assertEqual(done.stderr, "", page.name)
             if shutil.which("mandoc"):
                 self.assertEqual(self.said("mandoc", "-Tlint", str(page)), "")
-        said = (CONTRIB / "man" / "vault.1").read_text("utf-8").replace("\\-", "-")
-        for word in self.client_words():
-            self.assertIn(word, said)
+        self.check_manual_of_the_client()
+        self.check_manual_of_the_server()
+
+    def manual(self, name: str) -> str:
+        """The source of a page, with its hyphens as they are typed."""
+        return (CONTRIB / "man" / name).read_text("utf-8").replace("\\-", "-")
+
+    def check_manual_of_the_client(self) -> None:
+        """It has an entry for each command, and names each option."""
+        page = self.manual("vault.1")
+        entries = set(re.findall(r'^\.TP\n\.B\w* "?([a-z]+)\b', page, re.MULTILINE))
+        options = set(re.findall(r"(?<![\w-])--[a-z-]+", page))
+        self.assertEqual([word for word in self.client_words() if word not in entries | options], [])
+
+    def check_manual_of_the_server(self) -> None:
+        """Its lines of use have the options of each program, and no others."""
+        uses = re.findall(r"^\.B (vaultd[a-z-]*)(.*?)(?=^\.br$|\Z)", self.manual("vaultd.8").partition(".SH SYNOPSIS\n")[2].partition(".SH ")[0],
+                          re.MULTILINE | re.DOTALL)
+        shown: Dict[str, Set[str]] = {}
+        for name, words in uses:
+            shown.setdefault(name, set()).update(re.findall(r"--[a-z-]+", words))
+        for name in ("vaultd", *(name for name in scripts() if name != "vault")):
+            with self.subTest(name):
+                # Each that is given the vault's files takes this one, as the page says behind them.
+                self.assertEqual(shown[name], taken_by(name) - {"--vaultd"})
 
     def client_words(self) -> List[str]:
         """The commands and options that the client has by its own help, except help and version."""

@@ -116,19 +116,25 @@ def clauses_of_functions() -> Dict[str, Set[str]]:
 
 
 @cache
+def help_of(name: str) -> str:
+    """The help of a program, and of each of its commands."""
+    call: List[str] = [VAULTD] if name == "vaultd" else program(name)
+    shown = said([*call, "--help"])
+    commands = SUBCOMMANDS if name == "vaultd" else re.findall(r"^    ([a-z]+)  ", shown, re.MULTILINE)
+    return shown + "".join(said([*call, command, "--help"]) for command in commands)
+
+
 def options_of(name: str) -> Set[str]:
     """The options in a program's help, or, for a script of this tree, in its text."""
-    if name == "vaultd":
-        calls: List[List[str]] = [[VAULTD, "--help"], *([VAULTD, each, "--help"] for each in SUBCOMMANDS)]
-    elif name in scripts():
-        calls = [[*program(name), "--help"]]
-        if name == "vault":
-            words = re.findall(r"^\s{2,}([a-z]+)\b", said([*program(name), "--help"]), re.MULTILINE)
-            calls += [[*program(name), each, "--help"] for each in words]
-    else:
-        path = TOP / name
-        return {option for file in ([path] if path.is_file() else path.glob("*.py")) for option in OPTION.findall(text_of(file))}
-    return {option for call in calls for option in OPTION.findall(said(call))}
+    if name == "vaultd" or name in scripts():
+        return set(OPTION.findall(help_of(name)))
+    path = TOP / name
+    return {option for file in ([path] if path.is_file() else path.glob("*.py")) for option in OPTION.findall(text_of(file))}
+
+
+def taken_by(name: str) -> Set[str]:
+    """The options that a program takes by its help, but for the usual ones."""
+    return set(re.findall(r"^ +(?:-\w, +)?(--[a-z-]+)", help_of(name), re.MULTILINE)) - {"--help", "--version"}
 
 
 def said(call: List[str]) -> str:
@@ -240,6 +246,17 @@ class Pages(unittest.TestCase):
         print(f"options of {seen} calls", file=sys.stderr)
         self.assertGreater(seen, 20)
 
+    def test_defaults_of_the_server(self) -> None:
+        """The page's column has what the program's help has: a number where there is one, and else none."""
+        has = dict(re.findall(r"^ +(--[a-z-]+) <.*?(?:\[default: (\d+)\])?$", said([VAULTD, "serve", "--help"]), re.MULTILINE))
+        shown: Dict[str, str] = {}
+        for options, defaults in re.findall(r"^\| (`--.*?) \| (.*?)(?:; .*?)? \|", section("OPERATING.md", "## Serving"), re.MULTILINE):
+            names, each = OPTION.findall(options), defaults.split(", ")
+            shown.update(zip(names, each * len(names) if len(each) == 1 else each, strict=True))
+        self.assertEqual((shown.pop("--verbose"), shown.pop("--waits")), ("not", "3/4 of the workers"))
+        self.assertEqual(shown, {option: has[option] or "none" for option in shown})
+        self.assertEqual(set(has) - set(shown), {"--threads", "--connections", "--waits"})
+
     @unittest.skipIf(shutil.which("rt") is None, "the kit isn't here, and pages name its options, too")
     def test_options_that_stand_alone(self) -> None:
         """An option in a span without its program is one of some program of this tree, or of the kit."""
@@ -321,7 +338,8 @@ class Commands(unittest.TestCase):
                     self.assertTrue(rt is None or word in rt)
 
     def test_conversation_of_the_protocol(self) -> None:
-        lines = [block for _, block in blocks_of(TOP / "docs" / "PROTOCOL.md")][0].splitlines()
+        (_, block), = blocks_of(TOP / "docs" / "PROTOCOL.md")
+        lines = block.splitlines()
         server = Server(folder=MEMORY)
         self.addCleanup(server.close)
         server.start()
@@ -334,7 +352,7 @@ class Commands(unittest.TestCase):
     def test_log_of_the_gate(self) -> None:
         page = section("OPERATING.md", "### The log of who did what")
         (_, logged), (language, shown) = BLOCK.findall(page)
-        self.assertEqual(language, "console")
+        self.assertEqual([block for each, block in blocks_of(TOP / "docs" / "OPERATING.md") if each == language == "console"], [shown])
         command, _, wanted = shown.partition("\n")
         with tempfile.NamedTemporaryFile("w", encoding="utf-8") as log:
             log.write(logged)

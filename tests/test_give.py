@@ -14,7 +14,6 @@ class Knowing(WithServer):
 
     def setUp(self) -> None:
         super().setUp()
-        self.assertTrue(self.gives(), "this server has no `give` and no `note`")
         self.ben = self.client("ben")
         self.claim = self.anna.checkout(["w:" + PART]).claim
 

@@ -1,41 +1,29 @@
 """What the client makes of a server that says what no vault server says: a sentence, and nothing done by half."""
 
-import contextlib
-import socket
 import tempfile
-import threading
 import unittest
 from dataclasses import replace
 from pathlib import Path
 from typing import Callable, Dict, List
 
-import servers  # noqa: F401
+from servers import Answering
+
 from vault import Client, NotKnown, Refused, VaultError
 from vault.card import Card, now
 from vault.parts import Parts
 from vault.working import Working, folder_for
 
 
-class Odd:
+class Odd(Answering):
     """A server that answers each line by its first word, with the replies that it is given."""
 
     def __init__(self) -> None:
-        self.listener = socket.create_server(("127.0.0.1", 0))
-        self.port = int(self.listener.getsockname()[1])
         self.replies: Dict[bytes, bytes] = {}
-        threading.Thread(target=self._accept, daemon=True).start()
+        super().__init__()
 
-    def _accept(self) -> None:
-        with contextlib.suppress(OSError):
-            while True:
-                client, _ = self.listener.accept()
-                threading.Thread(target=self._answer, args=(client,), daemon=True).start()
-
-    def _answer(self, client: socket.socket) -> None:
-        with client, contextlib.suppress(OSError):
-            for line in client.makefile("rb"):
-                word = line.split()[0]
-                client.sendall(self.replies.get(word, b"OK session 1" if word == b"hello" else b"OK left") + b"\n")
+    def reply(self, line: bytes) -> bytes:
+        word = line.split()[0]
+        return self.replies.get(word, b"OK session 1" if word == b"hello" else b"OK left") + b"\n"
 
 
 class OddReplies(unittest.TestCase):
@@ -43,7 +31,7 @@ class OddReplies(unittest.TestCase):
 
     def setUp(self) -> None:
         self.server = Odd()
-        self.addCleanup(self.server.listener.close)
+        self.addCleanup(self.server.close)
         self.folder = Path(self.enterContext(tempfile.TemporaryDirectory(prefix="vault-test-")))
         self.client = Client("anna", "127.0.0.1", self.server.port, self.folder / "state", 0.1, 0.0)
         self.addCleanup(self.client.close)

@@ -4,12 +4,13 @@ import asyncio
 import contextlib
 import gzip
 import re
+import select
 import shutil
 import socket
 import struct
 import time
 import unittest
-from typing import Iterable
+from typing import Iterable, List
 from unittest import mock
 
 from page_server import PageServer, Stream, until
@@ -337,16 +338,14 @@ class Strangers(WithPage):
             self.assertEqual((see, self.page.get("/.events?see=" + see)[0]), (see, 404))
 
     def test_a_thousand_connections(self) -> None:
-        """Connections that say nothing are ended before long, and others are served meanwhile."""
+        """Beside a thousand connections that say nothing others are served."""
         with contextlib.ExitStack() as kept:
-            silent = []
-            for _ in range(1200):
-                with contextlib.suppress(OSError):
-                    silent.append(kept.enter_context(socket.create_connection(("127.0.0.1", self.page.port), timeout=30)))
-            begun = time.monotonic()
-            self.assertEqual(silent[0].recv(1), b"")
-            self.assertLess(time.monotonic() - begun, 25)
-        self.assertIn("piston", self.page.page(PART))
+            silent = [kept.enter_context(socket.create_connection(("127.0.0.1", self.page.port), timeout=30)) for _ in range(1000)]
+            self.assertIn("piston", self.page.page(PART))
+            ended = select.poll()
+            for connection in silent:
+                ended.register(connection, select.POLLIN)
+            self.assertEqual(ended.poll(0), [])
 
 
 class Upgrade(WithPage):
@@ -379,12 +378,16 @@ class InThisProcess(unittest.IsolatedAsyncioTestCase):
             patch.start()
             self.addCleanup(patch.stop)
         fill(self.server.port, 1500, 0)
+        self.clients: List[socket.socket] = []
         self.page = page_web.Page("127.0.0.1", self.server.port, "page", ["127.0.0.1"], "x")
         self.doors = page_web.Doors(self.page.answer, access_log=None)
         self.listener = await asyncio.get_running_loop().create_server(self.doors, "127.0.0.1", 0)
         self.watch = asyncio.ensure_future(self.page.watcher.run())
 
     async def asyncTearDown(self) -> None:
+        for client in self.clients:
+            client.close()
+        await self.none_left()
         self.watch.cancel()
         self.listener.close()
         await self.doors.shutdown(0.1)
@@ -396,7 +399,7 @@ class InThisProcess(unittest.IsolatedAsyncioTestCase):
         client.setsockopt(socket.SOL_SOCKET, socket.SO_RCVBUF, room)
         client.connect(self.listener.sockets[0].getsockname())
         client.sendall(f"GET {path} HTTP/1.1\r\nHost: 127.0.0.1\r\n\r\n".encode())
-        self.addCleanup(client.close)
+        self.clients.append(client)
         return client
 
     async def streams(self, count: int) -> None:
@@ -406,6 +409,50 @@ class InThisProcess(unittest.IsolatedAsyncioTestCase):
                 return
             await asyncio.sleep(0.02)
         self.fail(f"{self.page.watcher.streams} streams are open")
+
+    async def none_left(self) -> None:
+        """Waits until no connection is left."""
+        for _ in range(500):
+            if not self.doors.connections:
+                return
+            await asyncio.sleep(0.02)
+        self.fail(f"{len(self.doors.connections)} connections are left")
+
+
+class Silent(InThisProcess):
+    """Connections that say nothing."""
+
+    async def silent(self, count: int) -> List[socket.socket]:
+        """So many more of them, once the page has taken them."""
+        clients = [socket.create_connection(self.listener.sockets[0].getsockname(), timeout=30) for _ in range(count)]
+        self.clients += clients
+        for client in clients:
+            client.setblocking(False)
+        taken = len(self.doors.connections) + count
+        while len(self.doors.connections) < min(taken, page_web.MAX_CONNECTIONS):
+            await asyncio.sleep(0)
+        return clients
+
+    async def ended(self, client: socket.socket) -> None:
+        """Waits until a connection is ended."""
+        self.assertEqual(await asyncio.wait_for(asyncio.get_running_loop().sock_recv(client, 1), 10), b"")
+
+    async def test_after_their_time(self) -> None:
+        self.assertLessEqual(page_web.FIRST_SECONDS, 20)
+        with mock.patch.object(page_web, "FIRST_SECONDS", 1.0):
+            begun = time.monotonic()
+            clients = await self.silent(50)
+            for client in clients:
+                await self.ended(client)
+        self.assertGreater(time.monotonic() - begun, 0.9)
+        await self.none_left()
+
+    async def test_more_than_there_is_room_for(self) -> None:
+        """One that is too many is ended at once, and those before it stand."""
+        with mock.patch.object(page_web, "MAX_CONNECTIONS", 50):
+            await self.silent(50)
+            await self.ended((await self.silent(1))[0])
+        self.assertEqual(len(self.doors.connections), 50)
 
 
 class SlowReaders(InThisProcess):
@@ -444,14 +491,6 @@ class SlowReaders(InThisProcess):
         self.assertFalse(stream.over)
         stream.push(b"x")
         self.assertTrue(stream.over)
-
-    async def none_left(self) -> None:
-        """Waits until no connection is left."""
-        for _ in range(500):
-            if not self.doors.connections:
-                return
-            await asyncio.sleep(0.02)
-        self.fail(f"{len(self.doors.connections)} connections are left")
 
 
 class Names(InThisProcess):

@@ -1,7 +1,6 @@
 """The live page after its connection to the server broke, after a backup was put in place, and before servers of other kinds."""
 
 import asyncio
-import contextlib
 import functools
 import gc
 import html
@@ -16,7 +15,7 @@ from typing import Any, Dict, List
 from unittest import mock
 
 from page_server import PageServer, Stream, until
-from servers import MEMORY, Cutter, Server
+from servers import MEMORY, Answering, Cutter, Server
 from tries import told
 from with_page import PART, WithPage, fill
 
@@ -113,7 +112,7 @@ class Breaks(WithPage):
         self.assertEqual(self.text(PART).count("not read yet"), 3)
         self.server.start()
         until(lambda: self.text(PART).count("not read yet") == 0, 15)
-        part.change("file2.step", "file3.step", seconds=1)
+        part.change("file2.step", "file3.step", seconds=10)
 
     def test_a_backup(self) -> None:
         """After a restore all is read from nothing: each part is one, and what came after the backup is gone."""
@@ -204,10 +203,10 @@ class Breaks(WithPage):
         self.start_page(waiting.port)
         data = dict(re.findall(r'data-(revision|run)="([^"]*)"', self.page.page("/engine")))
         self.anna.checkout(["w:" + PART])
-        self.assertTrue(waiting.reached.wait(5))
+        self.assertTrue(waiting.reached.wait(10))
         stream = Stream(self.page.port, "/engine", data["revision"], data["run"])
         self.addCleanup(stream.close)
-        stream.next(lambda kind, data: kind == "again", 2)
+        stream.next(lambda kind, data: kind == "again", 8)         # in less than the ten seconds that the page's question waits
         self.assertIn("anna c2 held", self.text("/engine"))
         waiting.may_go_on.set()
 
@@ -236,7 +235,7 @@ class Breaks(WithPage):
         self.assertEqual(self.say("ben", *[f"abandon {reply.split()[2]}" for reply in replies]), ["OK abandoned"] * 200)
         stream.change("is done with c201")
         before = len(self.asked())
-        time.sleep(4)
+        until(lambda: self.asked()[before:].count(b"claims /") >= 3, 20)
         self.assertLess(self.asked()[before:].count(b"count " + PART.encode()), 4)
 
 
@@ -315,34 +314,27 @@ class Restarts(unittest.IsolatedAsyncioTestCase):
         self.assertFalse(self.watcher.model.since["h1"].exact)
 
 
-class Odd:
+class Odd(Answering):
     """A server that says what no vault server says: to all, or to some words."""
+
+    usual = {b"hello": b"OK session 1", b"claims": b"OK claims 0", b"list": b"OK list 0", b"quit": b"OK left"}
 
     def __init__(self, replies: Dict[bytes, bytes], first: bytes = b"", endless: bytes = b""):
         self.replies, self.first, self.endless = replies, first, endless
-        self.listener = socket.create_server(("127.0.0.1", 0))
-        self.port = int(self.listener.getsockname()[1])
-        threading.Thread(target=self._accept, daemon=True).start()
+        super().__init__()
 
-    def _accept(self) -> None:
-        with contextlib.suppress(OSError):
-            while True:
-                client, _ = self.listener.accept()
-                threading.Thread(target=self._answer, args=(client,), daemon=True).start()
+    def answer(self, client: socket.socket) -> None:
+        """Says the first words alone, where there are some, and behind the greeting some without an end."""
+        client.sendall(self.first)
+        for line in client.makefile("rb") if not self.first else ():
+            while self.endless and not line.startswith(b"hello"):
+                client.sendall(self.endless)
+            client.sendall(self.reply(line.strip()))
 
-    def _answer(self, client: socket.socket) -> None:
-        with client, contextlib.suppress(OSError):
-            if self.first:
-                client.sendall(self.first)
-                return
-            for line in client.makefile("rb"):
-                while self.endless and not line.startswith(b"hello"):
-                    client.sendall(self.endless)
-                word = line.split()[0]
-                usual = {b"hello": b"OK session 1", b"claims": b"OK claims 0", b"list": b"OK list 0", b"quit": b"OK left"}
-                reply = self.replies.get(line.strip(), self.replies.get(word, usual.get(word, b"OK")))
-                if reply:
-                    client.sendall(reply + b"\n")
+    def reply(self, line: bytes) -> bytes:
+        word = line.split()[0]
+        reply = self.replies.get(line, self.replies.get(word, self.usual.get(word, b"OK")))
+        return reply and reply + b"\n"
 
 
 class Leaving(unittest.IsolatedAsyncioTestCase):
@@ -351,7 +343,7 @@ class Leaving(unittest.IsolatedAsyncioTestCase):
     async def test_while_somebody_reads(self) -> None:
         """Whoever still reads is told that it is over, and so is whoever waits behind that; no connection is left."""
         silent = Odd({b"fetch": b""})
-        self.addCleanup(silent.listener.close)
+        self.addCleanup(silent.close)
         watcher = page_watch.Watcher("127.0.0.1", silent.port, "page", lambda: None, lambda: ())
         await watcher._connect()
         reads, waits = (asyncio.ensure_future(watcher.ask([question])) for question in ("fetch /e/b/p 1", "claims /"))
@@ -402,7 +394,7 @@ class Leaving(unittest.IsolatedAsyncioTestCase):
     async def test_while_a_connection_is_renewed(self) -> None:
         """A connection that is made just then is left, too."""
         usual = Odd({b"fetch": b"OK content 00"})
-        self.addCleanup(usual.listener.close)
+        self.addCleanup(usual.close)
         watcher = page_watch.Watcher("127.0.0.1", usual.port, "page", lambda: None, lambda: ())
         await watcher._connect()
         assert watcher._wire is not None
@@ -420,7 +412,7 @@ class OddServers(unittest.TestCase):
 
     def said_of(self, odd: Odd, path: str = "/") -> str:
         """What the page says before such a server."""
-        self.addCleanup(odd.listener.close)
+        self.addCleanup(odd.close)
         page = PageServer(odd.port)
         try:
             status, _, body = page.get(path)

@@ -1,14 +1,19 @@
 """The built program as a server of odd clients: late, deaf, silent, many; with few descriptors, stopped, and copied while it writes."""
 
+import contextlib
+import fcntl
 import os
 import re
 import select
 import signal
 import socket
+import sys
+import termios
 import time
 import unittest
 
-from servers import MEMORY, Limits, Server, free_port
+from page_server import until
+from servers import MEMORY, Limits, Server, free_port, sockets_of
 from tries import FAULTS, Tries, content_of, fault, heard, lay, run, told
 
 
@@ -19,6 +24,16 @@ def asks_its_client(server: Server) -> bool:
     return [row[5][:3] for row in ours if row[1].endswith(f":{server.port:04X}") and row[3] == "01"] == ["02:"]
 
 
+def connections_of(process: int) -> int:
+    """How many connections a server has."""
+    return sum(not each.getsockopt(socket.SOL_SOCKET, socket.SO_ACCEPTCONN) for each in sockets_of(process))
+
+
+def left_in(client: socket.socket) -> int:
+    """How many bytes have come that were not read yet."""
+    return int.from_bytes(fcntl.ioctl(client, termios.FIONREAD, bytes(4)), sys.byteorder)
+
+
 class Clients(Tries):
     """Clients that read late or not at all, or say nothing."""
 
@@ -27,11 +42,13 @@ class Clients(Tries):
         self.new_vault()
 
     def test_late_reader(self) -> None:
-        """A client that sends more than is answered and reads late gets all replies."""
+        """A client that sends more than is answered, and reads once the server has closed the connection, gets all replies."""
         server = self.serve()
+        assert server.process is not None
+        number = server.process.pid
         with server.connect() as client:
             client.sendall(b"list /\n" * 4400)
-            time.sleep(2)
+            until(lambda: left_in(client) == 4096 * len(b"ERR 11\n") and not connections_of(number), 20)
             got = b""
             try:
                 while more := client.recv(65536):
@@ -86,7 +103,7 @@ class Clients(Tries):
         with server.connect() as client:
             self.check("a session", told(client, b"hello anna\n", 1) == b"OK session 1\n")
             self.check("the kernel asks after a client", asks_its_client(server))
-            time.sleep(3)
+            time.sleep(1)
             self.check("no end without a time", told(client, b"count /\n", 1) == b"ERR 22\n")
 
     def test_idle_client(self) -> None:
@@ -98,6 +115,23 @@ class Clients(Tries):
             self.check("an end", client.recv(100) == b"" and 0.5 < time.time() - began < 10)
             with server.connect() as other:
                 self.check("the hold is gone", told(other, b"hello ben\nhold w:/\n", 2) == b"OK session 2\nOK held h2\n")
+
+    def test_client_that_takes_no_reply(self) -> None:
+        """So is one that goes on sending lines, and takes no reply."""
+        server = self.serve("--idle", "2", "--workers", "2")
+        with socket.socket() as deaf, server.connect() as other:
+            deaf.setsockopt(socket.SOL_SOCKET, socket.SO_RCVBUF, 4096)
+            deaf.connect(("127.0.0.1", server.port))
+            places = b"".join(b"make /e/%s%02d\n" % (b"x" * 30, number) for number in range(64))
+            made = told(deaf, b"hello anna\nmake /e\n" + places + b"hold w:/e\n", 67)
+            self.check("many places and a hold", made.count(b"OK ") == 67, made)
+            deaf.sendall(b"list /e\n" * 3000)          # with those below fewer than the lines that end a connection
+            self.same("another waits", told(other, b"hello ben\nhold r:/e\n", 2), b"OK session 2\nOK queued h2 behind h1\n")
+            other.sendall(b"wait h2\n")
+            while not select.select([other], [], [], 0.1)[0]:
+                with contextlib.suppress(ConnectionError):
+                    deaf.sendall(b"list /e\n")
+            self.same("until the deaf one is ended", told(other, b"", 1), b"OK held h2\n")
 
     def test_probes(self) -> None:
         """A save of the library changes nothing, and says whose a check-out is and how it stands."""
@@ -240,8 +274,8 @@ class Stops(Tries):
         with server.connect() as client:
             client.sendall(b"hello anna\nmake /e\nmake /e/b\nmake /e/b/p\ncheckout w:/e\n" + b"save c1 /e/b/p 00\n" * 1500)
             got = b""
-            while got.count(b"\n") < 1505:
-                got += client.recv(512)
+            while got.count(b"\n") < 1505 and (more := client.recv(512)):
+                got += more
                 if copies < got.count(b"\n") // 100:
                     copies += 1
                     lay(**{f"{path}{copies}": content_of(path) for path in ("a", "b")})

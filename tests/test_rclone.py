@@ -9,10 +9,12 @@ import tempfile
 import threading
 import time
 import unittest
+from concurrent.futures import ThreadPoolExecutor
 from pathlib import Path
 from typing import List
 from unittest import mock
 
+from page_server import until
 from servers import free_port
 from stepping import Stepper
 from stores import PART, ROD, WithStore
@@ -112,11 +114,7 @@ class Shared:
             self.assertFalse(store.remove(kept[0], time.time() - 60))
 
         def test_swept_right_behind(self) -> None:
-            card = self.put_version()
-            self.cutter.after.append(b"save")
-            self.cutter.meanwhile = self.path_of(card).unlink
-            self.put()
-            self.assertEqual(self.entries(), [card.sha256])
+            self.check_swept_right_behind()
 
         def test_changed_and_cut(self) -> None:
             card = self.put_version()
@@ -150,13 +148,20 @@ class Shared:
 
         def test_stopped_in_between(self) -> None:
             """The server stops while bytes are sent to it."""
-            self.fill(b"bore 80", 20_000_000)
+            self.fill(b"bore 80", 10_000_000)
             self.remote.stop()
             self.remote.start("--bwlimit", "4M")
             claim = self.anna.checkout(["w:" + PART]).claim
-            threading.Timer(1.5, self.remote.stop).start()
-            with self.assertRaises(VaultError):
-                self.parts.put(PART, self.file, claim)
+
+            def stop() -> None:
+                until(lambda: any(path.stat().st_size for path in (self.store / "incoming").glob("*")), 60)
+                self.remote.stop()
+
+            with ThreadPoolExecutor(1) as pool:
+                stopped = pool.submit(stop)
+                with self.assertRaises(VaultError):
+                    self.parts.put(PART, self.file, claim)
+                stopped.result()
             self.remote.start()
             self.assertEqual(self.anna.kept_drafts(claim), {})
             self.parts.put(PART, self.file, claim)
@@ -165,7 +170,7 @@ class Shared:
         def test_slow(self) -> None:
             self.remote.stop()
             self.remote.start("--bwlimit", "400k")
-            self.fill(b"bore 80", 1_000_000)
+            self.fill(b"bore 80", 600_000)
             began = time.monotonic()
             self.put_version()
             self.assertGreater(time.monotonic() - began, 1.0)

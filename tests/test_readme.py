@@ -49,7 +49,7 @@ class Readme(unittest.TestCase):
                     for shown, instead in meant.items():
                         line, wanted = line.replace(shown, instead), [said.replace(shown, instead) for said in wanted]
                     with self.subTest(line):
-                        self.assertEqual(shell.run(line, len(wanted), BUILD_SECONDS if line.startswith(first) else 15), wanted)
+                        self.assertEqual(shell.run(line, len(wanted), BUILD_SECONDS if line.startswith(first) else 60), wanted)
             finally:
                 shell.run("kill $! 2> /dev/null; kill $(cat " + folder + "/vault/pid 2> /dev/null) 2> /dev/null", 0)
 

@@ -111,13 +111,7 @@ class PutAndGet(WithStore):
         self.assertEqual((self.entries(), self.entries("incoming")), ([card.sha256], []))
 
     def test_swept_right_behind(self) -> None:
-        """Bytes that were old, and are removed between the put and its end, are put once more."""
-        card = self.put_version()
-        self.anna.link.read("list /")
-        self.cutter.after.append(b"save")
-        self.cutter.meanwhile = self.path_of(card).unlink
-        self.put()
-        self.assertEqual(self.entries(), [card.sha256])
+        self.check_swept_right_behind()
 
     def test_a_file_that_changes_meanwhile(self) -> None:
         """Nothing is saved of it, and nobody names the bytes that were copied."""

@@ -14,18 +14,19 @@ import tempfile
 import threading
 import time
 import unittest
+from concurrent.futures import ThreadPoolExecutor
 from html.parser import HTMLParser
 from pathlib import Path
 from typing import Any, Dict, List, Tuple
 from unittest import mock
 
+from designers import PART
 from page_server import until
 from servers import MEMORY, TOP, VAULTD, Server, program
 
 from vault import Client
 from vaultd_tools import backup, board, files, page_line
 
-PART = "/engine/block/piston"
 VOID = {"meta"}
 
 
@@ -64,7 +65,7 @@ class Backup(WithVault):
 
     def test_while_it_serves(self) -> None:
         """What was acknowledged before the copying is in each backup; nothing else is left in the folder."""
-        stop, told = threading.Event(), [0]
+        kept, stop, told = self.folder / "kept", threading.Event(), [0]
 
         def work() -> None:
             while not stop.is_set():
@@ -73,17 +74,18 @@ class Backup(WithVault):
                 told[0] += 1
                 self.anna.checkout(["w:" + PART])
 
-        worker = threading.Thread(target=work)
-        worker.start()
-        kept = self.folder / "kept"
-        for _ in range(5):
-            before = told[0]
-            folder = Path(self.tool("backup", str(kept)).partition(": ")[0])
-            versions = int(self.inspected(folder).partition("versions ")[2].partition(",")[0])
-            self.assertGreaterEqual(versions, before)
-        stop.set()
-        worker.join()
-        self.assertGreater(told[0], 0)
+        with ThreadPoolExecutor(1) as pool:
+            worker, before = pool.submit(work), []
+            try:
+                for _ in range(5):
+                    before.append(told[0])
+                    folder = Path(self.tool("backup", str(kept)).partition(": ")[0])
+                    versions = int(self.inspected(folder).partition("versions ")[2].partition(",")[0])
+                    self.assertGreaterEqual(versions, before[-1])
+            finally:
+                stop.set()
+            worker.result()
+        self.assertGreater(before[-1], before[0])
         self.assertEqual(len(list(kept.glob("[!.]*"))), 5)
 
     def test_keep(self) -> None:
@@ -519,6 +521,31 @@ class ProofTimes(unittest.TestCase):
         self.assertIn("run rt check --jobs 1", self.said("small", status=1))
         self.assertIn("usage", self.said(status=1))
         self.assertIn("usage", self.said("small", "most", status=1))
+
+
+class Requests(unittest.TestCase):
+    """The calls whose requests for memory a test has to refuse."""
+
+    def checked(self, folder: Path) -> Tuple[int, List[str]]:
+        """The status of a check of this tree, and what it says."""
+        done = subprocess.run([sys.executable, str(TOP / "tools" / "requests"), "--check"], cwd=folder, capture_output=True, text=True, timeout=60,
+                              check=False)
+        return done.returncode, done.stdout.splitlines()
+
+    def test_this_tree(self) -> None:
+        status, lines = self.checked(TOP)
+        self.assertEqual((status, len(lines)), (0, 1))
+        self.assertRegex(lines[0], r"^[1-9]\d* passed, 0 failed$")
+
+    def test_a_tree_without_such_calls(self) -> None:
+        """It isn't taken for one whose calls all have their tests, though it has all the rows."""
+        with tempfile.TemporaryDirectory(prefix="vault-test-") as folder:
+            shutil.copytree(TOP / "crates", Path(folder) / "crates", ignore=lambda _, names: [name for name in names if name in ("out", "lib.rt")])
+            for source in (TOP / "crates").glob("*/src/lib.rt"):
+                (Path(folder) / source.relative_to(TOP)).write_text("", "utf-8")
+            shutil.copy(TOP / "crates.txt", folder)
+            self.assertEqual(self.checked(Path(folder)), (1, ["no public call was found that may answer out of memory, so nothing was checked",
+                                                              "0 passed, 1 failed"]))
 
 
 class CheckOver(unittest.TestCase):

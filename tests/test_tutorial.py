@@ -40,7 +40,7 @@ class Shell:
         for line in self.process.stdout:
             self.lines.put(line)
 
-    def run(self, line: str, wanted: int, patience: float = 15) -> List[str]:
+    def run(self, line: str, wanted: int, patience: float = 60) -> List[str]:
         """Runs a line, and answers what was printed until it ended. If fewer lines came than are wanted, waits for those that a
         background program prints. Ends after a number of seconds without one."""
         assert self.process.stdin is not None

@@ -5,12 +5,13 @@ import statistics
 import time
 import unittest
 
-from page_server import soon
 from test_border import Border, heard
 
-# How many waits are timed, and how long one may take after the release.
+# How many waits are timed, and how long most of them may take after the release.
 ROUNDS = 20
 SOON = 0.1
+# Within this a server has answered that answers at once. One that lets the client wait first does so for the usual 30 seconds.
+AT_ONCE = 10
 
 
 def answered_within(link: socket.socket, seconds: float) -> bytes:
@@ -85,10 +86,10 @@ class Released(Waiting):
         third.sendall(b"wait c2\n")
         self.assertEqual(answered_within(third, 0.2), b"")
         self.assertEqual(self.said(self.first, b"checkin c1"), b"OK checked in 0\n")
-        self.assertEqual(answered_within(self.second, soon(SOON)), b"OK held h2\n")
+        self.assertEqual(answered_within(self.second, AT_ONCE), b"OK held h2\n")
         self.assertEqual(answered_within(third, 0.2), b"")
         self.second.close()
-        self.assertEqual(answered_within(third, soon(SOON)), b"OK held c2\n")
+        self.assertEqual(answered_within(third, AT_ONCE), b"OK held c2\n")
 
     def test_one_that_is_gone(self) -> None:
         self.begin()
@@ -96,7 +97,7 @@ class Released(Waiting):
         self.second.sendall(b"wait c1\n")
         self.assertEqual(answered_within(self.second, 0.2), b"")
         self.assertEqual(self.said(self.first, b"abandon c1"), b"OK abandoned\n")
-        self.assertEqual(answered_within(self.second, soon(SOON)), b"ERR 30\n")
+        self.assertEqual(answered_within(self.second, AT_ONCE), b"ERR 30\n")
 
     def test_no_further_line_is_heard(self) -> None:
         self.begin()
@@ -126,7 +127,7 @@ class AtOnce(Waiting):
         self.second.sendall(b"wait h2\n")
         self.assertEqual(answered_within(self.second, 0.2), b"")
         third.sendall(b"wait h2\n")
-        self.assertEqual(answered_within(third, soon(SOON)), b"OK queued h2 behind h1\n")
+        self.assertEqual(answered_within(third, AT_ONCE), b"OK queued h2 behind h1\n")
 
     def test_three_quarters_of_the_places_may_wait(self) -> None:
         self.begin()
@@ -136,7 +137,7 @@ class AtOnce(Waiting):
             link.sendall(b"wait h2\n")
             self.assertEqual(answered_within(link, 0.2), b"")
         self.first.sendall(b"wait h2\n")
-        self.assertEqual(answered_within(self.first, soon(SOON)), b"OK queued h2 behind h1\n")
+        self.assertEqual(answered_within(self.first, AT_ONCE), b"OK queued h2 behind h1\n")
 
     def test_one_that_disconnects_frees_its_place(self) -> None:
         for way in ("it says that no more comes", "it is gone"):
@@ -147,7 +148,7 @@ class AtOnce(Waiting):
                 self.assertEqual(answered_within(self.second, 0.2), b"")
                 third = self.comes(b"cleo")
                 third.sendall(b"wait h2\n")
-                self.assertEqual(answered_within(third, soon(SOON)), b"OK queued h2 behind h1\n")
+                self.assertEqual(answered_within(third, AT_ONCE), b"OK queued h2 behind h1\n")
                 if way == "it is gone":
                     self.second.setsockopt(socket.SOL_SOCKET, socket.SO_LINGER, b"\x01\0\0\0\0\0\0\0")
                     self.second.close()

@@ -12,11 +12,13 @@ import tempfile
 import threading
 import time
 import unittest
+from concurrent.futures import ThreadPoolExecutor
 from pathlib import Path
 from typing import Callable, List, Optional, Set, Tuple, Type
 from unittest import mock
 
 from designers import PART, WithServer
+from page_server import until
 from servers import MEMORY, VAULTD, Cutter, program
 from stores import WithStore
 
@@ -74,10 +76,15 @@ class Holding(Between):
 
     seconds = 30.0
 
+    def __init__(self, server_port: int):
+        super().__init__(server_port)
+        self.began: List[float] = []
+
     def answer(self, line: bytes, ask: Callable[[bytes], bytes]) -> bytes:
         if not line.startswith(b"wait "):
             return ask(line)
-        end = time.monotonic() + self.seconds
+        self.began.append(time.monotonic())
+        end = self.began[-1] + self.seconds
         reply = ask(b"state" + line[4:])
         while reply.startswith(b"OK queued") and time.monotonic() < end:
             time.sleep(0.02)
@@ -675,40 +682,61 @@ class Put(WithDesigners):
 
 
 class WaitTests(WithDesigners):
-    """`vault wait`."""
-
-    def waited(self, stands: Between, meanwhile: Callable[[], None], *more: str) -> Tuple[str, Output]:
-        """What a wait of ben's for c2 says that begins now, while something is done."""
-        ben, output = self.elsewhere("ben", stands.port, 2.0), Output("wait", True)
-        doer = threading.Timer(1.0, meanwhile)
-        doer.start()
-        try:
-            return claim_commands.wait(ben, command_line().parse_args(["wait", "c2", *more]), output)[0], output
-        finally:
-            doer.join()
+    """`vault wait`, with pauses that begin short."""
 
     def setUp(self) -> None:
         super().setUp()
+        self.enterContext(mock.patch.object(claim_commands, "FIRST_PAUSE_SECONDS", 0.3))
         self.anna.checkout(["w:" + PART])
         self.client("ben").checkout(["w:/engine"])
+        self.output = Output("wait", True)
+
+    def waited(self, stands: Between, meanwhile: Optional[Callable[[], None]], *more: str) -> str:
+        """What a wait of ben's for c2 says, during which something may be done."""
+        ben = self.elsewhere("ben", stands.port, 0.3)
+
+        def do() -> None:
+            if meanwhile is not None:
+                self.until_asked(stands)
+                meanwhile()
+
+        with ThreadPoolExecutor(1) as pool:
+            done = pool.submit(do)
+            try:
+                return claim_commands.wait(ben, command_line().parse_args(["wait", "c2", *more]), self.output)[0]
+            finally:
+                done.result()
+
+    @staticmethod
+    def until_asked(stands: Between) -> None:
+        """Waits until somebody waits for an answer."""
+        until(lambda: stands.sent(b"wait") > 0, 20)
+        time.sleep(0.2)
 
     def test_the_server_lets_one_wait(self) -> None:
         """It is asked once, and answers as soon as the claim is held."""
         stands = self.between(Holding)
         began = time.monotonic()
-        said, output = self.waited(stands, lambda: self.anna.abandon("c1"))
+        said = self.waited(stands, lambda: self.anna.abandon("c1"))
         self.assertEqual((said, stands.sent(b"wait")), ("c2 is held.", 1))
         self.assertLess(time.monotonic() - began, 5)
-        self.assertEqual(output.notices, [f"c2 is queued behind c1, which anna holds: w:{PART}."])
+        self.assertEqual(self.output.notices, [f"c2 is queued behind c1, which anna holds: w:{PART}."])
 
     def test_again_and_again(self) -> None:
-        """A server that lets one wait for a second and a half is asked once in that time, without a pause, and nothing is said twice."""
-        stands = self.between(Holding)
-        setattr(stands, "seconds", 1.5)
-        said, output = self.waited(stands, lambda: threading.Timer(2.5, self.anna.abandon, ["c1"]).start())
-        self.assertEqual(said, "c2 is held.")
-        self.assertTrue(2 <= stands.sent(b"wait") <= 4, stands.sent(b"wait"))
-        self.assertEqual(len(output.notices), 1)
+        """A server that lets one wait for half a second is asked once in that time, without a pause, and nothing is said twice."""
+        stands = Holding(self.server.port)
+        self.addCleanup(stands.close)
+        stands.seconds = 0.5
+
+        def abandon() -> None:
+            until(lambda: len(stands.began) > 3, 20)
+            self.anna.abandon("c1")
+
+        with mock.patch.object(claim_commands, "SOON_SECONDS", 0.3), mock.patch.object(claim_commands, "FIRST_PAUSE_SECONDS", 2.0):
+            self.assertEqual(self.waited(stands, abandon), "c2 is held.")
+        between = [after - before for before, after in zip(stands.began, stands.began[1:])]
+        self.assertTrue(0.5 <= min(between) < 2.5, between)
+        self.assertEqual(len(self.output.notices), 1)
 
     def test_answered_at_once(self) -> None:
         """It isn't asked again at once."""
@@ -717,7 +745,7 @@ class WaitTests(WithDesigners):
                 self.anna.checkout(["w:" + PART])
             stands = self.between(kind)
             with self.assertRaises(Refused):
-                self.waited(stands, lambda: None, "--at-most", "3.5")
+                self.waited(stands, None, "--at-most", "2")
             self.assertTrue(2 <= stands.sent(b"wait") <= 4, (kind, stands.sent(b"wait")))
 
     def test_at_most(self) -> None:
@@ -725,7 +753,7 @@ class WaitTests(WithDesigners):
         stands = self.between(Holding)
         began = time.monotonic()
         with self.assertRaises(Refused) as refused:
-            self.waited(stands, lambda: None, "--at-most", "1.5")
+            self.waited(stands, None, "--at-most", "1")
         self.assertLess(time.monotonic() - began, 8)
         self.assertEqual(str(refused.exception),
                          f"c2 is queued behind c1, which anna holds: w:{PART}. Nothing was changed; `vault wait c2` waits on.")
@@ -745,7 +773,7 @@ class WaitTests(WithDesigners):
 
         waits = threading.Thread(target=wait)
         waits.start()
-        time.sleep(1.0)
+        self.until_asked(stands)
         anna.patience = 5.0
         began = time.monotonic()
         anna.abandon("c1")
@@ -766,17 +794,16 @@ class WaitTests(WithDesigners):
 
         def restart() -> None:
             self.server.kill()
-            time.sleep(3.0)
+            until(lambda: any("goes on" in notice for notice in self.output.notices), 20)
+            time.sleep(1.0)                 # for some further tries
             self.server.start()
             self.anna.abandon("c1")
 
-        said, output = self.waited(stands, restart)
-        self.assertEqual(said, "c2 is held.")
-        self.assertTrue(1 <= len(output.notices) <= 3, output.notices)
+        self.assertEqual(self.waited(stands, restart), "c2 is held.")
+        self.assertEqual(["goes on" in notice for notice in self.output.notices], [False, True], self.output.notices)
 
     def test_the_real_server(self) -> None:
-        """Whether it answers at once, or once the claim is held: it isn't asked again and again, and the client soon says `held`."""
-        lets_wait = b"--wait " in subprocess.run([VAULTD, "serve", "--help"], capture_output=True, check=True).stdout
+        """It answers once the claim is held, is asked once, and the client soon says `held`."""
         stands = self.between(Between)
         moments: List[float] = []
 
@@ -784,10 +811,9 @@ class WaitTests(WithDesigners):
             moments.append(time.monotonic())
             self.anna.abandon("c1")
 
-        said, _ = self.waited(stands, abandon)
-        self.assertEqual(said, "c2 is held.")
+        self.assertEqual(self.waited(stands, abandon), "c2 is held.")
         self.assertLess(time.monotonic() - moments[0], 5)
-        self.assertLessEqual(stands.sent(b"wait"), 1 if lets_wait else 3)
+        self.assertEqual(stands.sent(b"wait"), 1)
 
     def test_more_than_may_wait(self) -> None:
         """At a server that lets nobody wait for an answer."""
@@ -796,7 +822,7 @@ class WaitTests(WithDesigners):
         self.server.start()
         stands = self.between(Between)
         with self.assertRaises(Refused):
-            self.waited(stands, lambda: None, "--at-most", "3.5")
+            self.waited(stands, None, "--at-most", "2")
         self.assertTrue(2 <= stands.sent(b"wait") <= 4, stands.sent(b"wait"))
 
     def test_odd_answer(self) -> None:
@@ -808,7 +834,7 @@ class WaitTests(WithDesigners):
                 return b"OK what\n" if line.startswith(b"wait") else ask(line)
 
         with self.assertRaises(VaultError):
-            self.waited(self.between(Strange), lambda: None)
+            self.waited(self.between(Strange), None)
 
 
 class AtAnOlderServer(WithDesigners):

@@ -40,10 +40,10 @@ def run(*words: Union[str, bytes], stdin: Union[bytes, int] = b"", stdout: int =
     """Runs the program to its end, with these bytes or this file as standard input: its status, its output and its errors."""
     given: Dict[str, Any] = {"input" if isinstance(stdin, bytes) else "stdin": stdin}
     try:
-        done = subprocess.run([VAULTD, *words], stdout=stdout, stderr=subprocess.PIPE, preexec_fn=limits.take_effect, timeout=10,
+        done = subprocess.run([VAULTD, *words], stdout=stdout, stderr=subprocess.PIPE, preexec_fn=limits.take_effect, timeout=60,
                               check=False, **given)
     except subprocess.TimeoutExpired:
-        return None, "", "it went on for ten seconds"
+        return None, "", "it went on for a minute"
     return done.returncode, (done.stdout or b"").decode(), done.stderr.decode()
 
 

@@ -70,7 +70,7 @@ def ask(host: str, port: int, patience: float) -> Answer:
     try:
         with socket.create_connection((host, port), patience) as connection:
             return answer_of(where, *conversation(connection, end))
-    except (TimeoutError, socket.timeout):      # two, before Python 3.10
+    except TimeoutError:
         return Answer(DEAF, f"{where} is deaf: it gave no answer in {patience:g} seconds")
     except ConnectionRefusedError:
         return Answer(DOWN, f"nobody listens at {where}")

@@ -7,6 +7,7 @@ parsed again.
 from __future__ import annotations
 
 import asyncio
+import contextlib
 import re
 from collections import OrderedDict
 from collections.abc import Callable, Iterable, Sequence
@@ -99,10 +100,9 @@ class Watcher:
     async def fresh(self) -> None:
         """Waits until the model is right again, or it is known that it can't be now."""
         self.look()
-        try:
-            await asyncio.wait_for(self._settled.wait(), FRESH_SECONDS)
-        except asyncio.TimeoutError:
-            pass
+        with contextlib.suppress(TimeoutError):
+            async with asyncio.timeout(FRESH_SECONDS):
+                await self._settled.wait()
 
     # The way to the server
 

@@ -89,8 +89,9 @@ class Stream:
         """What is to be sent next, or that there is nothing."""
         if not self.messages and not self.over:
             self.wake.clear()
-            with contextlib.suppress(asyncio.TimeoutError):
-                await asyncio.wait_for(self.wake.wait(), BEAT_SECONDS)
+            with contextlib.suppress(TimeoutError):
+                async with asyncio.timeout(BEAT_SECONDS):
+                    await self.wake.wait()
         return self.messages.popleft() if self.messages else BEAT
 
 
@@ -274,8 +275,9 @@ class Page:
     async def _send(self, request: web.BaseRequest, response: web.Response) -> web.StreamResponse:
         try:
             await response.prepare(request)
-            await asyncio.wait_for(response.write_eof(), TAKE_SECONDS)
-        except (ConnectionError, asyncio.TimeoutError):
+            async with asyncio.timeout(TAKE_SECONDS):
+                await response.write_eof()
+        except (ConnectionError, TimeoutError):
             if request.transport is not None:
                 request.transport.abort()
         return response
@@ -406,8 +408,9 @@ class Page:
             while not stream.over:
                 message = await stream.next()
                 if not stream.over:
-                    await asyncio.wait_for(response.write(message), TAKE_SECONDS)
-        except (ConnectionError, asyncio.TimeoutError):
+                    async with asyncio.timeout(TAKE_SECONDS):
+                        await response.write(message)
+        except (ConnectionError, TimeoutError):
             pass
         if request.transport is not None:
             request.transport.abort()
