@@ -1,5 +1,5 @@
 //! Refusing files of two vaults.
-ghost use Rattle.std.specs.Prelude.{◌≡◌, ◌⊎◌, ⊥, IsTrue, Ok, Err};
+ghost use Rattle.std.specs.Prelude.{◌≡◌, ◌⊎◌, IsTrue, Ok, Err};
 ghost use Rattle.vault_store.specs.Read.{AreReads};
 ghost use Rattle.vault_store.specs.TwoVaults.{AreOfTwoVaults, AreUnread};
 ghost use Rattle.vault_store.specs.declared.body.BodyError.TheVariants as body_errors;
