@@ -81,8 +81,8 @@ class Breaks(WithPage):
     def start_again(self, stream: Stream) -> None:
         """Starts the server, and waits until an open page says that it is live."""
         self.server.start()
-        stream.next(lambda kind, data: kind == "again" or kind == "message" and "led live" in data["texts"].get("pill", ""), 15)
-        until(lambda: "led live" in self.page.page("/"), 15)
+        stream.next(lambda kind, data: kind == "again" or kind == "message" and "led live" in data["texts"].get("pill", ""), 60)
+        until(lambda: "led live" in self.page.page("/"), 60)
 
     def test_versions_stay(self) -> None:
         """A break empties no page: versions and files' names stand until they are known anew."""
