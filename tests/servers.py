@@ -147,6 +147,12 @@ class Server:
             self.process.communicate()
             self.process = None
 
+    def suspend(self) -> None:
+        """Suspends the server, and waits until it does nothing more."""
+        assert self.process is not None
+        self.process.send_signal(signal.SIGSTOP)
+        os.waitid(os.P_PID, self.process.pid, os.WSTOPPED)
+
     def end(self) -> Tuple[Optional[int], str, str]:
         """Waits until it ends by itself, and answers its status, its output and its errors."""
         assert self.process is not None

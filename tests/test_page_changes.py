@@ -62,7 +62,7 @@ class Telling(WithPage):
         """One that is there and answers nothing is reported as such within six seconds, before it is given up."""
         stream = self.stream("/")
         assert self.server.process is not None
-        self.server.process.send_signal(signal.SIGSTOP)
+        self.server.suspend()
         try:
             self.assertLess(stream.change("No answer since", "led slow", seconds=10)[0], 6)
         finally:

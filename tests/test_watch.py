@@ -45,7 +45,7 @@ class Watch(WithVault):
     def test_deaf(self) -> None:
         """A server that is suspended gives no answer; once it goes on, it does."""
         assert self.server.process is not None
-        self.server.process.send_signal(signal.SIGSTOP)
+        self.server.suspend()
         status, said = self.asked(patience=1)
         self.assertEqual((status, "is deaf: it gave no answer in 1 seconds" in said), (3, True))
         self.server.process.send_signal(signal.SIGCONT)
@@ -143,7 +143,7 @@ class Deaf(WithVault):
     def test_suspended(self) -> None:
         """A server that doesn't hang in its disk is restarted, as is one that has ended."""
         assert self.server.process is not None
-        self.server.process.send_signal(signal.SIGSTOP)
+        self.server.suspend()
         for process in (self.server.process.pid, 0):
             (self.folder / "asked").unlink(missing_ok=True)
             said, asked = self.acted(process)
