@@ -4,13 +4,11 @@
 //! Promises: nothing; it has no public function.
 //! Only tested: what `vault_server` says is only tested.
 //! Stands on: vault_server, test_sessions, test_memory, and what they stand on.
-//! Start at: serving.rt for a server, hostility.rt for one with hostile clients.
+//! Start at: serving.rt.
 #![tactic(auto)]
 
 #[cfg(test)]
 mod holding;
-#[cfg(test)]
-mod hostility;
 #[cfg(test)]
 mod refusing;
 #[cfg(test)]

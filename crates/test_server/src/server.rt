@@ -21,8 +21,8 @@ use vault_sessions::{Point, Totals};
 /// How long a client waits before it comes, in milliseconds.
 const WAIT: u64 = 300;
 
-/// Clients that may take as long as they like.
-pub const PATIENT: Patience = Patience {
+// Clients that may take as long as they like.
+const PATIENT: Patience = Patience {
     idle: None,
     hello: None,
     line: None,
@@ -289,8 +289,8 @@ fn late<R: Net<Listener = TcpListener, Stream = TcpStream> + Clock + Abort>(
     all_connected(rt, global, listener, serving.clients)
 }
 
-/// Makes every accept at this listener fail.
-pub(crate) fn shut(listener: &TcpListener) {
+// Makes every accept at this listener fail.
+fn shut(listener: &TcpListener) {
     let _ = shutdown(listener.as_raw_fd(), SHUT_RD);
 }
 

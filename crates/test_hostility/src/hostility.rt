@@ -1,9 +1,10 @@
 //! An honest client that is served beside hostile ones.
 
-use crate::server::{PATIENT, shut};
+use libc::net::{SHUT_RD, shutdown};
 use std::alloc::Global;
 use std::io::{self, ErrorKind, Read, Write};
 use std::net::{Net, SocketAddr, TcpListener, TcpStream};
+use std::os::fd::AsRawFd;
 use std::process::Abort;
 use std::sync::Wait;
 use std::sync::atomic::{AtomicBool, AtomicU64, Ordering};
@@ -11,7 +12,7 @@ use std::thread::{self, Threads};
 use std::time::{Clock, Duration};
 use test_memory::Refusing;
 use test_sessions::{TURNS, created, is_reached_within};
-use vault_server::{ServerError, ServerOptions, run_server_on};
+use vault_server::{Patience, ServerError, ServerOptions, run_server_on};
 use vault_sessions::{Gate, Point};
 
 // How many places there are.
@@ -276,7 +277,8 @@ fn ask_beside<
             )
         },
     );
-    shut(listener);
+    // Each accept fails from now on.
+    let _ = shutdown(listener.as_raw_fd(), SHUT_RD);
     told
 }
 
@@ -293,7 +295,12 @@ fn serves<H: Net + Threads + Wait + Clock + Sync + Abort>(
         workers: WORKERS,
         threads: 1,
         connections: None,
-        patience: PATIENT,
+        patience: Patience {
+            idle: None,
+            hello: None,
+            line: None,
+            wait: None,
+        },
         waits: 0,
         refuses_foreign: false,
         full: None,
@@ -301,8 +308,10 @@ fn serves<H: Net + Threads + Wait + Clock + Sync + Abort>(
     };
     let served = run_server_on(rt, memory, listener, vault, &options, gate);
     match served {
-        Ok(served) => {
-            drop(served);
+        Ok((vault, _)) => {
+            let (first, second) = vault.into_devices();
+            drop(first);
+            drop(second);
             None
         }
         Err(error) => Some(error),
