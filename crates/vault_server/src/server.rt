@@ -173,14 +173,14 @@ fn run<
     let polls = match polls_of(rt, alloc, workers.min(options.threads).max(1)) {
         Ok(polls) => polls,
         Err(error) => {
-            drop(vault);
+            close(vault);
             return Err(error);
         }
     };
     let (shared, shares) = match Shared::<D, S, T, A>::new(alloc, staged, told, vault, workers) {
         Ok(made) => made,
-        Err(refused) => {
-            drop(refused);
+        Err(vault) => {
+            close(vault);
             drop(polls);
             return Err(ServerError::NoMemory);
         }
@@ -188,17 +188,25 @@ fn run<
     let returned = match serve_shared(rt, alloc, &shared, shares, polls, &listener, options, gate) {
         Ok(returned) => returned,
         Err(error) => {
-            drop(shared);
+            close(shared.into_vault());
             return Err(error);
         }
     };
     match gather(shared, returned) {
         Ok(served) => Ok(served),
-        Err(refused) => {
-            drop(refused);
+        Err((shared, shares)) => {
+            close(shared.into_vault());
+            drop(shares);
             Err(ServerError::NoMemory)
         }
     }
+}
+
+// Closes a vault's files. Dropping the vault itself would be proved anew here.
+fn close<D: Device + Drop, A: Allocator + Copy>(vault: Vault<D, A>) {
+    let (first, second) = vault.into_devices();
+    drop(first);
+    drop(second);
 }
 
 // Serves what lies under this lock, by these polls. The shares come back.

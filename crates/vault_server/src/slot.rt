@@ -8,7 +8,7 @@ use std::sync::Wait;
 use std::time::{Duration, Instant};
 use tcp_door::{Accepted, Drain, Drained, Unread, Wire, first_of};
 use vault_device::Device;
-use vault_sessions::{Awaits, Dialogue, Ended, Finished, Gate, Share, Step, Tally, Worker};
+use vault_sessions::{Awaits, Dialogue, Ended, Gate, Share, Step, Tally, Worker};
 
 // How many steps a connection takes in a round at most. A line that spells no command takes two, a `wait` that is kept four, and any
 // other three.
@@ -503,13 +503,7 @@ fn parts_of<S: Tally, T: Tally, A: Allocator + Copy>(
     requires { dialogue.has_ended ≡ true }
 {
     let (wire, finished) = dialogue.finish();
-    let Finished {
-        answers,
-        share,
-        ended,
-        left: _,
-    } = finished;
-    drop(answers);
+    let (share, ended) = finished.into_share();
     (wire, share, ended)
 }
 

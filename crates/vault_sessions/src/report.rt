@@ -1,4 +1,5 @@
 //! What a conversation came to.
+ghost use Rattle.std.specs.Prelude.{◌≡◌};
 
 use crate::answers::Answers;
 use crate::cause::Cause;
@@ -55,4 +56,20 @@ pub struct Finished<S: Tally, T: Tally, A: Allocator = Global> {
     pub ended: Ended,
     /// How it left its session. None if it was given up before that.
     pub left: Option<LastLeave>,
+}
+
+impl<S: Tally, T: Tally, A: Allocator + Copy> Finished<S, T, A> {
+    /// The share, and why it ended.
+    pub fn into_share(self) -> (Share<S, T>, Ended)
+        ensures { (result.0 ≡ self.share) × (result.1 ≡ self.ended) }
+    {
+        let Finished {
+            answers,
+            share,
+            ended,
+            left: _,
+        } = self;
+        drop(answers);
+        (share, ended)
+    }
 }

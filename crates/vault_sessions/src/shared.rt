@@ -90,6 +90,27 @@ impl<D: Device, S: Tally, T: Tally, A: Allocator + Copy> Shared<D, S, T, A> {
         }
     }
 
+    /// Takes the vault out of its lock. What was counted is lost.
+    pub fn into_vault(self) -> Vault<D, A> {
+        let Shared {
+            desk,
+            work: _,
+            settled: _,
+            workers: _,
+        } = self;
+        let Desk {
+            vault,
+            staged: _,
+            told: _,
+            opening: _,
+            closed: _,
+            pace: _,
+            last: _,
+            waits: _,
+        } = desk.into_inner();
+        vault
+    }
+
     /// Lets the flusher end once all is durable. To be called once no worker stages any more; a second call changes nothing. Waits for
     /// the lock.
     pub fn close<H: Wait>(&self, rt: &H) {

@@ -1,7 +1,7 @@
 //! The program of the design vault: `create`, `serve`, `check`, `inspect` and `script`.
 //!
 //! Promises: it is safe and, but for `serve`, total. Each subcommand is one call of a crate beneath.
-//! Stands on: vaultd_tasks, group_commit, vault_sessions, vault_server. Must not know: anything that a contract should say;
+//! Stands on: vaultd_tasks, vault_sessions, vault_server. Must not know: anything that a contract should say;
 //! it is kept thin.
 //! Only tested: the stored run of a script; and by `tools/try-program`: what the words ask for, statuses, texts and order
 //! of failures, `create`, `inspect` and `serve` on real files and beside their locks, signals, closed streams, odd clients.

@@ -3,7 +3,6 @@
 ghost use Rattle.std.specs.Prelude.{◌<◌, ◌≤◌};
 
 use crate::descriptors::check_limit;
-use group_commit::Vault;
 use std::fs::File;
 use std::io;
 use std::net::{Net, TcpListener, TcpStream};
@@ -13,13 +12,7 @@ use std::thread::Threads;
 use std::time::{Clock, Duration};
 use vault_server::{Full, Patience, ServerError, ServerOptions, run_server_on};
 use vault_sessions::{Gate, Point};
-use vaultd_tasks::{
-    Action, Cause, Failure, Serving, Subject, Survey, Teller, WatchedDevice, open_locked,
-    print_line, refuse_two_vaults, take_survey,
-};
-
-/// The number of the vault's life. The program opens one vault, once.
-const LIFE: u64 = 1;
+use vaultd_tasks::{Failure, Serving, Teller, close_vault, introduce, listen, open_vault};
 
 /// How many seconds a connection must have been silent before it is ended for another one that waits for a place.
 const MIN_SILENCE: u32 = 60;
@@ -27,65 +20,6 @@ const MIN_SILENCE: u32 = 60;
 /// This number of seconds.
 fn seconds(count: u32) -> Duration {
     Duration::from_secs(u64::from(count))
-}
-
-/// Opens the vault in the two files. Also gives a survey of it, if the program is asked to say more.
-fn open<'a, 'p, R: Files<File = File> + Eprint + AllocGlobal>(
-    rt: &R,
-    teller: &'a Teller<'p, R>,
-    serving: &Serving<'p>,
-) -> Result<(Vault<WatchedDevice<'a, 'p, R>>, Option<Survey>), Failure> {
-    let mut first = open_locked(rt, teller, serving.first)?;
-    let mut second = match open_locked(rt, teller, serving.second) {
-        Ok(second) => second,
-        Err(failure) => {
-            drop(first);
-            return Err(failure);
-        }
-    };
-    if let Err(failure) = refuse_two_vaults(rt.alloc(), &mut first, &mut second) {
-        drop(first);
-        drop(second);
-        return Err(failure);
-    }
-    let survey = take_survey(rt.alloc(), teller, &mut first, &mut second);
-    match Vault::open(rt.alloc(), first, second, LIFE) {
-        Ok(vault) => Ok((vault, survey)),
-        Err(refused) => {
-            let why = refused.why;
-            drop(refused);
-            Err(Failure::from(why))
-        }
-    }
-}
-
-/// Binds the address, and says so on standard output.
-fn listen<'p, R: Print + Eprint + Net<Listener = TcpListener, Stream = TcpStream>>(
-    rt: &R,
-    teller: &Teller<'p, R>,
-    serving: &Serving<'p>,
-) -> Result<TcpListener, Failure> {
-    let listener = TcpListener::bind(rt, serving.address).map_err(|error| {
-        let address = Subject::Address(serving.address);
-        teller.note(address, Action::Bound, Cause::System(error));
-        Failure::Bind
-    })?;
-    print_line(rt, teller, "listening")?;
-    Ok(listener)
-}
-
-/// Says on standard error what is served, and where.
-fn introduce<R: Eprint>(
-    rt: &R,
-    serving: &Serving<'_>,
-    listener: &TcpListener,
-    survey: Option<Survey>,
-) {
-    let (Some(survey), Ok(address)) = (survey, listener.local_addr()) else {
-        return;
-    };
-    let (first, second) = (Subject::File(serving.first), Subject::File(serving.second));
-    let _ = eprintln!(rt; "listening on {address}, over {first} and {second}: {survey}");
 }
 
 /// How many connections may wait for a claim at once: the given number, or else three quarters of the workers. The others stay free for
@@ -168,11 +102,11 @@ pub(crate) fn serve<
         + Sync,
 >(rt: &R, teller: &Teller<'p, R>, serving: &Serving<'p>) -> Result<(), Failure> {
     check_limit(serving.workers)?;
-    let (vault, survey) = open(rt, teller, serving)?;
+    let (vault, survey) = open_vault(rt, teller, serving)?;
     let listener = match listen(rt, teller, serving) {
         Ok(listener) => listener,
         Err(failure) => {
-            drop(vault);
+            close_vault(vault);
             return Err(failure);
         }
     };
@@ -186,7 +120,7 @@ pub(crate) fn serve<
     let served = run_server_on(rt, rt.alloc(), listener, vault, &options, &reporter);
     let (vault, _) = served.map_err(failure_of)?;
     let is_broken = vault.is_broken();
-    drop(vault);
+    close_vault(vault);
     if is_broken {
         return Err(broken(teller));
     }

@@ -1,8 +1,9 @@
-//! What the program's command line asks for, and all that needs no threads: `create`, `check`, `inspect` and `script`.
+//! What the program's command line asks for, and all that needs no threads: `create`, `check`, `inspect` and `script`, and what `serve`
+//! begins and ends with.
 //!
 //! Promises: it is safe and total. Each subcommand is one call of a crate beneath.
-//! Stands on: vault_device, vault_store, vault_protocol, vault_inspector. Must not know: the server, and anything that a contract should
-//! say; it is kept thin.
+//! Stands on: vault_device, vault_store, group_commit, vault_protocol, vault_inspector. Must not know: the server, and anything that a
+//! contract should say; it is kept thin.
 //! Only tested, by `tools/try-program`: what the words ask for, statuses, texts and order of failures, why something failed, `create` and
 //! `inspect` on real files and beside their locks, closed streams.
 //! Neither: texts of help and usage; what standard input and output are; that a real file is honest.
@@ -15,6 +16,7 @@ mod creating;
 mod failure;
 mod files;
 mod inspecting;
+mod opening;
 mod reason;
 mod scripting;
 mod standard;
@@ -30,6 +32,7 @@ pub use creating::create;
 pub use failure::Failure;
 pub use files::{WatchedDevice, WatchedFile, open_locked};
 pub use inspecting::inspect;
+pub use opening::{close_vault, introduce, listen, open_vault};
 pub use reason::{Action, Cause, Reason, Subject};
 pub use scripting::script;
 pub use standard::print_line;

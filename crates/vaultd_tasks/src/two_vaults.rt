@@ -1,5 +1,5 @@
 //! Refusing files of two vaults.
-ghost use Rattle.std.specs.Prelude.{◌≡◌, ◌⊎◌, IsTrue, Ok, Err};
+ghost use Rattle.std.specs.Prelude.{◌≡◌, ◌⊎◌, IsTrue, IfErr, Ok, Err};
 ghost use Rattle.vault_store.specs.Read.{AreReads};
 ghost use Rattle.vault_store.specs.TwoVaults.{AreOfTwoVaults, AreUnread};
 ghost use Rattle.vault_store.specs.declared.body.BodyError.TheVariants as body_errors;
@@ -19,6 +19,7 @@ pub fn refuse_two_vaults<D: Device, A: Allocator + Copy>(
 ) -> Result<(), Failure>
     ensures first { AreReads (D.disk first.old) (D.disk first.new) }
     ensures second { AreReads (D.disk second.old) (D.disk second.new) }
+    ensures refused { IfErr result (λ why. (why ≡ failures.TwoVaults) ⊎ (why ≡ failures.NoMemory)) }
     ensures two { IsTrue (D.disk first.old).honest → IsTrue (D.disk second.old).honest
         → result ≡ Err failures.TwoVaults → AreOfTwoVaults (D.disk first.old).shown (D.disk second.old).shown }
     ensures pass { IsTrue (D.disk first.old).honest → IsTrue (D.disk second.old).honest → result ≡ Ok tt
