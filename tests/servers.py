@@ -2,6 +2,7 @@
 
 import contextlib
 import ctypes
+import errno
 import itertools
 import os
 import resource
@@ -59,8 +60,13 @@ def sockets_of(process: int) -> Iterator[socket.socket]:
     pidfd = os.pidfd_open(process)
     try:
         for name in os.listdir(f"/proc/{process}/fd"):
-            if os.readlink(f"/proc/{process}/fd/{name}").startswith("socket:"):
+            # the other program may close it meanwhile
+            with contextlib.suppress(FileNotFoundError):
+                if not os.readlink(f"/proc/{process}/fd/{name}").startswith("socket:"):
+                    continue
                 taken = libc.syscall(PIDFD_GETFD, pidfd, int(name), 0)
+                if taken < 0 and ctypes.get_errno() == errno.EBADF:
+                    continue
                 if taken < 0:
                     raise OSError(ctypes.get_errno(), "pidfd_getfd")
                 with socket.socket(fileno=taken) as found:
