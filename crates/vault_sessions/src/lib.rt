@@ -7,8 +7,8 @@
 //! that speaks of the vault's state was made from a vault in that state (`Cause`, `NotStaged`). The shares of all workers sum to what the history
 //! grew by (`gather`). A pump, the start of a snapshot and the retiring of an entry are one act of the vault each, and change no tally
 //! (`Desk`). What the next step of a dialogue is for is said, and how each step changes that (`Dialogue::awaits`). For `run_flusher`,
-//! `Flusher`, `Shared::close`, `Worker::forget`, `Worker::moves`, `Dialogue::has_session` and `Dialogue::is_within_line` only safety is
-//! proved.
+//! `Flusher`, `Shared::close`, `Shared::into_vault`, `Worker::forget`, `Worker::moves`, `Dialogue::has_session` and
+//! `Dialogue::is_within_line` only safety is proved.
 //! Stands on: group_commit, flusher_pace, vault_lines, line_inlet, and what they stand on. Must not know: what a command does, what a
 //! file holds, what a socket is.
 //!
