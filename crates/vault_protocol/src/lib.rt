@@ -14,7 +14,6 @@
 #![tactic(auto)]
 
 mod error;
-mod help;
 mod input;
 pub mod laws;
 mod letting_go;
@@ -28,7 +27,6 @@ mod script;
 mod waiting;
 
 pub use error::ScriptError;
-pub use help::SCRIPT_HELP;
 pub use limits::{LAST_CONNECTION, LONGEST_SCRIPT};
 pub use script::run_script;
 pub use vault_lines::{LONGEST_LINE, LineError, MAX_READS, outside_text, read_line_of, text_of};

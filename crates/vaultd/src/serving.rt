@@ -3,6 +3,7 @@
 ghost use Rattle.std.specs.Prelude.{◌<◌, ◌≤◌};
 
 use crate::descriptors::check_limit;
+use command_line::Serving;
 use std::fs::File;
 use std::io;
 use std::net::{Net, TcpListener, TcpStream};
@@ -12,7 +13,7 @@ use std::thread::Threads;
 use std::time::{Clock, Duration};
 use vault_server::{Full, Patience, ServerError, ServerOptions, run_server_on};
 use vault_sessions::{Gate, Point};
-use vaultd_tasks::{Failure, Serving, Teller, close_vault, introduce, listen, open_vault};
+use vaultd_tasks::{Failure, Teller, close_vault, introduce, listen, open_vault};
 
 /// How many seconds a connection must have been silent before it is ended for another one that waits for a place.
 const MIN_SILENCE: u32 = 60;

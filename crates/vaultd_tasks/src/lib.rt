@@ -1,17 +1,15 @@
-//! What the program's command line asks for, and all that needs no threads: `create`, `check`, `inspect` and `script`, and what `serve`
-//! begins and ends with.
+//! All that the program does without threads: `create`, `check`, `inspect` and `script`, and what `serve` begins and ends with.
 //!
 //! Promises: it is safe and total. Each subcommand is one call of a crate beneath.
-//! Stands on: vault_device, vault_store, group_commit, vault_protocol, vault_inspector. Must not know: the server, and anything that a
+//! Stands on: command_line, vault_device, vault_store, group_commit, vault_protocol, vault_inspector. Must not know: the server, and anything that a
 //! contract should say; it is kept thin.
-//! Only tested, by `tools/try-program`: what the words ask for, statuses, texts and order of failures, why something failed, `create` and
+//! Only tested, by `tools/try-program`: statuses, texts and order of failures, why something failed, `create` and
 //! `inspect` on real files and beside their locks, closed streams.
-//! Neither: texts of help and usage; what standard input and output are; that a real file is honest.
-//! Start at: command_line.rt, then the file of a subcommand; files.rt (a file that reports failed calls), teller.rt (what it reports to).
+//! Neither: what standard input and output are; that a real file is honest.
+//! Start at: the file of a subcommand; files.rt (a file that reports failed calls), teller.rt (what it reports to).
 #![tactic(auto)]
 
 mod checking;
-mod command_line;
 mod creating;
 mod failure;
 mod files;
@@ -27,7 +25,6 @@ mod told;
 mod two_vaults;
 
 pub use checking::check;
-pub use command_line::{Asked, Serving, Task, asked_of};
 pub use creating::create;
 pub use failure::Failure;
 pub use files::{WatchedDevice, WatchedFile, open_locked};

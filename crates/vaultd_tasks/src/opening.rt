@@ -1,6 +1,5 @@
 //! What serving begins and ends with: the vault in its two files, and the address.
 
-use crate::command_line::Serving;
 use crate::failure::Failure;
 use crate::files::{WatchedDevice, open_locked};
 use crate::reason::{Action, Cause, Subject};
@@ -8,6 +7,7 @@ use crate::standard::print_line;
 use crate::survey::{Survey, take_survey};
 use crate::teller::Teller;
 use crate::two_vaults::refuse_two_vaults;
+use command_line::Serving;
 use group_commit::Vault;
 use std::fs::File;
 use std::net::{Net, TcpListener, TcpStream};

@@ -1,10 +1,10 @@
 //! What the program is asked to do.
 
+use crate::script_help::SCRIPT_HELP;
 use clap::error::ErrorKind;
 use clap::{Arg, ArgAction, ArgMatches, Command, Error, value_parser};
 use std::alloc::{AllocError, Global};
 use std::convert::AsStr;
-use vault_protocol::SCRIPT_HELP;
 
 /// What `--version` says after the program's name.
 const VERSION: &str = "0.9.0";

@@ -1,6 +1,6 @@
 //! What a script may say, explained to a person.
 
-/// The lines of a script, as the help of a program that runs scripts explains them.
+/// The lines of a script.
 pub const SCRIPT_HELP: &str = "\
 A line is '@K LINE' for a connection K of 1 to 64, and LINE is one of:
   hello NAME            opens a session in a designer's name
