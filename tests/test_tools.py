@@ -595,7 +595,7 @@ class CheckOver(unittest.TestCase):
 class Gate(unittest.TestCase):
     """CI's parts, in the place of each a short script: what the gate makes of their counts and of how they end."""
 
-    PARTS = ("tools/check-python", "tools/requests", "tools/try-refused", "tests/run", "rt")
+    PARTS = ("tools/check-python", "tools/requests", "tools/try-refused", "tools/try-around", "tests/run", "rt")
     PASSED = "echo '2 passed, 0 failed'"
 
     def setUp(self) -> None:
@@ -632,6 +632,18 @@ class Gate(unittest.TestCase):
         parts = lines.count("2 passed, 0 failed")
         self.assertIn(parts, (5, 6))
         self.assertEqual((status, lines[-1]), (0, f"{2 * parts} passed, 0 failed"))
+
+    def test_beside_the_proofs(self) -> None:
+        """What stands around the program is tested once: where there are processors for it, from long_locks on, and by tests/run else."""
+        for name in ("tools/try-around", "tests/run"):
+            self.write(name, f'echo "{name} $*" >> {self.folder}/begun', self.PASSED)
+        self.write("rt", "echo 'rt: long_locks proved'", "sleep 3", "echo 'rt: vault_server proved'", "sleep 3", self.PASSED)
+        status, lines = self.ended()
+        begun = (self.folder / "begun").read_text("utf-8").splitlines()
+        around, tests = ([line for line in begun if line.startswith(name)] for name in ("tools/try-around", "tests/run"))
+        self.assertEqual(status, 0, lines)
+        self.assertLessEqual(len(around), 1)
+        self.assertEqual({line.endswith(" --but-around") for line in tests}, {bool(around)}, begun)
 
     def test_one_that_fails(self) -> None:
         """Its count and its status are the gate's; programs aren't refused then, and the others run."""
