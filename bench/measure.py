@@ -1,8 +1,10 @@
 """What the programs of this folder share: running vaultd, and printing a table."""
 import argparse
+import atexit
 import datetime
 import os
 import re
+import shutil
 import subprocess
 import tempfile
 import time
@@ -24,11 +26,15 @@ def arguments(about: str) -> argparse.ArgumentParser:
 
 
 def prepared(options: argparse.Namespace) -> Tuple[str, str]:
-    """The program's absolute path, and the folder for files."""
+    """The program's absolute path, and the folder for files: the one that is named, or one that is taken away at the end."""
     program = os.path.abspath(options.program)
     if not os.access(program, os.X_OK):
         raise SystemExit(f"{options.program} isn't there: build it with (cd crates/vaultd && rt run -- script < stdin)")
-    return program, options.folder or tempfile.mkdtemp(prefix="vaultd-bench-")
+    if options.folder:
+        return program, options.folder
+    folder = tempfile.mkdtemp(prefix="vaultd-bench-")
+    atexit.register(shutil.rmtree, folder, ignore_errors=True)
+    return program, folder
 
 
 def sized(count: int, options: argparse.Namespace) -> int:
