@@ -633,17 +633,28 @@ class Gate(unittest.TestCase):
         self.assertIn(parts, (5, 6))
         self.assertEqual((status, lines[-1]), (0, f"{2 * parts} passed, 0 failed"))
 
-    def test_beside_the_proofs(self) -> None:
-        """What stands around the program is tested once: where there are processors for it, from long_locks on, and by tests/run else."""
+    def begun_over(self, word: str) -> Tuple[List[str], List[str]]:
+        """How the tests around the program, and tests/run, were called in a gate in which `rt ci` says this of long_locks."""
         for name in ("tools/try-around", "tests/run"):
             self.write(name, f'echo "{name} $*" >> {self.folder}/begun', self.PASSED)
-        self.write("rt", "echo 'rt: long_locks proved'", "sleep 3", "echo 'rt: vault_server proved'", "sleep 3", self.PASSED)
+        self.write("rt", f"echo 'rt: long_locks {word}'", "sleep 3", "echo 'rt: vault_server proved'", "sleep 3", self.PASSED)
         status, lines = self.ended()
-        begun = (self.folder / "begun").read_text("utf-8").splitlines()
-        around, tests = ([line for line in begun if line.startswith(name)] for name in ("tools/try-around", "tests/run"))
         self.assertEqual(status, 0, lines)
-        self.assertLessEqual(len(around), 1)
-        self.assertEqual({line.endswith(" --but-around") for line in tests}, {bool(around)}, begun)
+        begun = (self.folder / "begun").read_text("utf-8").splitlines()
+        return [line for line in begun if line.startswith("tools/try-around")], [line for line in begun if line.startswith("tests/run")]
+
+    def test_beside_the_proofs(self) -> None:
+        """Where long_locks is proved, and there are four processors, what stands around the program is tested meanwhile, and not again."""
+        around, tests = self.begun_over("proved")
+        self.assertEqual(len(around), len(os.sched_getaffinity(0)) >= 4)
+        self.assertEqual({line.endswith(" --but-around") for line in tests}, {bool(around)}, tests)
+
+    def test_beside_nothing(self) -> None:
+        """Where it is kept, the proved program is there soon: tests/run tests all with that."""
+        around, tests = self.begun_over("is kept: an earlier run on this machine proved the same files over the same libraries")
+        self.assertEqual(around, [])
+        self.assertTrue(tests)
+        self.assertNotIn("around", " ".join(tests))
 
     def test_one_that_fails(self) -> None:
         """Its count and its status are the gate's; programs aren't refused then, and the others run."""
