@@ -1,5 +1,5 @@
 -- What a command's function passes on of a call that it made.
-use Rattle.std.specs.Prelude.{◌≡◌, Result, Ok, Err, refl}
+use Rattle.std.specs.Prelude.{◌≡◌, Result, Ok, Err, OnErr, refl}
 use Rattle.std.proofs.Common.{subst, sym}
 use Rattle.std.specs.Result.{IsErrAnd}
 use Rattle.vault_model.specs.declared.replies.Refusal.{Refusal}
@@ -21,3 +21,8 @@ pub follows_memory : {A : Type 0} (v w : Vault) (result : Result (Done A) Stop) 
 follows_memory v w (Ok x) decision outcome is e same = absurd is
 follows_memory v w (Err (Refused r)) decision outcome is e same = absurd (cc)
 follows_memory v w (Err OutOfMemory) decision outcome is e same = (rw e refl, same)
+
+-- what holds holds on an error, too
+pub on_error : {T E : Type 0} (P : Type 0) (result : Result T E) → P → OnErr result P
+on_error P (Ok x) holds = tt
+on_error P (Err e) holds = holds

@@ -1,8 +1,9 @@
 //! Effects, made on a book as the journal has them.
-ghost use Rattle.std.specs.Prelude.{◌≡◌, ◌+◌, ◌==◌, ◌&&◌, not, nat_le, length, Some};
+ghost use Rattle.std.specs.Prelude.{◌≡◌, ◌+◌, ◌==◌, ◌&&◌, not, nat_le, length, Some, is_some};
 ghost use Rattle.vault_model.specs.After.{may_make, may_ask, are_there, after_made, after_nested, after_asked, after_extended, after_saved, after_checked_in, after_abandoned, after_given, after_noted, after};
 ghost use Rattle.vault_model.specs.Tree.{is_part};
-ghost use Rattle.vault_model.specs.Claims.{change_set};
+ghost use Rattle.vault_model.specs.Claims.{change_set, claim_of};
+ghost use Rattle.vault_model.specs.declared.ids.ClaimId.TheVariants.{Long};
 ghost use Rattle.vault_model.specs.Limits.{most_items};
 ghost use Rattle.vault_model.specs.Vault.{new_vault};
 ghost use Rattle.vault_checkout.specs.Applied.{Applies};
@@ -69,6 +70,13 @@ fn may_ask<A: Allocator>(tree: &Tree<A>, line: &Line<A>, number: u32, items: &It
 }
 
 impl<A: Allocator + Copy> Book<A> {
+    /// Whether there is a check-out of this number.
+    fn is_asked(&self, number: u32) -> bool
+        ensures { result ≡ is_some (claim_of self.now.line (Long number)) }
+    {
+        self.line.get(ClaimId::Long(number)).is_some()
+    }
+
     #[tactic(auto, unfolding(vault_model::specs::After::after_made))]
     fn apply_made(&mut self, parent: PlaceId, name: Name) -> Result<(), ApplyError>
         ensures { Applies self.old result self.new (after_made self.old parent name) }
@@ -162,7 +170,7 @@ impl<A: Allocator + Copy> Book<A> {
     fn apply_abandoned(&mut self, number: u32) -> Result<(), ApplyError>
         ensures { Applies self.old result self.new (after_abandoned self.old number) }
     {
-        if self.line.get(ClaimId::Long(number)).is_none() {
+        if !self.is_asked(number) {
             return Err(ApplyError::NotApplicable);
         }
         self.withdraw(number);
@@ -173,7 +181,7 @@ impl<A: Allocator + Copy> Book<A> {
     fn apply_given(&mut self, number: u32, designer: Name) -> Result<(), ApplyError>
         ensures { Applies self.old result self.new (after_given self.old number designer) }
     {
-        if self.line.get(ClaimId::Long(number)).is_none() {
+        if !self.is_asked(number) {
             return Err(ApplyError::NotApplicable);
         }
         self.set_owner(number, designer);
@@ -186,7 +194,7 @@ impl<A: Allocator + Copy> Book<A> {
     {
         // Any note is short enough.
         let _ = note.as_bytes();
-        if self.line.get(ClaimId::Long(number)).is_none() {
+        if !self.is_asked(number) {
             return Err(ApplyError::NotApplicable);
         }
         self.set_note(number, note);

@@ -14,6 +14,7 @@ ghost use Rattle.vault_checkout.specs.Done.{Follows};
 
 use crate::done::Done;
 use crate::granting::grant_held;
+use crate::wanted::{may_ask_for, wanted_items};
 use check_outs::{
     AnyCheckOut, Stop, check_out_at, drafts_at, is_designer, is_owned_by, joined, places_of,
 };
@@ -24,9 +25,9 @@ use part_versions::Shelf;
 use std::alloc::{Allocator, Global};
 use std::marker::Model;
 use vault_model::{
-    Claim, ClaimId, Command, CommandIn, DraftIn, Effect, EffectIn, Items, LAST_NUMBER, MAX_CLAIMS,
-    MAX_ITEMS, MAX_SESSIONS, Name, NoMemory, Owner, Path, PathItem, PlaceId, Refusal, Reply,
-    ReplyIn, Session, Standing,
+    Claim, ClaimId, Command, CommandIn, DraftIn, Effect, EffectIn, Items, LAST_NUMBER,
+    MAX_SESSIONS, Name, NoMemory, Owner, Path, PathItem, PlaceId, Refusal, Reply, ReplyIn, Session,
+    Standing,
 };
 
 /// A vault: its tree, the shelf of versions, the queue of claims, the check-outs with their drafts, and the sessions.
@@ -255,15 +256,7 @@ impl<A: Allocator + Copy> Book<A> {
         ensures told { Follows self.old result self.new (check_out self.old designer wanted.now) }
         ensures counts { (bound : ℕ) → CountsBelow bound self.old → CountsBelow bound self.new }
     {
-        if wanted.is_empty() || wanted.len() > MAX_ITEMS {
-            return Err(Stop::Refused(Refusal::ItemCount));
-        }
-        let Some(items) = places_of(&self.tree, wanted) else {
-            return Err(Stop::Refused(Refusal::NoPlace));
-        };
-        if self.line.len() >= MAX_CLAIMS || self.line.last_long() == LAST_NUMBER {
-            return Err(Stop::Refused(Refusal::Limit));
-        }
+        let items = wanted_items(&self.tree, self.line.len(), self.line.last_long(), wanted)?;
         let standing = self.ask(designer, &items)?;
         let number = self.line.last_long();
         Ok(Done {
@@ -283,7 +276,7 @@ impl<A: Allocator + Copy> Book<A> {
         ensures counts { (bound : ℕ) → CountsBelow bound self.old → CountsBelow bound self.new }
     {
         let claim = self.usable(session, id)?;
-        if wanted.is_empty() || wanted.len() > MAX_ITEMS - claim.items.len() {
+        if !may_ask_for(wanted.len(), claim.items.len()) {
             return Err(Stop::Refused(Refusal::ItemCount));
         }
         let Some(items) = places_of(&self.tree, wanted) else {

@@ -11,13 +11,37 @@ impl<A: Allocator + Copy> Book<A> {
     pub fn copy(&self) -> Result<Book<A>, NoMemory>
         ensures { IfOk result (λ copy. copy ≡ self.now) }
     {
+        // Each part is dropped by a call: at a `?`, how it is taken apart would be proved anew.
         let alloc = *self.check_outs.allocator();
+        let tree = self.tree.copy()?;
+        let Ok(shelf) = self.shelf.copy() else {
+            drop(tree);
+            return Err(NoMemory);
+        };
+        let Ok(line) = self.line.copy() else {
+            drop(tree);
+            drop(shelf);
+            return Err(NoMemory);
+        };
+        let Ok(check_outs) = copy_check_outs(alloc, &self.check_outs) else {
+            drop(tree);
+            drop(shelf);
+            drop(line);
+            return Err(NoMemory);
+        };
+        let Ok(sessions) = Vec::from_slice(alloc, &self.sessions) else {
+            drop(tree);
+            drop(shelf);
+            drop(line);
+            drop(check_outs);
+            return Err(NoMemory);
+        };
         Ok(Book {
-            tree: self.tree.copy()?,
-            shelf: self.shelf.copy()?,
-            line: self.line.copy()?,
-            check_outs: copy_check_outs(alloc, &self.check_outs)?,
-            sessions: Vec::from_slice(alloc, &self.sessions)?,
+            tree,
+            shelf,
+            line,
+            check_outs,
+            sessions,
             last_session: self.last_session,
             door_count: self.door_count,
         })

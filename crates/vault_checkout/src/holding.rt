@@ -7,9 +7,10 @@ ghost use Rattle.vault_checkout.specs.Done.{Follows};
 use crate::book::{Book, drop_session, reply_of};
 use crate::done::Done;
 use crate::granting::grant_held;
-use check_outs::{Stop, is_owned_by, places_of};
+use crate::wanted::wanted_items;
+use check_outs::{Stop, is_owned_by};
 use std::alloc::Allocator;
-use vault_model::{ClaimId, LAST_NUMBER, MAX_CLAIMS, MAX_ITEMS, PathItem, Refusal, Reply, Session};
+use vault_model::{ClaimId, PathItem, Refusal, Reply, Session};
 
 impl<A: Allocator + Copy> Book<A> {
     #[tactic(auto, unfolding(vault_model::specs::Step::hold, vault_model::specs::Step::chained))]
@@ -18,15 +19,7 @@ impl<A: Allocator + Copy> Book<A> {
         ensures told { Follows self.old result self.new (hold self.old session.now wanted.now) }
         ensures counts { (bound : ℕ) → CountsBelow bound self.old → CountsBelow bound self.new }
     {
-        if wanted.is_empty() || wanted.len() > MAX_ITEMS {
-            return Err(Stop::Refused(Refusal::ItemCount));
-        }
-        let Some(items) = places_of(&self.tree, wanted) else {
-            return Err(Stop::Refused(Refusal::NoPlace));
-        };
-        if self.line.len() >= MAX_CLAIMS || self.line.last_short() == LAST_NUMBER {
-            return Err(Stop::Refused(Refusal::Limit));
-        }
+        let items = wanted_items(&self.tree, self.line.len(), self.line.last_short(), wanted)?;
         let standing = self.line.ask_short(&self.tree, session.number, items)?;
         Ok(Done {
             reply: reply_of(ClaimId::Short(self.line.last_short()), standing),

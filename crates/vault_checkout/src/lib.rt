@@ -31,6 +31,7 @@ mod granting;
 mod holding;
 mod making;
 mod parts;
+mod wanted;
 
 pub use apply::ApplyError;
 pub use book::Book;
