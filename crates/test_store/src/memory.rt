@@ -7,9 +7,9 @@ use test_memory::{Outcome, Refusing, requests};
 use vault_checkout::Book;
 use vault_device::{Device, MemDevice, Pick};
 use vault_model::{ClaimId, Effect, EffectIn, Name, NoMemory, PlaceId, Standing};
+use vault_pairing::are_of_two_vaults;
 use vault_store::{
-    Advanced, Body, BodyError, CreateError, OpenError, Phase, Started, Store, are_of_two_vaults,
-    laws, read_body,
+    Advanced, Body, BodyError, CreateError, OpenError, Phase, Started, Store, laws, read_body,
 };
 
 // A file with a new vault and a commit of `make /e`, 47 bytes.

@@ -50,7 +50,8 @@ use std::alloc::Global;
 use vault_device::{Device, MemDevice, Pick};
 use vault_journal::read_effects;
 use vault_model::EffectIn;
-use vault_store::{Store, are_of_two_vaults, read_head};
+use vault_pairing::are_of_two_vaults;
+use vault_store::{Store, read_head};
 
 /// A step: its first word, the rest of its words, and what it must answer, if it must.
 #[derive(Clone, Copy)]

@@ -17,7 +17,7 @@ pub mod Creating
 mod Sized
 mod Exact
 mod OneFault
-mod Begun
+pub mod Begun
 pub mod Growing
 pub mod TwoVaults
 mod Passes
@@ -25,9 +25,9 @@ mod Companions
 mod Headed
 mod Pieces
 mod Made
-mod Behind
+pub mod Behind
 mod Stepped
-mod Steps
+pub mod Steps
 pub mod Wholes
 mod Bodies
 mod Opened

@@ -50,12 +50,15 @@ impl From<Fault> for ReadError {
     }
 }
 
-// The version of a file, the vault of its snapshot, and where the frames begin behind it.
+/// The snapshot of a file.
 #[derive(Drop)]
-pub(crate) struct Base<A: Allocator> {
-    pub(crate) version: FileVersion,
-    pub(crate) book: Book<A>,
-    pub(crate) end: u64,
+pub struct Base<A: Allocator> {
+    /// The version that the head gives.
+    pub version: FileVersion,
+    /// The vault that the snapshot is of.
+    pub book: Book<A>,
+    /// Where the frames begin behind it.
+    pub end: u64,
 }
 
 // Behind the head: the snapshot, the frames, and the tail gate. The head has at 8 the version, which says how the snapshot is spelled,
@@ -102,8 +105,8 @@ fn read_base<D: Device, A: Allocator + Copy>(
     }
 }
 
-/// Reads the snapshot of a file whose length isn't known.
-pub(crate) fn read_first_base<D: Device, A: Allocator + Copy>(
+/// Reads the snapshot of a file. The head must be right, as for `read_body`, and the cost is that of `read_body` without the frames.
+pub fn read_first_base<D: Device, A: Allocator + Copy>(
     alloc: A,
     device: &mut D,
 ) -> Result<Base<A>, ReadError>
@@ -135,7 +138,7 @@ pub struct Contents<A: Allocator> {
     pub journal_length: u64,
 }
 
-/// Reads what stands in a file behind its head.
+/// Reads what stands in a file behind its head, as `read_body` does, and says more of it.
 pub fn read_contents<D: Device, A: Allocator + Copy>(
     alloc: A,
     device: &mut D,
@@ -157,14 +160,19 @@ pub fn read_contents<D: Device, A: Allocator + Copy>(
         mut book,
         end,
     } = read_base(alloc, device, len)?;
-    let frames = read_frames(alloc, device, len, end, &mut book)?;
-    Ok(Contents {
-        version,
-        book,
-        frames: frames.count,
-        tail: frames.tail,
-        journal_length: frames.tail - end,
-    })
+    match read_frames(alloc, device, len, end, &mut book) {
+        Ok(frames) => Ok(Contents {
+            version,
+            book,
+            frames: frames.count,
+            tail: frames.tail,
+            journal_length: frames.tail - end,
+        }),
+        Err(why) => {
+            drop(book);
+            Err(why)
+        }
+    }
 }
 
 /// Reads a file behind its head. The head must be right; otherwise the result isn't specified. It makes reads only.

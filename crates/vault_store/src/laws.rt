@@ -35,7 +35,7 @@ pub fn rows_are_given()
 
 /// The files of one vault are never reported as those of two. Those of a creation are of one vault, and so are those that were opened
 /// and weren't reported as two (`create`, `open`). Each call keeps them so (`note`, `start_snapshot`, `advance`). Whatever a crash
-/// leaves of them passes `are_of_two_vaults`.
+/// leaves of them passes `vault_pairing::are_of_two_vaults`.
 ///
 /// Call by call: files as a creation leaves them pass, since one is closed. A commit writes only behind the snapshot of the newer file.
 /// A snapshot's first call may tear the older file's gate, and while its bytes are written that file is closed. Once its gate is

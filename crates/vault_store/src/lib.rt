@@ -7,10 +7,8 @@
 //! stand for at most one vault, and each durable vault has at most one spelling in each version of the files (`laws`). Both versions
 //! are read, and only the second is written. Opening gives that vault, or reports the first thing that is wrong, with its file and
 //! offset. It writes nothing (`open`; for one file alone `read_head` and `read_body`).
-//! Two files are reported as those of two vaults exactly if both are open with right heads, and either a generation lies between
-//! theirs, or the older one, of the generation before, leads to a vault that is no earlier state of the newer one's snapshot
-//! (`are_of_two_vaults`). The files of one vault never are: those of a creation are of one vault, each call keeps them so, and whatever
-//! a crash leaves of them, also inside a call, isn't reported as two (`advance`, `laws`).
+//! The files of one vault are never what `vault_pairing` reports as those of two: those of a creation are of one vault, each call keeps
+//! them so, and whatever a crash leaves of them, also inside a call, isn't reported (`advance`, `laws`).
 //! Stands on: vault_model, vault_device, vault_journal, vault_format, design_tree, part_versions, vault_checkout. Must not know:
 //! commands, replies, sessions, tickets, how many entries there are.
 //!
@@ -34,7 +32,6 @@ mod body;
 mod calls;
 mod commit;
 mod creation;
-mod earlier;
 mod front;
 mod journal;
 pub mod laws;
@@ -45,17 +42,16 @@ mod renewal;
 mod snapshot;
 mod starting;
 mod store;
-mod two_vaults;
 
-pub use body::{Body, BodyError, read_body};
+pub use body::{
+    Base, Body, BodyError, Contents, ReadError, read_body, read_contents, read_first_base,
+};
 pub use calls::settle_both;
 pub use creation::CreateError;
-pub use earlier::is_earlier;
 pub use front::{Head, read_head};
 pub use opening::{File, OpenError};
 pub use phase::{Advanced, Phase};
 pub use refused::Refused;
 pub use starting::Started;
 pub use store::Store;
-pub use two_vaults::are_of_two_vaults;
 pub use vault_format::FileVersion;

@@ -22,7 +22,6 @@ use thiserror::Error;
 use vault_checkout::Book;
 use vault_device::{Device, Fault};
 use vault_journal::Frame;
-use vault_model::NoMemory;
 
 /// One of the two files.
 #[derive(Clone, Copy, Debug, PartialEq, Eq)]
@@ -51,14 +50,6 @@ impl From<Fault> for OpenError {
 
     fn from(_fault: Fault) -> OpenError {
         OpenError::Device
-    }
-}
-
-impl From<NoMemory> for OpenError {
-    ghost from_gives = { λ _ e. e ≡ Wanted };
-
-    fn from(_error: NoMemory) -> OpenError {
-        OpenError::NoMemory
     }
 }
 
@@ -209,7 +200,10 @@ fn read_active<D: Device, A: Allocator + Copy>(
 {
     match read_contents(alloc, active) {
         Ok(contents) => {
-            let frame = Frame::new(alloc)?;
+            let Ok(frame) = Frame::new(alloc) else {
+                drop(contents);
+                return Err(OpenError::NoMemory);
+            };
             Ok((contents, frame))
         }
         Err(ReadError::Damaged(offset)) => Err(OpenError::Damaged {

@@ -8,7 +8,8 @@ ghost use Rattle.vaultd_tasks.specs.declared.failure.Failure.TheVariants as fail
 use crate::failure::Failure;
 use std::alloc::Allocator;
 use vault_device::Device;
-use vault_store::{BodyError, are_of_two_vaults};
+use vault_pairing::are_of_two_vaults;
+use vault_store::BodyError;
 
 /// Refuses files of two vaults. They are read, and nothing is changed. Files that can't be read aren't refused here: opening reports an
 /// active one that can't be read, and doesn't need the other.

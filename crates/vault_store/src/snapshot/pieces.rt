@@ -108,18 +108,30 @@ fn read_front<D: Device, A: Allocator + Copy>(
     ensures refused { IfErr result (λ why. IsWhy (D.disk device.old) (D.disk device.new) (λ offset. ⊥) why) }
     ensures quiet { OnOk result (IsQuiet (D.disk device.old) (D.disk device.new)) }
 {
+    let Ok(tree) = Tree::new(alloc) else {
+        return Err(ReadError::NoMemory);
+    };
     let mut front = Front {
-        tree: Tree::new(alloc).or(Err(ReadError::NoMemory))?,
+        tree,
         shelf: Shelf::new(alloc),
         at: from,
     };
     let mut piece = Vec::new(alloc);
     while front.tree.len() < extent.count as usize {
-        if !read_on(device, extent, &mut piece, &mut front)? {
-            return Ok(None);
+        match read_on(device, extent, &mut piece, &mut front) {
+            Ok(true) => {}
+            Ok(false) => {
+                drop(front);
+                return Ok(None);
+            }
+            Err(why) => {
+                drop(front);
+                return Err(why);
+            }
         }
     }
     if front.tree.len() != extent.count as usize {
+        drop(front);
         return Ok(None);
     }
     Ok(Some(front))

@@ -1,4 +1,5 @@
-use Rattle.std.proofs.Common.{◌-◌, IsTrue, length, refl, sym, ◌∙◌, ap, subst}
+use Rattle.std.proofs.Common.{◌-◌, Result, Err, IsTrue, length, refl, sym, ◌∙◌, ap, subst}
+use Rattle.vault_store.specs.declared.body.ReadError.{ReadError}
 use Rattle.vault_store.proofs.Behind.{and_reads, quiet_then}
 use Rattle.vault_store.proofs.Bodies.{one_read, snapshot_wrong, frames_wrong, contents_read}
 use Rattle.vault_store.proofs.body.read_contents.Goals as goal
@@ -9,30 +10,31 @@ returns-in_err-version-clause-refused g c =
     (one_read (g.D.Device.disk c.args.device.now) (g.D.Device.disk c.len.new.self) c.len.result c.len.ensures.one_call c.len.ensures.kept)
     c.from_residual-in_err-version.result c.in_err-version.field-0.0 (record { same_faults = c.in_ok-len.ensures.one_call.no_fault }) c.in_err-version.ensures.refused c.from_residual-in_err-version.ensures.1
 
-pub returns-in_err-frames-clause-reads : goal.returns-in_err-frames-clause-reads
-returns-in_err-frames-clause-reads g c =
+pub returns-in-Err-clause-reads : goal.returns-in-Err-clause-reads
+returns-in-Err-clause-reads g c =
     and_reads (g.D.Device.disk c.args.device.now) (g.D.Device.disk c.len.new.self) (g.D.Device.disk c.read_frames.new.device)
     (one_read (g.D.Device.disk c.args.device.now) (g.D.Device.disk c.len.new.self) c.len.result c.len.ensures.one_call c.len.ensures.kept)
     (and_reads (g.D.Device.disk c.len.new.self) (g.D.Device.disk c.read_base.new.device) (g.D.Device.disk c.read_frames.new.device) c.read_base.ensures.reads c.read_frames.ensures.reads)
 
-pub returns-in_err-frames-clause-refused : goal.returns-in_err-frames-clause-refused
-returns-in_err-frames-clause-refused g c =
+pub returns-in-Err-clause-refused : goal.returns-in-Err-clause-refused
+returns-in-Err-clause-refused g c =
+    let failed : Result (Unit {0}) ReadError = Err c.in-Err.why in
     frames_wrong (g.D.Device.disk c.args.device.now) (g.D.Device.disk c.len.new.self) (g.D.Device.disk c.read_base.new.device)
     (one_read (g.D.Device.disk c.args.device.now) (g.D.Device.disk c.len.new.self) c.len.result c.len.ensures.one_call c.len.ensures.kept) c.read_base.ensures.reads c.in_ok-len.len c.in_ok-version.field-0.end c.in_ok-len.ensures.length c.in_ok-version.field-0.version c.in_ok-version.field-0.book c.in_ok-version.ensures.base
-    (g.D.Device.disk c.read_frames.new.device) c.from_residual-in_err-frames.result c.in_err-frames.field-0.0
-    (quiet_then (g.D.Device.disk c.args.device.now) (g.D.Device.disk c.len.new.self) (g.D.Device.disk c.read_base.new.device) (record { same_faults = c.in_ok-len.ensures.one_call.no_fault }) c.in_ok-version.ensures.quiet) c.in_err-frames.ensures.refused c.from_residual-in_err-frames.ensures.1
+    (g.D.Device.disk c.read_frames.new.device) failed c.in-Err.why
+    (quiet_then (g.D.Device.disk c.args.device.now) (g.D.Device.disk c.len.new.self) (g.D.Device.disk c.read_base.new.device) (record { same_faults = c.in_ok-len.ensures.one_call.no_fault }) c.in_ok-version.ensures.quiet) c.in-Err.ensures.refused refl
 
-pub returns-clause-reads : goal.returns-clause-reads
-returns-clause-reads g c =
+pub returns-in-Ok-clause-reads : goal.returns-in-Ok-clause-reads
+returns-in-Ok-clause-reads g c =
     and_reads (g.D.Device.disk c.args.device.now) (g.D.Device.disk c.len.new.self) (g.D.Device.disk c.read_frames.new.device)
     (one_read (g.D.Device.disk c.args.device.now) (g.D.Device.disk c.len.new.self) c.len.result c.len.ensures.one_call c.len.ensures.kept)
     (and_reads (g.D.Device.disk c.len.new.self) (g.D.Device.disk c.read_base.new.device) (g.D.Device.disk c.read_frames.new.device) c.read_base.ensures.reads c.read_frames.ensures.reads)
 
-pub returns-clause-contents : goal.returns-clause-contents
-returns-clause-contents g c =
+pub returns-in-Ok-clause-contents : goal.returns-in-Ok-clause-contents
+returns-in-Ok-clause-contents g c =
     contents_read (g.D.Device.disk c.args.device.now) (g.D.Device.disk c.len.new.self) (g.D.Device.disk c.read_base.new.device)
     (one_read (g.D.Device.disk c.args.device.now) (g.D.Device.disk c.len.new.self) c.len.result c.len.ensures.one_call c.len.ensures.kept) c.read_base.ensures.reads c.in_ok-len.len c.in_ok-version.field-0.end c.in_ok-len.ensures.length c.in_ok-version.field-0.version c.in_ok-version.field-0.book c.in_ok-version.ensures.base
-    c.read_frames.new.book c.in_ok-frames.frames.count c.in_ok-frames.frames.tail (c.in_ok-frames.frames.tail - c.in_ok-version.field-0.end) refl c.in_ok-frames.ensures.all
+    c.read_frames.new.book c.in-Ok.frames.count c.in-Ok.frames.tail (c.in-Ok.frames.tail - c.in_ok-version.field-0.end) refl c.in-Ok.ensures.all
 
 pub read_base-requires-clause-len : goal.read_base-requires-clause-len
 read_base-requires-clause-len g c = λ honest.
@@ -51,7 +53,7 @@ read_frames-requires-clause-len g c = λ honest.
     let was = subst IsTrue reads.called.same_honesty honest in
     c.in_ok-len.ensures.length was ∙ ap length (sym (reads.read was).shown)
 
-pub returns-clause-quiet : goal.returns-clause-quiet
-returns-clause-quiet g c =
+pub returns-in-Ok-clause-quiet : goal.returns-in-Ok-clause-quiet
+returns-in-Ok-clause-quiet g c =
     quiet_then (g.D.Device.disk c.args.device.now) (g.D.Device.disk c.len.new.self) (g.D.Device.disk c.read_frames.new.device) (record { same_faults = c.in_ok-len.ensures.one_call.no_fault })
-    (quiet_then (g.D.Device.disk c.len.new.self) (g.D.Device.disk c.read_base.new.device) (g.D.Device.disk c.read_frames.new.device) c.in_ok-version.ensures.quiet c.in_ok-frames.ensures.quiet)
+    (quiet_then (g.D.Device.disk c.len.new.self) (g.D.Device.disk c.read_base.new.device) (g.D.Device.disk c.read_frames.new.device) c.in_ok-version.ensures.quiet c.in-Ok.ensures.quiet)

@@ -7,25 +7,25 @@ use Rattle.vault_store.proofs.snapshot.pieces.read_front.Goals as goal
 
 pub loop-device-preserved : goal.loop-device-preserved
 loop-device-preserved g c =
-    let on = c.in_ok-read_on.ensures.on c.if-not-branch.false in
+    let on = c.in-Ok-true.ensures.on c.in-Ok-true.field-0-test in
     let new = c.read_on.new.front in
     record {
       reads = and_reads (g.D.Device.disk c.args.device.now) (g.D.Device.disk c.loop-device.device) (g.D.Device.disk c.read_on.new.device) c.loop-device.invariant.reads c.read_on.ensures.reads;
-      quiet = quiet_then (g.D.Device.disk c.args.device.now) (g.D.Device.disk c.loop-device.device) (g.D.Device.disk c.read_on.new.device) c.loop-device.invariant.quiet c.in_ok-read_on.ensures.quiet;
+      quiet = quiet_then (g.D.Device.disk c.args.device.now) (g.D.Device.disk c.loop-device.device) (g.D.Device.disk c.read_on.new.device) c.loop-device.invariant.quiet c.in-Ok-true.ensures.quiet;
       front =
           front_back (g.D.Device.disk c.args.device.now) (g.D.Device.disk c.loop-device.device) current_version c.args.from new.tree new.shelf new.at c.loop-device.invariant.reads
           (on.front c.args.from (front_moved (g.D.Device.disk c.args.device.now) (g.D.Device.disk c.loop-device.device) current_version c.args.from c.loop-device.front.tree c.loop-device.front.shelf c.loop-device.front.at c.loop-device.invariant.reads c.loop-device.invariant.front));
       within = on.within;
-      few = λ some. c.in_ok-read_on.ensures.few c.if-not-branch.false (c.loop-device.invariant.few some);
+      few = λ some. c.in-Ok-true.ensures.few c.in-Ok-true.field-0-test (c.loop-device.invariant.few some);
     }
 
-pub returns-then-not-branch-clause-none : goal.returns-then-not-branch-clause-none
-returns-then-not-branch-clause-none g c = λ same.
+pub returns-in-Ok-false-clause-none : goal.returns-in-Ok-false-clause-none
+returns-in-Ok-false-clause-none g c = λ same.
     let old = g.D.Device.disk c.args.device.now in
     let mid = g.D.Device.disk c.loop-device.device in
     let front = c.loop-device.front in
     from_front old c.args.extent.count c.args.extent.end c.args.from front.at front.tree front.shelf c.loop-device.invariant.front c.loop-device.invariant.within
-    (fewer_moved old mid c.args.extent.count c.args.extent.end front.at front.tree front.shelf c.loop-device.invariant.reads (c.in_ok-read_on.ensures.off c.if-not-branch.true (omega (arith, c.loop-device-test.true))))
+    (fewer_moved old mid c.args.extent.count c.args.extent.end front.at front.tree front.shelf c.loop-device.invariant.reads (c.in-Ok-false.ensures.off c.in-Ok-false.field-0-test (omega (arith, c.loop-device-test.true))))
 
 pub returns-then-len-extent-clause-none : goal.returns-then-len-extent-clause-none
 returns-then-len-extent-clause-none g c = λ same.

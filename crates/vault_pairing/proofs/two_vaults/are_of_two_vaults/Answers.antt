@@ -3,7 +3,7 @@ use Rattle.std.proofs.lemmas.Result.{IfErr-weaker}
 use Rattle.vault_store.proofs.Behind.{and_reads}
 use Rattle.vault_store.proofs.Steps.{no_reads}
 use Rattle.vault_store.proofs.TwoVaults.{first_shut, second_shut, one_same, first_two, second_two, unread_behind, unread_back}
-use Rattle.vault_store.proofs.two_vaults.are_of_two_vaults.Goals as goal
+use Rattle.vault_pairing.proofs.two_vaults.are_of_two_vaults.Goals as goal
 
 pub returns-in-Ok-None-clause-two : goal.returns-in-Ok-None-clause-two
 returns-in-Ok-None-clause-two g c = λ honest other. first_shut (g.D.Device.disk c.args.first.now).shown (g.D.Device.disk c.args.second.now).shown ((rw c.in-Ok-None.field-0-is at c.in-Ok-None.ensures.generation) honest)

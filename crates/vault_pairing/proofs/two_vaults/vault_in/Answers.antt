@@ -1,5 +1,5 @@
 use Rattle.vault_store.proofs.TwoVaults.{led, none_led}
-use Rattle.vault_store.proofs.two_vaults.vault_in.Goals as goal
+use Rattle.vault_pairing.proofs.two_vaults.vault_in.Goals as goal
 
 pub returns-in-Ok-clause-vault : goal.returns-in-Ok-clause-vault
 returns-in-Ok-clause-vault g c = λ honest generation head.

@@ -1,6 +1,6 @@
 use Rattle.std.proofs.Common.{length, refl}
 use Rattle.vault_store.proofs.TwoVaults.{based, none_based}
-use Rattle.vault_store.proofs.two_vaults.base_in.Goals as goal
+use Rattle.vault_pairing.proofs.two_vaults.base_in.Goals as goal
 
 pub returns-in-Ok-clause-base : goal.returns-in-Ok-clause-base
 returns-in-Ok-clause-base g c = λ honest generation head.

@@ -1,7 +1,7 @@
 use Rattle.std.proofs.Common.{◌+◌}
 use Rattle.vault_store.proofs.Steps.{no_reads}
 use Rattle.vault_store.proofs.TwoVaults.{decided, unread_older, unread_newer, first_unread, second_unread}
-use Rattle.vault_store.proofs.two_vaults.is_unrelated.Goals as goal
+use Rattle.vault_pairing.proofs.two_vaults.is_unrelated.Goals as goal
 
 pub returns-in-Ok-None-clause-unrelated : goal.returns-in-Ok-None-clause-unrelated
 returns-in-Ok-None-clause-unrelated g c = λ honest other generation head head_newer.

@@ -1,6 +1,6 @@
 use Rattle.std.proofs.Common.{ap, arith, length, refl}
 use Rattle.vault_store.proofs.Begun.{all_begun}
-use Rattle.vault_store.proofs.earlier.are_all_first_versions.Goals as goal
+use Rattle.vault_pairing.proofs.earlier.are_all_first_versions.Goals as goal
 
 pub returns : goal.returns
 returns g c = (

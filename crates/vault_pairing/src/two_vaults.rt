@@ -5,12 +5,13 @@ ghost use Rattle.vault_store.specs.Calls.{HasCause, IsQuiet};
 ghost use Rattle.vault_store.specs.Read.{AreReads};
 ghost use Rattle.vault_store.specs.TwoVaults.{AreUnrelated, IsOfAnother, AreOfTwoVaults, IsGenerationOf, IsLedTo, IsBaseOf, IsUnread, AreUnread};
 
-use crate::body::{Base, BodyError, Contents, ReadError, read_contents, read_first_base};
 use crate::earlier::is_earlier;
-use crate::front::{Head, read_head};
 use std::alloc::Allocator;
 use vault_checkout::Book;
 use vault_device::{Device, Fault};
+use vault_store::{
+    Base, BodyError, Contents, Head, ReadError, read_contents, read_first_base, read_head,
+};
 
 // The generation of a file whose head is right; `None` for any other.
 fn right_generation<D: Device>(device: &mut D) -> Result<Option<u64>, Fault>

@@ -3,7 +3,7 @@ use Rattle.std.proofs.lemmas.Result.{IfOk-weaker}
 use Rattle.vault_format.specs.Files.{HasRightHead}
 use Rattle.vault_store.proofs.Steps.{no_reads}
 use Rattle.vault_store.proofs.TwoVaults.{far_apart, next_to}
-use Rattle.vault_store.proofs.two_vaults.is_of_another.Goals as goal
+use Rattle.vault_pairing.proofs.two_vaults.is_of_another.Goals as goal
 
 pub returns-then-apart-gt1-clause-another : goal.returns-then-apart-gt1-clause-another
 returns-then-apart-gt1-clause-another g c = λ honest other head head_newer.
