@@ -25,7 +25,12 @@ use vault_store::{Store, settle_both};
 fn new_parts<A: Allocator + Copy>(alloc: A) -> Result<(Book<A>, Window<A>), NoMemory>
     ensures { IfOk result (λ parts. (parts.0 ≡ new_vault) × (parts.1 ≡ [])) }
 {
-    Ok((Book::new(alloc)?, Window::new(alloc)?))
+    let book = Book::new(alloc)?;
+    let Ok(kept) = Window::new(alloc) else {
+        drop(book);
+        return Err(NoMemory);
+    };
+    Ok((book, kept))
 }
 
 // The refusal of a creation that ran out of memory, with both devices synced.
@@ -113,7 +118,11 @@ impl<D: Device, A: Allocator + Copy> Vault<D, A> {
         };
         match Store::create(alloc, first, second) {
             Ok(store) => Ok(Vault::over(store, book, kept, life)),
-            Err(refused) => Err(refused),
+            Err(refused) => {
+                drop(book);
+                drop(kept);
+                Err(refused)
+            }
         }
     }
 }

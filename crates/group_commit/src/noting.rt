@@ -46,4 +46,5 @@ pub(crate) fn note_any<D: Device, A: Allocator, B: Allocator>(
     };
     see_name(&effect);
     store.note(&effect);
+    drop(effect);
 }

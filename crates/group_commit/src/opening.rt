@@ -34,6 +34,7 @@ fn begin<D: Device, A: Allocator + Copy>(
         Err(refused) => return Err(refused),
     };
     let Ok(kept) = Window::new(alloc) else {
+        drop(book);
         let why = OpenError::NoMemory;
         let (first, second) = store.into_devices();
         return Err(Refused { why, first, second });

@@ -47,7 +47,7 @@ pub fn images_stand_for_the_history<D: Device, A: Allocator>(vault: &Vault<D, A>
     a_vault_keeps_its_history(vault);
 }
 
-/// Where the files of a vault are of one vault, a crash doesn't make them be reported as those of two (`vault_store::are_of_two_vaults`).
+/// Where the files of a vault are of one vault, a crash doesn't make them be reported as those of two (`vault_pairing::are_of_two_vaults`).
 /// They are of one vault where it was made, or opened on files that weren't reported as two (`create`, `open`, clause `one_vault`). They
 /// stay so (`stage`, `start_snapshot`, `pump`; no other call changes them).
 pub fn files_pass<D: Device, A: Allocator>(vault: &Vault<D, A>)

@@ -143,8 +143,8 @@ impl<D: Device, A: Allocator + Copy> Vault<D, A> {
             store,
             base: _base,
             bygone: _bygone,
-            book: _book,
-            kept: _kept,
+            book,
+            kept,
             retired: _,
             settled: _,
             sealed: _,
@@ -152,6 +152,8 @@ impl<D: Device, A: Allocator + Copy> Vault<D, A> {
             broken: _,
             life: _,
         } = self;
+        drop(book);
+        drop(kept);
         store.into_devices()
     }
 }
