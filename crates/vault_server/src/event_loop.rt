@@ -170,7 +170,7 @@ impl<D: Device, S: Tally, T: Tally, A: Allocator + Copy, G: Gate, H: Wait + Cloc
     // Whether a connection waits for a claim, and the queue of claims may have moved since this was asked last. Then each one that
     // waits has something to do, so that its `wait` joins the commit of the command that moved the queue.
     fn line_moved(&self, slots: &mut Vec<Slot<S, T, A>, A>, seen: &mut u64) -> bool {
-        if !slots.iter().any(|slot| slot.waits_for_claim()) {
+        if !one_waits(slots) {
             return false;
         }
         let moves = self.worker.moves();
@@ -209,7 +209,7 @@ impl<D: Device, S: Tally, T: Tally, A: Allocator + Copy, G: Gate, H: Wait + Cloc
         slots: &mut Vec<Slot<S, T, A>, A>,
         pause: Pause,
     ) {
-        if pause == Pause::Nothing && !slots.iter().any(|slot| slot.is_outside()) {
+        if pause == Pause::Nothing && !one_is_outside(slots) {
             return;
         }
         let wait = match pause {
@@ -370,9 +370,25 @@ fn longest_silent<S: Tally, T: Tally, A: Allocator + Copy>(
     first
 }
 
+// Whether a connection waits for a claim.
+fn one_waits<S: Tally, T: Tally, A: Allocator + Copy>(slots: &Vec<Slot<S, T, A>, A>) -> bool {
+    slots.iter().any(|slot| slot.waits_for_claim())
+}
+
+// Whether the next step of a connection waits for its client, or the kernel.
+fn one_is_outside<S: Tally, T: Tally, A: Allocator + Copy>(slots: &Vec<Slot<S, T, A>, A>) -> bool {
+    slots.iter().any(|slot| slot.is_outside())
+}
+
 // How many connections have sent something that isn't heard yet.
 fn lines_of<S: Tally, T: Tally, A: Allocator + Copy>(slots: &Vec<Slot<S, T, A>, A>) -> u64 {
-    slots.iter().filter(|slot| slot.has_news()).count() as u64
+    let mut lines = 0u64;
+    for slot in slots {
+        if slot.has_news() {
+            lines = lines.saturating_add(1);
+        }
+    }
+    lines
 }
 
 // A free place for each share, unless there is no memory for them.
