@@ -1,7 +1,6 @@
 //! Two conversations side by side over one vault, beside a flusher.
 
 ghost use Rattle.std.specs.Prelude.{◌≡◌};
-ghost use Rattle.group_commit.specs.View.{length_of};
 ghost use denote.Param.Send.{Frees};
 
 use crate::creation::{Begun, created};
@@ -187,8 +186,8 @@ fn over<
     writer_other: &mut Hearer,
 ) -> (bool, Totals, Vault<D, A>)
     requires whole { (S.all ≡ S.parts) × (T.all ≡ T.parts) }
-    requires staged { (staged.name ≡ S.name) × (staged.parts ≡ S.parts) × (S.all ≡ 3) × (S.opening ≡ length_of vault.view) }
-    requires told { (told.name ≡ T.name) × (told.parts ≡ T.parts) × (T.all ≡ 3) × (T.opening ≡ vault.view.told) }
+    requires staged { (staged.name ≡ S.name) × (staged.parts ≡ S.parts) × (S.all ≡ 3) × (S.beginning ≡ vault.view) }
+    requires told { (told.name ≡ T.name) × (told.parts ≡ T.parts) × (T.all ≡ 3) × (T.beginning ≡ vault.view) }
     requires frees { Frees A.Allocator A.dealloc_token }
 {
     let Ok((shared, mut shares)) = Shared::<D, S, T, A>::new(alloc, staged, told, vault, 2) else {

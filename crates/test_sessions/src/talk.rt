@@ -1,7 +1,6 @@
 //! Conversations in memory.
 
 ghost use Rattle.std.specs.Prelude.{◌≡◌};
-ghost use Rattle.group_commit.specs.View.{length_of};
 ghost use denote.Param.Send.{Frees};
 
 use crate::creation::{Begun, CREATION, CREATION_BESIDE};
@@ -245,8 +244,8 @@ fn converse_over<
     writer: &mut Hearer,
 ) -> Result<Conversed<D, A>, Vault<D, A>>
     requires whole { (S.all ≡ S.parts) × (T.all ≡ T.parts) }
-    requires staged { (staged.name ≡ S.name) × (staged.parts ≡ S.parts) × (S.all ≡ 3) × (S.opening ≡ length_of vault.view) }
-    requires told { (told.name ≡ T.name) × (told.parts ≡ T.parts) × (T.all ≡ 3) × (T.opening ≡ vault.view.told) }
+    requires staged { (staged.name ≡ S.name) × (staged.parts ≡ S.parts) × (S.all ≡ 3) × (S.beginning ≡ vault.view) }
+    requires told { (told.name ≡ T.name) × (told.parts ≡ T.parts) × (T.all ≡ 3) × (T.beginning ≡ vault.view) }
     requires frees { Frees A.Allocator A.dealloc_token }
 {
     match Shared::<D, S, T, A>::new(alloc, staged, told, vault, 2) {

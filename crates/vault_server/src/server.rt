@@ -1,8 +1,8 @@
 //! A server over TCP.
 ghost use Rattle.std.specs.Prelude.{◌≡◌, ◌+◌, ◌<◌, ◌≤◌, IfOk};
 ghost use Rattle.std.specs.Thread.{IsSend, IsSync};
-ghost use Rattle.group_commit.specs.View.{length_of};
 ghost use Rattle.vault_sessions.specs.Tallies.{HasGrown};
+ghost use Rattle.vault_sessions.specs.Acts.{GoesOn};
 ghost use denote.Param.Send.{Frees};
 
 use crate::commits::CommitToken;
@@ -100,6 +100,7 @@ pub fn run_server<
     requires workers { (0 < workers) × (workers ≤ 64) }
     requires frees { Frees A.Allocator A.dealloc_token }
     ensures grown { IfOk result (λ served. HasGrown vault.view served.0.view served.1) }
+    ensures acts { IfOk result (λ served. GoesOn vault.view served.0.view) }
 {
     let options = ServerOptions {
         workers,
@@ -137,6 +138,7 @@ pub fn run_server_on<
     requires workers { (0 < options.now.workers) × (options.now.workers ≤ 64) }
     requires frees { Frees A.Allocator A.dealloc_token }
     ensures grown { IfOk result (λ served. HasGrown vault.view served.0.view served.1) }
+    ensures acts { IfOk result (λ served. GoesOn vault.view served.0.view) }
 {
     let parts = options.workers as u64 + 1;
     let (staged, told) = (Blank::new(parts), Blank::new(parts));
@@ -165,9 +167,10 @@ fn run<
     requires frees { Frees A.Allocator A.dealloc_token }
     requires whole { (S.all ≡ S.parts) × (T.all ≡ T.parts) }
     requires staged { (staged.name ≡ S.name) × (staged.parts ≡ S.parts) × (S.all ≡ options.now.workers + 1)
-        × (S.opening ≡ length_of vault.view) }
-    requires told { (told.name ≡ T.name) × (told.parts ≡ T.parts) × (T.all ≡ options.now.workers + 1) × (T.opening ≡ vault.view.told) }
+        × (S.beginning ≡ vault.view) }
+    requires told { (told.name ≡ T.name) × (told.parts ≡ T.parts) × (T.all ≡ options.now.workers + 1) × (T.beginning ≡ vault.view) }
     ensures grown { IfOk result (λ served. HasGrown vault.view served.0.view served.1) }
+    ensures acts { IfOk result (λ served. GoesOn vault.view served.0.view) }
 {
     let workers = options.workers;
     let polls = match polls_of(rt, alloc, workers.min(options.threads).max(1)) {

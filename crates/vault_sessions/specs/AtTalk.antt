@@ -12,12 +12,13 @@ pub record Beginning : Type 0 where
   pub names : ℕ × ℕ
   pub keeps : Bool
 
--- what it began with, the bytes that its connection has to give now, the bytes written to it, what its next step is for, whether no step
--- is left, and whether it may be finished: no step is left, or it was given up
+-- what it began with, the bytes that its connection has to give now, the bytes written to it, the session that it speaks for (0: none),
+-- what its next step is for, whether no step is left, and whether it may be finished: no step is left, or it was given up
 pub record AtTalk : Type 0 where
   pub began : Beginning
   pub remaining : Option (List ℕ)
   pub contents : Option (List ℕ)
+  pub session : ℕ
   pub awaits : Awaits
   pub is_over : Bool
   pub has_ended : Bool

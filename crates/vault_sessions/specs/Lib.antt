@@ -1,5 +1,6 @@
 pub mod AtDesk
 pub mod Tallies
+pub mod Acts
 pub mod Pumping
 pub mod Serving
 pub mod Talking

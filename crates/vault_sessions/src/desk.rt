@@ -1,8 +1,9 @@
 //! What lies under the lock.
-ghost use Rattle.std.specs.Prelude.{◌≡◌, ◌≢◌, ◌+◌, ◌≤◌, ◌↔◌, ◌⊎◌, IsTrue, IfOk, IfErr, IfSome, OnOk, OnErr, Ok, Some, true, false};
+ghost use Rattle.std.specs.Prelude.{◌≡◌, ◌≢◌, ◌+◌, ◌≤◌, ◌↔◌, ◌⊎◌, ℕ, IsTrue, IfOk, IfErr, IfSome, OnOk, OnErr, Ok, Some, true, false};
 ghost use Rattle.group_commit.specs.History.{entry_of};
 ghost use Rattle.vault_model.specs.declared.replies.Outside.TheVariants.{BadLine};
 ghost use Rattle.vault_store.specs.declared.starting.Started.TheVariants as Started;
+ghost use Rattle.vault_store.specs.Seen.{wants_snapshot};
 ghost use Rattle.group_commit.specs.World.{Stage, StartSnapshot};
 ghost use Rattle.group_commit.specs.View.{length_of, book_of, view_acted};
 ghost use Rattle.group_commit.specs.Seen.{snapshot_length};
@@ -13,6 +14,7 @@ ghost use Rattle.vault_sessions.specs.Tallies.{IsOfTicket, CountsRedeem};
 ghost use Rattle.vault_sessions.specs.Looking.{IsFor, IsLooked, ChangesLooked, CountsLooked};
 ghost use Rattle.vault_sessions.specs.Pumping.{IsPumped, IsAtRest};
 ghost use Rattle.vault_sessions.specs.Waiting.{IsQueued, IsStandingQueued};
+ghost use Rattle.vault_sessions.specs.Acts.{GoesOn};
 ghost use Rattle.vault_sessions.specs.declared.flusher.Flushed.TheVariants as Flushed;
 ghost use Rattle.vault_sessions.specs.declared.desk.Due.TheVariants as Due;
 
@@ -69,14 +71,15 @@ impl<D: Device, S: Tally, T: Tally, A: Allocator> Model for Desk<D, S, T, A> {
     ghost use Rattle.std.specs.Prelude.{◌≡◌};
     ghost use Rattle.group_commit.specs.View.{length_of};
     ghost use Rattle.vault_sessions.specs.AtDesk.{AtDesk};
+    ghost use Rattle.vault_sessions.specs.Acts.{GoesOn};
 
     ghost Value = { AtDesk D };
 
     ghost view = { λ d. record { vault = d.vault; closed = d.closed } };
 
-    // Invariants 1 to 3 of lib.rt, in this order; the third takes two clauses.
-    ghost invariant = { λ d. (d.staged.total ≡ length_of d.vault.view) × (d.told.total ≡ d.vault.view.told) × (d.opening.staged ≡ S.opening)
-        × (d.opening.told ≡ T.opening) };
+    // Invariants 1 to 4 of lib.rt, in this order; the third takes two clauses.
+    ghost invariant = { λ d. (d.staged.total ≡ length_of d.vault.view) × (d.told.total ≡ d.vault.view.told) × (d.opening.staged ≡ length_of S.beginning)
+        × (d.opening.told ≡ T.beginning.told) × GoesOn S.beginning d.vault.view };
 }
 
 impl<D: Device, S: Tally, T: Tally, A: Allocator + Copy> Desk<D, S, T, A> {
@@ -96,8 +99,8 @@ impl<D: Device, S: Tally, T: Tally, A: Allocator + Copy> Desk<D, S, T, A> {
         ensures refused { OnErr result ((self.new ≡ self.old) × (share.new ≡ share.old)) }
         ensures handed_back { IfErr result (λ refusal. refusal.1 ≡ command) }
         ensures reason { IfErr result (λ refusal. IsReason self.old.vault refusal.0) }
-        ensures least { (share.new.staged + S.opening ≤ length_of self.new.vault.view)
-            × (share.new.told + T.opening ≤ self.new.vault.view.told) }
+        ensures least { (share.new.staged + length_of S.beginning ≤ length_of self.new.vault.view)
+            × (share.new.told + T.beginning.told ≤ self.new.vault.view.told) }
         ensures open { self.new.closed ≡ self.old.closed }
         ensures answered { IsAnswered self.old.vault self.new.vault }
     {
@@ -119,8 +122,8 @@ impl<D: Device, S: Tally, T: Tally, A: Allocator + Copy> Desk<D, S, T, A> {
         ensures redeemed { IsRedeemed self.old.vault self.new.vault ticket result }
         ensures of_ticket { IsOfTicket ticket result }
         ensures counted { CountsRedeem share.old result share.new }
-        ensures least { (share.new.staged + S.opening ≤ length_of self.new.vault.view)
-            × (share.new.told + T.opening ≤ self.new.vault.view.told) }
+        ensures least { (share.new.staged + length_of S.beginning ≤ length_of self.new.vault.view)
+            × (share.new.told + T.beginning.told ≤ self.new.vault.view.told) }
         ensures open { self.new.closed ≡ self.old.closed }
         ensures answered { IsAnswered self.old.vault self.new.vault }
     {
@@ -194,7 +197,8 @@ impl<D: Device, S: Tally, T: Tally, A: Allocator + Copy> Desk<D, S, T, A> {
         opening: Share<S, T>,
     ) -> Desk<D, S, T, A>
         requires books { (staged.total ≡ length_of vault.view) × (told.total ≡ vault.view.told) }
-        requires opening { (opening.staged ≡ S.opening) × (opening.told ≡ T.opening) }
+        requires opening { (opening.staged ≡ length_of S.beginning) × (opening.told ≡ T.beginning.told) }
+        requires acts { GoesOn S.beginning vault.view }
         ensures { result ≡ record { vault = vault; closed = false } }
     {
         Desk {
@@ -296,19 +300,18 @@ impl<D: Device, S: Tally, T: Tally, A: Allocator + Copy> Desk<D, S, T, A> {
     }
 
     // Gives the claim of a kept `wait` that is to be staged: it was released, or its claim doesn't wait any more, or the vault is
-    // broken. Else the `wait` comes back. It looks at the queue of claims only if that may have moved since the last look.
+    // broken. Else the `wait` comes back.
     pub(crate) fn lets_go(&mut self, kept: PendingWait) -> Result<ClaimId, PendingWait>
         ensures same { self.new ≡ self.old }
         ensures claim { IfOk result (λ claim. claim ≡ kept.claim) }
         ensures goes { OnOk result ((kept.is_let_go ≡ true) ⊎ (self.old.vault.view.broken ≡ true)
             ⊎ (IsQueued self.old.vault.view kept.claim → ⊥)) }
-        ensures stays { IfErr result (λ back. (back.claim ≡ kept.claim) × (kept.is_let_go ≡ false)) }
+        ensures stays { IfErr result (λ back. (back ≡ kept) × (kept.is_let_go ≡ false) × (self.old.vault.view.broken ≡ false)
+            × IsQueued self.old.vault.view kept.claim) }
     {
-        let stays = !kept.is_let_go
-            && (!self.waits.have_moved(&kept)
-                || !self.vault.is_broken() && self.is_queued(kept.claim));
+        let stays = !kept.is_let_go && !self.vault.is_broken() && self.is_queued(kept.claim);
         if stays {
-            return Err(self.waits.stay(kept));
+            return Err(kept);
         }
         Ok(self.waits.leave(kept))
     }
@@ -350,6 +353,8 @@ impl<D: Device, S: Tally, T: Tally, A: Allocator + Copy> Desk<D, S, T, A> {
         silence: &mut Silence,
     ) -> Due
         ensures nothing { result ≡ Due.Nothing → self.now.vault.view.broken ≡ false → IsAtRest self.now.vault.view }
+        ensures snapshot { result ≡ Due.Snapshot → wants_snapshot self.now.vault.store ≡ true }
+        ensures commit { (settled : ℕ) → result ≡ Due.Commit settled → (settled ≡ self.now.vault.view.settled) × (self.now.vault.view.broken ≡ false) }
     {
         let snapshot = self.snapshot_in(clock, silence);
         if snapshot == Some(Duration::ZERO) {
@@ -377,7 +382,9 @@ impl<D: Device, S: Tally, T: Tally, A: Allocator + Copy> Desk<D, S, T, A> {
 
     // How long it is until a snapshot is begun, if no command comes until then. None: none is wanted, it is put off, or the desk is
     // closed.
-    fn snapshot_in<C: Clock>(&self, clock: &C, silence: &mut Silence) -> Option<Duration> {
+    fn snapshot_in<C: Clock>(&self, clock: &C, silence: &mut Silence) -> Option<Duration>
+        ensures { IfSome result (λ left. wants_snapshot self.now.vault.store ≡ true) }
+    {
         if self.pace.is_put_off || !self.vault.wants_snapshot() {
             return None;
         }

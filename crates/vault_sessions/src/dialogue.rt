@@ -1,5 +1,5 @@
 //! One connection's conversation, from its first byte to its report: the code that serves is the code that is proved.
-ghost use Rattle.std.specs.Prelude.{◌≡◌, ◌≤◌, ◌↔◌, ◌||◌, ℕ, Bool, MatchBool, true, false, List, Option, None, IfOk, IfErr, length};
+ghost use Rattle.std.specs.Prelude.{◌≡◌, ◌≢◌, ◌≤◌, ◌↔◌, ◌||◌, ℕ, Bool, IsTrue, MatchBool, true, false, List, Option, None, IfOk, IfErr, length};
 ghost use Rattle.line_inlet.specs.Inflow.{Inflow};
 ghost use Rattle.vault_sessions.specs.Serving.{most_lines, HeardAll, SpeaksFor, session_of, CountsAll, WritesAll, QuitsBy};
 ghost use Rattle.vault_sessions.specs.Talking.{Stands, StandsAt};
@@ -62,7 +62,7 @@ pub enum Awaits {
 }
 
 /// One connection's conversation. It owns the connection, and nobody else reads or writes a byte over it. Contracts see what it began
-/// with, the bytes that its connection has still to give, and the bytes written to it.
+/// with, the bytes that its connection has still to give, the bytes written to it, and the session that it speaks for.
 pub struct Dialogue<C: Connection, S: Tally, T: Tally, A: Allocator> {
     connection: C,
     talk: Conversation<S, T, A>,
@@ -89,12 +89,13 @@ impl<C: Connection, S: Tally, T: Tally, A: Allocator> Model for Dialogue<C, S, T
       };
       remaining = C.remaining d.connection;
       contents = C.contents d.connection;
+      session = d.talk.session;
       awaits = awaits_of d.next;
       is_over = is_done d.next;
       has_ended = has_ended d.next;
     } };
 
-    // Invariant 7 of lib.rt.
+    // Invariant 8 of lib.rt.
     ghost invariant = { λ d. TalksOn d.next (C.remaining d.began.value) (C.remaining d.connection) (C.contents d.began.value)
         (C.contents d.connection) d.counted.value d.talk };
 }
@@ -119,6 +120,7 @@ impl<C: Connection, S: Tally, T: Tally, A: Allocator + Copy> Dialogue<C, S, T, A
           };
           remaining = C.remaining connection;
           contents = C.contents connection;
+          session = 0;
           awaits = awaited.Line;
           is_over = false;
           has_ended = false;
@@ -174,7 +176,7 @@ impl<C: Connection, S: Tally, T: Tally, A: Allocator + Copy> Dialogue<C, S, T, A
 
     /// Reads and writes nothing more. A reply that it waits for is lost. If a session is open, a further step stages its last leave.
     pub fn give_up<D: Device, G: Gate, H: Wait>(&mut self, worker: &Worker<'_, D, S, T, A, G, H>)
-        ensures same { (self.new.began ≡ self.old.began) × (self.new.is_over ≡ self.old.is_over) }
+        ensures same { (self.new.began ≡ self.old.began) × (self.new.session ≡ self.old.session) × (self.new.is_over ≡ self.old.is_over) }
         ensures leaves { MatchBool self.old.is_over (self.new.awaits ≡ awaited.Nothing) (self.new.awaits ≡ awaited.Leave) }
         ensures ended { self.new.has_ended ≡ true }
         ensures silent { (self.new.remaining ≡ self.old.remaining) × (self.new.contents ≡ self.old.contents) }
@@ -213,7 +215,9 @@ impl<C: Connection, S: Tally, T: Tally, A: Allocator + Copy> Dialogue<C, S, T, A
     }
 
     /// Whether it speaks for a session.
-    pub fn has_session(&self) -> bool {
+    pub fn has_session(&self) -> bool
+        ensures { IsTrue result ↔ self.now.session ≢ 0 }
+    {
         self.talk.session != 0
     }
 
@@ -246,6 +250,7 @@ impl<C: Connection, S: Tally, T: Tally, A: Allocator + Copy> Dialogue<C, S, T, A
         ensures heard { HeardAll self.began.remaining self.remaining result.1.answers.outs result.1.ended }
         ensures few { length result.1.answers.outs ≤ most_lines }
         ensures spoken { SpeaksFor 0 result.1.answers.outs }
+        ensures session { self.session ≡ session_of 0 result.1.answers.outs }
         ensures written { WritesAll result.1.ended self.began.contents self.contents result.1.answers.outs }
         ensures quit { QuitsBy result.1.ended result.1.answers.outs }
         ensures counted { CountsAll self.began.counted result.1.answers.outs result.1.ended result.1.share }

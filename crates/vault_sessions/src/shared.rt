@@ -1,6 +1,7 @@
 //! One desk under one lock.
 ghost use Rattle.std.specs.Prelude.{◌≡◌, ◌+◌, ◌<◌, ◌≤◌, ◌^◌, ◌↔◌, IfOk, IfErr, IsOk, All, sum_by, vec_len, false};
 ghost use Rattle.group_commit.specs.View.{length_of};
+ghost use Rattle.vault_sessions.specs.Acts.{GoesOn};
 
 use crate::desk::Desk;
 use crate::tally::{Share, Tally, Totals};
@@ -29,7 +30,7 @@ impl<D: Device, S: Tally, T: Tally, A: Allocator> Model for Shared<D, S, T, A> {
 
     ghost view = { λ s. s.workers };
 
-    // Invariant 4 of lib.rt.
+    // Invariant 5 of lib.rt.
     ghost invariant = { λ s. (s.workers + 1 ≡ S.all) × (s.workers + 1 ≡ T.all) };
 }
 
@@ -45,8 +46,8 @@ impl<D: Device, S: Tally, T: Tally, A: Allocator + Copy> Shared<D, S, T, A> {
     ) -> Result<(Shared<D, S, T, A>, Vec<Share<S, T>, A>), Vault<D, A>>
         requires workers { (0 < workers) × (workers ≤ 64) }
         requires whole { (S.all ≡ S.parts) × (T.all ≡ T.parts) }
-        requires staged { (staged.name ≡ S.name) × (staged.parts ≡ S.parts) × (S.all ≡ workers + 1) × (S.opening ≡ length_of vault.view) }
-        requires told { (told.name ≡ T.name) × (told.parts ≡ T.parts) × (T.all ≡ workers + 1) × (T.opening ≡ vault.view.told) }
+        requires staged { (staged.name ≡ S.name) × (staged.parts ≡ S.parts) × (S.all ≡ workers + 1) × (S.beginning ≡ vault.view) }
+        requires told { (told.name ≡ T.name) × (told.parts ≡ T.parts) × (T.all ≡ workers + 1) × (T.beginning ≡ vault.view) }
         ensures shares { IfOk result (λ made. (made.0 ≡ workers) × (vec_len made.1 ≡ workers)) }
         ensures empty { IfOk result (λ made. All (λ share. (share.staged ≡ 0) × (share.told ≡ 0)) made.1.items) }
         ensures handed_back { IfErr result (λ back. back ≡ vault) }
@@ -91,7 +92,9 @@ impl<D: Device, S: Tally, T: Tally, A: Allocator + Copy> Shared<D, S, T, A> {
     }
 
     /// Takes the vault out of its lock. What was counted is lost.
-    pub fn into_vault(self) -> Vault<D, A> {
+    pub fn into_vault(self) -> Vault<D, A>
+        ensures acts { GoesOn S.beginning result.view }
+    {
         let Shared {
             desk,
             work: _,
@@ -129,7 +132,9 @@ pub fn gather<D: Device, S: Tally, T: Tally, A: Allocator + Copy>(
     ensures totals { IfOk result (λ gathered. (gathered.1.staged ≡ sum_by (λ share. share.staged) shares.items)
         × (gathered.1.told ≡ sum_by (λ share. share.told) shares.items)) }
     ensures grown { IfOk result
-        (λ gathered. (length_of gathered.0.view ≡ S.opening + gathered.1.staged) × (gathered.0.view.told ≡ T.opening + gathered.1.told)) }
+        (λ gathered. (length_of gathered.0.view ≡ length_of S.beginning + gathered.1.staged)
+        × (gathered.0.view.told ≡ T.beginning.told + gathered.1.told)) }
+    ensures acts { IfOk result (λ gathered. GoesOn S.beginning gathered.0.view) }
     ensures handed_back { IfErr result (λ back. (back.0 ≡ shared) × (back.1.items ≡ shares.items)) }
 {
     if shares.len() != shared.workers {
@@ -178,7 +183,9 @@ fn merge<D: Device, S: Tally, T: Tally, A: Allocator + Copy>(
     requires { (vec_len shares + 1 ≡ S.parts) × (vec_len shares + 1 ≡ T.parts) }
     ensures totals { (result.1.staged ≡ sum_by (λ share. share.staged) shares.items)
         × (result.1.told ≡ sum_by (λ share. share.told) shares.items) }
-    ensures grown { (length_of result.0.view ≡ S.opening + result.1.staged) × (result.0.view.told ≡ T.opening + result.1.told) }
+    ensures grown { (length_of result.0.view ≡ length_of S.beginning + result.1.staged)
+        × (result.0.view.told ≡ T.beginning.told + result.1.told) }
+    ensures acts { GoesOn S.beginning result.0.view }
 {
     let Desk {
         vault,

@@ -1,20 +1,22 @@
 //! Two tallies: how many commands were staged, and how many replies were handed out.
 ghost use Rattle.std.specs.Prelude.{◌≡◌, ℕ, ◌+◌, ◌≤◌};
+ghost use Rattle.vault_model.specs.Vault.{new_vault};
+ghost use Rattle.group_commit.specs.View.{View, opened_view};
 
 use std::marker::{Brand, Model};
 use std::sync::ledger::{Book as LedgerBook, Ledger, Share as Part};
 
 /// A ledger that counts for one `Shared`.
 pub trait Tally: Ledger {
-    /// What was counted before that was made.
-    ghost opening: { ℕ };
+    /// The view of the vault when that was made: what it had then isn't counted.
+    ghost beginning: { View };
 
     /// All its parts: one for each worker, and one for what was counted before.
     ghost all: { ℕ };
 }
 
 impl Tally for Brand {
-    ghost opening = { 0 };
+    ghost beginning = { opened_view new_vault };
 
     ghost all = { 0 };
 }
@@ -45,7 +47,7 @@ impl<S: Tally, T: Tally> Model for Share<S, T> {
 
     ghost view = { λ s. s.counts };
 
-    // Invariant 5 of lib.rt.
+    // Invariant 6 of lib.rt.
     ghost invariant = { λ s. (s.staged.parts ≡ 1) × (s.staged.amount ≡ s.counts.staged)
         × (s.told.parts ≡ 1) × (s.told.amount ≡ s.counts.told) };
 }

@@ -3,14 +3,14 @@ ghost use Rattle.std.specs.Prelude.{◌≡◌, ◌||◌, false};
 
 use vault_model::{ClaimId, Command};
 
-/// A `wait` that was heard and isn't staged yet. Only those who count them make one, and take one back.
+/// A `wait` that was heard and isn't staged yet. Only `Waits`, which counts them, makes one and takes one back.
 pub struct PendingWait {
     /// The claim that it waits for.
     pub claim: ClaimId,
     /// Whether it is staged next, however the claim stands.
     pub is_let_go: bool,
-    // The number of commands staged that may move the queue of claims, when the queue was looked at last.
-    moves: u64,
+    // No other module makes one.
+    _counted: (),
 }
 
 impl PendingWait {
@@ -21,12 +21,12 @@ impl PendingWait {
         let PendingWait {
             claim,
             is_let_go,
-            moves,
+            _counted: _,
         } = self;
         PendingWait {
             claim,
             is_let_go: is_let_go || goes,
-            moves,
+            _counted: (),
         }
     }
 }
@@ -59,28 +59,7 @@ impl Waits {
         PendingWait {
             claim,
             is_let_go: false,
-            moves: self.moves,
-        }
-    }
-
-    /// Whether the queue of claims may have moved since it was looked at for this one.
-    pub fn have_moved(&self, kept: &PendingWait) -> bool {
-        kept.moves != self.moves
-    }
-
-    /// This one waits on: the queue of claims was looked at.
-    pub fn stay(&self, kept: PendingWait) -> PendingWait
-        ensures { (result.claim ≡ kept.claim) × (result.is_let_go ≡ kept.is_let_go) }
-    {
-        let PendingWait {
-            claim,
-            is_let_go,
-            moves: _,
-        } = kept;
-        PendingWait {
-            claim,
-            is_let_go,
-            moves: self.moves,
+            _counted: (),
         }
     }
 
@@ -91,7 +70,7 @@ impl Waits {
         let PendingWait {
             claim,
             is_let_go: _,
-            moves: _,
+            _counted: _,
         } = kept;
         self.count = self.count.saturating_sub(1);
         claim

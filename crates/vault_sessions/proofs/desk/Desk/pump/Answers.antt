@@ -4,13 +4,14 @@ use Rattle.group_commit.specs.View.{length_of}
 use Rattle.vault_sessions.specs.AtDesk.{AtDesk}
 use Rattle.vault_sessions.specs.Pumping.{IsPumped}
 use Rattle.vault_sessions.proofs.Desks.{pump_keeps}
+use Rattle.vault_sessions.proofs.Acts.{answered}
 use Rattle.vault_sessions.proofs.desk.Desk.pump.Goals as goal
 
 pub invariant_of-self : goal.invariant_of-self
 invariant_of-self g c =
     let e = c.pump.ensures in
     let k = pump_keeps c.self.inside.vault c.pump.new.self c.pump.result (record { broken = e.broken; answer = e.answer; pumped = e.pumped; failed = e.failed; life = e.life }) in
-    (c.self.invariant.0 ∙ sym k.0, c.self.invariant.1 ∙ sym k.1, c.self.invariant.2, c.self.invariant.3)
+    (c.self.invariant.0 ∙ sym k.0, c.self.invariant.1 ∙ sym k.1, c.self.invariant.2, c.self.invariant.3, answered g.S.Tally.beginning c.self.inside.vault c.pump.new.self c.self.invariant.4 c.pump.ensures.answered)
 
 pub returns-clause-pumped : goal.returns-clause-pumped
 returns-clause-pumped g c =

@@ -5,6 +5,7 @@ use Rattle.group_commit.specs.Pasts.{IsAnswered}
 use Rattle.vault_sessions.specs.AtDesk.{AtDesk}
 use Rattle.vault_sessions.specs.declared.tally.Totals.{Totals}
 use Rattle.vault_sessions.proofs.Desks.{told_counts, redeem_keeps, same_lengths, least_staged, least_told, counted_fits}
+use Rattle.vault_sessions.proofs.Acts.{answered}
 use Rattle.vault_sessions.proofs.desk.Desk.redeem.Goals as goal
 
 pub invariant_of-self : goal.invariant_of-self
@@ -17,6 +18,7 @@ invariant_of-self g c =
       c.add.ensures.total ∙ ap (λ n. n + 1) (books.1 ∙ i.1) ∙ sym k.1,
       ap (λ (t : Totals). t.staged) same ∙ i.2,
       ap (λ (t : Totals). t.told) same ∙ i.3,
+      answered g.S.Tally.beginning c.self.inside.vault c.redeem.new.self i.4 c.in-Told.ensures.answered,
     )
 
 pub returns-in-Told-clause-least : goal.returns-in-Told-clause-least
@@ -41,7 +43,7 @@ overflow_add-share g c =
     let opening = ap (λ (t : Totals). t.told) c.audit_beside.ensures.same.1 ∙ c.self.invariant.3 in
     let counted = ap (λ n. n + 1) (c.audit_beside.ensures.books.1 ∙ c.self.invariant.1) ∙ sym k.1 in
     let least = least_told (ap (λ (t : Totals). t.told) c.share.view_is) opening c.audit_beside.ensures.told counted in
-    counted_fits (c.share.inside.counts.told + 1) g.T.Tally.opening _ _ least c.told-told.ensures c.told-told.type_inv
+    counted_fits (c.share.inside.counts.told + 1) g.T.Tally.beginning.told _ _ least c.told-told.ensures c.told-told.type_inv
 
 pub invariant_of-self-in_default : goal.invariant_of-self-in_default
 invariant_of-self-in_default g c =
@@ -50,7 +52,8 @@ invariant_of-self-in_default g c =
     let i = c.self.invariant in
     let books = c.audit_beside.ensures.books in
     let same = c.audit_beside.ensures.same.1 in
-    (books.0 ∙ i.0 ∙ sym k.0, books.1 ∙ i.1 ∙ sym k.1, ap (λ (t : Totals). t.staged) same ∙ i.2, ap (λ (t : Totals). t.told) same ∙ i.3)
+    let on = answered g.S.Tally.beginning c.self.inside.vault c.redeem.new.self i.4 c.redeem.ensures.answered in
+    (books.0 ∙ i.0 ∙ sym k.0, books.1 ∙ i.1 ∙ sym k.1, ap (λ (t : Totals). t.staged) same ∙ i.2, ap (λ (t : Totals). t.told) same ∙ i.3, on)
 
 pub returns-in-Told-clause-redeemed : goal.returns-in-Told-clause-redeemed
 returns-in-Told-clause-redeemed g c =

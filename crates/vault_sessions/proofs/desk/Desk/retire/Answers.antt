@@ -3,12 +3,13 @@ use Rattle.group_commit.specs.View.{length_of}
 use Rattle.group_commit.specs.Calls.{IsRetired}
 use Rattle.group_commit.specs.Pasts.{IsAnswered}
 use Rattle.vault_sessions.specs.AtDesk.{AtDesk}
+use Rattle.vault_sessions.proofs.Acts.{answered}
 use Rattle.vault_sessions.proofs.desk.Desk.retire.Goals as goal
 
 pub invariant_of-self : goal.invariant_of-self
 invariant_of-self g c =
     let k = c.retire.ensures.same in
-    (c.self.invariant.0 ∙ sym k.0, c.self.invariant.1 ∙ sym k.1, c.self.invariant.2, c.self.invariant.3)
+    (c.self.invariant.0 ∙ sym k.0, c.self.invariant.1 ∙ sym k.1, c.self.invariant.2, c.self.invariant.3, answered g.S.Tally.beginning c.self.inside.vault c.retire.new.self c.self.invariant.4 c.retire.ensures.answered)
 
 pub returns-clause-retired : goal.returns-clause-retired
 returns-clause-retired g c =

@@ -9,6 +9,7 @@ use Rattle.group_commit.specs.Pasts.{IsAnswered}
 use Rattle.vault_sessions.specs.AtDesk.{AtDesk}
 use Rattle.vault_sessions.specs.declared.tally.Totals.{Totals}
 use Rattle.vault_sessions.proofs.Desks.{stage_counts, same_desk, same_lengths, least_staged, least_told, counted_fits}
+use Rattle.vault_sessions.proofs.Acts.{answered}
 use Rattle.vault_sessions.proofs.desk.Desk.stage.Goals as goal
 
 pub returns-in-Ok-clause-answered : goal.returns-in-Ok-clause-answered
@@ -24,6 +25,7 @@ invariant_of-self g c =
       books.1 ∙ i.1 ∙ sym k.1,
       ap (λ (t : Totals). t.staged) same ∙ i.2,
       ap (λ (t : Totals). t.told) same ∙ i.3,
+      answered g.S.Tally.beginning c.self.inside.vault c.stage.new.self i.4 c.in-Ok.ensures.answered,
     )
 
 pub invariant_of-share : goal.invariant_of-share
@@ -37,7 +39,7 @@ overflow_add-share g c =
     let opening = ap (λ (t : Totals). t.staged) c.audit_beside.ensures.same.1 ∙ c.self.invariant.2 in
     let counted = ap (λ n. n + 1) (c.audit_beside.ensures.books.0 ∙ c.self.invariant.0) ∙ sym k.0 in
     let least = least_told (ap (λ (t : Totals). t.staged) c.share.view_is) opening c.audit_beside.ensures.staged counted in
-    counted_fits (c.share.inside.counts.staged + 1) g.S.Tally.opening _ _ least c.len-length.ensures c.len-length.type_inv
+    counted_fits (c.share.inside.counts.staged + 1) (length_of g.S.Tally.beginning) _ _ least c.len-length.ensures c.len-length.type_inv
 
 pub invariant_of-self-in-Err : goal.invariant_of-self-in-Err
 invariant_of-self-in-Err g c =
@@ -45,7 +47,8 @@ invariant_of-self-in-Err g c =
     let i = c.self.invariant in
     let books = c.audit_beside.ensures.books in
     let same = c.audit_beside.ensures.same.1 in
-    (books.0 ∙ i.0 ∙ sym k.0, books.1 ∙ i.1 ∙ sym k.1, ap (λ (t : Totals). t.staged) same ∙ i.2, ap (λ (t : Totals). t.told) same ∙ i.3)
+    let on = answered g.S.Tally.beginning c.self.inside.vault c.stage.new.self i.4 c.in-Err.ensures.answered in
+    (books.0 ∙ i.0 ∙ sym k.0, books.1 ∙ i.1 ∙ sym k.1, ap (λ (t : Totals). t.staged) same ∙ i.2, ap (λ (t : Totals). t.told) same ∙ i.3, on)
 
 pub returns-in-Ok-clause-staged : goal.returns-in-Ok-clause-staged
 returns-in-Ok-clause-staged g c =
