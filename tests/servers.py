@@ -77,11 +77,12 @@ def sockets_of(process: int) -> Iterator[socket.socket]:
 
 
 def free_port() -> int:
-    """A port that nobody listens on: of those that tests/run gave to this module, or any."""
-    first, count = (int(word) for word in os.environ.get("VAULT_TEST_PORTS", "0 1").split())
+    """A port that nobody listens on: of those that tests/run gave to this module, or of a hundred that the process's number picks. They lie
+    below those that the kernel gives to clients: a bench takes the next ones, too, and one of them could be a client's."""
+    first, count = (int(word) for word in os.environ.get("VAULT_TEST_PORTS", f"{20_000 + os.getpid() % 100 * 100} 100").split())
     for _ in range(count):
         with socket.socket() as listener, contextlib.suppress(OSError):
-            listener.bind(("127.0.0.1", first and first + next(TAKEN) % count))
+            listener.bind(("127.0.0.1", first + next(TAKEN) % count))
             return int(listener.getsockname()[1])
     raise AssertionError(f"no port is free from {first} on")
 
