@@ -7,6 +7,7 @@ A cycle is that of bench/server.py. --folder says on which disk all the vaults l
 """
 import multiprocessing
 import os
+import signal
 import statistics
 import time
 
@@ -15,7 +16,8 @@ from server import WORKERS, measured
 
 
 def one(program, folder, options, number, together, results):
-    """The server and the load of one vault."""
+    """The server and the load of one vault. Where it can't be measured, it says why, and ends them and itself."""
+    os.setpgid(0, 0)
     folder = os.path.join(folder, f"vault{number}")
     os.makedirs(folder, exist_ok=True)
     options.port += number
@@ -24,7 +26,13 @@ def one(program, folder, options, number, together, results):
         time.sleep(1)
         together.wait(60)
 
-    results.put(measured(program, folder, options, options.connections, ready=ready))
+    try:
+        results.put(measured(program, folder, options, options.connections, ready=ready))
+    except BaseException as error:  # also that a server didn't start
+        results.put(f"vault {number}, port {options.port}: {error!r}")
+        results.close()
+        results.join_thread()
+        os.killpg(0, signal.SIGKILL)
 
 
 def row(program, folder, options, vaults):
@@ -33,9 +41,18 @@ def row(program, folder, options, vaults):
     runs = [multiprocessing.Process(target=one, args=(program, folder, options, n, together, results)) for n in range(vaults)]
     for run in runs:
         run.start()
-    done = [results.get(timeout=600) for _ in runs]
-    for run in runs:
-        run.join()
+    done = []
+    try:
+        for _ in runs:
+            done.append(results.get(timeout=600))
+            if isinstance(done[-1], str):
+                raise SystemExit(f"many.py: {done[-1]}")
+        for run in runs:
+            run.join()
+    finally:
+        for run in runs:
+            if run.is_alive():
+                os.killpg(run.pid, signal.SIGKILL)
     rates = sorted(count / wall for count, wall, *_ in done)
     walls = sorted(wall for _, _, walls, *_ in done for wall in walls)
     cycles = sum(count for count, *_ in done)
