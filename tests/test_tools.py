@@ -615,14 +615,15 @@ class Gate(unittest.TestCase):
         script.write_text("\n".join(("#!/bin/sh", *lines, "")), "utf-8")
         script.chmod(0o755)
 
-    def started(self) -> "subprocess.Popen[str]":
+    def started(self, **variables: str) -> "subprocess.Popen[str]":
         """The gate over these parts."""
+        own = {"PATH": f"{self.folder}:{os.environ['PATH']}", "VAULTD": str(self.folder / "vaultd")}
         return subprocess.Popen([str(self.folder / "tools" / "gate")], stdout=subprocess.PIPE, stderr=subprocess.STDOUT, text=True,
-                                env={**os.environ, "PATH": f"{self.folder}:{os.environ['PATH']}", "VAULTD": str(self.folder / "vaultd")})
+                                env={**os.environ, **own, **variables})
 
-    def ended(self) -> Tuple[int, List[str]]:
+    def ended(self, **variables: str) -> Tuple[int, List[str]]:
         """The gate's status, and its lines."""
-        gate = self.started()
+        gate = self.started(**variables)
         said, _ = gate.communicate(timeout=60)
         return gate.returncode, said.splitlines()
 
@@ -633,28 +634,39 @@ class Gate(unittest.TestCase):
         self.assertIn(parts, (5, 6))
         self.assertEqual((status, lines[-1]), (0, f"{2 * parts} passed, 0 failed"))
 
-    def begun_over(self, word: str) -> Tuple[List[str], List[str]]:
-        """How the tests around the program, and tests/run, were called in a gate in which `rt ci` says this of long_locks."""
+    def begun_over(self, word: str, rest: int) -> Tuple[List[str], List[str]]:
+        """How the tests around the program, and tests/run, were called in a gate in which `rt ci` says this of long_locks. The processors are
+        idle for so many ticks a second."""
         for name in ("tools/try-around", "tests/run"):
             self.write(name, f'echo "{name} $*" >> {self.folder}/begun', self.PASSED)
-        self.write("rt", f"echo 'rt: long_locks {word}'", "sleep 3", "echo 'rt: vault_server proved'", "sleep 3", self.PASSED)
-        status, lines = self.ended()
+        stat = self.folder / "stat"
+        stat.write_text("cpu 0 0 0 0\n", "utf-8")
+        self.write("rt", f"echo 'rt: long_locks {word}'", "for second in 1 2 3 4 5 6 7 8 9; do",
+                   f'  echo "cpu 0 0 0 $((second * {rest}))" > {stat}.new; mv {stat}.new {stat}; sleep 1', "done",
+                   "echo 'rt: vault_server proved'", "sleep 3", self.PASSED)
+        status, lines = self.ended(PROC_STAT=str(stat))
         self.assertEqual(status, 0, lines)
         begun = (self.folder / "begun").read_text("utf-8").splitlines()
         return [line for line in begun if line.startswith("tools/try-around")], [line for line in begun if line.startswith("tests/run")]
 
     def test_beside_the_proofs(self) -> None:
-        """Where long_locks is proved, and there are four processors, what stands around the program is tested meanwhile, and not again."""
-        around, tests = self.begun_over("proved")
+        """Where long_locks is proved, and there are four processors, what stands around the program is tested once some are idle, and not
+        again."""
+        around, tests = self.begun_over("proved", 100_000)
         self.assertEqual(len(around), len(os.sched_getaffinity(0)) >= 4)
         self.assertEqual({line.endswith(" --but-around") for line in tests}, {bool(around)}, tests)
 
     def test_beside_nothing(self) -> None:
-        """Where it is kept, the proved program is there soon: tests/run tests all with that."""
-        around, tests = self.begun_over("is kept: an earlier run on this machine proved the same files over the same libraries")
-        self.assertEqual(around, [])
-        self.assertTrue(tests)
-        self.assertNotIn("around", " ".join(tests))
+        """Where it is kept, the proved program is there soon, and where no processor is idle, all wait for the proofs: tests/run tests all
+        with the proved program."""
+        kept = "is kept: an earlier run on this machine proved the same files over the same libraries"
+        for word, rest in ((kept, 100_000), ("proved", 0)):
+            with self.subTest(word=word):
+                (self.folder / "begun").unlink(missing_ok=True)
+                around, tests = self.begun_over(word, rest)
+                self.assertEqual(around, [])
+                self.assertTrue(tests)
+                self.assertNotIn("around", " ".join(tests))
 
     def test_one_that_fails(self) -> None:
         """Its count and its status are the gate's; programs aren't refused then, and the others run."""
