@@ -634,15 +634,15 @@ class Gate(unittest.TestCase):
         self.assertIn(parts, (5, 6))
         self.assertEqual((status, lines[-1]), (0, f"{2 * parts} passed, 0 failed"))
 
-    def begun_over(self, word: str, rest: int) -> Tuple[List[str], List[str]]:
-        """How the tests around the program, and tests/run, were called in a gate in which `rt ci` says this of long_locks. The processors are
-        idle for so many ticks a second."""
+    def begun_over(self, word: str, rest: int, steps: int = 45) -> Tuple[List[str], List[str]]:
+        """How the tests around the program, and tests/run, were called in a gate in which `rt ci` says this of long_locks, and after
+        so many steps of a fifth of a second, or once tests began, that the server is proved. The processors are idle for `rest` ticks a step."""
         for name in ("tools/try-around", "tests/run"):
             self.write(name, f'echo "{name} $*" >> {self.folder}/begun', self.PASSED)
         stat = self.folder / "stat"
         stat.write_text("cpu 0 0 0 0\n", "utf-8")
-        self.write("rt", f"echo 'rt: long_locks {word}'", "for second in 1 2 3 4 5 6 7 8 9; do",
-                   f'  echo "cpu 0 0 0 $((second * {rest}))" > {stat}.new; mv {stat}.new {stat}; sleep 1', "done",
+        self.write("rt", f"echo 'rt: long_locks {word}'", f"for step in $(seq {steps}); do", f"  [ ! -e {self.folder}/begun ] || break",
+                   f'  echo "cpu 0 0 0 $((step * {rest}))" > {stat}.new; mv {stat}.new {stat}; sleep 0.2', "done",
                    "echo 'rt: vault_server proved'", "sleep 3", self.PASSED)
         status, lines = self.ended(PROC_STAT=str(stat))
         self.assertEqual(status, 0, lines)
@@ -652,7 +652,7 @@ class Gate(unittest.TestCase):
     def test_beside_the_proofs(self) -> None:
         """Where long_locks is proved, and there are four processors, what stands around the program is tested once some are idle, and not
         again."""
-        around, tests = self.begun_over("proved", 100_000)
+        around, tests = self.begun_over("proved", 100_000, 150)
         self.assertEqual(len(around), len(os.sched_getaffinity(0)) >= 4)
         self.assertEqual({line.endswith(" --but-around") for line in tests}, {bool(around)}, tests)
 
