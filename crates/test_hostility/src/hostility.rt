@@ -10,8 +10,8 @@ use std::sync::Wait;
 use std::sync::atomic::{AtomicBool, AtomicU64, Ordering};
 use std::thread::{self, Threads};
 use std::time::{Clock, Duration};
+use test_fixtures::{TURNS, created, is_reached_within};
 use test_memory::Refusing;
-use test_sessions::{TURNS, created, is_reached_within};
 use vault_server::{Patience, ServerError, ServerOptions, run_server_on};
 use vault_sessions::{Gate, Point};
 

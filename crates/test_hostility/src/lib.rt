@@ -2,7 +2,7 @@
 //!
 //! Promises: nothing; it has no public function.
 //! Only tested: what `vault_server` says is only tested.
-//! Stands on: vault_server, test_sessions, test_memory, and what they stand on. It is a crate of its own, since its tests are proved beside
+//! Stands on: vault_server, test_fixtures, test_memory, and what they stand on. It is a crate of its own, since its tests are proved beside
 //! those of test_server then.
 //! Start at: hostility.rt.
 #![tactic(auto)]

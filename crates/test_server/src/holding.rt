@@ -3,7 +3,7 @@
 use std::sync::atomic::{AtomicBool, AtomicU64, Ordering};
 use std::time::{Clock, Duration};
 use std::{io, thread};
-use test_sessions::{TURNS, is_reached_within};
+use test_fixtures::{TURNS, is_reached_within};
 use vault_sessions::{Gate, Point};
 
 /// Points, and how often each was passed at least.

@@ -3,7 +3,7 @@
 //!
 //! Promises: nothing; it has no public function.
 //! Only tested: what `vault_server` says is only tested.
-//! Stands on: vault_server, test_sessions, test_memory, and what they stand on.
+//! Stands on: vault_server, test_fixtures, test_memory, and what they stand on.
 //! Start at: serving.rt.
 #![tactic(auto)]
 

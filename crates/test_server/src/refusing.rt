@@ -8,8 +8,8 @@ use std::process::Abort;
 use std::sync::Wait;
 use std::thread::Threads;
 use std::time::Clock;
+use test_fixtures::CREATION;
 use test_memory::{Outcome, Refusing, requests};
-use test_sessions::CREATION;
 use vault_server::ServerError;
 use vault_sessions::Totals;
 

@@ -8,8 +8,8 @@ use std::process::Abort;
 use std::sync::Wait;
 use std::thread::Threads;
 use std::time::Clock;
+use test_fixtures::{CREATION, Piece, is_text};
 use test_memory::Refusing;
-use test_sessions::{CREATION, Piece, is_text};
 use vault_server::ServerError;
 use vault_sessions::{Point, Totals};
 

@@ -3,8 +3,8 @@
 use crate::holding::Rule;
 use crate::server::{Client, ENDED, Outcome, PLAIN, Serving};
 use crate::serving::comes_as_said;
+use test_fixtures::CREATION;
 use test_memory::Refusing;
-use test_sessions::CREATION;
 use vault_server::ServerError;
 use vault_sessions::{Point, Totals};
 

@@ -1,9 +1,9 @@
 //! Vaults to begin with: a new one, one without room, one for which a snapshot is wanted, and one that version 1 wrote.
 
-use crate::creation::{Begun, created};
 use group_commit::{Pumped, Vault};
 use std::alloc::Global;
 use std::process::Abort;
+use test_fixtures::{Begun, created};
 use test_memory::Refusing;
 use vault_device::{Device, MemDevice};
 use vault_lines::read_line_of;

@@ -1,14 +1,12 @@
 //! Tests of conversations through their public calls: conversations in memory, a flusher beside workers, and the pace of commits. Each
 //! is a row of a table, and one function checks all rows of a table.
 //!
-//! Promises: nothing; its public functions make the vaults and the readers and writers of bytes that tests of the server begin with, too.
+//! Promises: nothing; it has no public function.
 //! Only tested: what `vault_sessions` and `flusher_pace` say is only tested.
-//! Stands on: vault_sessions, test_memory, and what they stand on.
+//! Stands on: vault_sessions, test_fixtures, test_memory, and what they stand on.
 //! Start at: talks.rt for a conversation, pair.rt for two side by side, pacing.rt for the pace of commits.
 #![tactic(auto)]
 
-mod creation;
-mod devices;
 #[cfg(test)]
 mod filling;
 #[cfg(test)]
@@ -21,8 +19,3 @@ mod pair;
 mod talk;
 #[cfg(test)]
 mod talks;
-mod turns;
-
-pub use creation::{Begun, CREATION, CREATION_BESIDE, created};
-pub use devices::{Devices, Hearer, Piece, Sender, is_text};
-pub use turns::{TURNS, is_reached_within};

@@ -1,7 +1,5 @@
 //! The allocations of a conversation, refused in turn, and that of a snapshot.
 
-use crate::creation::{CREATION, CREATION_BESIDE};
-use crate::devices::{Devices, Piece};
 use crate::filling::{COMMITS, Start};
 use crate::talk::{COMMIT, Came, Flusher, NOTHING, PLAIN, SNAPSHOT, Talk, come_to_that, talked};
 use std::alloc::Global;
@@ -9,6 +7,7 @@ use std::process::Abort;
 use std::sync::Wait;
 use std::thread::Threads;
 use std::time::Clock;
+use test_fixtures::{CREATION, CREATION_BESIDE, Devices, Piece};
 use test_memory::{Outcome, Refusing, requests};
 use vault_sessions::{Ended, Flushed, Totals};
 

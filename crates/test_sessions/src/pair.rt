@@ -3,8 +3,6 @@
 ghost use Rattle.std.specs.Prelude.{◌≡◌};
 ghost use denote.Param.Send.{Frees};
 
-use crate::creation::{Begun, created};
-use crate::devices::{Devices, Hearer, Piece, Sender};
 use group_commit::Vault;
 use std::alloc::{Allocator, Global};
 use std::marker::Brand;
@@ -13,6 +11,7 @@ use std::sync::Wait;
 use std::sync::ledger::Blank;
 use std::thread::{self, Threads};
 use std::time::Clock;
+use test_fixtures::{Begun, Devices, Hearer, Piece, Sender, created};
 use test_memory::Refusing;
 use vault_device::{Device, MemDevice};
 use vault_sessions::{

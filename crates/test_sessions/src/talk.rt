@@ -3,10 +3,7 @@
 ghost use Rattle.std.specs.Prelude.{◌≡◌};
 ghost use denote.Param.Send.{Frees};
 
-use crate::creation::{Begun, CREATION, CREATION_BESIDE};
-use crate::devices::{Devices, Hearer, Piece, Sender, is_text};
 use crate::filling::{Start, begun};
-use crate::turns::{TURNS, is_reached_within};
 use group_commit::Vault;
 use std::alloc::{Allocator, Global};
 use std::marker::Brand;
@@ -16,6 +13,10 @@ use std::sync::atomic::{AtomicU64, Ordering};
 use std::sync::ledger::Blank;
 use std::thread::{self, Threads};
 use std::time::Clock;
+use test_fixtures::{
+    Begun, CREATION, CREATION_BESIDE, Devices, Hearer, Piece, Sender, TURNS, is_reached_within,
+    is_text,
+};
 use test_memory::Refusing;
 use vault_device::{Device, MemDevice};
 use vault_sessions::{

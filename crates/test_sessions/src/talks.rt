@@ -1,9 +1,8 @@
 //! Conversations on one connection, and on several, one after the other; a flusher with nothing to do, and one that makes a snapshot.
 
-use crate::creation::{CREATION, CREATION_BESIDE};
-use crate::devices::{Devices, Piece};
 use crate::filling::{COMMITS, MAX_KEPT, Start};
 use crate::talk::{COMMIT, Came, Flusher, NOTHING, PLAIN, SNAPSHOT, Talk, come_to_that};
+use test_fixtures::{CREATION, CREATION_BESIDE, Devices, Piece};
 use test_memory::Refusing;
 use vault_sessions::{Ended, Flushed, Totals};
 
