@@ -102,6 +102,7 @@ class Deadlines(unittest.TestCase):
 
 
 MODULE = """
+import os
 import subprocess
 import time
 import unittest
@@ -134,6 +135,11 @@ class Modules(unittest.TestCase):
         left = [int(found[1]) for found in (re.search(r"AssertionError: left (\d+)\.", line) for line in lines) if found]
         self.assertEqual((len(left), lines[-1]), (1, "0 passed, 1 failed"))
         os.kill(left[0], signal.SIGKILL)
+
+    def test_byte_code(self) -> None:
+        """It is made once before, for all that the tests start."""
+        lines = self.said('self.fail(f"is made: {os.path.exists(__cached__)}")', PYTHONDONTWRITEBYTECODE="1")
+        self.assertTrue(any("AssertionError: is made: True" in line for line in lines), lines)
 
     def test_one_that_goes_on(self) -> None:
         lines = self.said('print("said before", flush=True); time.sleep(1000)', VAULT_MODULE_SECONDS="3")

@@ -9,7 +9,6 @@ from dataclasses import dataclass
 from pathlib import Path
 from typing import Union
 from urllib.parse import unquote, urlsplit
-from urllib.request import url2pathname
 
 from vault.card import CONTROL
 from vault.words import CONTENT_BYTES, Misused
@@ -51,6 +50,9 @@ def read_store_address(text: str) -> Address:
 
 def folder_address(text: str) -> FolderAddress:
     """A folder by its whole path."""
+    # not at the start of each command: it loads the library's HTTP client
+    from urllib.request import url2pathname
+
     parts = urlsplit(text)
     folder = Path(url2pathname(parts.path))
     plain = not (parts.query or parts.fragment or parts.netloc) and CONTROL.search(unquote(parts.path)) is None
