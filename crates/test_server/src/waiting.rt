@@ -128,17 +128,35 @@ static WAITINGS: [Serving; 4] = [
         },
         ..TWO
     },
+    // The one that waits does so until the other, which was answered, gives its claim up.
     Serving {
         name: "one beyond those that may wait is answered at once",
         waits: 1,
-        wait: Some(300),
-        idle: Some(1_000),
-        rules: FIRST_WAITS,
-        clients: TWO_FOR_ONE,
-        hears: &[&[(HEARD_BY_TWO, 1)]],
+        wait: Some(20_000),
+        rules: SECOND_WAITS,
+        clients: &[
+            Client {
+                says: &[(
+                    b"hello anna\nhold w:/\nhold w:/\nwait h3\nrelease h1\nquit\n",
+                    1,
+                )],
+                may_say_more: true,
+            },
+            Client {
+                says: &[(b"hello ben\nhold w:/\nwait h2\nquit\n", 1)],
+                may_say_more: true,
+            },
+        ],
+        hears: &[&[(
+            b"OK session 1\nOK held h1\nOK queued h3 behind h1\nOK queued h3 behind h1\nOK released\nOK left\nend\nOK session 2\nOK queued h2 behind h1\nOK held h2\nOK left\nend\n",
+            1,
+        )]],
         kept: 1,
         came: Outcome {
-            totals: Totals { staged: 8, told: 7 },
+            totals: Totals {
+                staged: 10,
+                told: 10,
+            },
             ..ENDED
         },
         ..TWO
