@@ -134,57 +134,72 @@ fn verbose<'a>(alloc: Global, help: &'a str) -> Arg<'a> {
         .help(help)
 }
 
-/// A subcommand over two files.
-fn over_files<'a>(alloc: Global, name: &'a str) -> Result<Command<'a>, AllocError> {
-    let command = Command::new(alloc, name);
-    let first = "The path of the vault's first file";
-    let command = command.arg(needed(alloc, "A", first))?;
-    let second = "The path of the vault's second file, another one";
-    command.arg(needed(alloc, "B", second))
+/// Adds an argument, if there was memory for what came before. A `?` stands here alone, and not behind each argument of `serve`, where it
+/// would be costly to prove.
+fn and<'a>(
+    command: Result<Command<'a>, AllocError>,
+    arg: Arg<'a>,
+) -> Result<Command<'a>, AllocError> {
+    command?.arg(arg)
 }
 
-/// Adds the flag that asks what the system said of a fault.
-fn says_why<'a>(command: Command<'a>, alloc: Global) -> Result<Command<'a>, AllocError> {
+/// A subcommand over two files.
+fn over_files<'a>(
+    alloc: Global,
+    name: &'a str,
+    about: &'a str,
+    more: &'a str,
+) -> Result<Command<'a>, AllocError> {
+    let command = Command::new(alloc, name).about(about).after_help(more);
+    let first = "The path of the vault's first file";
+    let second = "The path of the vault's second file, another one";
+    let command = command.arg(needed(alloc, "A", first));
+    and(command, needed(alloc, "B", second))
+}
+
+/// The flag that asks what the system said of a fault.
+fn says_why<'a>(alloc: Global) -> Arg<'a> {
     let help = "Says behind a fault of what it is, what was done and what the system said";
-    command.arg(verbose(alloc, help))
+    verbose(alloc, help)
 }
 
 /// The subcommand that runs a script.
 fn script<'a>(alloc: Global) -> Result<Command<'a>, AllocError> {
-    let command = Command::new(alloc, "script")
+    Command::new(alloc, "script")
         .about("Runs a script from standard input over a new vault, replies to standard output")
-        .after_help(SCRIPT_HELP);
-    says_why(command, alloc)
+        .after_help(SCRIPT_HELP)
+        .arg(says_why(alloc))
 }
 
 /// The subcommand that makes a vault.
 fn create<'a>(alloc: Global) -> Result<Command<'a>, AllocError> {
     let about =
         "Makes two files where they are missing and a new vault in them, and prints 'created'";
-    let command = over_files(alloc, "create")?
-        .about(about)
-        .after_help(CREATED);
-    says_why(command, alloc)
+    and(over_files(alloc, "create", about, CREATED), says_why(alloc))
 }
 
 /// The subcommand that reports.
 fn inspect<'a>(alloc: Global) -> Result<Command<'a>, AllocError> {
-    let command = over_files(alloc, "inspect")?
-        .about("Prints a report on the two files of a vault, and changes neither")
-        .after_help(INSPECTED);
-    says_why(command, alloc)
+    let about = "Prints a report on the two files of a vault, and changes neither";
+    and(
+        over_files(alloc, "inspect", about, INSPECTED),
+        says_why(alloc),
+    )
+}
+
+/// The flag that asks for a report as a program reads it.
+fn json<'a>(alloc: Global) -> Arg<'a> {
+    Arg::new(alloc, "json")
+        .long("json")
+        .action(ArgAction::SetTrue)
+        .help("Prints one object of JSON in the place of sentences")
 }
 
 /// The subcommand that checks.
 fn check<'a>(alloc: Global) -> Result<Command<'a>, AllocError> {
-    let json = Arg::new(alloc, "json")
-        .long("json")
-        .action(ArgAction::SetTrue);
-    let command = over_files(alloc, "check")?
-        .about("Says whether a server starts over the two files of a vault, and how full it is")
-        .after_help(CHECKED)
-        .arg(json.help("Prints one object of JSON in the place of sentences"))?;
-    says_why(command, alloc)
+    let about = "Says whether a server starts over the two files of a vault, and how full it is";
+    let command = and(over_files(alloc, "check", about, CHECKED), json(alloc));
+    and(command, says_why(alloc))
 }
 
 /// How many connections are served at a time.
@@ -245,41 +260,37 @@ fn per_address<'a>(alloc: Global) -> Arg<'a> {
 
 /// The subcommand that serves.
 fn serve<'a>(alloc: Global) -> Result<Command<'a>, AllocError> {
-    let command = over_files(alloc, "serve")?
-        .about("Serves the vault in two files over TCP")
-        .after_help(SERVED);
+    let about = "Serves the vault in two files over TCP";
+    let command = over_files(alloc, "serve", about, SERVED);
     let address = "Where to listen, as 127.0.0.1:7070";
-    let command = command.arg(needed(alloc, "ADDR", address))?;
-    let command = command.arg(workers(alloc))?;
-    let command = command.arg(threads(alloc))?;
-    let command = command.arg(connections(alloc))?;
-    let command = command.arg(idle(alloc))?;
+    let command = and(command, needed(alloc, "ADDR", address));
+    let command = and(command, workers(alloc));
+    let command = and(command, threads(alloc));
+    let command = and(command, connections(alloc));
+    let command = and(command, idle(alloc));
     let hello = "Ends a connection that has no session after so long";
-    let command = command.arg(time(alloc, "hello", hello))?;
+    let command = and(command, time(alloc, "hello", hello));
     let line = "Ends a connection whose line has begun so long ago, and isn't whole";
-    let command = command.arg(time(alloc, "line", line))?;
+    let command = and(command, time(alloc, "line", line));
     let full = "Answers 'ERR 80' to who has waited so long for a place";
-    let command = command.arg(time(alloc, "full", full))?;
-    let command = command.arg(per_address(alloc))?;
-    let command = command.arg(wait(alloc))?;
-    let command = command.arg(waits(alloc))?;
+    let command = and(command, time(alloc, "full", full));
+    let command = and(command, per_address(alloc));
+    let command = and(command, wait(alloc));
+    let command = and(command, waits(alloc));
     let help =
         "Says on standard error what is served where, and behind a fault what the system said";
-    command.arg(verbose(alloc, help))
+    and(command, verbose(alloc, help))
 }
 
-/// Adds a subcommand, if there was memory for it.
+/// Adds a subcommand, if there was memory for it and for what came before.
 fn with<'a>(
-    command: Command<'a>,
+    command: Result<Command<'a>, AllocError>,
     more: Result<Command<'a>, AllocError>,
 ) -> Result<Command<'a>, AllocError> {
-    match more {
-        Ok(more) => command.subcommand(more),
-        Err(error) => Err(error),
-    }
+    command?.subcommand(more?)
 }
 
-/// The command line. A command is costly to drop, so only one at a time is alive here.
+/// The command line.
 fn command_line<'a>(alloc: Global) -> Result<Command<'a>, AllocError> {
     let command = Command::new(alloc, "vaultd")
         .version(VERSION)
@@ -287,10 +298,10 @@ fn command_line<'a>(alloc: Global) -> Result<Command<'a>, AllocError> {
         .after_help(EXAMPLE)
         .subcommand_required(true)
         .arg_required_else_help(true);
-    let command = with(command, script(alloc))?;
-    let command = with(command, create(alloc))?;
-    let command = with(command, check(alloc))?;
-    let command = with(command, inspect(alloc))?;
+    let command = with(Ok(command), script(alloc));
+    let command = with(command, create(alloc));
+    let command = with(command, check(alloc));
+    let command = with(command, inspect(alloc));
     with(command, serve(alloc))
 }
 
