@@ -1,7 +1,7 @@
 //! How many descriptors the program may have, and needs.
 
 use libc::types::rlimit;
-use vaultd_tasks::Failure;
+use vaultd_files::Failure;
 
 /// How many descriptors the program has open beside the connections that are served: the standard streams, the files that stand in for
 /// them, the vault's two files, the listener, those by which two threads and the door wait and are woken, and one for a connection that

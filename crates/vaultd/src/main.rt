@@ -1,12 +1,12 @@
 //! The program of the design vault: `create`, `serve`, `check`, `inspect` and `script`.
 //!
 //! Promises: it is safe and, but for `serve`, total. Each subcommand is one call of a crate beneath.
-//! Stands on: command_line, vaultd_tasks, vault_sessions, vault_server. Must not know: anything that a contract should say;
+//! Stands on: command_line, vaultd_files, vaultd_tasks, vault_sessions, vault_server. Must not know: anything that a contract should say;
 //! it is kept thin.
 //! Only tested: the stored run of a script; and by `tools/try-program`: what the words ask for, statuses, texts and order
 //! of failures, `create`, `inspect` and `serve` on real files and beside their locks, signals, closed streams, odd clients.
 //! Neither: texts of help and usage; what standard input and output are.
-//! Start at: `asked_of` of command_line, then vaultd_tasks' file of a subcommand; serving.rt has `serve`.
+//! Start at: `asked_of` of command_line, then the file of a subcommand in vaultd_files or vaultd_tasks; serving.rt has `serve`.
 #![tactic(auto)]
 
 mod descriptors;
@@ -17,7 +17,8 @@ use clap::error::ErrorKind;
 use command_line::{Serving, Task, asked_of};
 use std::process::ExitCode;
 use std::{env, io};
-use vaultd_tasks::{Failure, Teller, check, create, inspect, script, take_streams};
+use vaultd_files::{Failure, Teller, check, create, inspect, take_streams};
+use vaultd_tasks::script;
 
 /// The status after a failure.
 const FAULT: u8 = 1;

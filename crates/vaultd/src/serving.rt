@@ -13,7 +13,8 @@ use std::thread::Threads;
 use std::time::{Clock, Duration};
 use vault_server::{Full, Patience, ServerError, ServerOptions, run_server_on};
 use vault_sessions::{Gate, Point};
-use vaultd_tasks::{Failure, Teller, close_vault, introduce, listen, open_vault};
+use vaultd_files::{Failure, Teller};
+use vaultd_tasks::{close_vault, introduce, listen, open_vault};
 
 /// How many seconds a connection must have been silent before it is ended for another one that waits for a place.
 const MIN_SILENCE: u32 = 60;

@@ -1,17 +1,14 @@
 //! What serving begins and ends with: the vault in its two files, and the address.
 
-use crate::failure::Failure;
-use crate::files::{WatchedDevice, open_locked};
-use crate::reason::{Action, Cause, Subject};
-use crate::standard::print_line;
-use crate::survey::{Survey, take_survey};
-use crate::teller::Teller;
-use crate::two_vaults::refuse_two_vaults;
 use command_line::Serving;
 use group_commit::Vault;
 use std::fs::File;
 use std::net::{Net, TcpListener, TcpStream};
 use std::rt::Files;
+use vaultd_files::{
+    Action, Cause, Failure, Subject, Survey, Teller, WatchedDevice, open_locked, print_line,
+    refuse_two_vaults, take_survey,
+};
 
 /// The number of the vault's life. The program opens one vault, once.
 const LIFE: u64 = 1;

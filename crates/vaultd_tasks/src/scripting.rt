@@ -1,10 +1,18 @@
 //! Running a script.
 
-use crate::failure::Failure;
-use crate::standard::{Input, buffered_output};
-use crate::teller::Teller;
 use std::io::Write;
-use vault_protocol::run_script;
+use vault_protocol::{ScriptError, run_script};
+use vaultd_files::{Failure, Input, Teller, buffered_output};
+
+/// The failure of a script that stopped.
+fn failure_of(error: ScriptError) -> Failure {
+    match error {
+        ScriptError::Read => Failure::Read,
+        ScriptError::Write => Failure::Write,
+        ScriptError::TooLong => Failure::TooLong,
+        ScriptError::NoMemory => Failure::NoMemory,
+    }
+}
 
 /// Runs a script from standard input, and writes its output.
 pub fn script(rt: &HostRuntime, teller: &Teller<'_, HostRuntime>) -> Result<(), Failure> {
@@ -15,6 +23,6 @@ pub fn script(rt: &HostRuntime, teller: &Teller<'_, HostRuntime>) -> Result<(), 
     let mut writer = buffered_output(rt, teller)?;
     let end = run_script(rt.alloc(), &mut reader, &mut writer);
     let flushed = writer.flush();
-    end?;
+    end.map_err(failure_of)?;
     flushed.or(Err(Failure::Write))
 }

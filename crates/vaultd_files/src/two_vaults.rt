@@ -3,7 +3,7 @@ ghost use Rattle.std.specs.Prelude.{◌≡◌, ◌⊎◌, IsTrue, IfErr, Ok, Err
 ghost use Rattle.vault_store.specs.Read.{AreReads};
 ghost use Rattle.vault_store.specs.TwoVaults.{AreOfTwoVaults, AreUnread};
 ghost use Rattle.vault_store.specs.declared.body.BodyError.TheVariants as body_errors;
-ghost use Rattle.vaultd_tasks.specs.declared.failure.Failure.TheVariants as failures;
+ghost use Rattle.vaultd_files.specs.declared.failure.Failure.TheVariants as failures;
 
 use crate::failure::Failure;
 use std::alloc::Allocator;

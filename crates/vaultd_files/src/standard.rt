@@ -8,7 +8,7 @@ use std::io::{self, BufWriter, Printer, Read, Write};
 
 /// Standard output.
 #[derive(Drop)]
-pub(crate) struct Output<'a, 'p, R> {
+pub struct Output<'a, 'p, R> {
     printer: Printer<'a, R>,
     teller: &'a Teller<'p, R>,
 }
@@ -32,7 +32,7 @@ fn note_output<R: Eprint>(teller: &Teller<'_, R>, error: io::Error) {
 }
 
 /// Writes to standard output in large pieces.
-pub(crate) fn buffered_output<'a, 'p>(
+pub fn buffered_output<'a, 'p>(
     rt: &'a HostRuntime,
     teller: &'a Teller<'p, HostRuntime>,
 ) -> Result<BufWriter<Output<'a, 'p, HostRuntime>>, Failure> {
@@ -54,9 +54,11 @@ pub fn print_line<R: Print + Eprint, D: Display + Drop>(
 
 /// Standard input.
 #[derive(Drop)]
-pub(crate) struct Input<'a, 'p, I, R> {
-    pub(crate) reader: I,
-    pub(crate) teller: &'a Teller<'p, R>,
+pub struct Input<'a, 'p, I, R> {
+    /// What it reads from.
+    pub reader: I,
+    /// What it reports to.
+    pub teller: &'a Teller<'p, R>,
 }
 
 impl<I: Read, R: Eprint> Read for Input<'_, '_, I, R> {

@@ -3,14 +3,11 @@
 use std::alloc::AllocError;
 use thiserror::Error;
 use vault_inspector::{InspectError, PrintError};
-use vault_protocol::ScriptError;
 use vault_store::{CreateError, File, OpenError};
 
 /// What went wrong; its text is one line.
 #[derive(Clone, Copy, Debug, Error)]
 pub enum Failure {
-    #[error(transparent)]
-    Script(#[from] ScriptError),
     #[error(transparent)]
     Create(#[from] CreateError),
     #[error(transparent)]
@@ -49,9 +46,15 @@ pub enum Failure {
     /// No more connections can be accepted, for good. The server said so at once.
     #[error("read fault")]
     Accept,
+    /// Standard input failed, or had no end in as many calls as a script may take.
+    #[error("read fault")]
+    Read,
     /// Standard output failed.
     #[error("write fault")]
     Write,
+    /// The script has more bytes than a script may have.
+    #[error("script too long")]
+    TooLong,
 }
 
 impl From<AllocError> for Failure {
