@@ -229,7 +229,7 @@ class Pages(unittest.TestCase):
 
     def test_headings_that_the_program_names(self) -> None:
         """The sections that `vaultd check` sends its reader to are there."""
-        named = set(re.findall(r"docs/OPERATING\.md, '([^']+)'", (TOP / "crates/vaultd_tasks/src/told.rt").read_text("utf-8")))
+        named = set(re.findall(r"docs/OPERATING\.md, '([^']+)'", (TOP / "crates/vaultd_files/src/told.rt").read_text("utf-8")))
         self.assertGreater(len(named), 2)
         self.assertLessEqual(named, set(re.findall(r"^#+ (.+)$", text_of(TOP / "docs/OPERATING.md"), re.MULTILINE)))
 
