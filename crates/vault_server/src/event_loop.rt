@@ -212,7 +212,17 @@ impl<D: Device, S: Tally, T: Tally, A: Allocator + Copy, G: Gate, H: Wait + Cloc
         if pause == Pause::Nothing && !one_is_outside(slots) {
             return;
         }
-        let wait = match pause {
+        let wait = self.time_for(slots, pause);
+        let has_failed = poll.poll(events, wait).is_err();
+        let is_rung = wake(slots, events);
+        if has_failed || is_rung {
+            look_again(slots);
+        }
+    }
+
+    // How long it may wait for what the kernel says. None: for ever.
+    fn time_for(&self, slots: &Vec<Slot<S, T, A>, A>, pause: Pause) -> Option<Duration> {
+        match pause {
             Pause::Nothing => Some(Duration::ZERO),
             Pause::Blink => {
                 yield_now();
@@ -220,18 +230,6 @@ impl<D: Device, S: Tally, T: Tally, A: Allocator + Copy, G: Gate, H: Wait + Cloc
             }
             Pause::AtMost(left) => Some(self.wait_for(slots).map_or(left, |wait| wait.min(left))),
             Pause::Long => self.wait_for(slots),
-        };
-        let mut is_rung = poll.poll(events, wait).is_err();
-        for event in events.iter() {
-            let token = event.token();
-            if Bell::is_token(token) {
-                is_rung = true;
-            } else if let Some(slot) = slots.as_mut_slice().get_mut(token.0) {
-                slot.wake(event.is_read_closed() || event.is_error());
-            }
-        }
-        if is_rung {
-            look_again(slots);
         }
     }
 
@@ -350,6 +348,23 @@ impl<D: Device, S: Tally, T: Tally, A: Allocator + Copy, G: Gate, H: Wait + Cloc
         }
         all
     }
+}
+
+// Notes for each connection what the kernel says of it. Whether the bell rang.
+fn wake<S: Tally, T: Tally, A: Allocator + Copy>(
+    slots: &mut Vec<Slot<S, T, A>, A>,
+    events: &Events<A>,
+) -> bool {
+    let mut is_rung = false;
+    for event in events.iter() {
+        let token = event.token();
+        if Bell::is_token(token) {
+            is_rung = true;
+        } else if let Some(slot) = slots.as_mut_slice().get_mut(token.0) {
+            slot.wake(event.is_read_closed() || event.is_error());
+        }
+    }
+    is_rung
 }
 
 // Entries that connections wait for may be durable.
