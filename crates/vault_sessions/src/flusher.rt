@@ -81,9 +81,13 @@ impl<'a, D: Device, S: Tally, T: Tally, A: Allocator + Copy, G: Gate, H: Wait + 
             let left = match desk.due(self.rt, &mut gathering, silence) {
                 Due::Nothing => None,
                 Due::In(left) => Some(left),
-                due => return Ok(due),
+                due => {
+                    drop(desk);
+                    return Ok(due);
+                }
             };
             if let (None, Some(flushed)) = (left, desk.flushed()) {
+                drop(desk);
                 return Err(flushed);
             }
             let was_quiet = desk.is_quiet();
@@ -95,6 +99,7 @@ impl<'a, D: Device, S: Tally, T: Tally, A: Allocator + Copy, G: Gate, H: Wait + 
                     .0,
             };
         }
+        drop(desk);
         Ok(Due::Nothing)
     }
 

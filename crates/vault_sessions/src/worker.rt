@@ -177,6 +177,7 @@ impl<D: Device, S: Tally, T: Tally, A: Allocator + Copy, G: Gate, H: Wait> Worke
             Err(LineError::NoMemory) => return Heard::Refused(Cause::no_memory()),
         };
         if let Some(kept) = self.keep(session, &command) {
+            drop(command);
             return Heard::Kept(kept);
         }
         match self.stage(session, command, share) {
@@ -372,9 +373,13 @@ impl<D: Device, S: Tally, T: Tally, A: Allocator + Copy, G: Gate, H: Wait> Worke
                     ticket = again;
                     desk = shared.settled.wait(self.rt, desk);
                 }
-                other => return other,
+                other => {
+                    drop(desk);
+                    return other;
+                }
             }
         }
+        drop(desk);
         Looked::NotYet(ticket)
     }
 
@@ -448,6 +453,7 @@ impl<D: Device, S: Tally, T: Tally, A: Allocator + Copy, G: Gate, H: Wait> Worke
             shared.work.notify_one();
             desk = shared.settled.wait(self.rt, desk);
         }
+        drop(desk);
         unreachable!()
     }
 
